@@ -1,0 +1,34 @@
+-- What a source gives, what a sink takes, and when either may say that it failed.
+--
+-- What is still to come from a source and what a sink holds are told, or are not told (`None`): a file or a
+-- terminal tells nothing. What is said of bytes is said of told ones.
+use Rattle.std.specs.Prelude.{◌≡◌, ◌⊎◌, ℕ, ◌-◌, ◌^◌, ◌<◌, ◌≤◌, List, [], ◌++◌, length, take, Option, IfSome, IsSomeAnd, Result, IsErr}
+
+-- A count of faults rose. One that stands at its last value counts as risen.
+abbrev pub Rose : ℕ → ℕ → Type 0
+Rose before after = (before < after) ⊎ (after ≡ 2 ^ 64 - 1)
+
+-- Faults never fall, and a failure is told only where they rose.
+pub record HasCause {T E : Type 0} (before after : ℕ) (result : Result T E) : Type 0 where
+  pub later : before ≤ after
+  pub failed : IsErr result → Rose before after
+
+-- What is to come is what was to come without these bytes, which came first.
+abbrev pub Takes : (old new : Option (List ℕ)) (bytes : List ℕ) → Type 0
+Takes old new bytes = IfSome old (λ xs. IsSomeAnd new (λ ys. xs ≡ bytes ++ ys))
+
+-- What was to come is still to come.
+abbrev pub Keeps : (old new : Option (List ℕ)) → Type 0
+Keeps old new = Takes old new []
+
+-- There is nothing to come.
+abbrev pub IsDry : Option (List ℕ) → Type 0
+IsDry left = IfSome left (λ xs. xs ≡ [])
+
+-- What is held is what was held, and behind it these bytes.
+abbrev pub Appends : (old new : Option (List ℕ)) (bytes : List ℕ) → Type 0
+Appends old new bytes = IfSome new (λ ys. IsSomeAnd old (λ xs. ys ≡ xs ++ bytes))
+
+-- What is held is what was held, and behind it a front of these bytes.
+abbrev pub AppendsFront : (old new : Option (List ℕ)) (bytes : List ℕ) → Type 0
+AppendsFront old new bytes = (n : ℕ) × (n ≤ length bytes) × Appends old new (take n bytes)

@@ -1,0 +1,25 @@
+use std::sync::Wait;
+use std::thread::Threads;
+
+/// Where a worker comes by.
+#[derive(Clone, Copy, PartialEq, Eq, Debug)]
+pub enum Point {
+    Steal,
+    Begin,
+    Access,
+    Commit,
+}
+
+/// A place where tests can hold a worker before it goes on. It has no meaning for what a run gives.
+pub trait Gate: Sync {
+    /// Returns once the worker may go on.
+    fn at<R: Threads + Wait + Sync>(&self, rt: &R, worker: u32, point: Point);
+}
+
+/// The gate that holds nobody.
+#[derive(Clone, Copy)]
+pub struct OpenGate;
+
+impl Gate for OpenGate {
+    fn at<R: Threads + Wait + Sync>(&self, _rt: &R, _worker: u32, _point: Point) {}
+}
