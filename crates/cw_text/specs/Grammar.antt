@@ -1,0 +1,249 @@
+-- Which tokens are a program, and where tokens that are none go wrong first.
+--
+-- Tokens are read one by one. What may still come is a list of symbols of the grammar, the nearest first: a token
+-- takes the nearest symbol that it may begin, and nothing may stand for the symbols before that one. A token that
+-- the nearest symbol does not allow is the first fault. What has been read is a list of values, the newest first;
+-- the symbol `act` makes a tree of the newest ones. `after` is the grammar: what may come in place of a symbol
+-- once a token was read.
+use Rattle.std.specs.Prelude.{ℕ, zero, suc, ◌+◌, Bool, true, false, List, [], ◌∷◌, ◌++◌, Option, Some, None, Result, Ok, Err, if◌then◌else◌, nat_lt, codes, ℤ, pos, neg_ℤ}
+use Rattle.cw_text.specs.declared.ast.Op.{Op}
+use Rattle.cw_text.specs.declared.ast.Op.TheVariants as op
+use Rattle.cw_text.specs.declared.ast.Word.{Word}
+use Rattle.cw_text.specs.declared.fault.TextKind.{TextKind}
+use Rattle.cw_text.specs.declared.fault.TextKind.TheVariants.{Unexpected, TooDeep}
+use Rattle.cw_text.specs.declared.fault.TextFault.{TextFault}
+use Rattle.cw_text.specs.declared.mark.Mark.{Mark}
+use Rattle.cw_text.specs.declared.mark.Mark.TheVariants as m
+use Rattle.cw_text.specs.Syntax.{Term, number, name, unary, binary, Statement, set_new, assign, out, Block, empty, Declaration, cell, func, with_statement, height}
+use Rattle.cw_text.specs.Lexemes.{Token, Lexemes, end_on, comes, name as a_name, number as a_number, mark, bad, end, list_eq, spelling}
+
+-- what has been read
+pub data Value : Type 0 where
+  a_word : Word → Value
+  an_init : ℤ → Value
+  a_term : Term → Value
+  a_block : Block → Value
+  declared : List Declaration → Value
+
+abbrev pub Values : Type 0
+Values = List Value
+
+-- what may still come
+pub data Symbol : Type 0 where
+  items main_word cell_init init negated : Symbol
+  block stmts : Symbol
+  expr operand products sums comparison : Symbol
+  word : Symbol
+  exactly : Mark → Symbol
+  -- the end of a bracket
+  closing : Mark → Symbol
+  -- makes a tree of the newest values
+  act : (Values → Values) → Symbol
+  -- the operand before was that of an operator, which stands on this line
+  lifted : Op → ℕ → Symbol
+  -- the expression before is not too high; the line is that of its operator
+  read_from : ℕ → Symbol
+
+-- a token begins these symbols; or none of them is there; or the token may not stand here
+pub data Next : Type 0 where
+  take : List Symbol → Next
+  skip : Next
+  refuse : TextKind → Next
+
+-- ## What is made of the values
+
+abbrev pub push : Value → Values → Values
+push v vs = v ∷ vs
+
+abbrev pub with_init : ℤ → Values → Values
+with_init n (an_init z ∷ vs) = an_init n ∷ vs
+with_init n vs = vs
+
+abbrev pub cell_done : Values → Values
+cell_done (an_init i ∷ a_word w ∷ declared ds ∷ vs) = declared (ds ++ cell w.name w.line 0 i ∷ []) ∷ vs
+cell_done vs = vs
+
+abbrev pub func_done : Values → Values
+func_done (a_block b ∷ a_word w ∷ declared ds ∷ vs) = declared (ds ++ func w.name w.line [] b ∷ []) ∷ vs
+func_done vs = vs
+
+-- one more statement of the block that is open
+abbrev pub stated : Statement → Values → Values
+stated s (a_block b ∷ vs) = a_block (with_statement b s) ∷ vs
+stated s vs = vs
+
+abbrev pub let_done : Values → Values
+let_done (a_term e ∷ a_word w ∷ vs) = stated (set_new w e) vs
+let_done vs = vs
+
+abbrev pub assign_done : Values → Values
+assign_done (a_term e ∷ a_word w ∷ vs) = stated (assign w e) vs
+assign_done vs = vs
+
+abbrev pub out_done : Values → Values
+out_done (a_term e ∷ vs) = stated (out e) vs
+out_done vs = vs
+
+abbrev pub lift : Op → Values → Values
+lift o (a_term e ∷ vs) = a_term (unary o e) ∷ vs
+lift o vs = vs
+
+abbrev pub join : Op → Values → Values
+join o (a_term r ∷ a_term l ∷ vs) = a_term (binary o l r) ∷ vs
+join o vs = vs
+
+abbrev pub newest_height : Values → ℕ
+newest_height (a_term e ∷ vs) = height e
+newest_height vs = 0
+
+-- ## The grammar
+
+abbrev pub same_mark : Mark → Mark → Bool
+same_mark a b = list_eq (spelling a) (spelling b)
+
+abbrev pub word_at : List ℕ → ℕ → Word
+word_at n l = record { name = n; line = l }
+
+-- a bad token is refused as what it is, and another one as unexpected
+abbrev pub why : Token → TextKind
+why (bad k) = k
+why t = Unexpected
+
+-- that mark, and nothing else
+abbrev pub only : Mark → Mark → Next
+only a b = if same_mark a b then take [] else refuse Unexpected
+
+-- the operators of each kind
+abbrev pub prefix_of : Mark → Option Op
+prefix_of m.Minus = Some op.Neg
+prefix_of m.Bang = Some op.Not
+prefix_of a = None
+
+abbrev pub product_of : Mark → Option Op
+product_of m.Star = Some op.Mul
+product_of a = None
+
+abbrev pub sum_of : Mark → Option Op
+sum_of m.Plus = Some op.Add
+sum_of m.Minus = Some op.Sub
+sum_of a = None
+
+abbrev pub comparison_of : Mark → Option Op
+comparison_of m.EqEq = Some op.Eq
+comparison_of m.BangEq = Some op.Ne
+comparison_of m.Less = Some op.Lt
+comparison_of m.LessEq = Some op.Le
+comparison_of m.Greater = Some op.Gt
+comparison_of m.GreaterEq = Some op.Ge
+comparison_of a = None
+
+-- an operator between two operands, the symbols of its right side, and what may follow
+abbrev pub infix_by : Option Op → (right following : List Symbol) → ℕ → Next
+infix_by None right following l = skip
+infix_by (Some o) right following l = take (operand ∷ right ++ act (join o) ∷ read_from l ∷ following)
+
+abbrev pub prefix_by : Option Op → List Symbol → ℕ → Next
+prefix_by None k l = refuse Unexpected
+prefix_by (Some o) k l = take (operand ∷ lifted o l ∷ k)
+
+-- what may follow an operand in an expression
+abbrev pub rest_of_expr : List Symbol
+rest_of_expr = products ∷ sums ∷ comparison ∷ []
+
+-- how an operand begins, with what follows it
+abbrev pub operand_by : List Symbol → Token → ℕ → Next
+operand_by k (a_number n) l = take (act (push (a_term (number (pos n)))) ∷ k)
+operand_by k (a_name n) l = take (act (push (a_term (name (word_at n l)))) ∷ k)
+operand_by k (mark m.ParenOpen) l = take (expr ∷ closing m.ParenClose ∷ k)
+operand_by k (mark a) l = prefix_by (prefix_of a) k l
+operand_by k t l = refuse (why t)
+
+abbrev pub after : Symbol → Token → ℕ → Next
+after word (a_name n) l = take (act (push (a_word (word_at n l))) ∷ [])
+after word t l = refuse (why t)
+-- so far the only function is main
+after main_word (a_name n) l = if list_eq n (codes "main") then take (act (push (a_word (word_at n l))) ∷ []) else refuse Unexpected
+after main_word t l = refuse (why t)
+after (exactly a) (mark b) l = only a b
+after (exactly a) t l = refuse (why t)
+after (closing a) (mark b) l = only a b
+after (closing a) t l = refuse (why t)
+after items (mark m.Cell) l = take (word ∷ act (push (an_init (pos 0))) ∷ cell_init ∷ exactly m.Semicolon ∷ act cell_done ∷ items ∷ [])
+after items (mark m.Fn) l = take (main_word ∷ exactly m.ParenOpen ∷ closing m.ParenClose ∷ block ∷ act func_done ∷ items ∷ [])
+after items end l = take []
+after items t l = refuse (why t)
+after cell_init (mark m.Assign) l = take (init ∷ [])
+after cell_init t l = skip
+after init (mark m.Minus) l = take (negated ∷ [])
+after init (a_number n) l = take (act (with_init (pos n)) ∷ [])
+after init t l = refuse (why t)
+after negated (a_number n) l = take (act (with_init (neg_ℤ (pos n))) ∷ [])
+after negated t l = refuse (why t)
+after block (mark m.BraceOpen) l = take (act (push (a_block empty)) ∷ stmts ∷ closing m.BraceClose ∷ [])
+after block t l = refuse (why t)
+after stmts (mark m.Let) l = take (word ∷ exactly m.Assign ∷ expr ∷ exactly m.Semicolon ∷ act let_done ∷ stmts ∷ [])
+after stmts (mark m.Out) l = take (expr ∷ exactly m.Semicolon ∷ act out_done ∷ stmts ∷ [])
+after stmts (a_name n) l = take (act (push (a_word (word_at n l))) ∷ exactly m.Assign ∷ expr ∷ exactly m.Semicolon ∷ act assign_done ∷ stmts ∷ [])
+after stmts t l = skip
+after expr t l = operand_by rest_of_expr t l
+after operand t l = operand_by [] t l
+after products (mark a) l = infix_by (product_of a) [] (products ∷ []) l
+after products t l = skip
+after sums (mark a) l = infix_by (sum_of a) (products ∷ []) (sums ∷ []) l
+after sums t l = skip
+after comparison (mark a) l = infix_by (comparison_of a) (products ∷ sums ∷ []) [] l
+after comparison t l = skip
+after (act f) t l = skip
+after (lifted o k) t l = skip
+after (read_from k) t l = skip
+
+-- ## Reading
+
+-- how many brackets and operators of one operand are open
+abbrev pub pending : List Symbol → ℕ
+pending [] = 0
+pending (closing a ∷ k) = pending k + 1
+pending (lifted o l ∷ k) = pending k + 1
+pending (s ∷ k) = pending k
+
+abbrev pub fault : TextKind → ℕ → {A : Type 0} → Result A TextFault
+fault k l = Err (record { kind = k; line = l })
+
+abbrev pub State : Type 0
+State = List Symbol × Values
+
+-- no more than 200 open
+abbrev pub opened : List Symbol → Values → ℕ → Result State TextFault
+opened k vs l = if nat_lt 200 (pending k) then fault TooDeep l else Ok (k, vs)
+
+-- what a symbol says of a token; rest is what the symbols after it say
+abbrev pub go_on : Next → List Symbol → Values → ℕ → Result State TextFault → Result State TextFault
+go_on (take ss) k vs l rest = opened (ss ++ k) vs l
+go_on skip k vs l rest = rest
+go_on (refuse why) k vs l rest = fault why l
+
+-- One token. An expression's height is looked at as soon as a token shows that it is over.
+abbrev pub feed : List Symbol → Values → Token → ℕ → Result State TextFault
+feed [] vs t l = fault (why t) l
+feed (act f ∷ k) vs t l = feed k (f vs) t l
+feed (lifted o begun ∷ k) vs t l = if nat_lt 200 (newest_height (lift o vs)) then fault TooDeep begun else feed k (lift o vs) t l
+feed (read_from begun ∷ k) vs t l = if nat_lt 200 (newest_height vs) then fault TooDeep begun else feed k vs t l
+feed (s ∷ k) vs t l = let rest = feed k vs t l in go_on (after s t l) k vs l rest
+
+abbrev pub then_read : Result State TextFault → (List Symbol → Values → Result Values TextFault) → Result Values TextFault
+then_read (Ok s) go = go s.0 s.1
+then_read (Err e) go = Err e
+
+-- all tokens of a text
+abbrev pub read : List Symbol → Values → Lexemes → Result Values TextFault
+read k vs (end_on l) = then_read (feed k vs end l) (λ k' vs'. Ok vs')
+read k vs (comes t l xs) = then_read (feed k vs t l) (λ k' vs'. read k' vs' xs)
+
+abbrev pub program_in : Result Values TextFault → Result (List Declaration) TextFault
+program_in (Ok (declared ds ∷ vs)) = Ok ds
+program_in (Ok vs) = Ok []
+program_in (Err e) = Err e
+
+-- the program that the tokens spell, or the first fault
+abbrev pub program_of : Lexemes → Result (List Declaration) TextFault
+program_of xs = program_in (read (items ∷ []) (declared [] ∷ []) xs)

@@ -1,0 +1,59 @@
+-- Worked texts: what they read as, or their first fault.
+use Rattle.std.specs.Prelude.{Result, ◌++◌, pos, negsuc, replicate, ℕ, ◌≡◌, List, [], ◌∷◌, codes, Ok, Err}
+use Rattle.std.specs.List.{flat_map}
+use Rattle.cw_text.specs.Syntax.{Declaration, func, cell, empty, first, set_new, assign, out, binary, name, number, unary}
+use Rattle.cw_text.specs.Lexemes.{Lexemes, end_on, comes, name as a_name, number as a_number, mark, bad, lexemes, keywords}
+use Rattle.cw_text.specs.Grammar.{program_of}
+use Rattle.cw_text.specs.declared.fault.TextKind.{TextKind}
+use Rattle.cw_text.specs.declared.fault.TextKind.TheVariants.{BadChar, BadNumber, Unexpected, TooDeep}
+use Rattle.cw_text.specs.declared.fault.TextFault.{TextFault}
+use Rattle.cw_text.specs.declared.ast.Op.TheVariants as op
+use Rattle.cw_text.specs.declared.ast.Word.{Word}
+use Rattle.cw_text.specs.declared.mark.Mark.TheVariants as m
+
+abbrev pub read : List ℕ → Result (List Declaration) TextFault
+read text = program_of (lexemes keywords text)
+
+abbrev pub refused : TextKind → ℕ → Result (List Declaration) TextFault
+refused k l = Err (record { kind = k; line = l })
+
+abbrev pub w : List ℕ → Word
+w text = record { name = text; line = 1 }
+
+abbrev pub Tokens : Type 0
+Tokens =
+    lexemes keywords (codes "fn main() { x >= 12; }\n// y\n@")
+    ≡ comes (mark m.Fn) 1 (comes (a_name (codes "main")) 1 (comes (mark m.ParenOpen) 1 (comes (mark m.ParenClose) 1 (comes (mark m.BraceOpen) 1 (comes (a_name (codes "x")) 1 (comes (mark m.GreaterEq) 1 (comes (a_number 12) 1 (comes (mark m.Semicolon) 1 (comes (mark m.BraceClose) 1 (comes (bad BadChar) 3 (end_on 3)))))))))))
+
+abbrev pub Programs : Type 0
+Programs =
+    (read (codes "fn main() {}") ≡ Ok (func (codes "main") 1 [] empty ∷ []))
+    × (read [] ≡ Ok [])
+    × (read (codes "cell c = -3; fn main() { let x = c + 1 * 2; c = x; out -c < (3 - c) - 1; }") ≡ Ok (cell (codes "c") 1 0 (negsuc 2) ∷ func (codes "main") 1 [] (first (set_new (w (codes "x")) (binary op.Add (name (w (codes "c"))) (binary op.Mul (number (pos 1)) (number (pos 2))))) (first (assign (w (codes "c")) (name (w (codes "x")))) (first (out (binary op.Lt (unary op.Neg (name (w (codes "c")))) (binary op.Sub (binary op.Sub (number (pos 3)) (name (w (codes "c")))) (number (pos 1))))) empty))) ∷ []))
+
+-- n ones, with signs between them
+abbrev pub ones : ℕ → List ℕ
+ones n = flat_map {X = ℕ} (λ x. codes "1+") (replicate n 32) ++ codes "1"
+
+-- An expression of height 200 passes, and one of height 201 is refused at its operator.
+abbrev pub Heights : Type 0
+Heights =
+    (read (codes "fn main() { out\n" ++ (ones 199 ++ codes ";@")) ≡ refused BadChar 2)
+    × (read (codes "fn main() { out 1\n+\n" ++ (ones 199 ++ codes ";@")) ≡ refused TooDeep 3)
+    × (read (codes "fn main() { out\n" ++ (ones 199 ++ codes "\n== 1;")) ≡ refused TooDeep 3)
+
+-- The brace of main is one of the 200 that may be open.
+abbrev pub Brackets : Type 0
+Brackets =
+    (read (codes "fn main() { out " ++ (replicate 200 40 ++ (codes "1" ++ (replicate 200 41 ++ codes "; }")))) ≡ refused TooDeep 1)
+    × (read (codes "fn main() { out " ++ (replicate 199 40 ++ (codes "1" ++ (replicate 199 41 ++ codes "; }")))) ≡ Ok (func (codes "main") 1 [] (first (out (number (pos 1))) empty) ∷ []))
+
+abbrev pub Refusals : Type 0
+Refusals =
+    (read (codes "fn main( {}") ≡ refused Unexpected 1)
+    × (read (codes "fn main() { @ }") ≡ refused BadChar 1)
+    × (read (codes "fn main() { out 9223372036854775808; }") ≡ refused BadNumber 1)
+    × (read (codes "fn main() {\n out 1 +; }") ≡ refused Unexpected 2)
+    × (read (codes "fn main() {") ≡ refused Unexpected 1)
+    × (read (codes "fn f() {}") ≡ refused Unexpected 1)
+    × (read (codes "fn main() { main(); }") ≡ refused Unexpected 1)

@@ -1,0 +1,67 @@
+-- The syntax tree without its places in memory: what a clause sees of an `Ast`.
+use Rattle.std.specs.Prelude.{ℕ, ◌+◌, max, List, [], ◌∷◌, map, ℤ}
+use Rattle.cw_text.specs.declared.ast.Op.{Op}
+use Rattle.cw_text.specs.declared.ast.Word.{Word}
+use Rattle.cw_text.specs.declared.ast.Expr.{Expr}
+use Rattle.cw_text.specs.declared.ast.Expr.TheVariants.{Number, Name, Unary', Binary'}
+use Rattle.cw_text.specs.declared.ast.Stmt.{Stmt}
+use Rattle.cw_text.specs.declared.ast.Stmt.TheVariants as stmt
+use Rattle.cw_text.specs.declared.ast.Item.{Item}
+use Rattle.cw_text.specs.declared.ast.Item.TheVariants.{Cell, Func}
+use Rattle.cw_text.specs.declared.ast.Ast.{Ast}
+
+-- an expression
+pub data Term : Type 0 where
+  number : ℤ → Term
+  name : Word → Term
+  unary : Op → Term → Term
+  binary : Op → Term → Term → Term
+
+mutual
+  pub data Statement : Type 0 where
+    set_new : Word → Term → Statement
+    assign : Word → Term → Statement
+    out : Term → Statement
+
+  pub data Block : Type 0 where
+    empty : Block
+    first : Statement → Block → Block
+
+pub data Declaration : Type 0 where
+  cell : (name : List ℕ) (line len : ℕ) (init : ℤ) → Declaration
+  func : (name : List ℕ) (line : ℕ) (params : List Word) (body : Block) → Declaration
+
+-- one more at the end
+abbrev pub with_statement : Block → Statement → Block
+with_statement empty s = first s empty
+with_statement (first x b) s = first x (with_statement b s)
+
+-- A number and a name have height 1, and every other form one more than its highest part.
+abbrev pub height : Term → ℕ
+height (number n) = 1
+height (name w) = 1
+height (unary op e) = height e + 1
+height (binary op l r) = max (height l) (height r) + 1
+
+-- what stands in memory, seen as a tree
+abbrev pub term_of : Expr → Term
+term_of (Number n) = number n
+term_of (Name w) = name w
+term_of (Unary' op p e) = unary op (term_of e)
+term_of (Binary' op p l q r) = binary op (term_of l) (term_of r)
+
+abbrev pub statement_of : Stmt → Statement
+statement_of (stmt.Let w e) = set_new w (term_of e)
+statement_of (stmt.Assign w e) = assign w (term_of e)
+statement_of (stmt.Out e) = out (term_of e)
+
+abbrev pub block_of : List Stmt → Block
+block_of [] = empty
+block_of (s ∷ b) = first (statement_of s) (block_of b)
+
+abbrev pub declaration_of : Item → Declaration
+declaration_of (Cell n l len init) = cell n l len init
+declaration_of (Func n l ps b) = func n l ps.items (block_of b.items)
+
+abbrev pub tree_of : Ast → List Declaration
+tree_of a = map declaration_of a.items.items

@@ -1,0 +1,70 @@
+use cw_base::Text;
+
+/// The syntax tree of a program.
+#[derive(Drop)]
+pub struct Ast {
+    pub items: Vec<Item>,
+}
+
+#[derive(Drop)]
+pub enum Item {
+    /// A cell: its name with the name's line, its number of elements, or 0 for a plain cell, and its initial value.
+    Cell {
+        name: Text,
+        line: u32,
+        len: u64,
+        init: i64,
+    },
+    /// A function: its name with the name's line, its parameters, its body.
+    Func {
+        name: Text,
+        line: u32,
+        params: Vec<Word>,
+        body: Vec<Stmt>,
+    },
+}
+
+/// A name and its line.
+#[derive(Drop)]
+pub struct Word {
+    pub name: Text,
+    pub line: u32,
+}
+
+#[derive(Drop)]
+pub enum Stmt {
+    Let { name: Word, value: Expr },
+    Assign { name: Word, value: Expr },
+    Out(Expr),
+}
+
+#[derive(Drop)]
+pub enum Expr {
+    Number(i64),
+    Name(Word),
+    Unary {
+        op: Op,
+        of: Box<Expr>,
+    },
+    Binary {
+        op: Op,
+        left: Box<Expr>,
+        right: Box<Expr>,
+    },
+}
+
+/// An operator. `Neg` and `Not` have one operand, the others two.
+#[derive(Clone, Copy, PartialEq, Eq, Debug)]
+pub enum Op {
+    Add,
+    Sub,
+    Mul,
+    Neg,
+    Not,
+    Eq,
+    Ne,
+    Lt,
+    Le,
+    Gt,
+    Ge,
+}

@@ -1,0 +1,54 @@
+use std::alloc::{AllocError, AllocFailed};
+
+/// What is wrong with a text.
+#[derive(Clone, Copy, PartialEq, Eq, Debug)]
+pub enum TextKind {
+    /// A byte that is in no whole UTF-8 character.
+    NotUtf8 = 1,
+    /// A character that begins no token.
+    BadChar = 2,
+    /// A number that is too large, or runs into a letter.
+    BadNumber = 3,
+    /// A token that may not stand in its place, or an end that comes too early.
+    Unexpected = 4,
+    /// More than 1,048,576 bytes. Its line is 0.
+    TooLong = 5,
+    /// More than 200 open brackets and unary operators, or an expression of a height over 200.
+    TooDeep = 6,
+}
+
+/// The first fault of a text. Lines are counted from 1.
+#[derive(Clone, Copy, PartialEq, Eq, Debug)]
+pub struct TextFault {
+    pub kind: TextKind,
+    pub line: u32,
+}
+
+/// Why a text was not read.
+#[derive(Clone, Copy, PartialEq, Eq, Debug)]
+pub enum TextRefusal {
+    Text(TextFault),
+    OutOfMemory,
+}
+
+impl From<AllocError> for TextRefusal {
+    ghost use Rattle.std.specs.Prelude.{◌≡◌};
+    ghost use Rattle.cw_text.specs.declared.fault.TextRefusal.TheVariants.{OutOfMemory};
+
+    ghost from_gives = { λ _ e. e ≡ OutOfMemory };
+
+    fn from(_failed: AllocError) -> Self {
+        TextRefusal::OutOfMemory
+    }
+}
+
+impl<T: Drop> From<AllocFailed<T>> for TextRefusal {
+    ghost use Rattle.std.specs.Prelude.{◌≡◌};
+    ghost use Rattle.cw_text.specs.declared.fault.TextRefusal.TheVariants.{OutOfMemory};
+
+    ghost from_gives = { λ _ e. e ≡ OutOfMemory };
+
+    fn from(_failed: AllocFailed<T>) -> Self {
+        TextRefusal::OutOfMemory
+    }
+}
