@@ -2,5 +2,4 @@ pub mod Syntax
 pub mod Lexemes
 pub mod Grammar
 pub mod Text
-pub mod Cursor
 pub mod Rows

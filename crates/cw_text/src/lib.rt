@@ -9,9 +9,7 @@ ghost use Rattle.cw_text.specs.Rows.{Tokens, Programs, Heights, Brackets, Refusa
 ghost use Rattle.cw_text.specs.Text.{program, Reads};
 
 mod ast;
-mod cursor;
 mod fault;
-mod letters;
 mod mark;
 
 pub use ast::{Ast, Expr, Item, Op, Stmt, Word};

@@ -1,0 +1,4 @@
+pub mod Machine
+pub mod Programs
+pub mod Records
+pub mod Rows

