@@ -1,0 +1,5 @@
+pub mod Words
+pub mod Refusals
+pub mod Texts
+pub mod Outcome
+pub mod Rows

@@ -1,0 +1,106 @@
+-- What a status says: a part for each thing that the top call promises, each a function of what it is about alone, so
+-- that a further command replaces one part.
+use Rattle.std.specs.Prelude.{◌≡◌, ◌⊎◌, ◌↔◌, ◌≤◌, ◌<◌, ℕ, ◌+◌, Bool, true, false, List, [], ◌∷◌, length, Option, Some, None, IfSome, IsSomeAnd, IsSome, IsNone, replicate}
+use Rattle.cw_io.specs.Outside.{Rose, Takes, Keeps, IsDry, Appends, AppendsFront}
+use Rattle.cw_code.specs.declared.Limits.{Limits}
+use Rattle.cw_text.specs.Syntax.{tree_of}
+use Rattle.cw_serial.specs.declared.record.Record.{Record}
+use Rattle.cw_serial.specs.declared.record.RecordEnd.{RecordEnd}
+use Rattle.cw_serial.specs.declared.record.RecordEnd.TheVariants.{Finished, Fault, Budget, Moves}
+use Rattle.cw_serial.specs.Programs.{IsProgramOf}
+use Rattle.cw_serial.specs.Records.{IsDepthFirst, HasEnded, Replays}
+use Rattle.cw_top.specs.declared.outcome.Note.{Note}
+use Rattle.cw_top.specs.declared.outcome.Note.TheVariants as note
+use Rattle.cw_top.specs.declared.outcome.Reply.{Reply}
+use Rattle.cw_top.specs.Refusals.{refusal, Spells}
+use Rattle.cw_top.specs.Texts.{run_text}
+
+-- the limits of a run whose command gives none
+abbrev pub default_limits : Limits
+default_limits = record { fuel = 1000000; size = 1000000; aborts = 100000; strands = 262144; moves = 10000000 }
+
+-- the most bytes that are ever read: one more than a text may have
+abbrev pub most_read : ℕ
+most_read = 1048577
+
+-- ## The status, the note and the run
+
+abbrev pub status_of_end : RecordEnd → ℕ
+status_of_end (Finished memory outputs) = 0
+status_of_end (Fault strand kind) = 6
+status_of_end (Budget strand) = 7
+status_of_end Moves = 9
+
+-- a write that fails keeps the run
+abbrev pub status_of_run : Note → RecordEnd → ℕ
+status_of_run note.Write e = 4
+status_of_run n e = status_of_end e
+
+abbrev pub status_of_refusal : Note → ℕ
+status_of_refusal note.Nothing = 0
+status_of_refusal note.Usage = 2
+status_of_refusal note.Memory = 1
+status_of_refusal note.Read = 3
+status_of_refusal note.Write = 4
+status_of_refusal (note.Text f) = 5
+status_of_refusal (note.Name f) = 5
+
+-- a note with which a run is kept: there was a run, and its text was written, or the write failed
+abbrev pub IsOfRun : Note → Type 0
+IsOfRun note.Nothing = Unit {0}
+IsOfRun note.Write = Unit {0}
+IsOfRun n = ⊥
+
+abbrev pub IsOfRefusal : Note → Type 0
+IsOfRefusal note.Nothing = ⊥
+IsOfRefusal note.Write = ⊥
+IsOfRefusal n = Unit {0}
+
+-- A run is kept where there was one, and the status is that of its end or of the failed write; else the status is that of
+-- the note.
+abbrev pub IsStatus : Option Record → ℕ → Note → Type 0
+IsStatus None status n = IsOfRefusal n × (status ≡ status_of_refusal n)
+IsStatus (Some r) status n = IsOfRun n × (status ≡ status_of_run n r.end)
+
+-- ## What was read
+
+-- At most so many bytes were taken.
+abbrev pub TakesAtMost : ℕ → (old new : Option (List ℕ)) → Type 0
+TakesAtMost most old new = (bytes : List ℕ) × (length bytes ≤ most) × Takes old new bytes
+
+-- A source is refused for this reason, where its bytes are told.
+abbrev pub IsRefusedFor : Note → Option (List ℕ) → Type 0
+IsRefusedFor n left = IfSome left (λ bytes. refusal bytes ≡ Some n)
+
+-- ## The run
+
+-- What is kept is the run of one worker: of the program that the whole source spells, without words, with the limits of
+-- the command, and one memory does the same in its order.
+pub record IsRunOf (left : Option (List ℕ)) (r : Record) : Type 0 where
+  pub spelled : IfSome left (λ bytes. Spells bytes r.program)
+  pub program : IsProgramOf (tree_of r.program.ast) r.program
+  pub words : r.words ≡ []
+  pub limits : r.limits ≡ default_limits
+  pub order : IsDepthFirst r.order
+  pub ended : HasEnded r.end
+  pub replays : Replays r.program r.order r.end
+
+-- ## What was written
+
+-- With a run its whole text, or a front of it where the write failed; with a refusal nothing.
+abbrev pub Writes : Option Record → Note → (old new : Option (List ℕ)) → Type 0
+Writes None n old new = Appends old new []
+Writes (Some r) note.Write old new = AppendsFront old new (run_text r)
+Writes (Some r) n old new = Appends old new (run_text r)
+
+-- ## The cause of each answer
+
+-- Want of memory is free. Each other reason has its cause.
+abbrev pub HasCause : Note → (command : Bool) (left : Option (List ℕ)) (read_failed write_failed : Type 0) → Type 0
+HasCause note.Nothing command left read_failed write_failed = command ≡ true
+HasCause note.Usage command left read_failed write_failed = command ≡ false
+HasCause note.Memory command left read_failed write_failed = command ≡ true
+HasCause note.Read command left read_failed write_failed = (command ≡ true) × read_failed
+HasCause note.Write command left read_failed write_failed = (command ≡ true) × write_failed
+HasCause (note.Text f) command left read_failed write_failed = (command ≡ true) × IsRefusedFor (note.Text f) left
+HasCause (note.Name f) command left read_failed write_failed = (command ≡ true) × IsRefusedFor (note.Name f) left

@@ -1,0 +1,26 @@
+-- Why a source is refused: its text's first fault, or else its program's first naming fault.
+use Rattle.std.specs.Prelude.{◌≡◌, ℕ, List, Option, Some, None, Result, Ok, Err, IfSome}
+use Rattle.cw_text.specs.declared.fault.TextFault.{TextFault}
+use Rattle.cw_text.specs.Syntax.{Declaration, tree_of}
+use Rattle.cw_text.specs.Text.{program}
+use Rattle.cw_strand.specs.Names.{naming_fault, Fault}
+use Rattle.cw_serial.specs.declared.program.Program.{Program}
+use Rattle.cw_serial.specs.Programs.{IsProgramOf}
+use Rattle.cw_top.specs.declared.outcome.Note.{Note}
+use Rattle.cw_top.specs.declared.outcome.Note.TheVariants.{Text, Name}
+
+abbrev pub named : Fault → Option Note
+named None = None
+named (Some f) = Some (Name f)
+
+abbrev pub of_reading : Result (List Declaration) TextFault → Option Note
+of_reading (Ok ds) = named (naming_fault ds)
+of_reading (Err f) = Some (Text f)
+
+-- why these bytes are refused, if they are
+abbrev pub refusal : List ℕ → Option Note
+refusal bytes = of_reading (program bytes)
+
+-- The program is what these bytes spell.
+abbrev pub Spells : List ℕ → Program → Type 0
+Spells bytes p = program bytes ≡ Ok (tree_of p.ast)

@@ -1,0 +1,99 @@
+-- What is written: the text of a run, and that of a note. Every line ends with a newline.
+use Rattle.std.specs.Prelude.{ℕ, zero, suc, ◌+◌, ℤ, pos, List, [], ◌∷◌, ◌++◌, codes}
+use Rattle.std.specs.List.{flat_map, range_with_len}
+use Rattle.std.specs.Fmt.{decimal, signed_decimal}
+use Rattle.cw_text.specs.declared.fault.TextKind.{TextKind}
+use Rattle.cw_text.specs.declared.fault.TextKind.TheVariants as text
+use Rattle.cw_strand.specs.declared.naming.NameKind.{NameKind}
+use Rattle.cw_strand.specs.declared.naming.NameKind.TheVariants as naming
+use Rattle.cw_code.specs.declared.FaultKind.{FaultKind}
+use Rattle.cw_code.specs.declared.FaultKind.TheVariants as fault
+use Rattle.cw_code.specs.declared.CellInfo.{CellInfo}
+use Rattle.cw_serial.specs.declared.record.RecordEnd.{RecordEnd}
+use Rattle.cw_serial.specs.declared.record.RecordEnd.TheVariants.{Finished, Fault, Budget, Moves}
+use Rattle.cw_serial.specs.declared.record.Record.{Record}
+use Rattle.cw_serial.specs.Machine.{value_at}
+use Rattle.cw_top.specs.declared.outcome.Note.{Note}
+use Rattle.cw_top.specs.declared.outcome.Note.TheVariants as note
+
+abbrev pub line : List ℕ → List ℕ
+line text = text ++ 10 ∷ []
+
+-- ## A run
+
+abbrev pub fault_name : FaultKind → List ℕ
+fault_name fault.Zero = codes "Zero"
+fault_name fault.Overflow = codes "Overflow"
+fault_name fault.Range = codes "Range"
+fault_name fault.Depth = codes "Depth"
+fault_name fault.Fuel = codes "Fuel"
+fault_name fault.Size = codes "Size"
+
+abbrev pub output_line : ℤ → List ℕ
+output_line v = line (codes "out " ++ signed_decimal v)
+
+-- `NAME = V` for a plain cell
+abbrev pub plain_line : CellInfo → List ℤ → List ℕ
+plain_line c memory = line (c.name ++ codes " = " ++ signed_decimal (value_at memory c.base))
+
+-- `NAME[I] = V` for an element of an array
+abbrev pub element_line : CellInfo → List ℤ → ℕ → List ℕ
+element_line c memory i = line (c.name ++ codes "[" ++ decimal i ++ codes "] = " ++ signed_decimal (value_at memory (c.base + i)))
+
+abbrev pub cell_lines_by : ℕ → CellInfo → List ℤ → List ℕ
+cell_lines_by zero c memory = plain_line c memory
+cell_lines_by (suc n) c memory = flat_map (element_line c memory) (range_with_len 0 (suc n))
+
+abbrev pub cell_lines : CellInfo → List ℤ → List ℕ
+cell_lines c memory = cell_lines_by c.len c memory
+
+-- one line for each output, in order; then each cell, in the order of declaration; then `end`
+abbrev pub finished_text : List CellInfo → (memory outputs : List ℤ) → List ℕ
+finished_text cells memory outputs = flat_map output_line outputs ++ flat_map (λ c. cell_lines c memory) cells ++ line (codes "end")
+
+-- the root, which is the only strand so far
+abbrev pub root_name : List ℕ
+root_name = codes "0"
+
+abbrev pub end_text : List CellInfo → RecordEnd → List ℕ
+end_text cells (Finished memory outputs) = finished_text cells memory outputs
+end_text cells (Fault strand kind) = line (codes "fault " ++ fault_name kind ++ codes " in " ++ root_name)
+end_text cells (Budget strand) = line (codes "budget spent in " ++ root_name)
+end_text cells Moves = line (codes "moves spent")
+
+-- the text of a run
+abbrev pub run_text : Record → List ℕ
+run_text r = end_text r.program.cells r.end
+
+-- ## A note
+
+abbrev pub text_fault_name : TextKind → List ℕ
+text_fault_name text.NotUtf8 = codes "NotUtf8"
+text_fault_name text.BadChar = codes "BadChar"
+text_fault_name text.BadNumber = codes "BadNumber"
+text_fault_name text.Unexpected = codes "Unexpected"
+text_fault_name text.TooLong = codes "TooLong"
+text_fault_name text.TooDeep = codes "TooDeep"
+
+abbrev pub name_fault_name : NameKind → List ℕ
+name_fault_name naming.Unknown = codes "Unknown"
+name_fault_name naming.Twice = codes "Twice"
+name_fault_name naming.WrongCount = codes "WrongCount"
+name_fault_name naming.NoMain = codes "NoMain"
+name_fault_name naming.ReturnInside = codes "ReturnInside"
+name_fault_name naming.TooManyCells = codes "TooManyCells"
+name_fault_name naming.NotACell = codes "NotACell"
+name_fault_name naming.NotALocal = codes "NotALocal"
+
+abbrev pub at_line : ℕ → List ℕ → List ℕ
+at_line l kind = line (codes "cwstm: line " ++ decimal l ++ codes ": " ++ kind)
+
+-- the text of a note
+abbrev pub note_text : Note → List ℕ
+note_text note.Nothing = []
+note_text note.Usage = line (codes "cwstm: usage")
+note_text note.Memory = line (codes "cwstm: want of memory")
+note_text note.Read = line (codes "cwstm: read fault")
+note_text note.Write = line (codes "cwstm: write fault")
+note_text (note.Text f) = at_line f.line (text_fault_name f.kind)
+note_text (note.Name f) = at_line f.line (name_fault_name f.kind)

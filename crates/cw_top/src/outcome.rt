@@ -1,0 +1,39 @@
+use cw_serial::Record;
+use cw_strand::NameFault;
+use cw_text::TextFault;
+
+/// Why the status is not 0 or 6.
+#[derive(Clone, Copy, PartialEq, Eq, Debug)]
+pub enum Note {
+    Nothing,
+    /// The words are no command.
+    Usage,
+    /// Want of memory.
+    Memory,
+    /// A read failed.
+    Read,
+    /// A write failed.
+    Write,
+    /// The text's first fault.
+    Text(TextFault),
+    /// The program's first naming fault.
+    Name(NameFault),
+}
+
+/// What the top call answers: the program's exit status, why, and the run where there was one.
+///
+/// | Status | Meaning |
+/// |---|---|
+/// | 0 | the run finished, and its text was written |
+/// | 1 | want of memory; nothing was written |
+/// | 2 | the words are no command; nothing was read or written |
+/// | 3 | a read failed; nothing was written |
+/// | 4 | a write failed; a front of the text was written |
+/// | 5 | the source was refused; nothing was written |
+/// | 6 | the run ended at a fault, and its text was written |
+#[derive(Drop)]
+pub struct Reply {
+    pub status: u8,
+    pub note: Note,
+    pub kept: Option<Record>,
+}

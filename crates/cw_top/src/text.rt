@@ -1,0 +1,191 @@
+ghost use Rattle.std.specs.Prelude.{◌≡◌, ◌++◌, codes, IfOk, OnOk, string_bytes};
+ghost use Rattle.std.specs.List.{flat_map};
+ghost use Rattle.cw_serial.specs.Machine.{value_at};
+ghost use Rattle.cw_top.specs.Texts.{at_line, cell_lines, element_line, end_text, fault_name, finished_text, line, name_fault_name, note_text as text_of_note, output_line, plain_line, root_name, run_text, text_fault_name};
+
+use crate::Note;
+use cw_base::OutOfMemory;
+use cw_code::{CellInfo, FaultKind};
+use cw_serial::{Record, RecordEnd};
+use cw_strand::NameKind;
+use cw_text::TextKind;
+use std::alloc::Global;
+use std::fmt::Write;
+
+fn fault_name(kind: FaultKind) -> &'static str
+    ensures { result.now ≡ fault_name kind }
+{
+    match kind {
+        FaultKind::Zero => "Zero",
+        FaultKind::Overflow => "Overflow",
+        FaultKind::Range => "Range",
+        FaultKind::Depth => "Depth",
+        FaultKind::Fuel => "Fuel",
+        FaultKind::Size => "Size",
+    }
+}
+
+fn text_fault_name(kind: TextKind) -> &'static str
+    ensures { result.now ≡ text_fault_name kind }
+{
+    match kind {
+        TextKind::NotUtf8 => "NotUtf8",
+        TextKind::BadChar => "BadChar",
+        TextKind::BadNumber => "BadNumber",
+        TextKind::Unexpected => "Unexpected",
+        TextKind::TooLong => "TooLong",
+        TextKind::TooDeep => "TooDeep",
+    }
+}
+
+fn name_fault_name(kind: NameKind) -> &'static str
+    ensures { result.now ≡ name_fault_name kind }
+{
+    match kind {
+        NameKind::Unknown => "Unknown",
+        NameKind::Twice => "Twice",
+        NameKind::WrongCount => "WrongCount",
+        NameKind::NoMain => "NoMain",
+        NameKind::ReturnInside => "ReturnInside",
+        NameKind::TooManyCells => "TooManyCells",
+        NameKind::NotACell => "NotACell",
+        NameKind::NotALocal => "NotALocal",
+    }
+}
+
+fn at_line(alloc: Global, line: u32, kind: &str) -> Result<String, OutOfMemory>
+    ensures { IfOk result (λ text. string_bytes text ≡ at_line line kind.now) }
+{
+    Ok(format!(in alloc; "cwstm: line {line}: {kind}\n")?)
+}
+
+fn note_string(alloc: Global, note: &Note) -> Result<String, OutOfMemory>
+    ensures { IfOk result (λ text. string_bytes text ≡ text_of_note note.now) }
+{
+    match note {
+        Note::Nothing => Ok(String::new(alloc)),
+        Note::Usage => Ok(String::from_str(alloc, "cwstm: usage\n")?),
+        Note::Memory => Ok(String::from_str(alloc, "cwstm: want of memory\n")?),
+        Note::Read => Ok(String::from_str(alloc, "cwstm: read fault\n")?),
+        Note::Write => Ok(String::from_str(alloc, "cwstm: write fault\n")?),
+        Note::Text(fault) => at_line(alloc, fault.line, text_fault_name(fault.kind)),
+        Note::Name(fault) => at_line(alloc, fault.line, name_fault_name(fault.kind)),
+    }
+}
+
+/// The text of a note: one line, or nothing for `Nothing`.
+pub fn note_text(alloc: Global, note: &Note) -> Result<Vec<u8>, OutOfMemory>
+    ensures { IfOk result (λ text. text.items ≡ text_of_note note.now) }
+{
+    Ok(note_string(alloc, note)?.into_bytes())
+}
+
+fn push_output(text: &mut String, value: i64) -> Result<(), OutOfMemory>
+    ensures { OnOk result (string_bytes text.new ≡ string_bytes text.old ++ output_line value) }
+{
+    writeln!(text, "out {value}")?;
+    Ok(())
+}
+
+// The value of an element, and 0 where there is none.
+fn value_at(memory: &[i64], element: usize) -> i64
+    ensures { result ≡ value_at memory.now element }
+{
+    memory.get(element).copied().unwrap_or(0)
+}
+
+fn push_plain(text: &mut String, cell: &CellInfo, memory: &[i64]) -> Result<(), OutOfMemory>
+    ensures { OnOk result (string_bytes text.new ≡ string_bytes text.old ++ plain_line cell.now memory.now) }
+{
+    let name = cell.name.as_str();
+    let value = value_at(memory, cell.base as usize);
+    writeln!(text, "{name} = {value}")?;
+    Ok(())
+}
+
+fn push_element(
+    text: &mut String,
+    cell: &CellInfo,
+    memory: &[i64],
+    index: u32,
+) -> Result<(), OutOfMemory>
+    ensures { OnOk result (string_bytes text.new ≡ string_bytes text.old ++ element_line cell.now memory.now index) }
+{
+    let name = cell.name.as_str();
+    let value = value_at(memory, cell.base as usize + index as usize);
+    writeln!(text, "{name}[{index}] = {value}")?;
+    Ok(())
+}
+
+fn push_cell(text: &mut String, cell: &CellInfo, memory: &[i64]) -> Result<(), OutOfMemory>
+    ensures { OnOk result (string_bytes text.new ≡ string_bytes text.old ++ cell_lines cell.now memory.now) }
+{
+    if cell.len == 0 {
+        return push_plain(text, cell, memory);
+    }
+    for index in 0..cell.len {
+        push_element(text, cell, memory, index)?;
+    }
+    Ok(())
+}
+
+fn push_outputs(text: &mut String, outputs: &[i64]) -> Result<(), OutOfMemory>
+    ensures { OnOk result (string_bytes text.new ≡ string_bytes text.old ++ flat_map output_line outputs.now) }
+{
+    for value in outputs {
+        push_output(text, *value)?;
+    }
+    Ok(())
+}
+
+fn push_cells(text: &mut String, cells: &[CellInfo], memory: &[i64]) -> Result<(), OutOfMemory>
+    ensures { OnOk result (string_bytes text.new ≡ string_bytes text.old ++ flat_map (λ c. cell_lines c memory.now) cells.now) }
+{
+    for cell in cells {
+        push_cell(text, cell, memory)?;
+    }
+    Ok(())
+}
+
+fn finished_text(
+    alloc: Global,
+    cells: &[CellInfo],
+    memory: &[i64],
+    outputs: &[i64],
+) -> Result<String, OutOfMemory>
+    ensures { IfOk result (λ text. string_bytes text ≡ finished_text cells.now memory.now outputs.now) }
+{
+    let mut text = String::new(alloc);
+    push_outputs(&mut text, outputs)?;
+    push_cells(&mut text, cells, memory)?;
+    text.push_str("end\n")?;
+    Ok(text)
+}
+
+fn fault_text(alloc: Global, kind: FaultKind) -> Result<String, OutOfMemory>
+    ensures { IfOk result (λ text. string_bytes text ≡ line (codes "fault " ++ fault_name kind ++ codes " in " ++ root_name)) }
+{
+    let kind = fault_name(kind);
+    Ok(format!(in alloc; "fault {kind} in 0\n")?)
+}
+
+fn end_text(alloc: Global, cells: &[CellInfo], end: &RecordEnd) -> Result<String, OutOfMemory>
+    ensures { IfOk result (λ text. string_bytes text ≡ end_text cells.now end.now) }
+{
+    match end {
+        RecordEnd::Finished { memory, outputs } => {
+            finished_text(alloc, cells, memory.as_slice(), outputs.as_slice())
+        }
+        RecordEnd::Fault { kind, .. } => fault_text(alloc, *kind),
+        RecordEnd::Budget { .. } => Ok(String::from_str(alloc, "budget spent in 0\n")?),
+        RecordEnd::Moves => Ok(String::from_str(alloc, "moves spent\n")?),
+    }
+}
+
+/// The text of a run. Of one that finished: a line `out V` for each output, in order, then a line `NAME = V` for each cell, in
+/// the order of declaration (`NAME[I] = V` for each element of an array), then `end`. Of another one: a line that says why.
+pub fn result_text(alloc: Global, kept: &Record) -> Result<Vec<u8>, OutOfMemory>
+    ensures { IfOk result (λ text. text.items ≡ run_text kept.now) }
+{
+    Ok(end_text(alloc, kept.program.cells.as_slice(), &kept.end)?.into_bytes())
+}
