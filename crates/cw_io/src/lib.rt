@@ -8,5 +8,5 @@ mod sink;
 mod source;
 
 pub use gate::{Gate, OpenGate, Point};
-pub use sink::Sink;
+pub use sink::{Sink, write_all};
 pub use source::{Failed, Source};
