@@ -8,12 +8,16 @@ mod feed;
 mod gate;
 mod mem_sink;
 mod mem_source;
+mod read_source;
 mod sink;
 mod source;
 mod store;
+mod write_sink;
 
 pub use gate::{Gate, OpenGate, Point};
 pub use mem_sink::{MemSink, SureSink};
 pub use mem_source::{MemSource, SureSource};
+pub use read_source::ReadSource;
 pub use sink::{Sink, write_all};
 pub use source::{Failed, Source};
+pub use write_sink::WriteSink;
