@@ -1,1 +1,5 @@
+pub mod FaultPlan
+pub mod MemSink
+pub mod MemSource
 pub mod Outside
+pub mod WriteSink

@@ -1,5 +1,5 @@
-ghost use Rattle.std.specs.Prelude.{◌≡◌, ◌≤◌, ℕ, List, [], length, take, Option, IfOk, OnErr, Ok};
-ghost use Rattle.cw_io.specs.Outside.{HasCause, Appends};
+ghost use Rattle.std.specs.Prelude.{◌≡◌, ◌≤◌, ℕ, List, [], length, take, Option, IfOk, OnOk, OnErr, Ok};
+ghost use Rattle.cw_io.specs.Outside.{HasCause, Appends, AppendsFront};
 
 use crate::Failed;
 
@@ -19,4 +19,18 @@ pub trait Sink {
         ensures taken { IfOk result (λ n. Appends (written self.old) (written self.new) (take n piece.now)) }
         ensures some { result ≡ Ok 0 → piece.now ≡ [] }
         ensures err { OnErr result (Appends (written self.old) (written self.new) []) };
+}
+
+/// Writes the whole text, in as many turns as the sink needs. Takes no memory, and each turn takes a byte at least.
+/// After `Failed` the sink may hold a front of the text.
+pub fn write_all<K: Sink>(sink: &mut K, text: &[u8]) -> Result<(), Failed>
+    ensures cause { HasCause (K.faults sink.old) (K.faults sink.new) result }
+    ensures ok { OnOk result (Appends (K.written sink.old) (K.written sink.new) text.now) }
+    ensures err { OnErr result (AppendsFront (K.written sink.old) (K.written sink.new) text.now) }
+{
+    let mut done = 0;
+    while done < text.len() {
+        done += sink.write(&text[done..])?;
+    }
+    Ok(())
 }

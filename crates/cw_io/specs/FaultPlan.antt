@@ -1,0 +1,27 @@
+-- Which calls of an object fail: those whose numbers are listed, and no others.
+--
+-- Calls are numbered from 1, failed ones included. A number that stands at the last value of a u64 stays there.
+use Rattle.std.specs.Prelude.{◌≡◌, ◌↔◌, ℕ, ◌+◌, ◌-◌, ◌^◌, min, List, Contains, Result, IsErr, is_err, if◌then◌else◌}
+
+pub record Plan : Type 0 where
+  -- the numbers of the calls that fail
+  pub failing : List ℕ
+  -- how many calls were made
+  pub made : ℕ
+  -- how many of them failed
+  pub failed : ℕ
+
+-- the plan before the first call
+abbrev pub fresh_plan : List ℕ → Plan
+fresh_plan failing = record { failing = failing; made = 0; failed = 0 }
+
+-- the number after this one
+abbrev pub next_number : ℕ → ℕ
+next_number n = min (n + 1) (2 ^ 64 - 1)
+
+-- One call was made, and it failed exactly where its number is listed.
+pub record FollowsPlan {T E : Type 0} (old new : Plan) (result : Result T E) : Type 0 where
+  pub listed : IsErr result ↔ Contains old.failing (next_number old.made)
+  pub same_list : new.failing ≡ old.failing
+  pub made : new.made ≡ next_number old.made
+  pub failed : new.failed ≡ (if is_err result then next_number old.failed else old.failed)

@@ -1,0 +1,56 @@
+ghost use Rattle.std.specs.Prelude.{◌≡◌, IsSome};
+ghost use Rattle.cw_io.specs.WriteSink.{told_since};
+
+use crate::{Failed, Sink};
+use std::io::Write;
+use std::snapshot::Snapshot;
+
+/// A writer as a sink. Each of its errors is a fault, and so is a write that takes nothing of a piece that is not empty.
+/// Each piece is flushed at once, so that no fault comes to light after the last call.
+///
+/// A flush may fail after bytes were taken. Nobody knows then how many of them came through, so that call answers
+/// `Failed`, and from then on the sink tells nothing.
+#[derive(Drop)]
+pub struct WriteSink<W: Write> {
+    writer: W,
+    // The writer at first, for clauses alone. A writer may begin to tell its bytes at any time, a sink may not.
+    first: Snapshot<W>,
+    is_told: bool,
+    faults: u64,
+    ghost tells_on: { IsSome (W.contents first.value) → IsSome (W.contents writer) },
+}
+
+impl<W: Write> WriteSink<W> {
+    pub fn new(writer: W) -> WriteSink<W>
+        ensures written { ⟦<WriteSink<W> as Sink>⟧.written result ≡ W.contents writer }
+        ensures faults { ⟦<WriteSink<W> as Sink>⟧.faults result ≡ 0 }
+    {
+        let first = Snapshot::of(&writer);
+        WriteSink {
+            writer,
+            first,
+            is_told: true,
+            faults: 0,
+        }
+    }
+}
+
+impl<W: Write> Sink for WriteSink<W> {
+    ghost written = { λ s. told_since s.is_told (W.contents s.first.value) (W.contents s.writer) };
+
+    ghost faults = { λ s. s.faults };
+
+    fn write(&mut self, piece: &[u8]) -> Result<usize, Failed> {
+        match self.writer.write(piece) {
+            Ok(count) if count > 0 || piece.is_empty() => {
+                if self.writer.flush().is_ok() {
+                    return Ok(count);
+                }
+                self.is_told = false;
+            }
+            _ => {}
+        }
+        self.faults = self.faults.saturating_add(1);
+        Err(Failed)
+    }
+}
