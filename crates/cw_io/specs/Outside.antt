@@ -25,6 +25,10 @@ Keeps old new = Takes old new []
 abbrev pub IsDry : Option (List ℕ) → Type 0
 IsDry left = IfSome left (λ xs. xs ≡ [])
 
+-- All that was to come has come.
+abbrev pub RunsDry : (old new : Option (List ℕ)) → Type 0
+RunsDry old new = IfSome old (λ xs. IsSomeAnd new (λ ys. ys ≡ []))
+
 -- What is held is what was held, and behind it these bytes.
 abbrev pub Appends : (old new : Option (List ℕ)) (bytes : List ℕ) → Type 0
 Appends old new bytes = IfSome new (λ ys. IsSomeAnd old (λ xs. ys ≡ xs ++ bytes))

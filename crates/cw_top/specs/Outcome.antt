@@ -1,6 +1,6 @@
 -- What a status says: a part for each thing that the top call promises, each a function of what it is about alone, so
 -- that a further command replaces one part.
-use Rattle.std.specs.Prelude.{◌≡◌, ◌⊎◌, ◌↔◌, ◌≤◌, ◌<◌, ℕ, ◌+◌, Bool, true, false, List, [], ◌∷◌, length, Option, Some, None, IfSome, IsSomeAnd, IsSome, IsNone, replicate}
+use Rattle.std.specs.Prelude.{◌≡◌, ◌⊎◌, ◌↔◌, ◌≤◌, ◌<◌, ℕ, ◌+◌, Bool, true, false, List, [], ◌∷◌, ◌++◌, length, Option, Some, None, IfSome, IsSomeAnd, IsSome, IsNone, replicate}
 use Rattle.cw_io.specs.Outside.{Rose, Takes, Keeps, IsDry, Appends, AppendsFront}
 use Rattle.cw_code.specs.declared.Limits.{Limits}
 use Rattle.cw_text.specs.Syntax.{tree_of}
@@ -68,6 +68,10 @@ IsStatus (Some r) status n = IsOfRun n × (status ≡ status_of_run n r.end)
 abbrev pub TakesAtMost : ℕ → (old new : Option (List ℕ)) → Type 0
 TakesAtMost most old new = (bytes : List ℕ) × (length bytes ≤ most) × Takes old new bytes
 
+-- So many bytes came, and stand behind those that were there.
+abbrev pub GivesOn : (left_old left_new : Option (List ℕ)) (old new : List ℕ) (count : ℕ) → Type 0
+GivesOn left_old left_new old new count = (bytes : List ℕ) × (length bytes ≡ count) × (new ≡ old ++ bytes) × Takes left_old left_new bytes
+
 -- A source is refused for this reason, where its bytes are told.
 abbrev pub IsRefusedFor : Note → Option (List ℕ) → Type 0
 IsRefusedFor n left = IfSome left (λ bytes. refusal bytes ≡ Some n)
@@ -104,3 +108,31 @@ HasCause note.Read command left read_failed write_failed = (command ≡ true) ×
 HasCause note.Write command left read_failed write_failed = (command ≡ true) × write_failed
 HasCause (note.Text f) command left read_failed write_failed = (command ≡ true) × IsRefusedFor (note.Text f) left
 HasCause (note.Name f) command left read_failed write_failed = (command ≡ true) × IsRefusedFor (note.Name f) left
+
+-- Why a run's text was not written: want of memory, or a failed write; or it was written.
+abbrev pub IsOfWriting : Note → (write_failed : Type 0) → Type 0
+IsOfWriting note.Nothing write_failed = Unit {0}
+IsOfWriting note.Memory write_failed = Unit {0}
+IsOfWriting note.Write write_failed = write_failed
+IsOfWriting n write_failed = ⊥
+
+-- Why reading stopped before the end: want of memory, or a failed read.
+abbrev pub IsWhyStopped : Note → (read_failed : Type 0) → Type 0
+IsWhyStopped note.Memory read_failed = Unit {0}
+IsWhyStopped note.Read read_failed = read_failed
+IsWhyStopped n read_failed = ⊥
+
+-- Why bytes were not read to a program: want of memory, or that they are refused.
+abbrev pub IsWhyRefused : Note → List ℕ → Type 0
+IsWhyRefused note.Memory bytes = Unit {0}
+IsWhyRefused (note.Text f) bytes = refusal bytes ≡ Some (note.Text f)
+IsWhyRefused (note.Name f) bytes = refusal bytes ≡ Some (note.Name f)
+IsWhyRefused n bytes = ⊥
+
+-- Why a source was not read to a program: want of memory, a failed read, or that its bytes are refused.
+abbrev pub IsWhyNotRead : Note → (read_failed : Type 0) (left : Option (List ℕ)) → Type 0
+IsWhyNotRead note.Memory read_failed left = Unit {0}
+IsWhyNotRead note.Read read_failed left = read_failed
+IsWhyNotRead (note.Text f) read_failed left = IsRefusedFor (note.Text f) left
+IsWhyNotRead (note.Name f) read_failed left = IsRefusedFor (note.Name f) left
+IsWhyNotRead n read_failed left = ⊥

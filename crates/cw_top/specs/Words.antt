@@ -1,10 +1,10 @@
 -- Which words are a command. So far there is one, `run`, without options.
 use Rattle.std.specs.Prelude.{Bool, true, false, List, [], ◌∷◌, ℕ, codes, map, string_bytes, String}
 use Rattle.std.specs.declared.alloc.Global.{Global}
-use Rattle.cw_text.specs.Lexemes.{list_eq}
+use Rattle.std.specs.Str.{bytes_eq}
 
 abbrev pub is_command : List (List ℕ) → Bool
-is_command (w ∷ []) = list_eq w (codes "run")
+is_command (w ∷ []) = bytes_eq w (codes "run")
 is_command ws = false
 
 -- whether these words, which come behind the program's name, are a command

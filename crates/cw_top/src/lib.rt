@@ -6,12 +6,15 @@
 #![tactic(auto)]
 
 mod outcome;
+mod reading;
 mod text;
+mod top;
 
 ghost use Rattle.cw_top.specs.Rows.{Commands};
 
 pub use outcome::{Note, Reply};
 pub use text::{note_text, result_text};
+pub use top::cwstm;
 
 /// Worked words.
 pub fn worked_words()
