@@ -21,3 +21,6 @@ pub use read_source::ReadSource;
 pub use sink::{Sink, write_all};
 pub use source::{Failed, Source};
 pub use write_sink::WriteSink;
+
+#[cfg(test)]
+mod tests;

@@ -1,0 +1,118 @@
+use super::*;
+use std::io;
+use std::io::{BufWriter, ErrorKind, Read, Write};
+use std::process::Abort;
+use std::test::Fail;
+
+/// Reads into a buffer of three bytes, once for each answer that is wanted: these bytes, or `None` for a fault.
+fn expect_reads<S: Source>(rt: &impl Abort, source: &mut S, wanted: &[Option<&[u8]>]) {
+    for want in wanted {
+        let mut buf = [0u8; 3];
+        match (source.read(&mut buf), want) {
+            (Ok(count), Some(bytes)) => assert_eq!(rt; &buf[..count], *bytes),
+            (Err(Failed), None) => {}
+            (got, _) => panic!(rt; "{got:?} in place of {want:?}"),
+        }
+    }
+}
+
+#[test]
+fn sources_in_memory_give_their_bytes(rt: HostRuntime) -> Result<(), Fail> {
+    let bytes = b"abcde".to_vec(rt.alloc())?;
+    let mut sure = SureSource::new(bytes, 4);
+    expect_reads(
+        &rt,
+        &mut sure,
+        &[Some(b"abc"), Some(b"de"), Some(b""), Some(b"")],
+    );
+    let bytes = b"abcde".to_vec(rt.alloc())?;
+    let mut faulty = MemSource::new(bytes, 2, [2, 5].to_vec(rt.alloc())?);
+    expect_reads(
+        &rt,
+        &mut faulty,
+        &[Some(b"ab"), None, Some(b"cd"), Some(b"e"), None, Some(b"")],
+    );
+    Ok(())
+}
+
+#[test]
+fn sinks_in_memory_hold_what_was_written(rt: HostRuntime) -> Result<(), Fail> {
+    let table: [(&[u64], bool, &[u8]); 4] = [
+        (&[], true, b"out 1\n"),
+        (&[1], false, b""),
+        (&[2], false, b"out "),
+        (&[3], true, b"out 1\n"),
+    ];
+    for (failing, is_whole, held) in table {
+        let mut sink = MemSink::with_room(rt.alloc(), 6, 4, failing.to_vec(rt.alloc())?)?;
+        assert_eq!(rt;
+            write_all(&mut sink, b"out 1\n").is_ok(),
+            is_whole,
+            "{failing:?}"
+        );
+        assert_eq!(rt; sink.taken(), held, "{failing:?}");
+    }
+    let mut sure = SureSink::with_room(rt.alloc(), 9)?;
+    write_all(&mut sure, b"c = 1\n")?;
+    write_all(&mut sure, b"end")?;
+    assert_eq!(rt; sure.taken(), b"c = 1\nend".as_slice());
+    Ok(())
+}
+
+/// A reader and writer that fails in every call.
+#[derive(Drop)]
+struct Broken;
+
+impl Read for Broken {
+    fn read(&mut self, _buf: &mut [u8]) -> io::Result<usize> {
+        Err(io::Error::from(ErrorKind::Other))
+    }
+}
+
+#[test]
+fn readers_are_sources(rt: HostRuntime) {
+    let mut whole = ReadSource::new(b"abcde".as_slice());
+    expect_reads(&rt, &mut whole, &[Some(b"abc"), Some(b"de"), Some(b"")]);
+    expect_reads(&rt, &mut ReadSource::new(Broken), &[None, None]);
+}
+
+/// A writer that takes at most two bytes a call, and cannot flush more than it has room for.
+#[derive(Drop)]
+struct Pipe {
+    taken: usize,
+    room: usize,
+}
+
+impl Write for Pipe {
+    fn write(&mut self, buf: &[u8]) -> io::Result<usize> {
+        let count = buf.len().min(2);
+        self.taken = self.taken.saturating_add(count);
+        Ok(count)
+    }
+
+    fn flush(&mut self) -> io::Result<()> {
+        if self.taken > self.room {
+            return Err(io::Error::from(ErrorKind::BrokenPipe));
+        }
+        Ok(())
+    }
+}
+
+#[test]
+fn writers_are_sinks(rt: HostRuntime) -> Result<(), Fail> {
+    let mut held = Vec::new(rt.alloc());
+    let mut sink = WriteSink::new(BufWriter::new(rt.alloc(), &mut held)?);
+    write_all(&mut sink, b"out 1\n")?;
+    write_all(&mut sink, b"end\n")?;
+    drop(sink);
+    assert_eq!(rt; held.as_slice(), b"out 1\nend\n".as_slice());
+    for (room, is_whole) in [(6, true), (5, false), (0, false)] {
+        let mut sink = WriteSink::new(Pipe { taken: 0, room });
+        assert_eq!(rt;
+            write_all(&mut sink, b"out 1\n").is_ok(),
+            is_whole,
+            "room {room}"
+        );
+    }
+    Ok(())
+}
