@@ -1,6 +1,7 @@
 //! The outside as the product sees it: where bytes come from, where they go, and where a worker may be held.
 //! Stands on `cw_base`.
-//! Contracts cite `specs/Outside.antt`: what a source gives, what a sink takes, when either may fail.
+//! Contracts cite `specs/Outside.antt`: what a source gives, what a sink takes, when either may fail. Those of the sources
+//! and sinks in memory cite `specs/MemSource.antt`, `specs/MemSink.antt` and, for the calls that fail, `specs/FaultPlan.antt`.
 #![tactic(auto)]
 
 mod fault_plan;

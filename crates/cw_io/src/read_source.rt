@@ -3,7 +3,8 @@ ghost use Rattle.std.specs.Prelude.{◌≡◌};
 use crate::{Failed, Source};
 use std::io::Read;
 
-/// A reader as a source. What it tells, the source tells, and each of its errors is a fault.
+/// A reader as a source. What it tells, the source tells, and each of its errors is a fault, that of an interrupted call
+/// too.
 #[derive(Drop)]
 pub struct ReadSource<R> {
     reader: R,

@@ -21,8 +21,8 @@ pub trait Sink {
         ensures err { OnErr result (Appends (written self.old) (written self.new) []) };
 }
 
-/// Writes the whole text, in as many turns as the sink needs. Takes no memory, and each turn takes a byte at least.
-/// After `Failed` the sink may hold a front of the text.
+/// Writes the whole text, in as many turns as the sink needs. It ends, since each turn writes a byte at least, and takes no
+/// memory. The first write that fails ends it, and the sink then holds a front of the text.
 pub fn write_all<K: Sink>(sink: &mut K, text: &[u8]) -> Result<(), Failed>
     ensures cause { HasCause (K.faults sink.old) (K.faults sink.new) result }
     ensures ok { OnOk result (Appends (K.written sink.old) (K.written sink.new) text.now) }

@@ -25,13 +25,12 @@ impl Model for Store {
 }
 
 impl Store {
-    /// Takes the memory for so many bytes.
+    /// Takes the memory for as many bytes as it has room for.
     pub fn with_room(alloc: Global, room: usize) -> Result<Store, OutOfMemory>
         ensures { IfOk result (λ s. s ≡ empty_stock room) }
     {
-        let bytes = Vec::with_capacity(alloc, room)?;
         Ok(Store {
-            bytes: Some(bytes),
+            bytes: Some(Vec::with_capacity(alloc, room)?),
             room,
         })
     }

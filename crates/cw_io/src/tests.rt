@@ -59,7 +59,7 @@ fn sinks_in_memory_hold_what_was_written(rt: HostRuntime) -> Result<(), Fail> {
     Ok(())
 }
 
-/// A reader and writer that fails in every call.
+/// A reader that fails in every call.
 #[derive(Drop)]
 struct Broken;
 

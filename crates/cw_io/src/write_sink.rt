@@ -5,8 +5,8 @@ use crate::{Failed, Sink};
 use std::io::Write;
 use std::snapshot::Snapshot;
 
-/// A writer as a sink. Each of its errors is a fault, and so is a write that takes nothing of a piece that is not empty.
-/// Each piece is flushed at once, so that no fault comes to light after the last call.
+/// A writer as a sink. Each of its errors is a fault, that of an interrupted call too, and so is a write that takes nothing
+/// of a piece that is not empty. Each call flushes what it wrote, so that no fault comes to light after the last call.
 ///
 /// A flush may fail after bytes were taken. Nobody knows then how many of them came through, so that call answers
 /// `Failed`, and from then on the sink tells nothing.
