@@ -7,6 +7,8 @@
 
 mod outcome;
 mod reading;
+#[cfg(test)]
+mod tests;
 mod text;
 mod top;
 

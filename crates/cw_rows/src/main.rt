@@ -1,0 +1,49 @@
+//! A table of worked sources: each source of standard input, with `#` between them, is run by the top call in memory, and what
+//! it answers is printed: the status, the note and the text.
+//! Stands on `cw_top` and `cw_io`.
+#![tactic(auto)]
+
+use cw_io::{OpenGate, SureSink, SureSource};
+use cw_top::{cwstm, note_text};
+use std::io;
+use std::io::{Read, Write};
+use std::sync::Wait;
+use std::thread::Threads;
+
+fn show<R: AllocGlobal + Print + Threads + Wait + Sync>(rt: &R, text: &[u8]) -> io::Result<()> {
+    let words = vec![in rt.alloc(); String::from_str(rt.alloc(), "run")?]?;
+    let mut source = SureSource::new(text.to_vec(rt.alloc())?, 4096);
+    let Ok(mut sink) = SureSink::with_room(rt.alloc(), 4096) else {
+        return println!(rt; "want of memory");
+    };
+    let reply = cwstm(
+        rt,
+        rt.alloc(),
+        words.as_slice(),
+        &mut source,
+        &mut sink,
+        &OpenGate,
+    );
+    let status = reply.status;
+    let kept = if reply.kept.is_some() {
+        "kept"
+    } else {
+        "not kept"
+    };
+    println!(rt; "status {status}, {kept}")?;
+    if let Ok(note) = note_text(rt.alloc(), &reply.note) {
+        io::writer(rt).write_all(note.as_slice())?;
+    }
+    io::writer(rt).write_all(sink.taken())
+}
+
+fn main(rt: HostRuntime) -> io::Result<()> {
+    let mut table = Vec::new(rt.alloc());
+    rt.stdin().read_to_end(&mut table)?;
+    let mut sources = table.split(|byte| *byte == b'#');
+    for source in &mut sources {
+        let text = source.strip_prefix(b"\n").unwrap_or(source);
+        show(&rt, text)?;
+    }
+    Ok(())
+}

@@ -1,0 +1,106 @@
+use super::*;
+use cw_io::{MemSink, MemSource, OpenGate, Sink, Source, SureSink, SureSource};
+use std::alloc::Global;
+use std::sync::Wait;
+use std::test::Fail;
+use std::thread::Threads;
+
+const COUNTS: &[u8] = b"cell c; fn main() { c = c + 1; out c; }";
+
+fn answer<R: AllocGlobal + Threads + Wait + Sync, S: Source, K: Sink>(
+    rt: &R,
+    words: &[&str],
+    source: &mut S,
+    sink: &mut K,
+) -> Result<Reply, Fail> {
+    let mut command = Vec::new(rt.alloc());
+    for word in words {
+        command.push(String::from_str(rt.alloc(), word)?)?;
+    }
+    let words = command.as_slice();
+    Ok(cwstm(rt, rt.alloc(), words, source, sink, &OpenGate))
+}
+
+// A program followed by blanks, so many bytes in all.
+fn padded(alloc: Global, length: usize) -> Result<Vec<u8>, Fail> {
+    let mut text = b"fn main() {}".to_vec(alloc)?;
+    for _ in text.len()..length {
+        text.push(b' ')?;
+    }
+    Ok(text)
+}
+
+// The worked sources of `cw_rows` are too short to show this.
+#[test]
+fn a_source_may_have_so_many_bytes(rt: HostRuntime) -> Result<(), Fail> {
+    for (length, status) in [(1_048_576, 0), (1_048_577, 5), (1_100_000, 5)] {
+        let mut source = SureSource::new(padded(rt.alloc(), length)?, 10_000);
+        let mut sink = SureSink::with_room(rt.alloc(), 100)?;
+        let reply = answer(&rt, &["run"], &mut source, &mut sink)?;
+        assert_eq!(rt; reply.status, status, "{length} bytes");
+        assert_eq!(rt; sink.taken().len(), if status == 0 { 4 } else { 0 });
+    }
+    Ok(())
+}
+
+#[test]
+fn the_words_are_read_first(rt: HostRuntime) -> Result<(), Fail> {
+    let table: [&[&str]; 5] = [&[], &["go"], &["run", "run"], &["run", "--workers"], &[""]];
+    for words in table {
+        let mut source = SureSource::new(COUNTS.to_vec(rt.alloc())?, 9);
+        let mut sink = SureSink::with_room(rt.alloc(), 10)?;
+        let reply = answer(&rt, words, &mut source, &mut sink)?;
+        assert_eq!(rt; reply.status, 2);
+        assert_eq!(rt; sink.taken(), b"".as_slice());
+    }
+    Ok(())
+}
+
+// Of a sink that takes a byte at a time, each call fails in turn: a front was written then, and the run is kept.
+#[test]
+fn a_write_that_fails_keeps_the_run(rt: HostRuntime) -> Result<(), Fail> {
+    let text = b"out 1\nc = 1\nend\n";
+    for call in 1..=17u64 {
+        let mut source = SureSource::new(COUNTS.to_vec(rt.alloc())?, 7);
+        let mut sink = MemSink::with_room(rt.alloc(), 100, 1, [call].to_vec(rt.alloc())?)?;
+        let reply = answer(&rt, &["run"], &mut source, &mut sink)?;
+        assert_eq!(rt; reply.status, if call == 17 { 0 } else { 4 });
+        assert!(rt; reply.kept.is_some());
+        assert_eq!(rt; sink.taken(), &text[..(call - 1) as usize]);
+    }
+    let mut source = SureSource::new(COUNTS.to_vec(rt.alloc())?, 7);
+    let mut sink = MemSink::with_room(rt.alloc(), 100, 4, [2].to_vec(rt.alloc())?)?;
+    let reply = answer(&rt, &["run"], &mut source, &mut sink)?;
+    assert_eq!(rt; (reply.status, reply.note), (4, Note::Write));
+    assert_eq!(rt; sink.taken(), b"out ".as_slice());
+    Ok(())
+}
+
+// Of a source that gives a byte at a time, each call fails in turn: nothing was written then.
+#[test]
+fn a_read_that_fails_writes_nothing(rt: HostRuntime) -> Result<(), Fail> {
+    for call in 1..=41u64 {
+        let bytes = COUNTS.to_vec(rt.alloc())?;
+        let mut source = MemSource::new(bytes, 1, [call].to_vec(rt.alloc())?);
+        let mut sink = SureSink::with_room(rt.alloc(), 100)?;
+        let reply = answer(&rt, &["run"], &mut source, &mut sink)?;
+        assert_eq!(rt; reply.status, if call == 41 { 0 } else { 3 });
+        assert_eq!(rt; reply.kept.is_some(), call == 41);
+        assert_eq!(rt; sink.taken().is_empty(), call != 41);
+    }
+    Ok(())
+}
+
+#[test]
+fn notes_are_lines(rt: HostRuntime) -> Result<(), Fail> {
+    let table: [(Note, &[u8]); 4] = [
+        (Note::Memory, b"cwstm: want of memory\n"),
+        (Note::Read, b"cwstm: read fault\n"),
+        (Note::Write, b"cwstm: write fault\n"),
+        (Note::Usage, b"cwstm: usage\n"),
+    ];
+    for (note, wanted) in table {
+        assert_eq!(rt; note_text(rt.alloc(), &note)?.as_slice(), wanted);
+    }
+    Ok(())
+}
