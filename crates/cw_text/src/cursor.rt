@@ -1,8 +1,8 @@
-ghost use Rattle.std.specs.Prelude.{◌≡◌, ◌≤◌, ◌^◌, length};
-ghost use Rattle.cw_text.specs.Lexemes.{keywords, lexemes};
-ghost use Rattle.cw_text.specs.Cursor.{left_of, rest_of};
+ghost use Rattle.std.specs.Prelude.{◌≤◌, ◌+◌, ◌^◌, length};
 
 use crate::letters::Letters;
+use crate::scan::{Front, pass, read_front};
+use crate::spelling::KEYWORDS;
 use crate::{Mark, TextKind};
 
 /// A token of a text. `Bad` is none, for this reason.
@@ -16,33 +16,64 @@ pub enum Token<'a> {
 }
 
 /// A place in a text: the token there, its line, and the bytes behind it with the line on which they begin.
+#[derive(Drop)]
 pub struct Cursor<'a> {
     pub token: Token<'a>,
     pub line: u32,
     rest: &'a [u8],
     rest_line: u32,
+    ghost short: { rest_line + length rest.now ≤ 2 ^ 20 + 1 },
 }
 
 impl<'a> Cursor<'a> {
+    ghost use Rattle.std.specs.Prelude.{◌≡◌};
+    ghost use Rattle.cw_text.specs.Lexemes.{keywords, lexemes, lexemes_from};
+    ghost use Rattle.cw_text.specs.Cursor.{left_of, rest_of};
+
     /// The first token of a text.
     pub fn new(text: &'a [u8]) -> Cursor<'a>
         requires { length text.now ≤ 2 ^ 20 }
         ensures { left_of result ≡ lexemes keywords text.now }
     {
-        let mut cursor = Cursor {
-            token: Token::Bad(TextKind::BadChar),
-            line: 1,
-            rest: text,
-            rest_line: 1,
-        };
-        cursor.advance();
-        cursor
+        Cursor::first_in(text, 1)
     }
 
     /// Goes on to the next token. The end stays where it is.
     pub fn advance(&mut self)
         ensures { left_of self.new ≡ rest_of (left_of self.old) }
     {
-        self.line = self.rest_line;
+        if !matches!(self.token, Token::End) {
+            *self = Cursor::first_in(self.rest, self.rest_line);
+        }
+    }
+
+    #[tactic(auto, using(crate::proofs::Passing::front_gone))]
+    // The first token of a text that begins on this line.
+    fn first_in(text: &'a [u8], line: u32) -> Cursor<'a>
+        requires { line + length text.now ≤ 2 ^ 20 + 1 }
+        ensures { left_of result ≡ lexemes_from keywords line 0 text.now }
+    {
+        let (mut rest, mut rest_line) = (text, line);
+        while !rest.is_empty() {
+            match read_front(&KEYWORDS, rest) {
+                Front::Gap(len) => (rest, rest_line) = pass(rest, rest_line, len),
+                Front::Found(token, len) => {
+                    let line = rest_line;
+                    let (rest, rest_line) = pass(rest, line, len);
+                    return Cursor {
+                        token,
+                        line,
+                        rest,
+                        rest_line,
+                    };
+                }
+            }
+        }
+        Cursor {
+            token: Token::End,
+            line: rest_line,
+            rest,
+            rest_line,
+        }
     }
 }

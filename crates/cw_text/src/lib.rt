@@ -13,6 +13,8 @@ mod cursor;
 mod fault;
 mod letters;
 mod mark;
+mod scan;
+mod spelling;
 
 pub use ast::{Ast, Expr, Item, Op, Stmt, Word};
 pub use fault::{TextFault, TextKind, TextRefusal};

@@ -1,0 +1,5 @@
+pub mod Digits
+pub mod Fronts
+pub mod Passing
+pub mod Prefixes
+pub mod Spelled
