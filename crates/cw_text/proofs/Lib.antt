@@ -2,4 +2,5 @@ pub mod Digits
 pub mod Fronts
 pub mod Passing
 pub mod Prefixes
+pub mod Readings
 pub mod Spelled

@@ -6,19 +6,21 @@
 #![tactic(auto)]
 
 ghost use Rattle.cw_text.specs.Rows.{Tokens, Programs, Heights, Brackets, Refusals};
-ghost use Rattle.cw_text.specs.Text.{program, Reads};
 
 mod ast;
 mod cursor;
 mod fault;
 mod letters;
 mod mark;
+mod parser;
 mod scan;
 mod spelling;
+mod text;
 
 pub use ast::{Ast, Expr, Item, Op, Stmt, Word};
 pub use fault::{TextFault, TextKind, TextRefusal};
 pub use mark::Mark;
+pub use text::read_program;
 
 /// Worked texts.
 pub fn worked_texts()
@@ -28,13 +30,3 @@ pub fn worked_texts()
     ensures brackets { Brackets }
     ensures refusals { Refusals }
 {}
-
-use std::alloc::Global;
-
-/// Reads a program. The answer is the tree that the text spells, or the text's first fault with its line.
-pub fn read_program(_alloc: Global, bytes: &[u8]) -> Result<Ast, TextRefusal>
-    ensures exact { Reads result (program bytes.now) }
-{
-    let _ = bytes;
-    Err(TextRefusal::OutOfMemory)
-}
