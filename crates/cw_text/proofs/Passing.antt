@@ -3,11 +3,12 @@ use Rattle.std.proofs.Common.{◌≡◌, ℕ, zero, suc, ◌+◌, ◌-◌, ◌<�
 use Rattle.std.proofs.lemmas.List.Sums.{sum_by-cons}
 use Rattle.std.specs.List.{count_by}
 use Rattle.cw_text.specs.declared.mark.Mark.{Mark}
-use Rattle.cw_text.specs.Lexemes.{lexemes_from, line_after, end_on, front, width, begun_by, Front, found}
+use Rattle.cw_text.specs.Lexemes.{Lexemes, lexemes_from, line_after, end_on, comes, front, width, begun_by, Front, found}
 use Rattle.cw_text.specs.declared.cursor.Token.{Token}
+use Rattle.cw_text.specs.declared.cursor.Token.TheVariants as token
 use Rattle.cw_text.specs.Cursor.{before}
 use Rattle.cw_text.specs.Front.{lexeme_of}
-use Rattle.cw_text.proofs.Fronts.{found_before}
+use Rattle.cw_text.proofs.Fronts.{front_is, gives_end}
 
 abbrev pub newlines_in : List ℕ → ℕ
 newlines_in = count_by (λ c. c == 10)
@@ -29,16 +30,24 @@ one_passed words line zero c cs some = absurd (omega arith)
 one_passed words line (suc n) c cs some = ap (λ k. lexemes_from words (line_after c line) k cs) (omega arith)
 
 -- a gap or a token at the front of a text, and what stands behind it
-begun : (words : List Mark) (line : ℕ) (text : List ℕ) → 0 < length text → 0 < width (front words text) →
+pub begun : (words : List Mark) (line : ℕ) (text : List ℕ) → 0 < length text →
     lexemes_from words line 0 text ≡ begun_by (front words text) line (lexemes_from words line (width (front words text)) text)
-begun words line [] some wide = absurd (omega arith)
-begun words line (c ∷ cs) some wide = ap (λ xs. begun_by (front words (c ∷ cs)) line xs) (one_passed words line (width (front words (c ∷ cs))) c cs wide)
+begun words line [] some = absurd (omega arith)
+begun words line (c ∷ cs) some = ap (λ xs. begun_by (front words (c ∷ cs)) line xs) (one_passed words line (width (front words (c ∷ cs))) c cs (front_is words c cs).some)
 
-pub front_gone : (words : List Mark) (line : ℕ) (text : List ℕ) (f : Front) → f ≡ front words text → 0 < length text → 0 < width f →
-    lexemes_from words line 0 text ≡ begun_by f line (lexemes_from words line (width f) text)
-front_gone words line text f is some wide = rw is (begun words line text some (rw (← is) wide))
+-- a token that was found is not the end
+found_before : (words : List Mark) (c : ℕ) (cs : List ℕ) (t : Token) (n line : ℕ) (xs : Lexemes) → found (lexeme_of t) n ≡ front words (c ∷ cs) → before t line xs ≡ comes (lexeme_of t) line xs
+found_before words c cs (token.Name w) n line xs is = refl
+found_before words c cs (token.Number v) n line xs is = refl
+found_before words c cs (token.Mark m) n line xs is = refl
+found_before words c cs (token.Bad k) n line xs is = refl
+found_before words c cs token.End n line xs is = let e : true ≡ false = ap gives_end is ∙ (front_is words c cs).no_end in cc
 
 -- a token that was found, and what stands behind it
-pub found_gone : (words : List Mark) (text : List ℕ) (t : Token) (n line : ℕ) → found (lexeme_of t) n ≡ front words text → 0 < length text → 0 < n →
+pub found_gone : (words : List Mark) (text : List ℕ) (t : Token) (n line : ℕ) → found (lexeme_of t) n ≡ front words text → 0 < length text →
     before t line (lexemes_from words line n text) ≡ lexemes_from words line 0 text
-found_gone words text t n line is some wide = found_before words text t n line (lexemes_from words line n text) is ∙ sym (front_gone words line text (found (lexeme_of t) n) is some wide)
+found_gone words [] t n line is some = absurd (omega arith)
+found_gone words (c ∷ cs) t n line is some =
+    found_before words c cs t n line (lexemes_from words line n (c ∷ cs)) is
+    ∙ ap (λ f. begun_by f line (lexemes_from words line (width f) (c ∷ cs))) is
+    ∙ sym (begun words line (c ∷ cs) some)

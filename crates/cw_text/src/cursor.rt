@@ -1,7 +1,8 @@
-ghost use Rattle.std.specs.Prelude.{◌≤◌, ◌+◌, ◌^◌, length};
+ghost use Rattle.std.specs.Prelude.{◌≡◌, ◌<◌, ◌≤◌, ◌+◌, ◌^◌, length, drop};
+ghost use Rattle.cw_text.specs.Lexemes.{keywords, lexemes, lexemes_from};
 
 use crate::letters::Letters;
-use crate::scan::{Front, pass, read_front};
+use crate::scan::{Front, newlines, read_front};
 use crate::spelling::KEYWORDS;
 use crate::{Mark, TextKind};
 
@@ -26,8 +27,6 @@ pub struct Cursor<'a> {
 }
 
 impl<'a> Cursor<'a> {
-    ghost use Rattle.std.specs.Prelude.{◌≡◌};
-    ghost use Rattle.cw_text.specs.Lexemes.{keywords, lexemes, lexemes_from};
     ghost use Rattle.cw_text.specs.Cursor.{left_of, rest_of};
 
     /// The first token of a text.
@@ -47,8 +46,8 @@ impl<'a> Cursor<'a> {
         }
     }
 
-    #[tactic(auto, using(crate::proofs::Passing::front_gone))]
     // The first token of a text that begins on this line.
+    #[tactic(auto, using(crate::proofs::Fronts::front_width, crate::proofs::Passing::begun))]
     fn first_in(text: &'a [u8], line: u32) -> Cursor<'a>
         requires { line + length text.now ≤ 2 ^ 20 + 1 }
         ensures { left_of result ≡ lexemes_from keywords line 0 text.now }
@@ -76,4 +75,17 @@ impl<'a> Cursor<'a> {
             rest_line,
         }
     }
+}
+
+// What stands behind so many bytes of a text that begins on this line, and the line on which that begins.
+#[tactic(auto, using(crate::proofs::Passing::passed))]
+fn pass(text: &[u8], line: u32, len: usize) -> (&[u8], u32)
+    requires within { len ≤ length text.now }
+    requires short { line + length text.now < 2 ^ 32 }
+    ensures rest { result.0.now ≡ drop len text.now }
+    ensures line { lexemes_from keywords line len text.now ≡ lexemes_from keywords result.1 0 result.0.now }
+    ensures shorter { result.1 + length result.0.now ≤ line + length text.now }
+{
+    let (passed, rest) = text.split_at(len);
+    (rest, line + newlines(passed) as u32)
 }

@@ -80,8 +80,8 @@ pub fn word_token<'a>(words: &[Mark], word: &'a [u8]) -> Token<'a>
     Token::Name(Letters { bytes: word })
 }
 
+// What digits say, where an `i64` can hold it.
 #[tactic(auto, using(crate::proofs::Digits::value_on_next))]
-/// What digits say, where an `i64` can hold it.
 fn value_of(digits: &[u8]) -> Option<u64>
     requires { All (λ c. is_ascii_digit c ≡ true) digits.now }
     ensures { SomeIff result (value_of_digits digits.now < 2 ^ 63) (value_of_digits digits.now) }
@@ -114,18 +114,14 @@ pub fn number_token<'a>(digits: &[u8], rest: &[u8]) -> Token<'a>
 // Whether a text begins with this spelling.
 #[tactic(auto, using(crate::proofs::Spelled::begins_with_is))]
 fn begins_with(text: &[u8], spelling: &[u8]) -> bool
-    ensures exact { result ≡ begins_with spelling.now text.now }
-    ensures fits { IsTrue result → length spelling.now ≤ length text.now }
+    ensures { result ≡ begins_with spelling.now text.now }
 {
     text.starts_with(spelling)
 }
 
 /// The first of these signs with which a text begins.
 fn sign_front<'a>(signs: &[Mark], text: &[u8]) -> Front<'a>
-    requires { 0 < length text.now }
-    ensures exact { front_of result ≡ sign_front signs.now text.now }
-    ensures fits { width (front_of result) ≤ length text.now }
-    ensures some { 0 < width (front_of result) }
+    ensures { front_of result ≡ sign_front signs.now text.now }
 {
     for mark in signs {
         let spelling = spelling(*mark);
@@ -138,8 +134,7 @@ fn sign_front<'a>(signs: &[Mark], text: &[u8]) -> Front<'a>
 
 /// The word that a text begins with.
 fn word_front<'a>(words: &[Mark], text: &'a [u8]) -> Front<'a>
-    ensures exact { front_of result ≡ found (word_token words.now (take_while is_word text.now)) (length (take_while is_word text.now)) }
-    ensures fits { width (front_of result) ≤ length text.now }
+    ensures { front_of result ≡ found (word_token words.now (take_while is_word text.now)) (length (take_while is_word text.now)) }
 {
     let word = &text[..word_len(text)];
     Front::Found(word_token(words, word), word.len())
@@ -147,19 +142,16 @@ fn word_front<'a>(words: &[Mark], text: &'a [u8]) -> Front<'a>
 
 /// The number that a text begins with.
 fn number_front<'a>(text: &[u8]) -> Front<'a>
-    ensures exact { front_of result ≡ found (number_token (take_while is_ascii_digit text.now) (after_digits text.now)) (length (take_while is_ascii_digit text.now)) }
-    ensures fits { width (front_of result) ≤ length text.now }
+    ensures { front_of result ≡ found (number_token (take_while is_ascii_digit text.now) (after_digits text.now)) (length (take_while is_ascii_digit text.now)) }
 {
     let (digits, rest) = text.split_at(digits_len(text));
     Front::Found(number_token(digits, rest), digits.len())
 }
 
-#[tactic(auto, using(crate::proofs::Fronts::word_is_front, crate::proofs::Fronts::number_is_front))]
 /// What a text begins with, where these words are keywords.
+#[tactic(auto, using(crate::proofs::Fronts::word_is_front, crate::proofs::Fronts::number_is_front))]
 pub fn read_front<'a>(words: &[Mark], text: &'a [u8]) -> Front<'a>
-    ensures exact { front_of result ≡ front words.now text.now }
-    ensures fits { width (front_of result) ≤ length text.now }
-    ensures some { 0 < length text.now → 0 < width (front_of result) }
+    ensures { front_of result ≡ front words.now text.now }
 {
     match text {
         [] => Front::Gap(0),
@@ -169,17 +161,4 @@ pub fn read_front<'a>(words: &[Mark], text: &'a [u8]) -> Front<'a>
         _ if begins_with(text, b"//") => Front::Gap(line_len(text)),
         _ => sign_front(&SIGNS, text),
     }
-}
-
-#[tactic(auto, using(crate::proofs::Passing::passed))]
-/// What stands behind so many bytes of a text that begins on this line, and the line on which that begins.
-pub fn pass<'a>(text: &'a [u8], line: u32, len: usize) -> (&'a [u8], u32)
-    requires within { len ≤ length text.now }
-    requires room { line + length text.now < 2 ^ 32 }
-    ensures rest { result.0.now ≡ drop len text.now }
-    ensures line { (words : List Mark) → lexemes_from words line len text.now ≡ lexemes_from words result.1 0 result.0.now }
-    ensures shorter { result.1 + length result.0.now ≤ line + length text.now }
-{
-    let (passed, rest) = text.split_at(len);
-    (rest, line + newlines(passed) as u32)
 }

@@ -1,4 +1,4 @@
-ghost use Rattle.std.specs.Prelude.{◌≡◌, ◌<◌, length};
+ghost use Rattle.std.specs.Prelude.{◌≡◌};
 ghost use Rattle.cw_text.specs.Lexemes.{keywords, signs, spelling};
 
 use crate::Mark;
@@ -45,8 +45,7 @@ pub const SIGNS: [Mark; 21] = [
 
 /// How a keyword or a sign is written.
 pub fn spelling(mark: Mark) -> &'static [u8]
-    ensures exact { result.now ≡ spelling mark }
-    ensures some { 0 < length result.now }
+    ensures { result.now ≡ spelling mark }
 {
     match mark {
         Mark::Cell => b"cell",

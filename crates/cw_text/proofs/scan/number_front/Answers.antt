@@ -6,5 +6,5 @@ use Rattle.cw_text.proofs.scan.number_front.Goals as goal
 pub number_token-requires : goal.number_token-requires
 number_token-requires c = rw (c.split_at.ensures.front, c.digits_len.ensures.exact, take_front) (all_take_while is_ascii_digit c.args.text.now)
 
-pub returns-clause-exact : goal.returns-clause-exact
-returns-clause-exact c = rw (c.number_token.ensures, c.split_at.ensures.front, c.split_at.ensures.back, c.digits_len.ensures.exact, take_front, ← after_digits_is) refl
+pub returns : goal.returns
+returns c = rw (c.number_token.ensures, c.split_at.ensures.front, c.split_at.ensures.back, c.digits_len.ensures.exact, take_front, ← after_digits_is) refl
