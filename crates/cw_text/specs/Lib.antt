@@ -4,4 +4,5 @@ pub mod Grammar
 pub mod Text
 pub mod Front
 pub mod Cursor
+pub mod Places
 pub mod Rows

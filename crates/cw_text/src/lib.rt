@@ -5,6 +5,10 @@
 //! (the tree without its places in memory).
 #![tactic(auto)]
 
+ghost use Rattle.std.specs.Prelude.{ℕ, List};
+ghost use Rattle.cw_text.specs.declared.mark.Mark.{Mark};
+ghost use Rattle.cw_text.specs.Lexemes.{lexemes};
+ghost use Rattle.cw_text.specs.Places.{Follow};
 ghost use Rattle.cw_text.specs.Rows.{Tokens, Programs, Heights, Brackets, Refusals};
 
 mod ast;
@@ -29,4 +33,9 @@ pub fn worked_texts()
     ensures heights { Heights }
     ensures brackets { Brackets }
     ensures refusals { Refusals }
+{}
+
+/// The tokens of a text follow each other without a hole, and a line is 1 and the number of newlines before it.
+pub fn tokens_follow()
+    ensures { (words : List Mark) (text : List ℕ) → Follow words text 0 (lexemes words text) }
 {}
