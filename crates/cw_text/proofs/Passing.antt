@@ -3,7 +3,7 @@ use Rattle.std.proofs.Common.{◌≡◌, ℕ, zero, suc, ◌+◌, ◌-◌, ◌<�
 use Rattle.std.proofs.lemmas.List.Sums.{sum_by-cons}
 use Rattle.std.specs.List.{count_by}
 use Rattle.cw_text.specs.declared.mark.Mark.{Mark}
-use Rattle.cw_text.specs.Lexemes.{Lexemes, lexemes_from, line_after, end_on, comes, front, width, begun_by, Front, found}
+use Rattle.cw_text.specs.Lexemes.{Lexemes, lexemes_from, line_after, end_on, comes, front, width, begun_by, found}
 use Rattle.cw_text.specs.declared.cursor.Token.{Token}
 use Rattle.cw_text.specs.declared.cursor.Token.TheVariants as token
 use Rattle.cw_text.specs.Cursor.{before}

@@ -5,7 +5,7 @@ use Rattle.std.proofs.lemmas.Bool.{cases_lt}
 use Rattle.std.proofs.lemmas.List.{drop-drop}
 use Rattle.std.proofs.lemmas.List.Sums.{sum_by-append}
 use Rattle.cw_text.specs.declared.mark.Mark.{Mark}
-use Rattle.cw_text.specs.Lexemes.{Front, gap, found, width, front, begun_by, lexemes, lexemes_from, Lexemes, end_on}
+use Rattle.cw_text.specs.Lexemes.{Front, gap, found, width, front, begun_by, lexemes, lexemes_from, Lexemes}
 use Rattle.cw_text.specs.Text.{line_of}
 use Rattle.cw_text.specs.Places.{Follow, over, past, first}
 use Rattle.cw_text.proofs.Fronts.{front_width}
@@ -45,14 +45,16 @@ inside words text k place within bound goes_on =
     let wide = front_width words rest f refl some in
     let more = goes_on (place + width f) (omega (arith, length-drop place text)) (omega arith) in
     subst (λ xs. Follow words text place xs)
-        (sym (begun words line rest some ∙ ap (λ xs. begun_by f line xs) (left_after words text place (width f))))
-        (step words text place f within refl more)
+    (sym (begun words line rest some ∙ ap (λ xs. begun_by f line xs) (left_after words text place (width f))))
+    (step words text place f within refl more)
 
 follow_from : (words : List Mark) (text : List ℕ) (k place : ℕ) → place ≤ length text → length text ≤ place + k → Follow words text place (left_at words text place)
 follow_from words text zero place within bound = let e : length text ≡ place = omega arith in subst (λ p. Follow words text p (left_at words text p)) e (at_end words text)
 follow_from words text (suc k) place within bound =
-    elim (cases_lt place (length text)) [ inl less ↦ inside words text k place less bound (follow_from words text k)
-        | inr more ↦ let e : length text ≡ place = omega arith in subst (λ p. Follow words text p (left_at words text p)) e (at_end words text) ]
+    elim (cases_lt place (length text)) [
+      | inl less ↦ inside words text k place less bound (follow_from words text k)
+      | inr more ↦ let e : length text ≡ place = omega arith in subst (λ p. Follow words text p (left_at words text p)) e (at_end words text)
+    ]
 
 pub follow : (words : List Mark) (text : List ℕ) → Follow words text 0 (lexemes words text)
 follow words text = follow_from words text (length text) 0 (omega arith) (omega arith)

@@ -1,8 +1,10 @@
-ghost use Rattle.std.specs.Prelude.{◌≡◌, ◌≤◌, ◌<◌, ◌^◌, ◌+◌, List, drop, ◌==◌, not, length, take_while, count_by, All, SomeIff, IsTrue, true};
+ghost use Rattle.std.specs.Prelude.{◌≡◌, ◌≤◌, ◌<◌, ◌^◌, ◌==◌, not, length, take_while, count_by, SomeIff};
 ghost use Rattle.std.specs.Char.{is_ascii_digit};
-ghost use Rattle.cw_text.specs.Lexemes.{is_letter, is_word, is_blank, word_token, sign_front, signs, begins_by, begins_with, found, after_digits, number_token, value_of_digits, front, width, lexemes_from};
-ghost use Rattle.cw_text.specs.declared.mark.Mark.{Mark};
+ghost use Rattle.std.specs.List.{AllPass};
 ghost use Rattle.cw_text.specs.Front.{lexeme_of, front_of};
+ghost use Rattle.cw_text.specs.Lexemes.{is_letter, is_word, is_blank, begins_by, begins_with};
+ghost use Rattle.cw_text.specs.Lexemes.{word_token, number_token, value_of_digits, after_digits};
+ghost use Rattle.cw_text.specs.Lexemes.{found, sign_front, front};
 
 use crate::cursor::Token;
 use crate::letters::Letters;
@@ -16,22 +18,22 @@ pub enum Front<'a> {
     Found(Token<'a>, usize),
 }
 
-/// Whether a byte may begin a word.
-pub fn is_letter(byte: u8) -> bool
+// Whether a byte may begin a word.
+fn is_letter(byte: u8) -> bool
     ensures { result ≡ is_letter byte }
 {
     byte.is_ascii_alphabetic() || byte == b'_'
 }
 
-/// Whether a byte may stand in a word.
-pub fn is_word(byte: u8) -> bool
+// Whether a byte may stand in a word.
+fn is_word(byte: u8) -> bool
     ensures { result ≡ is_word byte }
 {
     is_letter(byte) || byte.is_ascii_digit()
 }
 
-/// Whether a byte only separates tokens.
-pub fn is_blank(byte: u8) -> bool
+// Whether a byte only separates tokens.
+fn is_blank(byte: u8) -> bool
     ensures { result ≡ is_blank byte }
 {
     matches!(byte, b' ' | b'\t' | b'\r' | b'\n')
@@ -44,7 +46,7 @@ pub fn newlines(text: &[u8]) -> usize
     text.iter().filter(|byte| **byte == b'\n').count()
 }
 
-/// How long the word is that a text begins with.
+// How long the word is that a text begins with.
 fn word_len(text: &[u8]) -> usize
     ensures exact { result ≡ length (take_while is_word text.now) }
     ensures fits { result ≤ length text.now }
@@ -52,7 +54,7 @@ fn word_len(text: &[u8]) -> usize
     text.iter().take_while(|byte| is_word(**byte)).count()
 }
 
-/// How many digits a text begins with.
+// How many digits a text begins with.
 fn digits_len(text: &[u8]) -> usize
     ensures exact { result ≡ length (take_while is_ascii_digit text.now) }
     ensures fits { result ≤ length text.now }
@@ -60,16 +62,16 @@ fn digits_len(text: &[u8]) -> usize
     text.iter().take_while(|byte| byte.is_ascii_digit()).count()
 }
 
-/// How long the rest of a line is, without its newline.
-pub fn line_len(text: &[u8]) -> usize
+// How long the rest of a line is, without its newline.
+fn line_len(text: &[u8]) -> usize
     ensures { result ≡ length (take_while (λ c. not (c == 10)) text.now) }
 {
     text.iter().take_while(|byte| **byte != b'\n').count()
 }
 
-/// The keyword that a word is, or else a name.
-pub fn word_token<'a>(words: &[Mark], word: &'a [u8]) -> Token<'a>
-    requires { All (λ c. is_word c ≡ true) word.now }
+// The keyword that a word is, or else a name.
+fn word_token<'a>(words: &[Mark], word: &'a [u8]) -> Token<'a>
+    requires { AllPass is_word word.now }
     ensures { lexeme_of result ≡ word_token words.now word.now }
 {
     for mark in words {
@@ -83,7 +85,7 @@ pub fn word_token<'a>(words: &[Mark], word: &'a [u8]) -> Token<'a>
 // What digits say, where an `i64` can hold it.
 #[tactic(auto, using(crate::proofs::Digits::value_on_next))]
 fn value_of(digits: &[u8]) -> Option<u64>
-    requires { All (λ c. is_ascii_digit c ≡ true) digits.now }
+    requires { AllPass is_ascii_digit digits.now }
     ensures { SomeIff result (value_of_digits digits.now < 2 ^ 63) (value_of_digits digits.now) }
 {
     let mut value: u64 = 0;
@@ -100,9 +102,9 @@ fn begins_word(text: &[u8]) -> bool
     text.first().is_some_and(|byte| is_letter(*byte))
 }
 
-/// The number that these digits are, with what stands behind them.
-pub fn number_token<'a>(digits: &[u8], rest: &[u8]) -> Token<'a>
-    requires { All (λ c. is_ascii_digit c ≡ true) digits.now }
+// The number that these digits are, with what stands behind them.
+fn number_token(digits: &[u8], rest: &[u8]) -> Token<'static>
+    requires { AllPass is_ascii_digit digits.now }
     ensures { lexeme_of result ≡ number_token digits.now rest.now }
 {
     match value_of(digits) {
@@ -119,8 +121,8 @@ fn begins_with(text: &[u8], spelling: &[u8]) -> bool
     text.starts_with(spelling)
 }
 
-/// The first of these signs with which a text begins.
-fn sign_front<'a>(signs: &[Mark], text: &[u8]) -> Front<'a>
+// The first of these signs with which a text begins.
+fn sign_front(signs: &[Mark], text: &[u8]) -> Front<'static>
     ensures { front_of result ≡ sign_front signs.now text.now }
 {
     for mark in signs {
@@ -132,17 +134,19 @@ fn sign_front<'a>(signs: &[Mark], text: &[u8]) -> Front<'a>
     Front::Found(Token::Bad(TextKind::BadChar), 1)
 }
 
-/// The word that a text begins with.
+// The word that a text begins with.
 fn word_front<'a>(words: &[Mark], text: &'a [u8]) -> Front<'a>
-    ensures { front_of result ≡ found (word_token words.now (take_while is_word text.now)) (length (take_while is_word text.now)) }
+    ensures { let word = take_while is_word text.now in
+        front_of result ≡ found (word_token words.now word) (length word) }
 {
     let word = &text[..word_len(text)];
     Front::Found(word_token(words, word), word.len())
 }
 
-/// The number that a text begins with.
-fn number_front<'a>(text: &[u8]) -> Front<'a>
-    ensures { front_of result ≡ found (number_token (take_while is_ascii_digit text.now) (after_digits text.now)) (length (take_while is_ascii_digit text.now)) }
+// The number that a text begins with.
+fn number_front(text: &[u8]) -> Front<'static>
+    ensures { let digits = take_while is_ascii_digit text.now in
+        front_of result ≡ found (number_token digits (after_digits text.now)) (length digits) }
 {
     let (digits, rest) = text.split_at(digits_len(text));
     Front::Found(number_token(digits, rest), digits.len())

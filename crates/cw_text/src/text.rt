@@ -7,10 +7,10 @@ use crate::{Ast, TextFault, TextKind, TextRefusal, parser};
 use std::alloc::Global;
 use std::str;
 
-/// The most bytes that a text may have.
+// The most bytes that a text may have.
 const MAX_LEN: usize = 1_048_576;
 
-/// The line of a place in a text: 1 and the number of newlines before it.
+// The line of a place in a text: 1 and the number of newlines before it.
 fn line_of(text: &[u8], place: usize) -> u32
     requires within { place ≤ length text.now }
     requires short { length text.now < 2 ^ 31 }
@@ -19,10 +19,10 @@ fn line_of(text: &[u8], place: usize) -> u32
     1 + newlines(&text[..place]) as u32
 }
 
-fn refuse(kind: TextKind, line: u32) -> Result<Ast, TextRefusal>
-    ensures { result ≡ Err (TextRefusal.Text (record { kind = kind; line = line })) }
+fn refusal(kind: TextKind, line: u32) -> TextRefusal
+    ensures { result ≡ TextRefusal.Text (record { kind = kind; line = line }) }
 {
-    Err(TextRefusal::Text(TextFault { kind, line }))
+    TextRefusal::Text(TextFault { kind, line })
 }
 
 /// Reads a program. The answer is the tree that the text spells, or the text's first fault with its line.
@@ -30,15 +30,19 @@ fn refuse(kind: TextKind, line: u32) -> Result<Ast, TextRefusal>
 /// A text has at most 1,048,576 bytes, or it is `TooLong`, on line 0. Then a byte that is in no whole UTF-8 character
 /// is `NotUtf8`, wherever it stands. Only then the tokens are read one by one, up to the first that is no token
 /// (`BadChar`, `BadNumber`), that may not stand in its place (`Unexpected`) or with which the text is `TooDeep`.
-/// Lines are counted from 1, and the end of the text stands on its last line.
+/// Lines are counted from 1, and the end of the text stands on its last line. `OutOfMemory` says nothing of the text.
+#[tactic(auto, using(crate::proofs::Readings::reading_is))]
 pub fn read_program(alloc: Global, bytes: &[u8]) -> Result<Ast, TextRefusal>
     ensures exact { Reads result (program bytes.now) }
 {
     if bytes.len() > MAX_LEN {
-        return refuse(TextKind::TooLong, 0);
+        return Err(refusal(TextKind::TooLong, 0));
     }
     if let Err(error) = str::from_utf8(bytes) {
-        return refuse(TextKind::NotUtf8, line_of(bytes, error.valid_up_to()));
+        return Err(refusal(TextKind::NotUtf8, line_of(bytes, error.valid_up_to())));
     }
     parser::program(alloc, Cursor::new(bytes))
 }
+
+#[cfg(test)]
+mod tests;
