@@ -2,19 +2,29 @@
 //! Stands on `cw_base`.
 //! Contracts cite `specs/Text.antt`, which says what a whole text reads as, over `specs/Lexemes.antt` (tokens),
 //! `specs/Grammar.antt` (which tokens are a program, and the first fault of those that are none) and `specs/Syntax.antt`
-//! (the tree without its places in memory).
+//! (the tree without its places in memory). `specs/Places.antt` says of the tokens where in the text they stand.
 #![tactic(auto)]
 
+ghost use Rattle.std.specs.Prelude.{ℕ, List};
+ghost use Rattle.cw_text.specs.declared.mark.Mark.{Mark};
+ghost use Rattle.cw_text.specs.Lexemes.{lexemes};
+ghost use Rattle.cw_text.specs.Places.{Follow};
 ghost use Rattle.cw_text.specs.Rows.{Tokens, Programs, Heights, Brackets, Refusals};
-ghost use Rattle.cw_text.specs.Text.{program, Reads};
 
 mod ast;
+mod cursor;
 mod fault;
+mod letters;
 mod mark;
+mod parser;
+mod scan;
+mod spelling;
+mod text;
 
 pub use ast::{Ast, Expr, Item, Op, Stmt, Word};
 pub use fault::{TextFault, TextKind, TextRefusal};
 pub use mark::Mark;
+pub use text::read_program;
 
 /// Worked texts.
 pub fn worked_texts()
@@ -25,12 +35,7 @@ pub fn worked_texts()
     ensures refusals { Refusals }
 {}
 
-use std::alloc::Global;
-
-/// Reads a program. The answer is the tree that the text spells, or the text's first fault with its line.
-pub fn read_program(_alloc: Global, bytes: &[u8]) -> Result<Ast, TextRefusal>
-    ensures exact { Reads result (program bytes.now) }
-{
-    let _ = bytes;
-    Err(TextRefusal::OutOfMemory)
-}
+/// The tokens of a text follow each other without a hole, and a line is 1 and the number of newlines before it.
+pub fn tokens_follow()
+    ensures { (words : List Mark) (text : List ℕ) → Follow words text 0 (lexemes words text) }
+{}

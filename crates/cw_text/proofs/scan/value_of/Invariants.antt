@@ -1,0 +1,7 @@
+use Rattle.std.proofs.Common.{◌≡◌, drop}
+use Rattle.cw_text.specs.Lexemes.{value_of_digits}
+use Rattle.cw_text.proofs.Digits.{value_on}
+use Rattle.cw_text.proofs.scan.value_of.Given as goal
+
+abbrev pub invariant-loop-digit : goal.invariant-loop-digit
+invariant-loop-digit l = value_on l.value (drop l.digit-index l.digits) ≡ value_of_digits l.digits

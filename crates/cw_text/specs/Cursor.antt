@@ -1,0 +1,24 @@
+-- The tokens that are left from a place in a text on.
+use Rattle.std.specs.Prelude.{ℕ, ◌+◌}
+use Rattle.cw_text.specs.declared.cursor.Token.{Token}
+use Rattle.cw_text.specs.declared.cursor.Token.TheVariants as token
+use Rattle.cw_text.specs.declared.cursor.Cursor.{Cursor}
+use Rattle.cw_text.specs.Front.{lexeme_of}
+use Rattle.cw_text.specs.Lexemes.{Lexemes, end_on, comes, lexemes_from, keywords}
+
+-- a token on its line, and what comes behind it
+abbrev pub before : Token → ℕ → Lexemes → Lexemes
+before token.End line xs = end_on line
+before t line xs = comes (lexeme_of t) line xs
+
+abbrev pub left_of : Cursor → Lexemes
+left_of c = before c.token c.line (lexemes_from keywords c.rest_line 0 c.rest.now)
+
+abbrev pub rest_of : Lexemes → Lexemes
+rest_of (end_on line) = end_on line
+rest_of (comes t line xs) = xs
+
+-- how many tokens are left
+abbrev pub count_of : Lexemes → ℕ
+count_of (end_on line) = 0
+count_of (comes t line xs) = count_of xs + 1

@@ -1,0 +1,17 @@
+-- What a text was found to begin with.
+use Rattle.cw_text.specs.declared.cursor.Token.{Token}
+use Rattle.cw_text.specs.declared.cursor.Token.TheVariants as token
+use Rattle.cw_text.specs.declared.scan.Front.{Front}
+use Rattle.cw_text.specs.declared.scan.Front.TheVariants.{Gap, Found}
+use Rattle.cw_text.specs.Lexemes as lexemes
+
+abbrev pub lexeme_of : Token → lexemes.Token
+lexeme_of (token.Name n) = lexemes.name n.bytes.now
+lexeme_of (token.Number n) = lexemes.number n
+lexeme_of (token.Mark m) = lexemes.mark m
+lexeme_of (token.Bad k) = lexemes.bad k
+lexeme_of token.End = lexemes.end
+
+abbrev pub front_of : Front → lexemes.Front
+front_of (Gap n) = lexemes.gap n
+front_of (Found t n) = lexemes.found (lexeme_of t) n

@@ -1,0 +1,91 @@
+ghost use Rattle.std.specs.Prelude.{◌≡◌, ◌<◌, ◌≤◌, ◌+◌, ◌^◌, length, drop};
+ghost use Rattle.cw_text.specs.Lexemes.{keywords, lexemes, lexemes_from};
+
+use crate::letters::Letters;
+use crate::scan::{Front, newlines, read_front};
+use crate::spelling::KEYWORDS;
+use crate::{Mark, TextKind};
+
+/// A token of a text. `Bad` is none, for this reason.
+#[derive(Clone, Copy)]
+pub enum Token<'a> {
+    Name(Letters<'a>),
+    Number(u64),
+    Mark(Mark),
+    Bad(TextKind),
+    End,
+}
+
+/// A place in a text: the token there, its line, and the bytes behind it with the line on which they begin.
+#[derive(Drop)]
+pub struct Cursor<'a> {
+    pub token: Token<'a>,
+    pub line: u32,
+    rest: &'a [u8],
+    rest_line: u32,
+    ghost short: { rest_line + length rest.now ≤ 2 ^ 20 + 1 },
+}
+
+impl<'a> Cursor<'a> {
+    ghost use Rattle.cw_text.specs.Cursor.{left_of, rest_of};
+
+    /// The first token of a text.
+    pub fn new(text: &'a [u8]) -> Cursor<'a>
+        requires { length text.now ≤ 2 ^ 20 }
+        ensures { left_of result ≡ lexemes keywords text.now }
+    {
+        Cursor::first_in(text, 1)
+    }
+
+    /// Goes on to the next token. The end stays where it is.
+    pub fn advance(&mut self)
+        ensures { left_of self.new ≡ rest_of (left_of self.old) }
+    {
+        if !matches!(self.token, Token::End) {
+            *self = Cursor::first_in(self.rest, self.rest_line);
+        }
+    }
+
+    // The first token of a text that begins on this line.
+    #[tactic(auto, using(crate::proofs::Fronts::front_width, crate::proofs::Passing::begun))]
+    fn first_in(text: &'a [u8], line: u32) -> Cursor<'a>
+        requires { line + length text.now ≤ 2 ^ 20 + 1 }
+        ensures { left_of result ≡ lexemes_from keywords line 0 text.now }
+    {
+        let (mut rest, mut rest_line) = (text, line);
+        while !rest.is_empty() {
+            match read_front(&KEYWORDS, rest) {
+                Front::Gap(len) => (rest, rest_line) = pass(rest, rest_line, len),
+                Front::Found(token, len) => {
+                    let line = rest_line;
+                    let (rest, rest_line) = pass(rest, line, len);
+                    return Cursor {
+                        token,
+                        line,
+                        rest,
+                        rest_line,
+                    };
+                }
+            }
+        }
+        Cursor {
+            token: Token::End,
+            line: rest_line,
+            rest,
+            rest_line,
+        }
+    }
+}
+
+// What stands behind so many bytes of a text that begins on this line, and the line on which that begins.
+#[tactic(auto, using(crate::proofs::Passing::passed))]
+fn pass(text: &[u8], line: u32, len: usize) -> (&[u8], u32)
+    requires within { len ≤ length text.now }
+    requires short { line + length text.now < 2 ^ 32 }
+    ensures rest { result.0.now ≡ drop len text.now }
+    ensures line { lexemes_from keywords line len text.now ≡ lexemes_from keywords result.1 0 result.0.now }
+    ensures shorter { result.1 + length result.0.now ≤ line + length text.now }
+{
+    let (passed, rest) = text.split_at(len);
+    (rest, line + newlines(passed) as u32)
+}

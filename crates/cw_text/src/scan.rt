@@ -1,0 +1,168 @@
+ghost use Rattle.std.specs.Prelude.{◌≡◌, ◌≤◌, ◌<◌, ◌^◌, ◌==◌, not, length, take_while, count_by, SomeIff};
+ghost use Rattle.std.specs.Char.{is_ascii_digit};
+ghost use Rattle.std.specs.List.{AllPass};
+ghost use Rattle.cw_text.specs.Front.{lexeme_of, front_of};
+ghost use Rattle.cw_text.specs.Lexemes.{is_letter, is_word, is_blank, begins_by, begins_with};
+ghost use Rattle.cw_text.specs.Lexemes.{word_token, number_token, value_of_digits, after_digits};
+ghost use Rattle.cw_text.specs.Lexemes.{found, sign_front, front};
+
+use crate::cursor::Token;
+use crate::letters::Letters;
+use crate::spelling::{SIGNS, spelling};
+use crate::{Mark, TextKind};
+
+/// What a text begins with, and how many bytes it takes: a gap or a token.
+#[derive(Clone, Copy)]
+pub enum Front<'a> {
+    Gap(usize),
+    Found(Token<'a>, usize),
+}
+
+// Whether a byte may begin a word.
+fn is_letter(byte: u8) -> bool
+    ensures { result ≡ is_letter byte }
+{
+    byte.is_ascii_alphabetic() || byte == b'_'
+}
+
+// Whether a byte may stand in a word.
+fn is_word(byte: u8) -> bool
+    ensures { result ≡ is_word byte }
+{
+    is_letter(byte) || byte.is_ascii_digit()
+}
+
+// Whether a byte only separates tokens.
+fn is_blank(byte: u8) -> bool
+    ensures { result ≡ is_blank byte }
+{
+    matches!(byte, b' ' | b'\t' | b'\r' | b'\n')
+}
+
+/// How many newlines there are.
+pub fn newlines(text: &[u8]) -> usize
+    ensures { result ≡ count_by (λ c. c == 10) text.now }
+{
+    text.iter().filter(|byte| **byte == b'\n').count()
+}
+
+// How long the word is that a text begins with.
+fn word_len(text: &[u8]) -> usize
+    ensures exact { result ≡ length (take_while is_word text.now) }
+    ensures fits { result ≤ length text.now }
+{
+    text.iter().take_while(|byte| is_word(**byte)).count()
+}
+
+// How many digits a text begins with.
+fn digits_len(text: &[u8]) -> usize
+    ensures exact { result ≡ length (take_while is_ascii_digit text.now) }
+    ensures fits { result ≤ length text.now }
+{
+    text.iter().take_while(|byte| byte.is_ascii_digit()).count()
+}
+
+// How long the rest of a line is, without its newline.
+fn line_len(text: &[u8]) -> usize
+    ensures { result ≡ length (take_while (λ c. not (c == 10)) text.now) }
+{
+    text.iter().take_while(|byte| **byte != b'\n').count()
+}
+
+// The keyword that a word is, or else a name.
+fn word_token<'a>(words: &[Mark], word: &'a [u8]) -> Token<'a>
+    requires { AllPass is_word word.now }
+    ensures { lexeme_of result ≡ word_token words.now word.now }
+{
+    for mark in words {
+        if spelling(*mark) == word {
+            return Token::Mark(*mark);
+        }
+    }
+    Token::Name(Letters { bytes: word })
+}
+
+// What digits say, where an `i64` can hold it.
+#[tactic(auto, using(crate::proofs::Digits::value_on_next))]
+fn value_of(digits: &[u8]) -> Option<u64>
+    requires { AllPass is_ascii_digit digits.now }
+    ensures { SomeIff result (value_of_digits digits.now < 2 ^ 63) (value_of_digits digits.now) }
+{
+    let mut value: u64 = 0;
+    for digit in digits {
+        value = value.checked_mul(10)?.checked_add(u64::from(digit - b'0'))?;
+    }
+    (value <= i64::MAX as u64).then_some(value)
+}
+
+// Whether a text begins with a letter.
+fn begins_word(text: &[u8]) -> bool
+    ensures { result ≡ begins_by is_letter text.now }
+{
+    text.first().is_some_and(|byte| is_letter(*byte))
+}
+
+// The number that these digits are, with what stands behind them.
+fn number_token(digits: &[u8], rest: &[u8]) -> Token<'static>
+    requires { AllPass is_ascii_digit digits.now }
+    ensures { lexeme_of result ≡ number_token digits.now rest.now }
+{
+    match value_of(digits) {
+        Some(value) if !begins_word(rest) => Token::Number(value),
+        _ => Token::Bad(TextKind::BadNumber),
+    }
+}
+
+// Whether a text begins with this spelling.
+#[tactic(auto, using(crate::proofs::Spelled::begins_with_is))]
+fn begins_with(text: &[u8], spelling: &[u8]) -> bool
+    ensures { result ≡ begins_with spelling.now text.now }
+{
+    text.starts_with(spelling)
+}
+
+// The first of these signs with which a text begins.
+fn sign_front(signs: &[Mark], text: &[u8]) -> Front<'static>
+    ensures { front_of result ≡ sign_front signs.now text.now }
+{
+    for mark in signs {
+        let spelling = spelling(*mark);
+        if begins_with(text, spelling) {
+            return Front::Found(Token::Mark(*mark), spelling.len());
+        }
+    }
+    Front::Found(Token::Bad(TextKind::BadChar), 1)
+}
+
+// The word that a text begins with.
+fn word_front<'a>(words: &[Mark], text: &'a [u8]) -> Front<'a>
+    ensures { let word = take_while is_word text.now in
+        front_of result ≡ found (word_token words.now word) (length word) }
+{
+    let word = &text[..word_len(text)];
+    Front::Found(word_token(words, word), word.len())
+}
+
+// The number that a text begins with.
+fn number_front(text: &[u8]) -> Front<'static>
+    ensures { let digits = take_while is_ascii_digit text.now in
+        front_of result ≡ found (number_token digits (after_digits text.now)) (length digits) }
+{
+    let (digits, rest) = text.split_at(digits_len(text));
+    Front::Found(number_token(digits, rest), digits.len())
+}
+
+/// What a text begins with, where these words are keywords.
+#[tactic(auto, using(crate::proofs::Fronts::word_is_front, crate::proofs::Fronts::number_is_front))]
+pub fn read_front<'a>(words: &[Mark], text: &'a [u8]) -> Front<'a>
+    ensures { front_of result ≡ front words.now text.now }
+{
+    match text {
+        [] => Front::Gap(0),
+        [byte, ..] if is_blank(*byte) => Front::Gap(1),
+        [byte, ..] if is_letter(*byte) => word_front(words, text),
+        [byte, ..] if byte.is_ascii_digit() => number_front(text),
+        _ if begins_with(text, b"//") => Front::Gap(line_len(text)),
+        _ => sign_front(&SIGNS, text),
+    }
+}

@@ -1,0 +1,48 @@
+ghost use Rattle.std.specs.Prelude.{◌≡◌, ◌≤◌, ◌<◌, ◌^◌, length};
+ghost use Rattle.cw_text.specs.Text.{line_of, program, Reads};
+
+use crate::cursor::Cursor;
+use crate::scan::newlines;
+use crate::{Ast, TextFault, TextKind, TextRefusal, parser};
+use std::alloc::Global;
+use std::str;
+
+// The most bytes that a text may have.
+const MAX_LEN: usize = 1_048_576;
+
+// The line of a place in a text: 1 and the number of newlines before it.
+fn line_of(text: &[u8], place: usize) -> u32
+    requires within { place ≤ length text.now }
+    requires short { length text.now < 2 ^ 31 }
+    ensures { result ≡ line_of place text.now }
+{
+    1 + newlines(&text[..place]) as u32
+}
+
+fn refusal(kind: TextKind, line: u32) -> TextRefusal
+    ensures { result ≡ TextRefusal.Text (record { kind = kind; line = line }) }
+{
+    TextRefusal::Text(TextFault { kind, line })
+}
+
+/// Reads a program. The answer is the tree that the text spells, or the text's first fault with its line.
+///
+/// A text has at most 1,048,576 bytes, or it is `TooLong`, on line 0. Then a byte that is in no whole UTF-8 character
+/// is `NotUtf8`, wherever it stands. Only then the tokens are read one by one, up to the first that is no token
+/// (`BadChar`, `BadNumber`), that may not stand in its place (`Unexpected`) or with which the text is `TooDeep`.
+/// Lines are counted from 1, and the end of the text stands on its last line. `OutOfMemory` says nothing of the text.
+#[tactic(auto, using(crate::proofs::Readings::reading_is))]
+pub fn read_program(alloc: Global, bytes: &[u8]) -> Result<Ast, TextRefusal>
+    ensures exact { Reads result (program bytes.now) }
+{
+    if bytes.len() > MAX_LEN {
+        return Err(refusal(TextKind::TooLong, 0));
+    }
+    if let Err(error) = str::from_utf8(bytes) {
+        return Err(refusal(TextKind::NotUtf8, line_of(bytes, error.valid_up_to())));
+    }
+    parser::program(alloc, Cursor::new(bytes))
+}
+
+#[cfg(test)]
+mod tests;
