@@ -8,7 +8,7 @@ use Rattle.cw_text.specs.Lexemes.{Lexemes, end_on, comes, name, number, mark, ba
 -- a token on its line, and what comes behind it
 abbrev pub before : Token → ℕ → Lexemes → Lexemes
 before (token.Name n) line xs = comes (name n.bytes.now) line xs
-before (token.Number n) line xs = comes (number n) line xs
+before (token.Number n) line xs = comes (number n.value) line xs
 before (token.Mark m) line xs = comes (mark m) line xs
 before (token.Bad k) line xs = comes (bad k) line xs
 before token.End line xs = end_on line

@@ -2,20 +2,21 @@ ghost use Rattle.std.specs.Prelude.{◌≡◌, ◌≤◌, ◌^◌, length};
 ghost use Rattle.cw_text.specs.Lexemes.{keywords, lexemes};
 ghost use Rattle.cw_text.specs.Cursor.{left_of, rest_of};
 
-use crate::letters::Letters;
+use crate::letters::{Letters, Whole};
 use crate::{Mark, TextKind};
 
 /// A token of a text. `Bad` is none, for this reason.
 #[derive(Clone, Copy)]
 pub enum Token<'a> {
     Name(Letters<'a>),
-    Number(u64),
+    Number(Whole),
     Mark(Mark),
     Bad(TextKind),
     End,
 }
 
 /// A place in a text: the token there, its line, and the bytes behind it with the line on which they begin.
+#[derive(Drop)]
 pub struct Cursor<'a> {
     pub token: Token<'a>,
     pub line: u32,
