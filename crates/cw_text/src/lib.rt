@@ -10,9 +10,11 @@ ghost use Rattle.cw_text.specs.Text.{program, Reads};
 
 mod ast;
 mod cursor;
+mod expr;
 mod fault;
 mod letters;
 mod mark;
+mod parser;
 
 pub use ast::{Ast, Expr, Item, Op, Stmt, Word};
 pub use fault::{TextFault, TextKind, TextRefusal};

@@ -1,0 +1,49 @@
+-- What a parsing function promises, in the words of the grammar.
+use Rattle.std.specs.Prelude.{ℕ, ◌≡◌, ◌<◌, List, ◌∷◌, ◌++◌, Result, Ok, Err}
+use Rattle.cw_text.specs.declared.fault.TextFault.{TextFault}
+use Rattle.cw_text.specs.declared.fault.TextKind.TheVariants.{Unexpected}
+use Rattle.cw_text.specs.declared.fault.TextRefusal.{TextRefusal}
+use Rattle.cw_text.specs.declared.fault.TextRefusal.TheVariants.{Text, OutOfMemory}
+use Rattle.cw_text.specs.declared.parser.Parser.{Parser}
+use Rattle.cw_text.specs.Lexemes.{Lexemes, end_on, comes}
+use Rattle.cw_text.specs.Cursor.{left_of, rest_of, count_of}
+use Rattle.cw_text.specs.Grammar.{Symbol, Values, read, pending, opened, then_read, why}
+
+-- the tokens that a parser has left
+abbrev pub ahead : Parser → Lexemes
+ahead p = left_of p.cursor
+
+-- the fault of the next token, where it may not stand
+abbrev pub fault_at : Lexemes → TextFault
+fault_at (end_on l) = record { kind = Unexpected; line = l }
+fault_at (comes t l xs) = record { kind = why t; line = l }
+
+-- The next token was taken, and these symbols may come behind it.
+abbrev pub taken : List Symbol → Values → ℕ → Lexemes → Result Values TextFault
+taken k vs line left = then_read (opened k vs line) (λ k' vs'. read k' vs' (rest_of left))
+
+-- The next token begins this symbol, and these symbols may come behind it.
+abbrev pub Begins : Parser → Symbol → List Symbol → Type 0
+Begins p s behind =
+    (count_of (rest_of (ahead p)) < count_of (ahead p))
+    × ((k : List Symbol) (vs : Values) → read (s ∷ k) vs (ahead p) ≡ taken (behind ++ k) vs p.cursor.line (ahead p))
+
+-- The next token does not begin this symbol, for which nothing may stand.
+abbrev pub Skips : Parser → Symbol → Type 0
+Skips p s = (k : List Symbol) (vs : Values) → read (s ∷ k) vs (ahead p) ≡ read k vs (ahead p)
+
+-- A reading ends in this refusal. Of want of memory nothing is said.
+abbrev pub Fails : TextRefusal → Result Values TextFault → Type 0
+Fails (Text f) reading = reading ≡ Err f
+Fails OutOfMemory reading = Unit {0}
+
+-- A reading goes on with these symbols and tokens, and with the values that the answer makes; or it fails.
+abbrev pub GoesOn : {T : Type 0} → Result T TextRefusal → (T → Values) → Result Values TextFault → List Symbol → Lexemes → Type 0
+GoesOn (Ok x) values reading k left = reading ≡ read k (values x) left
+GoesOn (Err e) values reading k left = Fails e reading
+
+-- From one parser to the next the answer was read for these symbols, whatever symbols and values are behind them.
+abbrev pub Parses : {T : Type 0} → List Symbol → (T → Values → Values) → Result T TextRefusal → (old new : Parser) → Type 0
+Parses start values result old new =
+    (k : List Symbol) (vs : Values) → pending k ≡ old.open →
+    GoesOn result (λ x. values x vs) (read (start ++ k) vs (ahead old)) k (ahead new)
