@@ -59,5 +59,5 @@ read-closing a k vs (comes end l xs) = refl
 pub ruleset steps = (taken_open, read-lifted, read-lifted-high, read-join, read-join-high, read-expr, read-closing)
 
 -- A reading that is as another one goes on as that one.
-pub goes_on : {T : Type 0} (r : Result T TextRefusal) (values : T → Values) (a b : Result Values TextFault) (k : List Symbol) (left : Lexemes) → a ≡ b → GoesOn r values b k left → GoesOn r values a k left
-goes_on r values a b k left e h = subst (λ x. GoesOn r values x k left) (sym e) h
+pub goes_on : {T : Type 0} (r : Result T TextRefusal) (a b : Result Values TextFault) (behind : T → Lexemes → Result Values TextFault) (left : Lexemes) → a ≡ b → GoesOn r b behind left → GoesOn r a behind left
+goes_on r a b behind left e h = subst (λ x. GoesOn r x behind left) (sym e) h

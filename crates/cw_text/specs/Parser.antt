@@ -37,13 +37,13 @@ abbrev pub Fails : TextRefusal → Result Values TextFault → Type 0
 Fails (Text f) reading = reading ≡ Err f
 Fails OutOfMemory reading = Unit {0}
 
--- A reading goes on with these symbols and tokens, and with the values that the answer makes; or it fails.
-abbrev pub GoesOn : {T : Type 0} → Result T TextRefusal → (T → Values) → Result Values TextFault → List Symbol → Lexemes → Type 0
-GoesOn (Ok x) values reading k left = reading ≡ read k (values x) left
-GoesOn (Err e) values reading k left = Fails e reading
+-- With this answer a reading goes on, from what is left, as is said of it; or it fails.
+abbrev pub GoesOn : {T : Type 0} → Result T TextRefusal → Result Values TextFault → (T → Lexemes → Result Values TextFault) → Lexemes → Type 0
+GoesOn (Ok x) reading behind left = reading ≡ behind x left
+GoesOn (Err e) reading behind left = Fails e reading
 
 -- From one parser to the next the answer was read for these symbols, whatever symbols and values are behind them.
-abbrev pub Parses : {T : Type 0} → List Symbol → (T → Values → Values) → Result T TextRefusal → (old new : Parser) → Type 0
-Parses start values result old new =
+abbrev pub Parses : {T : Type 0} → Result T TextRefusal → List Symbol → (T → Values → Values) → (old new : Parser) → Type 0
+Parses result symbols values old new =
     (k : List Symbol) (vs : Values) → pending k ≡ old.open →
-    GoesOn result (λ x. values x vs) (read (start ++ k) vs (ahead old)) k (ahead new)
+    GoesOn result (read (symbols ++ k) vs (ahead old)) (λ x. read k (values x vs)) (ahead new)

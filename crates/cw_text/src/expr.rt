@@ -29,7 +29,7 @@ impl<'a> Parser<'a> {
         requires { self.old.open ≤ 200 }
         ensures same { OnOk result (self.new.open ≡ self.old.open) }
         ensures shorter { OnOk result (count_of (ahead self.new) < count_of (ahead self.old)) }
-        ensures read { Parses (operand ∷ []) (λ e vs. a_term (term_of e.expr) ∷ vs) result self.old self.new }
+        ensures read { Parses result (operand ∷ []) (λ e vs. a_term (term_of e.expr) ∷ vs) self.old self.new }
     {
         match self.cursor.token {
             Token::Number(number) => {
@@ -40,7 +40,7 @@ impl<'a> Parser<'a> {
                 })
             }
             Token::Name(letters) => Ok(Tall {
-                expr: Expr::Name(self.named(letters)?),
+                expr: Expr::Name(self.word_of(letters)?),
                 height: 1,
             }),
             Token::Mark(Mark::ParenOpen) => self.bracketed(),
@@ -60,7 +60,7 @@ impl<'a> Parser<'a> {
         ensures same { OnOk result (self.new.open ≡ self.old.open) }
         ensures shorter { OnOk result (count_of (ahead self.new) < count_of (rest_of (ahead self.old))) }
         ensures read { (k : List Symbol) (vs : Values) → pending k ≡ self.old.open →
-            GoesOn result (λ e. a_term (term_of e.expr) ∷ vs) (taken (operand ∷ lifted op self.old.cursor.line ∷ k) vs self.old.cursor.line (ahead self.old)) k (ahead self.new) }
+            GoesOn result (taken (operand ∷ lifted op self.old.cursor.line ∷ k) vs self.old.cursor.line (ahead self.old)) (λ e. read k (a_term (term_of e.expr) ∷ vs)) (ahead self.new) }
     {
         let line = self.cursor.line;
         self.enter()?;
@@ -86,7 +86,7 @@ impl<'a> Parser<'a> {
         ensures same { OnOk result (self.new.open ≡ self.old.open) }
         ensures shorter { OnOk result (count_of (ahead self.new) < count_of (rest_of (ahead self.old))) }
         ensures read { (k : List Symbol) (vs : Values) → pending k ≡ self.old.open →
-            GoesOn result (λ e. a_term (term_of e.expr) ∷ vs) (taken (expr ∷ closing Mark.ParenClose ∷ k) vs self.old.cursor.line (ahead self.old)) k (ahead self.new) }
+            GoesOn result (taken (expr ∷ closing Mark.ParenClose ∷ k) vs self.old.cursor.line (ahead self.old)) (λ e. read k (a_term (term_of e.expr) ∷ vs)) (ahead self.new) }
     {
         self.enter()?;
         let inner = self.expr()?;
@@ -102,7 +102,7 @@ impl<'a> Parser<'a> {
         requires { self.old.open ≤ 200 }
         ensures same { OnOk result (self.new.open ≡ self.old.open) }
         ensures shorter { OnOk result (count_of (ahead self.new) < count_of (ahead self.old)) }
-        ensures read { Parses (expr ∷ []) (λ e vs. a_term (term_of e.expr) ∷ vs) result self.old self.new }
+        ensures read { Parses result (expr ∷ []) (λ e vs. a_term (term_of e.expr) ∷ vs) self.old self.new }
     {
         let left = self.sum()?;
         match self.comparison_sign() {
@@ -123,7 +123,7 @@ impl<'a> Parser<'a> {
         requires { self.old.open ≤ 200 }
         ensures same { OnOk result (self.new.open ≡ self.old.open) }
         ensures shorter { OnOk result (count_of (ahead self.new) < count_of (ahead self.old)) }
-        ensures read { Parses (operand ∷ products ∷ sums ∷ []) (λ e vs. a_term (term_of e.expr) ∷ vs) result self.old self.new }
+        ensures read { Parses result (operand ∷ products ∷ sums ∷ []) (λ e vs. a_term (term_of e.expr) ∷ vs) self.old self.new }
     {
         let mut left = self.product()?;
         while let Some(op) = self.sum_sign() {
@@ -142,7 +142,7 @@ impl<'a> Parser<'a> {
         requires { self.old.open ≤ 200 }
         ensures same { OnOk result (self.new.open ≡ self.old.open) }
         ensures shorter { OnOk result (count_of (ahead self.new) < count_of (ahead self.old)) }
-        ensures read { Parses (operand ∷ products ∷ []) (λ e vs. a_term (term_of e.expr) ∷ vs) result self.old self.new }
+        ensures read { Parses result (operand ∷ products ∷ []) (λ e vs. a_term (term_of e.expr) ∷ vs) self.old self.new }
     {
         let mut left = self.operand()?;
         while let Some(op) = self.product_sign() {
@@ -192,7 +192,7 @@ impl<'a> Parser<'a> {
 #[tactic(auto, using(crate::proofs::Steps::steps))]
 fn joined(alloc: Global, op: Op, line: u32, left: Tall, right: Tall) -> Result<Tall, TextRefusal>
     ensures { (k : List Symbol) (vs : Values) (xs : Lexemes) →
-        GoesOn result (λ e. a_term (term_of e.expr) ∷ vs) (read (act (join op) ∷ read_from line ∷ k) (a_term (term_of right.expr) ∷ a_term (term_of left.expr) ∷ vs) xs) k xs }
+        GoesOn result (read (act (join op) ∷ read_from line ∷ k) (a_term (term_of right.expr) ∷ a_term (term_of left.expr) ∷ vs) xs) (λ e. read k (a_term (term_of e.expr) ∷ vs)) xs }
 {
     let height = left.height.max(right.height) + 1;
     if height > DEEPEST {

@@ -38,7 +38,7 @@ impl<'a> Parser<'a> {
         ensures counted { OnOk result ((self.new.open ≡ self.old.open + 1) × (self.new.open ≤ 200)) }
         ensures left { OnOk result (ahead self.new ≡ rest_of (ahead self.old)) }
         ensures read { (k : List Symbol) (vs : Values) → pending k ≡ self.old.open + 1 →
-            GoesOn result (λ _. vs) (taken k vs self.old.cursor.line (ahead self.old)) k (ahead self.new) }
+            GoesOn result (taken k vs self.old.cursor.line (ahead self.old)) (λ _. read k vs) (ahead self.new) }
     {
         if self.open == DEEPEST {
             return Err(refusal(TextKind::TooDeep, self.cursor.line));
@@ -53,7 +53,7 @@ impl<'a> Parser<'a> {
         ensures same { OnOk result (self.new.open ≡ self.old.open) }
         ensures left { OnOk result (ahead self.new ≡ rest_of (ahead self.old)) }
         ensures read { (k : List Symbol) (vs : Values) → pending k ≤ 200 →
-            GoesOn result (λ _. vs) (read (exactly mark ∷ k) vs (ahead self.old)) k (ahead self.new) }
+            GoesOn result (read (exactly mark ∷ k) vs (ahead self.old)) (λ _. read k vs) (ahead self.new) }
     {
         let token = self.cursor.token;
         match token {
@@ -70,16 +70,16 @@ impl<'a> Parser<'a> {
         ensures same { OnOk result (self.new.open ≡ self.old.open) }
         ensures left { OnOk result (ahead self.new ≡ rest_of (ahead self.old)) }
         ensures read { (k : List Symbol) (vs : Values) → pending k ≤ 200 →
-            GoesOn result (λ w. a_word w ∷ vs) (read (word ∷ k) vs (ahead self.old)) k (ahead self.new) }
+            GoesOn result (read (word ∷ k) vs (ahead self.old)) (λ w. read k (a_word w ∷ vs)) (ahead self.new) }
     {
         match self.cursor.token {
-            Token::Name(letters) => Ok(self.named(letters)?),
+            Token::Name(letters) => Ok(self.word_of(letters)?),
             _ => Err(self.unexpected()),
         }
     }
 
     /// Takes the next token, which is a name.
-    pub(crate) fn named(&mut self, letters: Letters<'a>) -> Result<Word, OutOfMemory>
+    pub(crate) fn word_of(&mut self, letters: Letters<'a>) -> Result<Word, OutOfMemory>
         ensures same { OnOk result (self.new.open ≡ self.old.open) }
         ensures left { OnOk result (ahead self.new ≡ rest_of (ahead self.old)) }
         ensures word { IfOk result (λ w. w ≡ word_at letters.entry.bytes.now self.old.cursor.line) }

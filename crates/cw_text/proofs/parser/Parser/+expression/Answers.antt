@@ -6,12 +6,12 @@ use Rattle.cw_text.proofs.parser.Parser.+expression.Goals as goal
 
 pub expr-returns-in_ok-right-in-Some-clause-read : goal.expr-returns-in_ok-right-in-Some-clause-read
 expr-returns-in_ok-right-in-Some-clause-read t c = λ k vs h.
-    goes_on _ _ _ _ k _ (grind (arith, steps)) (c.joined.ensures k vs _)
+    goes_on _ _ _ _ _ (grind (arith, steps)) (c.joined.ensures k vs _)
 
 pub product-returns-in_err-left-2-clause-read : goal.product-returns-in_err-left-2-clause-read
 product-returns-in_err-left-2-clause-read t c = λ k vs h.
     let stops = c.in_err-left-2.ensures (products ∷ k) vs (ahead c.operand-in-Some.new.self) in
-    search (rules, stops, goes_on)
+    grind (arith, steps, stops)
 
 pub sum-returns-in_err-left-2-clause-read : goal.sum-returns-in_err-left-2-clause-read
 sum-returns-in_err-left-2-clause-read t c = λ k vs h.
