@@ -1,5 +1,7 @@
 -- What a parsing function promises, in the words of the grammar.
-use Rattle.std.specs.Prelude.{ℕ, ◌≡◌, ◌<◌, List, ◌∷◌, ◌++◌, Result, Ok, Err}
+use Rattle.std.specs.Prelude.{ℕ, ◌≡◌, ◌<◌, List, [], ◌∷◌, ◌++◌, Option, Some, None, Result, Ok, Err}
+use Rattle.cw_text.specs.declared.ast.Item.{Item}
+use Rattle.cw_text.specs.declared.ast.Stmt.{Stmt}
 use Rattle.cw_text.specs.declared.fault.TextFault.{TextFault}
 use Rattle.cw_text.specs.declared.fault.TextKind.TheVariants.{Unexpected}
 use Rattle.cw_text.specs.declared.fault.TextRefusal.{TextRefusal}
@@ -7,7 +9,8 @@ use Rattle.cw_text.specs.declared.fault.TextRefusal.TheVariants.{Text, OutOfMemo
 use Rattle.cw_text.specs.declared.parser.Parser.{Parser}
 use Rattle.cw_text.specs.Lexemes.{Lexemes, end_on, comes}
 use Rattle.cw_text.specs.Cursor.{left_of, rest_of, count_of}
-use Rattle.cw_text.specs.Grammar.{Symbol, Values, read, pending, opened, then_read, why}
+use Rattle.cw_text.specs.Syntax.{Declaration, declaration_of, statement_of}
+use Rattle.cw_text.specs.Grammar.{Symbol, Values, declared, items, opened, pending, read, stated, stmts, then_read, why}
 
 -- the tokens that a parser has left
 abbrev pub ahead : Parser → Lexemes
@@ -45,5 +48,15 @@ GoesOn (Err e) reading behind left = Fails e reading
 -- From one parser to the next the answer was read for these symbols, whatever symbols and values are behind them.
 abbrev pub Parses : {T : Type 0} → Result T TextRefusal → List Symbol → (T → Values → Values) → (old new : Parser) → Type 0
 Parses result symbols values old new =
-    (k : List Symbol) (vs : Values) → pending k ≡ old.open →
+    (k : List Symbol) (vs : Values) → pending k ≡ old.depth →
     GoesOn result (read (symbols ++ k) vs (ahead old)) (λ x. read k (values x vs)) (ahead new)
+
+-- Behind a statement others may come, and behind none the block goes on.
+abbrev pub statement_read : List Symbol → Values → Option Stmt → Lexemes → Result Values TextFault
+statement_read k vs (Some s) = read (stmts ∷ k) (stated (statement_of s) vs)
+statement_read k vs None = read k vs
+
+-- Behind an item others may come, and the text ends where there is none.
+abbrev pub item_read : List Symbol → Values → List Declaration → Option Item → Lexemes → Result Values TextFault
+item_read k vs ds (Some i) = read (items ∷ k) (declared (ds ++ declaration_of i ∷ []) ∷ vs)
+item_read k vs ds None = λ _. Ok (declared ds ∷ vs)

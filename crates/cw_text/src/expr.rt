@@ -26,8 +26,8 @@ impl<'a> Parser<'a> {
     #[cycle(expression)]
     #[tactic(auto, using(crate::proofs::Steps::steps))]
     fn operand(&mut self) -> Result<Tall, TextRefusal>
-        requires { self.old.open ≤ 200 }
-        ensures same { OnOk result (self.new.open ≡ self.old.open) }
+        requires { self.old.depth ≤ 200 }
+        ensures same { OnOk result (self.new.depth ≡ self.old.depth) }
         ensures shorter { OnOk result (count_of (ahead self.new) < count_of (ahead self.old)) }
         ensures read { Parses result (operand ∷ []) (λ e vs. a_term (term_of e.expr) ∷ vs) self.old self.new }
     {
@@ -56,16 +56,16 @@ impl<'a> Parser<'a> {
     #[cycle(expression)]
     #[tactic(auto, using(crate::proofs::Steps::steps))]
     fn prefixed(&mut self, op: Op) -> Result<Tall, TextRefusal>
-        requires { self.old.open ≤ 200 }
-        ensures same { OnOk result (self.new.open ≡ self.old.open) }
+        requires { self.old.depth ≤ 200 }
+        ensures same { OnOk result (self.new.depth ≡ self.old.depth) }
         ensures shorter { OnOk result (count_of (ahead self.new) < count_of (rest_of (ahead self.old))) }
-        ensures read { (k : List Symbol) (vs : Values) → pending k ≡ self.old.open →
+        ensures read { (k : List Symbol) (vs : Values) → pending k ≡ self.old.depth →
             GoesOn result (taken (operand ∷ lifted op self.old.cursor.line ∷ k) vs self.old.cursor.line (ahead self.old)) (λ e. read k (a_term (term_of e.expr) ∷ vs)) (ahead self.new) }
     {
         let line = self.cursor.line;
         self.enter()?;
         let of = self.operand()?;
-        self.open -= 1;
+        self.depth -= 1;
         if of.height == DEEPEST {
             return Err(refusal(TextKind::TooDeep, line));
         }
@@ -82,16 +82,16 @@ impl<'a> Parser<'a> {
     #[cycle(expression)]
     #[tactic(auto, using(crate::proofs::Steps::steps))]
     fn bracketed(&mut self) -> Result<Tall, TextRefusal>
-        requires { self.old.open ≤ 200 }
-        ensures same { OnOk result (self.new.open ≡ self.old.open) }
+        requires { self.old.depth ≤ 200 }
+        ensures same { OnOk result (self.new.depth ≡ self.old.depth) }
         ensures shorter { OnOk result (count_of (ahead self.new) < count_of (rest_of (ahead self.old))) }
-        ensures read { (k : List Symbol) (vs : Values) → pending k ≡ self.old.open →
+        ensures read { (k : List Symbol) (vs : Values) → pending k ≡ self.old.depth →
             GoesOn result (taken (expr ∷ closing Mark.ParenClose ∷ k) vs self.old.cursor.line (ahead self.old)) (λ e. read k (a_term (term_of e.expr) ∷ vs)) (ahead self.new) }
     {
         self.enter()?;
         let inner = self.expr()?;
         self.expect(Mark::ParenClose)?;
-        self.open -= 1;
+        self.depth -= 1;
         Ok(inner)
     }
 
@@ -99,8 +99,8 @@ impl<'a> Parser<'a> {
     #[cycle(expression)]
     #[tactic(auto, using(crate::proofs::Steps::steps))]
     pub(crate) fn expr(&mut self) -> Result<Tall, TextRefusal>
-        requires { self.old.open ≤ 200 }
-        ensures same { OnOk result (self.new.open ≡ self.old.open) }
+        requires { self.old.depth ≤ 200 }
+        ensures same { OnOk result (self.new.depth ≡ self.old.depth) }
         ensures shorter { OnOk result (count_of (ahead self.new) < count_of (ahead self.old)) }
         ensures read { Parses result (expr ∷ []) (λ e vs. a_term (term_of e.expr) ∷ vs) self.old self.new }
     {
@@ -120,8 +120,8 @@ impl<'a> Parser<'a> {
     #[cycle(expression)]
     #[tactic(auto, using(crate::proofs::Steps::steps))]
     fn sum(&mut self) -> Result<Tall, TextRefusal>
-        requires { self.old.open ≤ 200 }
-        ensures same { OnOk result (self.new.open ≡ self.old.open) }
+        requires { self.old.depth ≤ 200 }
+        ensures same { OnOk result (self.new.depth ≡ self.old.depth) }
         ensures shorter { OnOk result (count_of (ahead self.new) < count_of (ahead self.old)) }
         ensures read { Parses result (operand ∷ products ∷ sums ∷ []) (λ e vs. a_term (term_of e.expr) ∷ vs) self.old self.new }
     {
@@ -139,8 +139,8 @@ impl<'a> Parser<'a> {
     #[cycle(expression)]
     #[tactic(auto, using(crate::proofs::Steps::steps))]
     fn product(&mut self) -> Result<Tall, TextRefusal>
-        requires { self.old.open ≤ 200 }
-        ensures same { OnOk result (self.new.open ≡ self.old.open) }
+        requires { self.old.depth ≤ 200 }
+        ensures same { OnOk result (self.new.depth ≡ self.old.depth) }
         ensures shorter { OnOk result (count_of (ahead self.new) < count_of (ahead self.old)) }
         ensures read { Parses result (operand ∷ products ∷ []) (λ e vs. a_term (term_of e.expr) ∷ vs) self.old self.new }
     {

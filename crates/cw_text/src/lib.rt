@@ -12,9 +12,11 @@ mod ast;
 mod cursor;
 mod expr;
 mod fault;
+mod item;
 mod letters;
 mod mark;
 mod parser;
+mod stmt;
 
 pub use ast::{Ast, Expr, Item, Op, Stmt, Word};
 pub use fault::{TextFault, TextKind, TextRefusal};

@@ -1,11 +1,12 @@
-ghost use Rattle.std.specs.Prelude.{◌≡◌, ◌≤◌, ◌+◌, ℕ, List, ◌∷◌, IfOk, OnOk};
-ghost use Rattle.cw_text.specs.Cursor.{rest_of};
-ghost use Rattle.cw_text.specs.Grammar.{Symbol, Values, a_word, exactly, pending, read, word, word_at};
+ghost use Rattle.std.specs.Prelude.{◌≡◌, ◌≤◌, ◌<◌, ◌+◌, ℕ, List, ◌∷◌, IfOk, OnOk};
+ghost use Rattle.cw_text.specs.Cursor.{count_of, left_of, rest_of};
+ghost use Rattle.cw_text.specs.Grammar.{Symbol, Values, a_word, exactly, pending, program_of, read, word, word_at};
 ghost use Rattle.cw_text.specs.Parser.{GoesOn, ahead, fault_at, taken};
+ghost use Rattle.cw_text.specs.Text.{Reads};
 
 use crate::cursor::{Cursor, Token};
 use crate::letters::Letters;
-use crate::{Mark, TextFault, TextKind, TextRefusal, Word};
+use crate::{Ast, Mark, TextFault, TextKind, TextRefusal, Word};
 use cw_base::{OutOfMemory, Text};
 use std::alloc::Global;
 
@@ -17,7 +18,7 @@ pub(crate) const DEEPEST: u32 = 200;
 pub(crate) struct Parser<'a> {
     pub alloc: Global,
     pub cursor: Cursor<'a>,
-    pub open: u32,
+    pub depth: u32,
 }
 
 impl<'a> Parser<'a> {
@@ -34,24 +35,24 @@ impl<'a> Parser<'a> {
 
     /// Goes past the next token, which opens a bracket or is an operator of one operand.
     pub(crate) fn enter(&mut self) -> Result<(), TextRefusal>
-        requires { self.old.open ≤ 200 }
-        ensures counted { OnOk result ((self.new.open ≡ self.old.open + 1) × (self.new.open ≤ 200)) }
+        requires { self.old.depth ≤ 200 }
+        ensures counted { OnOk result ((self.new.depth ≡ self.old.depth + 1) × (self.new.depth ≤ 200)) }
         ensures left { OnOk result (ahead self.new ≡ rest_of (ahead self.old)) }
-        ensures read { (k : List Symbol) (vs : Values) → pending k ≡ self.old.open + 1 →
+        ensures read { (k : List Symbol) (vs : Values) → pending k ≡ self.old.depth + 1 →
             GoesOn result (taken k vs self.old.cursor.line (ahead self.old)) (λ _. read k vs) (ahead self.new) }
     {
-        if self.open == DEEPEST {
+        if self.depth == DEEPEST {
             return Err(refusal(TextKind::TooDeep, self.cursor.line));
         }
-        self.open += 1;
+        self.depth += 1;
         self.cursor.advance();
         Ok(())
     }
 
     /// Takes this mark.
     pub(crate) fn expect(&mut self, mark: Mark) -> Result<(), TextRefusal>
-        ensures same { OnOk result (self.new.open ≡ self.old.open) }
-        ensures left { OnOk result (ahead self.new ≡ rest_of (ahead self.old)) }
+        ensures same { OnOk result (self.new.depth ≡ self.old.depth) }
+        ensures shorter { OnOk result (count_of (ahead self.new) < count_of (ahead self.old)) }
         ensures read { (k : List Symbol) (vs : Values) → pending k ≤ 200 →
             GoesOn result (read (exactly mark ∷ k) vs (ahead self.old)) (λ _. read k vs) (ahead self.new) }
     {
@@ -67,8 +68,8 @@ impl<'a> Parser<'a> {
 
     /// Takes a name.
     pub(crate) fn word(&mut self) -> Result<Word, TextRefusal>
-        ensures same { OnOk result (self.new.open ≡ self.old.open) }
-        ensures left { OnOk result (ahead self.new ≡ rest_of (ahead self.old)) }
+        ensures same { OnOk result (self.new.depth ≡ self.old.depth) }
+        ensures shorter { OnOk result (count_of (ahead self.new) < count_of (ahead self.old)) }
         ensures read { (k : List Symbol) (vs : Values) → pending k ≤ 200 →
             GoesOn result (read (word ∷ k) vs (ahead self.old)) (λ w. read k (a_word w ∷ vs)) (ahead self.new) }
     {
@@ -80,7 +81,7 @@ impl<'a> Parser<'a> {
 
     /// Takes the next token, which is a name.
     pub(crate) fn word_of(&mut self, letters: Letters<'a>) -> Result<Word, OutOfMemory>
-        ensures same { OnOk result (self.new.open ≡ self.old.open) }
+        ensures same { OnOk result (self.new.depth ≡ self.old.depth) }
         ensures left { OnOk result (ahead self.new ≡ rest_of (ahead self.old)) }
         ensures word { IfOk result (λ w. w ≡ word_at letters.entry.bytes.now self.old.cursor.line) }
     {
@@ -89,6 +90,22 @@ impl<'a> Parser<'a> {
         self.cursor.advance();
         Ok(Word { name, line })
     }
+}
+
+/// Reads all that a cursor has left.
+pub(crate) fn program(alloc: Global, cursor: Cursor<'_>) -> Result<Ast, TextRefusal>
+    ensures { Reads result (program_of (left_of cursor.entry)) }
+{
+    let mut parser = Parser {
+        alloc,
+        cursor,
+        depth: 0,
+    };
+    let mut items = Vec::new(alloc);
+    while let Some(item) = parser.item()? {
+        items.push(item)?;
+    }
+    Ok(Ast { items })
 }
 
 /// A fault on a line.
