@@ -40,16 +40,17 @@ abbrev pub Fails : TextRefusal → Result Values TextFault → Type 0
 Fails (Text f) reading = reading ≡ Err f
 Fails OutOfMemory reading = Unit {0}
 
--- With this answer a reading goes on, from what is left, as is said of it; or it fails.
+-- With this answer a reading goes on, from the tokens that are left, as is said of the answer; or it fails.
 abbrev pub GoesOn : {T : Type 0} → Result T TextRefusal → Result Values TextFault → (T → Lexemes → Result Values TextFault) → Lexemes → Type 0
 GoesOn (Ok x) reading behind left = reading ≡ behind x left
 GoesOn (Err e) reading behind left = Fails e reading
 
--- From one parser to the next the answer was read for these symbols, whatever symbols and values are behind them.
-abbrev pub Parses : {T : Type 0} → Result T TextRefusal → List Symbol → (T → Values → Values) → (old new : Parser) → Type 0
-Parses result symbols values old new =
-    (k : List Symbol) (vs : Values) → pending k ≡ old.depth →
-    GoesOn result (read (symbols ++ k) vs (ahead old)) (λ x. read k (values x vs)) (ahead new)
+-- The answer was read for these symbols and made these values, whatever symbols, with so many open, and values are
+-- behind them.
+abbrev pub Parses : {T : Type 0} → Result T TextRefusal → (depth : ℕ) → List Symbol → (T → Values → Values) → (old new : Lexemes) → Type 0
+Parses result depth symbols values old new =
+    (k : List Symbol) (vs : Values) → pending k ≡ depth →
+    GoesOn result (read (symbols ++ k) vs old) (λ x. read k (values x vs)) new
 
 -- Behind a statement others may come, and behind none the block goes on.
 abbrev pub statement_read : List Symbol → Values → Option Stmt → Lexemes → Result Values TextFault

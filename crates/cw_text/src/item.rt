@@ -15,9 +15,11 @@ impl<'a> Parser<'a> {
     pub(crate) fn item(&mut self) -> Result<Option<Item>, TextRefusal>
         requires { self.old.depth < 200 }
         ensures same { OnOk result (self.new.depth ≡ self.old.depth) }
-        ensures shorter { IfOk result (λ i. OnSome i (count_of (ahead self.new) < count_of (ahead self.old))) }
+        ensures shorter { IfOk result (λ i. OnSome i
+            (count_of (ahead self.new) < count_of (ahead self.old))) }
         ensures read { (k : List Symbol) (vs : Values) (ds : List Declaration) → pending k ≡ self.old.depth →
-            GoesOn result (read (items ∷ k) (declared ds ∷ vs) (ahead self.old)) (item_read k vs ds) (ahead self.new) }
+            GoesOn result (read (items ∷ k) (declared ds ∷ vs) (ahead self.old))
+            (item_read k vs ds) (ahead self.new) }
     {
         match self.cursor.token {
             Token::Mark(Mark::Cell) => Ok(Some(self.cell()?)),
@@ -34,7 +36,9 @@ impl<'a> Parser<'a> {
         ensures same { OnOk result (self.new.depth ≡ self.old.depth) }
         ensures shorter { OnOk result (count_of (ahead self.new) < count_of (rest_of (ahead self.old))) }
         ensures read { (k : List Symbol) (vs : Values) (ds : List Declaration) → pending k ≡ self.old.depth →
-            GoesOn result (read (word ∷ act (push (an_init (pos 0))) ∷ cell_init ∷ exactly Mark.Semicolon ∷ act cell_done ∷ k) (declared ds ∷ vs) (rest_of (ahead self.old))) (λ i. read k (declared (ds ++ declaration_of i ∷ []) ∷ vs)) (ahead self.new) }
+            let parts = word ∷ act (push (an_init (pos 0))) ∷ cell_init ∷ exactly Mark.Semicolon ∷ act cell_done ∷ k in
+            GoesOn result (read parts (declared ds ∷ vs) (rest_of (ahead self.old)))
+            (λ i. read k (declared (ds ++ declaration_of i ∷ []) ∷ vs)) (ahead self.new) }
     {
         self.cursor.advance();
         let Word { name, line } = self.word()?;
@@ -54,7 +58,8 @@ impl<'a> Parser<'a> {
         ensures same { OnOk result (self.new.depth ≡ self.old.depth) }
         ensures shorter { OnOk result (count_of (ahead self.new) ≤ count_of (ahead self.old)) }
         ensures read { (k : List Symbol) (vs : Values) → pending k ≡ self.old.depth →
-            GoesOn result (read (cell_init ∷ k) (an_init (pos 0) ∷ vs) (ahead self.old)) (λ n. read k (an_init n ∷ vs)) (ahead self.new) }
+            GoesOn result (read (cell_init ∷ k) (an_init (pos 0) ∷ vs) (ahead self.old))
+            (λ n. read k (an_init n ∷ vs)) (ahead self.new) }
     {
         match self.cursor.token {
             Token::Mark(Mark::Assign) => {
@@ -71,7 +76,8 @@ impl<'a> Parser<'a> {
         ensures same { OnOk result (self.new.depth ≡ self.old.depth) }
         ensures shorter { OnOk result (count_of (ahead self.new) ≤ count_of (ahead self.old)) }
         ensures read { (k : List Symbol) (vs : Values) → pending k ≡ self.old.depth →
-            GoesOn result (read (init ∷ k) (an_init (pos 0) ∷ vs) (ahead self.old)) (λ n. read k (an_init n ∷ vs)) (ahead self.new) }
+            GoesOn result (read (init ∷ k) (an_init (pos 0) ∷ vs) (ahead self.old))
+            (λ n. read k (an_init n ∷ vs)) (ahead self.new) }
     {
         match self.cursor.token {
             Token::Number(number) => {
@@ -92,7 +98,8 @@ impl<'a> Parser<'a> {
         ensures same { OnOk result (self.new.depth ≡ self.old.depth) }
         ensures shorter { OnOk result (count_of (ahead self.new) ≤ count_of (ahead self.old)) }
         ensures read { (k : List Symbol) (vs : Values) → pending k ≡ self.old.depth →
-            GoesOn result (read (negated ∷ k) (an_init (pos 0) ∷ vs) (ahead self.old)) (λ n. read k (an_init n ∷ vs)) (ahead self.new) }
+            GoesOn result (read (negated ∷ k) (an_init (pos 0) ∷ vs) (ahead self.old))
+            (λ n. read k (an_init n ∷ vs)) (ahead self.new) }
     {
         match self.cursor.token {
             Token::Number(number) => {
@@ -110,7 +117,9 @@ impl<'a> Parser<'a> {
         ensures same { OnOk result (self.new.depth ≡ self.old.depth) }
         ensures shorter { OnOk result (count_of (ahead self.new) < count_of (rest_of (ahead self.old))) }
         ensures read { (k : List Symbol) (vs : Values) (ds : List Declaration) → pending k ≡ self.old.depth →
-            GoesOn result (read (main_word ∷ exactly Mark.ParenOpen ∷ closing Mark.ParenClose ∷ block ∷ act func_done ∷ k) (declared ds ∷ vs) (rest_of (ahead self.old))) (λ i. read k (declared (ds ++ declaration_of i ∷ []) ∷ vs)) (ahead self.new) }
+            let parts = main_word ∷ exactly Mark.ParenOpen ∷ closing Mark.ParenClose ∷ block ∷ act func_done ∷ k in
+            GoesOn result (read parts (declared ds ∷ vs) (rest_of (ahead self.old)))
+            (λ i. read k (declared (ds ++ declaration_of i ∷ []) ∷ vs)) (ahead self.new) }
     {
         self.cursor.advance();
         let Word { name, line } = self.main_word()?;
@@ -130,13 +139,12 @@ impl<'a> Parser<'a> {
         ensures same { OnOk result (self.new.depth ≡ self.old.depth) }
         ensures shorter { OnOk result (count_of (ahead self.new) < count_of (ahead self.old)) }
         ensures read { (k : List Symbol) (vs : Values) → pending k ≤ 200 →
-            GoesOn result (read (main_word ∷ k) vs (ahead self.old)) (λ w. read k (a_word w ∷ vs)) (ahead self.new) }
+            GoesOn result (read (main_word ∷ k) vs (ahead self.old))
+            (λ w. read k (a_word w ∷ vs)) (ahead self.new) }
     {
-        match self.cursor.token {
-            Token::Name(letters) => {
-                if letters.bytes != b"main".as_slice() {
-                    return Err(self.unexpected());
-                }
+        let token = self.cursor.token;
+        match token {
+            Token::Name(letters) if letters.bytes == b"main".as_slice() => {
                 Ok(self.word_of(letters)?)
             }
             _ => Err(self.unexpected()),

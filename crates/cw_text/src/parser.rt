@@ -14,6 +14,8 @@ use std::alloc::Global;
 pub(crate) const DEEPEST: u32 = 200;
 
 /// What reads a program: the place in its text, and how many brackets and operators of one operand are open there.
+/// Only those lead to a call within a call, so their number bounds the stack: operators between operands, statements
+/// and items are read by loops.
 #[derive(Drop)]
 pub(crate) struct Parser<'a> {
     pub alloc: Global,
@@ -36,10 +38,12 @@ impl<'a> Parser<'a> {
     /// Goes past the next token, which opens a bracket or is an operator of one operand.
     pub(crate) fn enter(&mut self) -> Result<(), TextRefusal>
         requires { self.old.depth ≤ 200 }
-        ensures counted { OnOk result ((self.new.depth ≡ self.old.depth + 1) × (self.new.depth ≤ 200)) }
+        ensures counted { OnOk result (self.new.depth ≡ self.old.depth + 1) }
+        ensures low { OnOk result (self.new.depth ≤ 200) }
         ensures left { OnOk result (ahead self.new ≡ rest_of (ahead self.old)) }
         ensures read { (k : List Symbol) (vs : Values) → pending k ≡ self.old.depth + 1 →
-            GoesOn result (taken k vs self.old.cursor.line (ahead self.old)) (λ _. read k vs) (ahead self.new) }
+            GoesOn result (taken k vs self.old.cursor.line (ahead self.old))
+            (λ _. read k vs) (ahead self.new) }
     {
         if self.depth == DEEPEST {
             return Err(refusal(TextKind::TooDeep, self.cursor.line));
@@ -54,7 +58,8 @@ impl<'a> Parser<'a> {
         ensures same { OnOk result (self.new.depth ≡ self.old.depth) }
         ensures shorter { OnOk result (count_of (ahead self.new) < count_of (ahead self.old)) }
         ensures read { (k : List Symbol) (vs : Values) → pending k ≤ 200 →
-            GoesOn result (read (exactly mark ∷ k) vs (ahead self.old)) (λ _. read k vs) (ahead self.new) }
+            GoesOn result (read (exactly mark ∷ k) vs (ahead self.old))
+            (λ _. read k vs) (ahead self.new) }
     {
         let token = self.cursor.token;
         match token {
@@ -71,7 +76,8 @@ impl<'a> Parser<'a> {
         ensures same { OnOk result (self.new.depth ≡ self.old.depth) }
         ensures shorter { OnOk result (count_of (ahead self.new) < count_of (ahead self.old)) }
         ensures read { (k : List Symbol) (vs : Values) → pending k ≤ 200 →
-            GoesOn result (read (word ∷ k) vs (ahead self.old)) (λ w. read k (a_word w ∷ vs)) (ahead self.new) }
+            GoesOn result (read (word ∷ k) vs (ahead self.old))
+            (λ w. read k (a_word w ∷ vs)) (ahead self.new) }
     {
         match self.cursor.token {
             Token::Name(letters) => Ok(self.word_of(letters)?),

@@ -1,6 +1,6 @@
 ghost use Rattle.std.specs.Prelude.{◌≡◌, ◌≤◌, ◌<◌, ◌∷◌, [], ℕ, List, OnOk, IfNone, IfOk, OnSome};
 ghost use Rattle.cw_text.specs.Cursor.{count_of, rest_of};
-ghost use Rattle.cw_text.specs.Grammar.{Symbol, Values, a_block, a_term, a_word, act, assign_done, block, exactly, expr, let_done, out_done, pending, read, stated, stmts, word, word_at};
+ghost use Rattle.cw_text.specs.Grammar.{Symbol, Values, a_block, a_term, a_word, act, assign_done, block, exactly, expr, let_done, out_done, pending, push, read, stated, stmts, word, word_at};
 ghost use Rattle.cw_text.specs.Parser.{GoesOn, Parses, ahead, statement_read, taken};
 ghost use Rattle.cw_text.specs.Syntax.{block_of, statement_of, term_of};
 ghost use Rattle.cw_text.specs.declared.mark.Mark.TheVariants as Mark;
@@ -17,7 +17,8 @@ impl<'a> Parser<'a> {
         requires { self.old.depth ≤ 200 }
         ensures same { OnOk result (self.new.depth ≡ self.old.depth) }
         ensures shorter { OnOk result (count_of (ahead self.new) < count_of (ahead self.old)) }
-        ensures read { Parses result (block ∷ []) (λ b vs. a_block (block_of b.items) ∷ vs) self.old self.new }
+        ensures read { Parses result self.old.depth (block ∷ [])
+            (λ b. push (a_block (block_of b.items))) (ahead self.old) (ahead self.new) }
     {
         match self.cursor.token {
             Token::Mark(Mark::BraceOpen) => self.enter()?,
@@ -37,7 +38,8 @@ impl<'a> Parser<'a> {
     fn statement(&mut self) -> Result<Option<Stmt>, TextRefusal>
         requires { self.old.depth ≤ 200 }
         ensures same { OnOk result (self.new.depth ≡ self.old.depth) }
-        ensures shorter { IfOk result (λ s. OnSome s (count_of (ahead self.new) < count_of (ahead self.old))) }
+        ensures shorter { IfOk result (λ s. OnSome s
+            (count_of (ahead self.new) < count_of (ahead self.old))) }
         ensures unmoved { IfOk result (λ s. IfNone s (self.new ≡ self.old)) }
         ensures read { (k : List Symbol) (vs : Values) → pending k ≡ self.old.depth →
             GoesOn result (read (stmts ∷ k) vs (ahead self.old)) (statement_read k vs) (ahead self.new) }
@@ -55,8 +57,9 @@ impl<'a> Parser<'a> {
         requires { self.old.depth ≤ 200 }
         ensures same { OnOk result (self.new.depth ≡ self.old.depth) }
         ensures shorter { OnOk result (count_of (ahead self.new) < count_of (rest_of (ahead self.old))) }
-        ensures read { (k : List Symbol) (vs : Values) → pending k ≡ self.old.depth →
-            GoesOn result (read (word ∷ exactly Mark.Assign ∷ expr ∷ exactly Mark.Semicolon ∷ act let_done ∷ k) vs (rest_of (ahead self.old))) (λ s. read k (stated (statement_of s) vs)) (ahead self.new) }
+        ensures read { Parses result self.old.depth
+            (word ∷ exactly Mark.Assign ∷ expr ∷ exactly Mark.Semicolon ∷ act let_done ∷ [])
+            (λ s. stated (statement_of s)) (rest_of (ahead self.old)) (ahead self.new) }
     {
         self.cursor.advance();
         let name = self.word()?;
@@ -69,8 +72,8 @@ impl<'a> Parser<'a> {
         requires { self.old.depth ≤ 200 }
         ensures same { OnOk result (self.new.depth ≡ self.old.depth) }
         ensures shorter { OnOk result (count_of (ahead self.new) < count_of (rest_of (ahead self.old))) }
-        ensures read { (k : List Symbol) (vs : Values) → pending k ≡ self.old.depth →
-            GoesOn result (read (expr ∷ exactly Mark.Semicolon ∷ act out_done ∷ k) vs (rest_of (ahead self.old))) (λ s. read k (stated (statement_of s) vs)) (ahead self.new) }
+        ensures read { Parses result self.old.depth (expr ∷ exactly Mark.Semicolon ∷ act out_done ∷ [])
+            (λ s. stated (statement_of s)) (rest_of (ahead self.old)) (ahead self.new) }
     {
         self.cursor.advance();
         let value = self.expr()?;
@@ -79,12 +82,15 @@ impl<'a> Parser<'a> {
     }
 
     /// An assignment, whose name is next.
+    #[tactic(auto, using(crate::proofs::Steps::steps))]
     fn assignment(&mut self, letters: Letters<'a>) -> Result<Stmt, TextRefusal>
         requires { self.old.depth ≤ 200 }
         ensures same { OnOk result (self.new.depth ≡ self.old.depth) }
         ensures shorter { OnOk result (count_of (ahead self.new) < count_of (rest_of (ahead self.old))) }
-        ensures read { (k : List Symbol) (vs : Values) → pending k ≡ self.old.depth →
-            GoesOn result (read (exactly Mark.Assign ∷ expr ∷ exactly Mark.Semicolon ∷ act assign_done ∷ k) (a_word (word_at letters.entry.bytes.now self.old.cursor.line) ∷ vs) (rest_of (ahead self.old))) (λ s. read k (stated (statement_of s) vs)) (ahead self.new) }
+        ensures read { let name = word_at letters.entry.bytes.now self.old.cursor.line in
+            Parses result self.old.depth
+            (act (push (a_word name)) ∷ exactly Mark.Assign ∷ expr ∷ exactly Mark.Semicolon ∷ act assign_done ∷ [])
+            (λ s. stated (statement_of s)) (rest_of (ahead self.old)) (ahead self.new) }
     {
         let name = self.word_of(letters)?;
         let value = self.assigned_value()?;
@@ -96,7 +102,8 @@ impl<'a> Parser<'a> {
         requires { self.old.depth ≤ 200 }
         ensures same { OnOk result (self.new.depth ≡ self.old.depth) }
         ensures shorter { OnOk result (count_of (ahead self.new) < count_of (ahead self.old)) }
-        ensures read { Parses result (exactly Mark.Assign ∷ expr ∷ exactly Mark.Semicolon ∷ []) (λ e vs. a_term (term_of e) ∷ vs) self.old self.new }
+        ensures read { Parses result self.old.depth (exactly Mark.Assign ∷ expr ∷ exactly Mark.Semicolon ∷ [])
+            (λ e. push (a_term (term_of e))) (ahead self.old) (ahead self.new) }
     {
         self.expect(Mark::Assign)?;
         let value = self.expr()?;
