@@ -40,3 +40,6 @@ pub fn read_program(_alloc: Global, bytes: &[u8]) -> Result<Ast, TextRefusal>
     let _ = bytes;
     Err(TextRefusal::OutOfMemory)
 }
+
+#[cfg(test)]
+mod tests;

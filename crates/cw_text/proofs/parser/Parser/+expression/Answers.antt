@@ -4,6 +4,10 @@ use Rattle.cw_text.specs.Parser.{ahead}
 use Rattle.cw_text.proofs.Steps.{steps, goes_on}
 use Rattle.cw_text.proofs.parser.Parser.+expression.Goals as goal
 
+pub operand-returns-in-Some-clause-read : goal.operand-returns-in-Some-clause-read
+operand-returns-in-Some-clause-read t c = λ k vs h.
+    goes_on _ _ _ _ _ (grind (arith, steps)) (c.prefixed.ensures.read k vs h)
+
 pub expr-returns-in_ok-right-in-Some-clause-read : goal.expr-returns-in_ok-right-in-Some-clause-read
 expr-returns-in_ok-right-in-Some-clause-read t c = λ k vs h.
     goes_on _ _ _ _ _ (grind (arith, steps)) (c.joined.ensures k vs _)
