@@ -1,5 +1,5 @@
 use super::*;
-use std::alloc::AllocError;
+use std::alloc::{AllocError, Global};
 use std::test::Fail;
 
 // A program whose output is this expression.

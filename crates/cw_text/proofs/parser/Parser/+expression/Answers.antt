@@ -1,6 +1,5 @@
 use Rattle.std.proofs.Common.{rules, arith, ◌∷◌}
 use Rattle.cw_text.specs.Grammar.{products, sums}
-use Rattle.cw_text.specs.Parser.{ahead}
 use Rattle.cw_text.proofs.Steps.{steps, goes_on}
 use Rattle.cw_text.proofs.parser.Parser.+expression.Goals as goal
 
@@ -14,10 +13,10 @@ expr-returns-in_ok-right-in-Some-clause-read t c = λ k vs h.
 
 pub product-returns-in_err-left-2-clause-read : goal.product-returns-in_err-left-2-clause-read
 product-returns-in_err-left-2-clause-read t c = λ k vs h.
-    let stops = c.in_err-left-2.ensures (products ∷ k) vs (ahead c.operand-in-Some.new.self) in
+    let stops = c.in_err-left-2.ensures (products ∷ k) vs in
     grind (arith, steps, stops)
 
 pub sum-returns-in_err-left-2-clause-read : goal.sum-returns-in_err-left-2-clause-read
 sum-returns-in_err-left-2-clause-read t c = λ k vs h.
-    let stops = c.in_err-left-2.ensures (sums ∷ k) vs (ahead c.product-in-Some.new.self) in
+    let stops = c.in_err-left-2.ensures (sums ∷ k) vs in
     grind (arith, steps, stops)
