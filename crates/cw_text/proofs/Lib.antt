@@ -5,3 +5,5 @@ pub mod Places
 pub mod Prefixes
 pub mod Readings
 pub mod Spelled
+pub mod Steps
+pub mod Turns

@@ -5,4 +5,5 @@ pub mod Text
 pub mod Front
 pub mod Cursor
 pub mod Places
+pub mod Parser
 pub mod Rows

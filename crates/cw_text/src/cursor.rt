@@ -1,7 +1,7 @@
 ghost use Rattle.std.specs.Prelude.{◌≡◌, ◌<◌, ◌≤◌, ◌+◌, ◌^◌, length, drop};
 ghost use Rattle.cw_text.specs.Lexemes.{keywords, lexemes, lexemes_from};
 
-use crate::letters::Letters;
+use crate::letters::{Letters, Whole};
 use crate::scan::{Front, newlines, read_front};
 use crate::spelling::KEYWORDS;
 use crate::{Mark, TextKind};
@@ -10,7 +10,7 @@ use crate::{Mark, TextKind};
 #[derive(Clone, Copy)]
 pub enum Token<'a> {
     Name(Letters<'a>),
-    Number(u64),
+    Number(Whole),
     Mark(Mark),
     Bad(TextKind),
     End,

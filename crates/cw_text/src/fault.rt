@@ -1,3 +1,4 @@
+use cw_base::OutOfMemory;
 use std::alloc::{AllocError, AllocFailed};
 
 /// What is wrong with a text.
@@ -49,6 +50,17 @@ impl<T: Drop> From<AllocFailed<T>> for TextRefusal {
     ghost from_gives = { λ _ e. e ≡ OutOfMemory };
 
     fn from(_failed: AllocFailed<T>) -> Self {
+        TextRefusal::OutOfMemory
+    }
+}
+
+impl From<OutOfMemory> for TextRefusal {
+    ghost use Rattle.std.specs.Prelude.{◌≡◌};
+    ghost use Rattle.cw_text.specs.declared.fault.TextRefusal.TheVariants as refusal;
+
+    ghost from_gives = { λ _ e. e ≡ refusal.OutOfMemory };
+
+    fn from(_failed: OutOfMemory) -> Self {
         TextRefusal::OutOfMemory
     }
 }

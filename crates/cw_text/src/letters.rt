@@ -1,8 +1,15 @@
-ghost use Rattle.std.specs.Prelude.{◌<◌, All};
+ghost use Rattle.std.specs.Prelude.{◌<◌, ◌^◌, All};
 
 /// The bytes of a name, all of them ASCII.
 #[derive(Clone, Copy)]
 pub struct Letters<'a> {
     pub bytes: &'a [u8],
     ghost ascii: { All (λ b. b < 128) bytes.now },
+}
+
+/// A number that is an `i64`.
+#[derive(Clone, Copy)]
+pub struct Whole {
+    pub value: u64,
+    ghost small: { value < 2 ^ 63 },
 }

@@ -13,12 +13,15 @@ ghost use Rattle.cw_text.specs.Rows.{Tokens, Programs, Heights, Brackets, Refusa
 
 mod ast;
 mod cursor;
+mod expr;
 mod fault;
+mod item;
 mod letters;
 mod mark;
 mod parser;
 mod scan;
 mod spelling;
+mod stmt;
 mod text;
 
 pub use ast::{Ast, Expr, Item, Op, Stmt, Word};
@@ -39,3 +42,6 @@ pub fn worked_texts()
 pub fn tokens_follow()
     ensures { (words : List Mark) (text : List ℕ) → Follow words text 0 (lexemes words text) }
 {}
+
+#[cfg(test)]
+mod tests;

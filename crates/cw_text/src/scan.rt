@@ -7,7 +7,7 @@ ghost use Rattle.cw_text.specs.Lexemes.{word_token, number_token, value_of_digit
 ghost use Rattle.cw_text.specs.Lexemes.{found, sign_front, front};
 
 use crate::cursor::Token;
-use crate::letters::Letters;
+use crate::letters::{Letters, Whole};
 use crate::spelling::{SIGNS, spelling};
 use crate::{Mark, TextKind};
 
@@ -108,7 +108,7 @@ fn number_token(digits: &[u8], rest: &[u8]) -> Token<'static>
     ensures { lexeme_of result ≡ number_token digits.now rest.now }
 {
     match value_of(digits) {
-        Some(value) if !begins_word(rest) => Token::Number(value),
+        Some(value) if !begins_word(rest) => Token::Number(Whole { value }),
         _ => Token::Bad(TextKind::BadNumber),
     }
 }

@@ -1,0 +1,74 @@
+-- Steps of the grammar.
+use Rattle.std.proofs.Common.{max, ◌≡◌, ℕ, ◌+◌, ◌<◌, ◌≤◌, List, [], ◌∷◌, ◌++◌, ap, refl, arith, Err, Result, subst, sym}
+use Rattle.std.proofs.lemmas.Bool.{le-ltb, lt-ltb}
+use Rattle.cw_text.specs.declared.ast.Op.{Op}
+use Rattle.cw_text.specs.declared.ast.Stmt.{Stmt}
+use Rattle.cw_text.specs.declared.fault.TextKind.TheVariants.{TooDeep}
+use Rattle.cw_text.specs.declared.mark.Mark.TheVariants as m
+use Rattle.cw_text.specs.Cursor.{rest_of}
+use Rattle.cw_text.specs.Lexemes.{Lexemes, end_on, comes, number, name, mark, bad, end}
+use Rattle.cw_text.specs.Syntax.{Term, binary, block_of, first, height, statement_of, unary, with_statement}
+use Rattle.cw_text.specs.Grammar.{Symbol, Values, a_term, read, pending, lifted, fault, act, join, read_from, operand, expr, products, sums, comparison, closing, exactly}
+use Rattle.cw_text.specs.Parser.{taken, GoesOn}
+use Rattle.cw_text.specs.declared.fault.TextFault.{TextFault}
+use Rattle.cw_text.specs.declared.fault.TextRefusal.{TextRefusal}
+use Rattle.cw_text.specs.declared.mark.Mark.{Mark}
+
+-- with at most 200 open a token is taken
+pub taken_open : (k : List Symbol) (vs : Values) (l : ℕ) (xs : Lexemes) → pending k ≤ 200 → taken k vs l xs ≡ read k vs (rest_of xs)
+taken_open k vs l xs h = rw (le-ltb 200 (pending k) h) refl
+
+-- what is made of the values
+pub read-act : (f : Values → Values) (k : List Symbol) (vs : Values) (xs : Lexemes) → read (act f ∷ k) vs xs ≡ read k (f vs) xs
+read-act f k vs (end_on n) = refl
+read-act f k vs (comes t n xs) = refl
+
+-- an operator before its operand
+pub read-lifted : (o : Op) (l : ℕ) (e : Term) (k : List Symbol) (vs : Values) (xs : Lexemes) → height e + 1 ≤ 200 → read (lifted o l ∷ k) (a_term e ∷ vs) xs ≡ read k (a_term (unary o e) ∷ vs) xs
+read-lifted o l e k vs (end_on n) h = rw (le-ltb 200 (height e + 1) h) refl
+read-lifted o l e k vs (comes t n xs) h = rw (le-ltb 200 (height e + 1) h) refl
+
+pub read-lifted-high : (o : Op) (l : ℕ) (e : Term) (k : List Symbol) (vs : Values) (xs : Lexemes) → 200 < height e + 1 → read (lifted o l ∷ k) (a_term e ∷ vs) xs ≡ fault TooDeep l
+read-lifted-high o l e k vs (end_on n) h = rw (lt-ltb 200 (height e + 1) h) refl
+read-lifted-high o l e k vs (comes t n xs) h = rw (lt-ltb 200 (height e + 1) h) refl
+
+-- an operator between its operands
+pub read-join : (o : Op) (l : ℕ) (a b : Term) (k : List Symbol) (vs : Values) (xs : Lexemes) → max (height a) (height b) + 1 ≤ 200 → read (act (join o) ∷ read_from l ∷ k) (a_term b ∷ a_term a ∷ vs) xs ≡ read k (a_term (binary o a b) ∷ vs) xs
+read-join o l a b k vs (end_on n) h = rw (le-ltb 200 (max (height a) (height b) + 1) h) refl
+read-join o l a b k vs (comes t n xs) h = rw (le-ltb 200 (max (height a) (height b) + 1) h) refl
+
+pub read-join-high : (o : Op) (l : ℕ) (a b : Term) (k : List Symbol) (vs : Values) (xs : Lexemes) → 200 < max (height a) (height b) + 1 → read (act (join o) ∷ read_from l ∷ k) (a_term b ∷ a_term a ∷ vs) xs ≡ fault TooDeep l
+read-join-high o l a b k vs (end_on n) h = rw (lt-ltb 200 (max (height a) (height b) + 1) h) refl
+read-join-high o l a b k vs (comes t n xs) h = rw (lt-ltb 200 (max (height a) (height b) + 1) h) refl
+
+-- one more statement of a block
+pub block_of-append : (b : List Stmt) (s : Stmt) → block_of (b ++ s ∷ []) ≡ with_statement (block_of b) (statement_of s)
+block_of-append [] s = refl
+block_of-append (x ∷ b) s = ap (first (statement_of x)) (block_of-append b s)
+
+-- an expression is operands with products, sums and a comparison
+pub read-expr : (k : List Symbol) (vs : Values) (xs : Lexemes) → read (expr ∷ k) vs xs ≡ read (operand ∷ products ∷ sums ∷ comparison ∷ k) vs xs
+read-expr k vs (end_on l) = refl
+read-expr k vs (comes (number n) l xs) = refl
+read-expr k vs (comes (name n) l xs) = refl
+read-expr k vs (comes (mark m.ParenOpen) l xs) = refl
+read-expr k vs (comes (mark m.Minus) l xs) = refl
+read-expr k vs (comes (mark m.Bang) l xs) = refl
+read-expr k vs (comes (mark a) l xs) = refl
+read-expr k vs (comes (bad b) l xs) = refl
+read-expr k vs (comes end l xs) = refl
+
+-- the end of a bracket is one mark
+pub read-closing : (a : Mark) (k : List Symbol) (vs : Values) (xs : Lexemes) → read (closing a ∷ k) vs xs ≡ read (exactly a ∷ k) vs xs
+read-closing a k vs (end_on l) = refl
+read-closing a k vs (comes (number n) l xs) = refl
+read-closing a k vs (comes (name n) l xs) = refl
+read-closing a k vs (comes (mark b) l xs) = refl
+read-closing a k vs (comes (bad b) l xs) = refl
+read-closing a k vs (comes end l xs) = refl
+
+pub ruleset steps = (taken_open, read-act, read-lifted, read-lifted-high, read-join, read-join-high, read-expr, read-closing, block_of-append)
+
+-- A reading that is as another one goes on as that one.
+pub goes_on : {T : Type 0} (r : Result T TextRefusal) (a b : Result Values TextFault) (behind : T → Lexemes → Result Values TextFault) (left : Lexemes) → a ≡ b → GoesOn r b behind left → GoesOn r a behind left
+goes_on r a b behind left e h = subst (λ x. GoesOn r x behind left) (sym e) h

@@ -1,0 +1,30 @@
+-- What the loops of the parser keep.
+use Rattle.std.proofs.Common.{◌≡◌, ◌<◌, ◌≤◌, ◌+◌, ℕ, List, [], ◌∷◌, ◌++◌, map}
+use Rattle.cw_text.specs.Cursor.{count_of}
+use Rattle.cw_text.specs.Grammar.{Symbol, Values, a_block, a_term, block, closing, declared, items, pending, read, stmts}
+use Rattle.cw_text.specs.Lexemes.{Lexemes}
+use Rattle.cw_text.specs.Parser.{ahead}
+use Rattle.cw_text.specs.Syntax.{block_of, declaration_of, term_of}
+use Rattle.cw_text.specs.declared.ast.Item.{Item}
+use Rattle.cw_text.specs.declared.ast.Stmt.{Stmt}
+use Rattle.cw_text.specs.declared.mark.Mark.TheVariants as m
+use Rattle.cw_text.specs.declared.expr.Measured.{Measured}
+use Rattle.cw_text.specs.declared.parser.Parser.{Parser}
+
+-- What the loop over operators keeps.
+pub record HasRead (start : List Symbol) (more : Symbol) (old new : Parser) (e : Measured) : Type 0 where
+  pub same : new.depth ≡ old.depth
+  pub shorter : count_of (ahead new) < count_of (ahead old)
+  pub reading : (k : List Symbol) (vs : Values) → pending k ≡ old.depth → read (start ++ k) vs (ahead old) ≡ read (more ∷ k) (a_term (term_of e.expr) ∷ vs) (ahead new)
+
+-- What the loop over the statements of a block keeps.
+pub record HasReadStatements (old new : Parser) (body : List Stmt) : Type 0 where
+  pub same : new.depth ≡ old.depth + 1
+  pub low : new.depth ≤ 200
+  pub shorter : count_of (ahead new) < count_of (ahead old)
+  pub reading : (k : List Symbol) (vs : Values) → pending k ≡ old.depth → read (block ∷ k) vs (ahead old) ≡ read (stmts ∷ closing m.BraceClose ∷ k) (a_block (block_of body) ∷ vs) (ahead new)
+
+-- What the loop over items keeps.
+pub record HasReadItems (old : Lexemes) (new : Parser) (list : List Item) : Type 0 where
+  pub none_open : new.depth ≡ 0
+  pub reading : read (items ∷ []) (declared [] ∷ []) old ≡ read (items ∷ []) (declared (map declaration_of list) ∷ []) (ahead new)

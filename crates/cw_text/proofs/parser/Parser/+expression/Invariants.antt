@@ -1,0 +1,36 @@
+use Rattle.std.proofs.Common.{[], ◌∷◌, ◌+◌, ◌-◌, ◌*◌}
+use Rattle.cw_text.specs.Cursor.{count_of}
+use Rattle.cw_text.specs.Grammar.{operand, products, sums}
+use Rattle.cw_text.specs.Parser.{ahead}
+use Rattle.cw_text.proofs.Turns.{HasRead}
+use Rattle.cw_text.proofs.parser.Parser.+expression.Given as goal
+
+abbrev pub decreases-prefixed : goal.decreases-prefixed
+decreases-prefixed l = 5 * (200 - l.self.now.depth)
+
+abbrev pub decreases-bracketed : goal.decreases-bracketed
+decreases-bracketed l = 5 * (200 - l.self.now.depth)
+
+abbrev pub decreases-operand : goal.decreases-operand
+decreases-operand l = 5 * (200 - l.self.now.depth) + 1
+
+abbrev pub decreases-product : goal.decreases-product
+decreases-product l = 5 * (200 - l.self.now.depth) + 2
+
+abbrev pub decreases-sum : goal.decreases-sum
+decreases-sum l = 5 * (200 - l.self.now.depth) + 3
+
+abbrev pub decreases-expr : goal.decreases-expr
+decreases-expr l = 5 * (200 - l.self.now.depth) + 4
+
+abbrev pub invariant-product-loop-op : goal.invariant-product-loop-op
+invariant-product-loop-op l = HasRead (operand ∷ products ∷ []) products l.fn.self l.self l.left
+
+abbrev pub decreases-product-loop-op : goal.decreases-product-loop-op
+decreases-product-loop-op l = count_of (ahead l.self)
+
+abbrev pub invariant-sum-loop-op : goal.invariant-sum-loop-op
+invariant-sum-loop-op l = HasRead (operand ∷ products ∷ sums ∷ []) sums l.fn.self l.self l.left
+
+abbrev pub decreases-sum-loop-op : goal.decreases-sum-loop-op
+decreases-sum-loop-op l = count_of (ahead l.self)

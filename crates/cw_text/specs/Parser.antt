@@ -1,0 +1,63 @@
+-- What a parsing function promises, in the words of the grammar.
+use Rattle.std.specs.Prelude.{ℕ, ◌≡◌, ◌<◌, List, [], ◌∷◌, ◌++◌, Option, Some, None, Result, Ok, Err}
+use Rattle.cw_text.specs.declared.ast.Item.{Item}
+use Rattle.cw_text.specs.declared.ast.Stmt.{Stmt}
+use Rattle.cw_text.specs.declared.fault.TextFault.{TextFault}
+use Rattle.cw_text.specs.declared.fault.TextKind.TheVariants.{Unexpected}
+use Rattle.cw_text.specs.declared.fault.TextRefusal.{TextRefusal}
+use Rattle.cw_text.specs.declared.fault.TextRefusal.TheVariants.{Text, OutOfMemory}
+use Rattle.cw_text.specs.declared.parser.Parser.{Parser}
+use Rattle.cw_text.specs.Lexemes.{Lexemes, end_on, comes}
+use Rattle.cw_text.specs.Cursor.{left_of, rest_of, count_of}
+use Rattle.cw_text.specs.Syntax.{Declaration, declaration_of, statement_of}
+use Rattle.cw_text.specs.Grammar.{Symbol, Values, declared, items, opened, pending, read, stated, stmts, then_read, why}
+
+-- the tokens that a parser has left
+abbrev pub ahead : Parser → Lexemes
+ahead p = left_of p.cursor
+
+-- the fault of the next token, where it may not stand
+abbrev pub fault_at : Lexemes → TextFault
+fault_at (end_on l) = record { kind = Unexpected; line = l }
+fault_at (comes t l xs) = record { kind = why t; line = l }
+
+-- The next token was taken, and these symbols may come behind it.
+abbrev pub taken : List Symbol → Values → ℕ → Lexemes → Result Values TextFault
+taken k vs line left = then_read (opened k vs line) (λ k' vs'. read k' vs' (rest_of left))
+
+-- The next token begins this symbol, and these symbols may come behind it.
+abbrev pub Begins : Parser → Symbol → List Symbol → Type 0
+Begins p s behind =
+    (count_of (rest_of (ahead p)) < count_of (ahead p))
+    × ((k : List Symbol) (vs : Values) → read (s ∷ k) vs (ahead p) ≡ taken (behind ++ k) vs p.cursor.line (ahead p))
+
+-- The next token does not begin this symbol, for which nothing may stand.
+abbrev pub Skips : Parser → Symbol → Type 0
+Skips p s = (k : List Symbol) (vs : Values) → read (s ∷ k) vs (ahead p) ≡ read k vs (ahead p)
+
+-- A reading ends in this refusal. Of want of memory nothing is said.
+abbrev pub Fails : TextRefusal → Result Values TextFault → Type 0
+Fails (Text f) reading = reading ≡ Err f
+Fails OutOfMemory reading = Unit {0}
+
+-- With this answer a reading goes on, from the tokens that are left, as is said of the answer; or it fails.
+abbrev pub GoesOn : {T : Type 0} → Result T TextRefusal → Result Values TextFault → (T → Lexemes → Result Values TextFault) → Lexemes → Type 0
+GoesOn (Ok x) reading behind left = reading ≡ behind x left
+GoesOn (Err e) reading behind left = Fails e reading
+
+-- The answer was read for these symbols and made these values, whatever symbols, with so many open, and values are
+-- behind them.
+abbrev pub Parses : {T : Type 0} → Result T TextRefusal → (depth : ℕ) → List Symbol → (T → Values → Values) → (old new : Lexemes) → Type 0
+Parses result depth symbols values old new =
+    (k : List Symbol) (vs : Values) → pending k ≡ depth →
+    GoesOn result (read (symbols ++ k) vs old) (λ x. read k (values x vs)) new
+
+-- Behind a statement others may come, and behind none the block goes on.
+abbrev pub statement_read : List Symbol → Values → Option Stmt → Lexemes → Result Values TextFault
+statement_read k vs (Some s) = read (stmts ∷ k) (stated (statement_of s) vs)
+statement_read k vs None = read k vs
+
+-- Behind an item others may come, and the text ends where there is none.
+abbrev pub item_read : List Symbol → Values → List Declaration → Option Item → Lexemes → Result Values TextFault
+item_read k vs ds (Some i) = read (items ∷ k) (declared (ds ++ declaration_of i ∷ []) ∷ vs)
+item_read k vs ds None = λ _. Ok (declared ds ∷ vs)

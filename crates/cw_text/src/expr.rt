@@ -1,0 +1,228 @@
+ghost use Rattle.std.specs.Prelude.{◌≡◌, ◌≤◌, ◌<◌, ◌∷◌, [], ℕ, List, OnOk, IfSome, IfNone};
+ghost use Rattle.cw_text.specs.Cursor.{count_of, rest_of};
+ghost use Rattle.cw_text.specs.Grammar.{Symbol, Values, a_term, act, closing, comparison, expr, join, lifted, operand, pending, products, push, read, read_from, sums};
+ghost use Rattle.cw_text.specs.Lexemes.{Lexemes};
+ghost use Rattle.cw_text.specs.Parser.{Begins, GoesOn, Parses, Skips, ahead, taken};
+ghost use Rattle.cw_text.specs.Syntax.{height as height_of, term_of};
+ghost use Rattle.cw_text.specs.declared.mark.Mark.TheVariants as Mark;
+
+use crate::cursor::Token;
+use crate::mark::{comparison_of, prefix_of, product_of, sum_of};
+use crate::parser::{DEEPEST, Parser, refusal};
+use crate::{Expr, Mark, Op, TextKind, TextRefusal, Word};
+use std::alloc::Global;
+
+/// An expression that is not too high, and its height.
+#[derive(Drop)]
+pub(crate) struct Measured {
+    pub expr: Expr,
+    pub height: u32,
+    ghost exact: { height ≡ height_of (term_of expr) },
+    ghost low: { height ≤ 200 },
+}
+
+impl<'a> Parser<'a> {
+    /// An operand: a number, a name, an expression in round brackets, or an operator and its operand.
+    #[cycle(expression)]
+    #[tactic(auto, using(crate::proofs::Steps::steps))]
+    fn operand(&mut self) -> Result<Measured, TextRefusal>
+        requires { self.old.depth ≤ 200 }
+        ensures same { OnOk result (self.new.depth ≡ self.old.depth) }
+        ensures shorter { OnOk result (count_of (ahead self.new) < count_of (ahead self.old)) }
+        ensures read { Parses result self.old.depth (operand ∷ [])
+            (λ e. push (a_term (term_of e.expr))) (ahead self.old) (ahead self.new) }
+    {
+        match self.cursor.token {
+            Token::Number(number) => {
+                self.cursor.advance();
+                Ok(Measured {
+                    expr: Expr::Number(number.value as i64),
+                    height: 1,
+                })
+            }
+            Token::Name(letters) => Ok(Measured {
+                expr: Expr::Name(self.word_of(letters)?),
+                height: 1,
+            }),
+            Token::Mark(Mark::ParenOpen) => self.bracketed(),
+            Token::Mark(mark) => match prefix_of(mark) {
+                Some(op) => self.prefixed(op),
+                None => Err(self.unexpected()),
+            },
+            _ => Err(self.unexpected()),
+        }
+    }
+
+    /// An operator that is next, and its operand.
+    #[cycle(expression)]
+    #[tactic(auto, using(crate::proofs::Steps::steps))]
+    fn prefixed(&mut self, op: Op) -> Result<Measured, TextRefusal>
+        requires { self.old.depth ≤ 200 }
+        ensures same { OnOk result (self.new.depth ≡ self.old.depth) }
+        ensures shorter { OnOk result (count_of (ahead self.new) < count_of (rest_of (ahead self.old))) }
+        ensures read { (k : List Symbol) (vs : Values) → pending k ≡ self.old.depth →
+            let line = self.old.cursor.line in
+            GoesOn result (taken (operand ∷ lifted op line ∷ k) vs line (ahead self.old))
+            (λ e. read k (a_term (term_of e.expr) ∷ vs)) (ahead self.new) }
+    {
+        let line = self.cursor.line;
+        self.enter()?;
+        let of = self.operand()?;
+        self.depth -= 1;
+        if of.height == DEEPEST {
+            return Err(refusal(TextKind::TooDeep, line));
+        }
+        Ok(Measured {
+            height: of.height + 1,
+            expr: Expr::Unary {
+                op,
+                of: Box::new(self.alloc, of.expr)?,
+            },
+        })
+    }
+
+    /// An expression whose bracket is next.
+    #[cycle(expression)]
+    #[tactic(auto, using(crate::proofs::Steps::steps))]
+    fn bracketed(&mut self) -> Result<Measured, TextRefusal>
+        requires { self.old.depth ≤ 200 }
+        ensures same { OnOk result (self.new.depth ≡ self.old.depth) }
+        ensures shorter { OnOk result (count_of (ahead self.new) < count_of (rest_of (ahead self.old))) }
+        ensures read { (k : List Symbol) (vs : Values) → pending k ≡ self.old.depth →
+            let line = self.old.cursor.line in
+            GoesOn result (taken (expr ∷ closing Mark.ParenClose ∷ k) vs line (ahead self.old))
+            (λ e. read k (a_term (term_of e.expr) ∷ vs)) (ahead self.new) }
+    {
+        self.enter()?;
+        let inner = self.expr()?;
+        self.expect(Mark::ParenClose)?;
+        self.depth -= 1;
+        Ok(inner)
+    }
+
+    /// An expression.
+    #[cycle(expression)]
+    #[tactic(auto, using(crate::proofs::Steps::steps))]
+    pub(crate) fn expr(&mut self) -> Result<Measured, TextRefusal>
+        requires { self.old.depth ≤ 200 }
+        ensures same { OnOk result (self.new.depth ≡ self.old.depth) }
+        ensures shorter { OnOk result (count_of (ahead self.new) < count_of (ahead self.old)) }
+        ensures read { Parses result self.old.depth (expr ∷ [])
+            (λ e. push (a_term (term_of e.expr))) (ahead self.old) (ahead self.new) }
+    {
+        let left = self.sum()?;
+        match self.comparison_sign() {
+            Some(op) => {
+                let line = self.cursor.line;
+                self.cursor.advance();
+                let right = self.sum()?;
+                joined(self.alloc, op, line, left, right)
+            }
+            None => Ok(left),
+        }
+    }
+
+    /// Products, with `+` or `-` between them.
+    #[cycle(expression)]
+    #[tactic(auto, using(crate::proofs::Steps::steps))]
+    fn sum(&mut self) -> Result<Measured, TextRefusal>
+        requires { self.old.depth ≤ 200 }
+        ensures same { OnOk result (self.new.depth ≡ self.old.depth) }
+        ensures shorter { OnOk result (count_of (ahead self.new) < count_of (ahead self.old)) }
+        ensures read { Parses result self.old.depth (operand ∷ products ∷ sums ∷ [])
+            (λ e. push (a_term (term_of e.expr))) (ahead self.old) (ahead self.new) }
+    {
+        let mut left = self.product()?;
+        while let Some(op) = self.sum_sign() {
+            let line = self.cursor.line;
+            self.cursor.advance();
+            let right = self.product()?;
+            left = joined(self.alloc, op, line, left, right)?;
+        }
+        Ok(left)
+    }
+
+    /// Operands, with `*` between them.
+    #[cycle(expression)]
+    #[tactic(auto, using(crate::proofs::Steps::steps))]
+    fn product(&mut self) -> Result<Measured, TextRefusal>
+        requires { self.old.depth ≤ 200 }
+        ensures same { OnOk result (self.new.depth ≡ self.old.depth) }
+        ensures shorter { OnOk result (count_of (ahead self.new) < count_of (ahead self.old)) }
+        ensures read { Parses result self.old.depth (operand ∷ products ∷ [])
+            (λ e. push (a_term (term_of e.expr))) (ahead self.old) (ahead self.new) }
+    {
+        let mut left = self.operand()?;
+        while let Some(op) = self.product_sign() {
+            let line = self.cursor.line;
+            self.cursor.advance();
+            let right = self.operand()?;
+            left = joined(self.alloc, op, line, left, right)?;
+        }
+        Ok(left)
+    }
+
+    /// The operator of a product, if it is next.
+    fn product_sign(&self) -> Option<Op>
+        ensures met { IfSome result (λ op. let line = self.now.cursor.line in
+            Begins self.now products (operand ∷ act (join op) ∷ read_from line ∷ products ∷ [])) }
+        ensures none { IfNone result (Skips self.now products) }
+    {
+        match self.cursor.token {
+            Token::Mark(mark) => product_of(mark),
+            _ => None,
+        }
+    }
+
+    /// The operator of a sum, if it is next.
+    fn sum_sign(&self) -> Option<Op>
+        ensures met { IfSome result (λ op. let line = self.now.cursor.line in
+            Begins self.now sums (operand ∷ products ∷ act (join op) ∷ read_from line ∷ sums ∷ [])) }
+        ensures none { IfNone result (Skips self.now sums) }
+    {
+        match self.cursor.token {
+            Token::Mark(mark) => sum_of(mark),
+            _ => None,
+        }
+    }
+
+    /// The operator of a comparison, if it is next.
+    fn comparison_sign(&self) -> Option<Op>
+        ensures met { IfSome result (λ op. let line = self.now.cursor.line in
+            Begins self.now comparison (operand ∷ products ∷ sums ∷ act (join op) ∷ read_from line ∷ [])) }
+        ensures none { IfNone result (Skips self.now comparison) }
+    {
+        match self.cursor.token {
+            Token::Mark(mark) => comparison_of(mark),
+            _ => None,
+        }
+    }
+}
+
+/// Two expressions with an operator between them, which stands on this line.
+#[tactic(auto, using(crate::proofs::Steps::steps))]
+fn joined(
+    alloc: Global,
+    op: Op,
+    line: u32,
+    left: Measured,
+    right: Measured,
+) -> Result<Measured, TextRefusal>
+    ensures { (k : List Symbol) (vs : Values) (xs : Lexemes) →
+        let operands = a_term (term_of right.expr) ∷ a_term (term_of left.expr) ∷ vs in
+        GoesOn result (read (act (join op) ∷ read_from line ∷ k) operands xs)
+        (λ e. read k (a_term (term_of e.expr) ∷ vs)) xs }
+{
+    let height = left.height.max(right.height) + 1;
+    if height > DEEPEST {
+        return Err(refusal(TextKind::TooDeep, line));
+    }
+    Ok(Measured {
+        expr: Expr::Binary {
+            op,
+            left: Box::new(alloc, left.expr)?,
+            right: Box::new(alloc, right.expr)?,
+        },
+        height,
+    })
+}

@@ -1,0 +1,153 @@
+ghost use Rattle.std.specs.Prelude.{◌≡◌, ◌≤◌, ◌<◌, ◌++◌, ◌∷◌, [], ℕ, List, OnOk, IfOk, OnSome, codes, pos};
+ghost use Rattle.cw_text.specs.Cursor.{count_of, rest_of};
+ghost use Rattle.cw_text.specs.Grammar.{Symbol, Values, a_block, a_word, act, an_init, block, cell_done, cell_init, closing, declared, exactly, func_done, init, items, main_word, negated, pending, push, read, word};
+ghost use Rattle.cw_text.specs.Parser.{GoesOn, ahead, item_read, taken};
+ghost use Rattle.cw_text.specs.Syntax.{Declaration, declaration_of};
+ghost use Rattle.cw_text.specs.declared.mark.Mark.TheVariants as Mark;
+
+use crate::cursor::Token;
+use crate::parser::Parser;
+use crate::{Item, Mark, TextRefusal, Word};
+
+impl<'a> Parser<'a> {
+    /// The next cell or function, unless the text ends here.
+    #[tactic(auto, using(crate::proofs::Steps::steps))]
+    pub(crate) fn item(&mut self) -> Result<Option<Item>, TextRefusal>
+        requires { self.old.depth < 200 }
+        ensures same { OnOk result (self.new.depth ≡ self.old.depth) }
+        ensures shorter { IfOk result (λ i. OnSome i
+            (count_of (ahead self.new) < count_of (ahead self.old))) }
+        ensures read { (k : List Symbol) (vs : Values) (ds : List Declaration) → pending k ≡ self.old.depth →
+            GoesOn result (read (items ∷ k) (declared ds ∷ vs) (ahead self.old))
+            (item_read k vs ds) (ahead self.new) }
+    {
+        match self.cursor.token {
+            Token::Mark(Mark::Cell) => Ok(Some(self.cell()?)),
+            Token::Mark(Mark::Fn) => Ok(Some(self.function()?)),
+            Token::End => Ok(None),
+            _ => Err(self.unexpected()),
+        }
+    }
+
+    /// A cell, whose keyword is next.
+    #[tactic(auto, using(crate::proofs::Steps::steps))]
+    fn cell(&mut self) -> Result<Item, TextRefusal>
+        requires { self.old.depth < 200 }
+        ensures same { OnOk result (self.new.depth ≡ self.old.depth) }
+        ensures shorter { OnOk result (count_of (ahead self.new) < count_of (rest_of (ahead self.old))) }
+        ensures read { (k : List Symbol) (vs : Values) (ds : List Declaration) → pending k ≡ self.old.depth →
+            let parts = word ∷ act (push (an_init (pos 0))) ∷ cell_init ∷ exactly Mark.Semicolon ∷ act cell_done ∷ k in
+            GoesOn result (read parts (declared ds ∷ vs) (rest_of (ahead self.old)))
+            (λ i. read k (declared (ds ++ declaration_of i ∷ []) ∷ vs)) (ahead self.new) }
+    {
+        self.cursor.advance();
+        let Word { name, line } = self.word()?;
+        let init = self.initial_value()?;
+        self.expect(Mark::Semicolon)?;
+        Ok(Item::Cell {
+            name,
+            line,
+            len: 0,
+            init,
+        })
+    }
+
+    /// The initial value of a cell, which is 0 where none is given.
+    fn initial_value(&mut self) -> Result<i64, TextRefusal>
+        requires { self.old.depth < 200 }
+        ensures same { OnOk result (self.new.depth ≡ self.old.depth) }
+        ensures shorter { OnOk result (count_of (ahead self.new) ≤ count_of (ahead self.old)) }
+        ensures read { (k : List Symbol) (vs : Values) → pending k ≡ self.old.depth →
+            GoesOn result (read (cell_init ∷ k) (an_init (pos 0) ∷ vs) (ahead self.old))
+            (λ n. read k (an_init n ∷ vs)) (ahead self.new) }
+    {
+        match self.cursor.token {
+            Token::Mark(Mark::Assign) => {
+                self.cursor.advance();
+                Ok(self.signed()?)
+            }
+            _ => Ok(0),
+        }
+    }
+
+    /// A number, with `-` before it or not.
+    fn signed(&mut self) -> Result<i64, TextRefusal>
+        requires { self.old.depth < 200 }
+        ensures same { OnOk result (self.new.depth ≡ self.old.depth) }
+        ensures shorter { OnOk result (count_of (ahead self.new) ≤ count_of (ahead self.old)) }
+        ensures read { (k : List Symbol) (vs : Values) → pending k ≡ self.old.depth →
+            GoesOn result (read (init ∷ k) (an_init (pos 0) ∷ vs) (ahead self.old))
+            (λ n. read k (an_init n ∷ vs)) (ahead self.new) }
+    {
+        match self.cursor.token {
+            Token::Number(number) => {
+                self.cursor.advance();
+                Ok(number.value as i64)
+            }
+            Token::Mark(Mark::Minus) => {
+                self.cursor.advance();
+                Ok(self.negated()?)
+            }
+            _ => Err(self.unexpected()),
+        }
+    }
+
+    /// The number behind a `-`, with that sign.
+    fn negated(&mut self) -> Result<i64, TextRefusal>
+        requires { self.old.depth < 200 }
+        ensures same { OnOk result (self.new.depth ≡ self.old.depth) }
+        ensures shorter { OnOk result (count_of (ahead self.new) ≤ count_of (ahead self.old)) }
+        ensures read { (k : List Symbol) (vs : Values) → pending k ≡ self.old.depth →
+            GoesOn result (read (negated ∷ k) (an_init (pos 0) ∷ vs) (ahead self.old))
+            (λ n. read k (an_init n ∷ vs)) (ahead self.new) }
+    {
+        match self.cursor.token {
+            Token::Number(number) => {
+                self.cursor.advance();
+                Ok(-(number.value as i64))
+            }
+            _ => Err(self.unexpected()),
+        }
+    }
+
+    /// The function `main`, whose keyword is next.
+    #[tactic(auto, using(crate::proofs::Steps::steps))]
+    fn function(&mut self) -> Result<Item, TextRefusal>
+        requires { self.old.depth < 200 }
+        ensures same { OnOk result (self.new.depth ≡ self.old.depth) }
+        ensures shorter { OnOk result (count_of (ahead self.new) < count_of (rest_of (ahead self.old))) }
+        ensures read { (k : List Symbol) (vs : Values) (ds : List Declaration) → pending k ≡ self.old.depth →
+            let parts = main_word ∷ exactly Mark.ParenOpen ∷ closing Mark.ParenClose ∷ block ∷ act func_done ∷ k in
+            GoesOn result (read parts (declared ds ∷ vs) (rest_of (ahead self.old)))
+            (λ i. read k (declared (ds ++ declaration_of i ∷ []) ∷ vs)) (ahead self.new) }
+    {
+        self.cursor.advance();
+        let Word { name, line } = self.main_word()?;
+        self.expect(Mark::ParenOpen)?;
+        self.expect(Mark::ParenClose)?;
+        let body = self.block()?;
+        Ok(Item::Func {
+            name,
+            line,
+            params: Vec::new(self.alloc),
+            body,
+        })
+    }
+
+    /// The name of a function, of which there is only `main`.
+    fn main_word(&mut self) -> Result<Word, TextRefusal>
+        ensures same { OnOk result (self.new.depth ≡ self.old.depth) }
+        ensures shorter { OnOk result (count_of (ahead self.new) < count_of (ahead self.old)) }
+        ensures read { (k : List Symbol) (vs : Values) → pending k ≤ 200 →
+            GoesOn result (read (main_word ∷ k) vs (ahead self.old))
+            (λ w. read k (a_word w ∷ vs)) (ahead self.new) }
+    {
+        let token = self.cursor.token;
+        match token {
+            Token::Name(letters) if letters.bytes == b"main".as_slice() => {
+                Ok(self.word_of(letters)?)
+            }
+            _ => Err(self.unexpected()),
+        }
+    }
+}

@@ -1,0 +1,113 @@
+ghost use Rattle.std.specs.Prelude.{◌≡◌, ◌≤◌, ◌<◌, ◌∷◌, [], ℕ, List, OnOk, IfNone, IfOk, OnSome};
+ghost use Rattle.cw_text.specs.Cursor.{count_of, rest_of};
+ghost use Rattle.cw_text.specs.Grammar.{Symbol, Values, a_block, a_term, a_word, act, assign_done, block, exactly, expr, let_done, out_done, pending, push, read, stated, stmts, word, word_at};
+ghost use Rattle.cw_text.specs.Parser.{GoesOn, Parses, ahead, statement_read, taken};
+ghost use Rattle.cw_text.specs.Syntax.{block_of, statement_of, term_of};
+ghost use Rattle.cw_text.specs.declared.mark.Mark.TheVariants as Mark;
+
+use crate::cursor::Token;
+use crate::letters::Letters;
+use crate::parser::Parser;
+use crate::{Expr, Mark, Stmt, TextRefusal};
+
+impl<'a> Parser<'a> {
+    /// Statements in braces.
+    #[tactic(auto, using(crate::proofs::Steps::steps))]
+    pub(crate) fn block(&mut self) -> Result<Vec<Stmt>, TextRefusal>
+        requires { self.old.depth ≤ 200 }
+        ensures same { OnOk result (self.new.depth ≡ self.old.depth) }
+        ensures shorter { OnOk result (count_of (ahead self.new) < count_of (ahead self.old)) }
+        ensures read { Parses result self.old.depth (block ∷ [])
+            (λ b. push (a_block (block_of b.items))) (ahead self.old) (ahead self.new) }
+    {
+        match self.cursor.token {
+            Token::Mark(Mark::BraceOpen) => self.enter()?,
+            _ => return Err(self.unexpected()),
+        }
+        let mut body = Vec::new(self.alloc);
+        while let Some(statement) = self.statement()? {
+            body.push(statement)?;
+        }
+        self.expect(Mark::BraceClose)?;
+        self.depth -= 1;
+        Ok(body)
+    }
+
+    /// The next statement, if one begins here.
+    #[tactic(auto, using(crate::proofs::Steps::steps))]
+    fn statement(&mut self) -> Result<Option<Stmt>, TextRefusal>
+        requires { self.old.depth ≤ 200 }
+        ensures same { OnOk result (self.new.depth ≡ self.old.depth) }
+        ensures shorter { IfOk result (λ s. OnSome s
+            (count_of (ahead self.new) < count_of (ahead self.old))) }
+        ensures unmoved { IfOk result (λ s. IfNone s (self.new ≡ self.old)) }
+        ensures read { (k : List Symbol) (vs : Values) → pending k ≡ self.old.depth →
+            GoesOn result (read (stmts ∷ k) vs (ahead self.old)) (statement_read k vs) (ahead self.new) }
+    {
+        match self.cursor.token {
+            Token::Mark(Mark::Let) => Ok(Some(self.let_statement()?)),
+            Token::Mark(Mark::Out) => Ok(Some(self.out_statement()?)),
+            Token::Name(letters) => Ok(Some(self.assignment(letters)?)),
+            _ => Ok(None),
+        }
+    }
+
+    /// A new local, whose keyword is next.
+    fn let_statement(&mut self) -> Result<Stmt, TextRefusal>
+        requires { self.old.depth ≤ 200 }
+        ensures same { OnOk result (self.new.depth ≡ self.old.depth) }
+        ensures shorter { OnOk result (count_of (ahead self.new) < count_of (rest_of (ahead self.old))) }
+        ensures read { Parses result self.old.depth
+            (word ∷ exactly Mark.Assign ∷ expr ∷ exactly Mark.Semicolon ∷ act let_done ∷ [])
+            (λ s. stated (statement_of s)) (rest_of (ahead self.old)) (ahead self.new) }
+    {
+        self.cursor.advance();
+        let name = self.word()?;
+        let value = self.assigned_value()?;
+        Ok(Stmt::Let { name, value })
+    }
+
+    /// An output, whose keyword is next.
+    fn out_statement(&mut self) -> Result<Stmt, TextRefusal>
+        requires { self.old.depth ≤ 200 }
+        ensures same { OnOk result (self.new.depth ≡ self.old.depth) }
+        ensures shorter { OnOk result (count_of (ahead self.new) < count_of (rest_of (ahead self.old))) }
+        ensures read { Parses result self.old.depth (expr ∷ exactly Mark.Semicolon ∷ act out_done ∷ [])
+            (λ s. stated (statement_of s)) (rest_of (ahead self.old)) (ahead self.new) }
+    {
+        self.cursor.advance();
+        let value = self.expr()?;
+        self.expect(Mark::Semicolon)?;
+        Ok(Stmt::Out(value.expr))
+    }
+
+    /// An assignment, whose name is next.
+    #[tactic(auto, using(crate::proofs::Steps::steps))]
+    fn assignment(&mut self, letters: Letters<'a>) -> Result<Stmt, TextRefusal>
+        requires { self.old.depth ≤ 200 }
+        ensures same { OnOk result (self.new.depth ≡ self.old.depth) }
+        ensures shorter { OnOk result (count_of (ahead self.new) < count_of (rest_of (ahead self.old))) }
+        ensures read { let name = word_at letters.entry.bytes.now self.old.cursor.line in
+            Parses result self.old.depth
+            (act (push (a_word name)) ∷ exactly Mark.Assign ∷ expr ∷ exactly Mark.Semicolon ∷ act assign_done ∷ [])
+            (λ s. stated (statement_of s)) (rest_of (ahead self.old)) (ahead self.new) }
+    {
+        let name = self.word_of(letters)?;
+        let value = self.assigned_value()?;
+        Ok(Stmt::Assign { name, value })
+    }
+
+    /// `=`, a value and the end of a statement.
+    fn assigned_value(&mut self) -> Result<Expr, TextRefusal>
+        requires { self.old.depth ≤ 200 }
+        ensures same { OnOk result (self.new.depth ≡ self.old.depth) }
+        ensures shorter { OnOk result (count_of (ahead self.new) < count_of (ahead self.old)) }
+        ensures read { Parses result self.old.depth (exactly Mark.Assign ∷ expr ∷ exactly Mark.Semicolon ∷ [])
+            (λ e. push (a_term (term_of e))) (ahead self.old) (ahead self.new) }
+    {
+        self.expect(Mark::Assign)?;
+        let value = self.expr()?;
+        self.expect(Mark::Semicolon)?;
+        Ok(value.expr)
+    }
+}
