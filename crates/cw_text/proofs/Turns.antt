@@ -1,5 +1,5 @@
 -- What the loops of the parser keep.
-use Rattle.std.proofs.Common.{◌≡◌, ◌<◌, ◌≤◌, ◌+◌, ℕ, List, [], ◌∷◌, ◌++◌, map}
+use Rattle.std.proofs.Common.{◌≡◌, ◌<◌, ◌≤◌, ◌+◌, List, [], ◌∷◌, ◌++◌, map}
 use Rattle.cw_text.specs.Cursor.{count_of}
 use Rattle.cw_text.specs.Grammar.{Symbol, Values, a_block, a_term, block, closing, declared, items, pending, read, stmts}
 use Rattle.cw_text.specs.Lexemes.{Lexemes}

@@ -1,4 +1,4 @@
-ghost use Rattle.std.specs.Prelude.{◌≡◌, ◌≤◌, ◌<◌, ◌∷◌, [], ℕ, List, OnOk, IfSome, IfNone};
+ghost use Rattle.std.specs.Prelude.{◌≡◌, ◌≤◌, ◌<◌, ◌∷◌, [], List, OnOk, IfSome, IfNone};
 ghost use Rattle.cw_text.specs.Cursor.{count_of, rest_of};
 ghost use Rattle.cw_text.specs.Grammar.{Symbol, Values, a_term, act, closing, comparison, expr, join, lifted, operand, pending, products, push, read, read_from, sums};
 ghost use Rattle.cw_text.specs.Lexemes.{Lexemes};
@@ -9,7 +9,7 @@ ghost use Rattle.cw_text.specs.declared.mark.Mark.TheVariants as Mark;
 use crate::cursor::Token;
 use crate::mark::{comparison_of, prefix_of, product_of, sum_of};
 use crate::parser::{DEEPEST, Parser, refusal};
-use crate::{Expr, Mark, Op, TextKind, TextRefusal, Word};
+use crate::{Expr, Mark, Op, TextKind, TextRefusal};
 use std::alloc::Global;
 
 /// An expression that is not too high, and its height.

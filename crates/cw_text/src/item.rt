@@ -1,7 +1,7 @@
-ghost use Rattle.std.specs.Prelude.{◌≡◌, ◌≤◌, ◌<◌, ◌++◌, ◌∷◌, [], ℕ, List, OnOk, IfOk, OnSome, codes, pos};
+ghost use Rattle.std.specs.Prelude.{◌≡◌, ◌≤◌, ◌<◌, ◌++◌, ◌∷◌, [], List, OnOk, IfOk, OnSome, pos};
 ghost use Rattle.cw_text.specs.Cursor.{count_of, rest_of};
-ghost use Rattle.cw_text.specs.Grammar.{Symbol, Values, a_block, a_word, act, an_init, block, cell_done, cell_init, closing, declared, exactly, func_done, init, items, main_word, negated, pending, push, read, word};
-ghost use Rattle.cw_text.specs.Parser.{GoesOn, ahead, item_read, taken};
+ghost use Rattle.cw_text.specs.Grammar.{Symbol, Values, a_word, act, an_init, block, cell_done, cell_init, closing, declared, exactly, func_done, init, items, main_word, negated, pending, push, read, word};
+ghost use Rattle.cw_text.specs.Parser.{GoesOn, ahead, item_read};
 ghost use Rattle.cw_text.specs.Syntax.{Declaration, declaration_of};
 ghost use Rattle.cw_text.specs.declared.mark.Mark.TheVariants as Mark;
 

@@ -1,4 +1,4 @@
-ghost use Rattle.std.specs.Prelude.{◌≡◌, ◌≤◌, ◌<◌, ◌+◌, ℕ, List, ◌∷◌, IfOk, OnOk};
+ghost use Rattle.std.specs.Prelude.{◌≡◌, ◌≤◌, ◌<◌, ◌+◌, List, ◌∷◌, IfOk, OnOk};
 ghost use Rattle.cw_text.specs.Cursor.{count_of, left_of, rest_of};
 ghost use Rattle.cw_text.specs.Grammar.{Symbol, Values, a_word, exactly, pending, program_of, read, word, word_at};
 ghost use Rattle.cw_text.specs.Parser.{GoesOn, ahead, fault_at, taken};
@@ -15,7 +15,7 @@ pub(crate) const DEEPEST: u32 = 200;
 
 /// What reads a program: the place in its text, and how many brackets and operators of one operand are open there.
 /// Only those lead to a call within a call, so their number bounds the stack: operators between operands, statements
-/// and items are read by loops.
+/// and items are read by loops. After an `Err` it is not used again.
 #[derive(Drop)]
 pub(crate) struct Parser<'a> {
     pub alloc: Global,

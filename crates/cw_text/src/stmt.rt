@@ -1,7 +1,7 @@
-ghost use Rattle.std.specs.Prelude.{◌≡◌, ◌≤◌, ◌<◌, ◌∷◌, [], ℕ, List, OnOk, IfNone, IfOk, OnSome};
+ghost use Rattle.std.specs.Prelude.{◌≡◌, ◌≤◌, ◌<◌, ◌∷◌, [], List, OnOk, IfNone, IfOk, OnSome};
 ghost use Rattle.cw_text.specs.Cursor.{count_of, rest_of};
 ghost use Rattle.cw_text.specs.Grammar.{Symbol, Values, a_block, a_term, a_word, act, assign_done, block, exactly, expr, let_done, out_done, pending, push, read, stated, stmts, word, word_at};
-ghost use Rattle.cw_text.specs.Parser.{GoesOn, Parses, ahead, statement_read, taken};
+ghost use Rattle.cw_text.specs.Parser.{GoesOn, Parses, ahead, statement_read};
 ghost use Rattle.cw_text.specs.Syntax.{block_of, statement_of, term_of};
 ghost use Rattle.cw_text.specs.declared.mark.Mark.TheVariants as Mark;
 

@@ -23,10 +23,10 @@ fn in_brackets(alloc: Global, count: u32) -> Result<String, AllocError> {
     output_of(alloc, text.as_str())
 }
 
-// So many ones, joined by `+`, and one more.
+// So many ones, joined by `+`.
 fn sum_of_ones(alloc: Global, count: u32) -> Result<String, AllocError> {
     let mut text = String::new(alloc);
-    for _ in 0..count {
+    for _ in 1..count {
         text.push_str("1+")?;
     }
     text.push('1')?;
@@ -64,14 +64,14 @@ fn faults_have_their_lines(rt: HostRuntime) {
 fn depth_is_limited(rt: HostRuntime) -> Result<(), Fail> {
     let alloc = rt.alloc();
     assert!(rt; read_program(alloc, in_brackets(alloc, 199)?.as_bytes()).is_ok());
-    assert!(rt; read_program(alloc, sum_of_ones(alloc, 199)?.as_bytes()).is_ok());
+    assert!(rt; read_program(alloc, sum_of_ones(alloc, 200)?.as_bytes()).is_ok());
     let too_deep = Some((TextKind::TooDeep, 1));
     assert_eq!(rt;
         fault_of(alloc, in_brackets(alloc, 200)?.as_str()),
         too_deep
     );
     assert_eq!(rt;
-        fault_of(alloc, sum_of_ones(alloc, 200)?.as_str()),
+        fault_of(alloc, sum_of_ones(alloc, 201)?.as_str()),
         too_deep
     );
     Ok(())

@@ -1,4 +1,4 @@
-use Rattle.std.proofs.Common.{rules, arith, ◌∷◌}
+use Rattle.std.proofs.Common.{arith, ◌∷◌}
 use Rattle.cw_text.specs.Grammar.{products, sums}
 use Rattle.cw_text.proofs.Steps.{steps, goes_on}
 use Rattle.cw_text.proofs.parser.Parser.+expression.Goals as goal
