@@ -12,7 +12,7 @@ use Rattle.cw_strand.specs.Names.{find}
 use Rattle.cw_serial.specs.declared.scope.Thing.{Thing}
 use Rattle.cw_serial.specs.Scopes.{thing_of, scope_of, IsSame}
 
-list_eq-is_bytes_eq : (xs ys : List ℕ) → list_eq xs ys ≡ bytes_eq xs ys
+pub list_eq-is_bytes_eq : (xs ys : List ℕ) → list_eq xs ys ≡ bytes_eq xs ys
 list_eq-is_bytes_eq [] [] = refl
 list_eq-is_bytes_eq [] (y ∷ ys) = refl
 list_eq-is_bytes_eq (x ∷ xs) [] = refl

@@ -1,2 +1,4 @@
 pub mod Found
+pub mod ItemSteps
+pub mod NameSteps
 pub mod SameNames
