@@ -26,7 +26,7 @@ found_later false t o p none = refl
 -- it does not matter whether a name comes before others or after them, where it is none of these
 same_moved : (x : List ℕ) (t : Thing) (g h : Scope) → find x g ≡ None → IsSame ((x, t) ∷ (g ++ h)) (g ++ ((x, t) ∷ h))
 same_moved x t g h none = record {
-  finds = λ n. rw (find-append n g h, find-append n g ((x, t) ∷ h)) (found_later (list_eq n x) t (find n g) (find n h) (hidden n))
+  finds = λ n. rw (find-append n g h, find-append n g ((x, t) ∷ h)) (found_later (list_eq n x) t (find n g) (find n h) (hidden n));
 } where
   hidden : (n : List ℕ) → list_eq n x ≡ true → find n g ≡ None
   hidden n is = rw ((bytes_decides n x).0 (sym (list_eq-is_bytes_eq n x) ∙ is)) none
@@ -40,12 +40,12 @@ module _ {old new : Declared} (x : List ℕ) (line : ℕ) where
   adds_cell len init ds none room same size cells = record {
     faults = rw (none, room, size, in_items_same same (old.elements + elements len) ds) refl;
     names = names_next x line a_cell (globals ds) none same;
-    cells = rw (cells, size) (append_assoc old.cells.items _ _)
+    cells = rw (cells, size) (append_assoc old.cells.items _ _);
   }
 
   pub adds_function : (params : List Word) (body : Block) (ds : List Declaration) → declared_new (find x old.names) line ≡ None → IsSame new.names ((x, a_function) ∷ old.names) → new.elements ≡ old.elements → new.cells.items ≡ old.cells.items → IsSameWith (func x line params body ∷ ds) old ds new
   adds_function params body ds none same size cells = record {
     faults = rw (none, size, in_items_same same old.elements ds) refl;
     names = names_next x line a_function (globals ds) none same;
-    cells = rw (cells, size) refl
+    cells = rw (cells, size) refl;
   }

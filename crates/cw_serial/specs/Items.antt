@@ -1,6 +1,7 @@
 -- What the items that were looked at so far declare.
-use Rattle.std.specs.Prelude.{◌≡◌, ℕ, List, [], ◌∷◌, ◌++◌, Result, Ok, Err, Some}
-use Rattle.cw_text.specs.Syntax.{Declaration}
+use Rattle.std.specs.Prelude.{◌≡◌, ℕ, Bool, false, codes, List, [], ◌∷◌, ◌++◌, Result, Ok, Err, Some}
+use Rattle.cw_text.specs.Lexemes.{list_eq}
+use Rattle.cw_text.specs.Syntax.{Declaration, cell, func}
 use Rattle.cw_strand.specs.Names.{in_items, globals, cells_from, cells_of}
 use Rattle.cw_serial.specs.declared.program.NameRefusal.{NameRefusal}
 use Rattle.cw_serial.specs.declared.program.NameRefusal.TheVariants as refusal
@@ -23,3 +24,7 @@ Declares d old new (Err refusal.OutOfMemory) = Unit {0}
 pub record IsAllOf (ds : List Declaration) (d : Declared) : Type 0 where
   pub names : IsSame d.names (globals ds)
   pub cells : d.cells.items ≡ cells_of ds
+
+abbrev pub is_main : Declaration → Bool
+is_main (cell x l len i) = false
+is_main (func x l ps b) = list_eq x (codes "main")

@@ -47,7 +47,12 @@ impl Scope {
     }
 
     /// Makes a name stand for something from now on.
-    pub(crate) fn add(&mut self, alloc: Global, name: &Text, thing: Thing) -> Result<(), OutOfMemory>
+    pub(crate) fn add(
+        &mut self,
+        alloc: Global,
+        name: &Text,
+        thing: Thing,
+    ) -> Result<(), OutOfMemory>
         ensures { OnOk result (IsSame self.new ((name.now, thing_of thing) ∷ self.old)) }
     {
         let name = String::from_str(alloc, name.as_str())?;

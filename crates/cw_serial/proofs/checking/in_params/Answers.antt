@@ -12,5 +12,5 @@ loop-word-preserved c =
     let same = c.in_ok-add_local.ensures in
     record {
       faults = before.faults ∙ in_params_next ws _ w lt c.word-item.is same (rw (← c.find.ensures) (sym c.in_ok-declared_new.ensures));
-      visible = same_trans (with_params_next ws _ w lt c.word-item.is same) before.visible
+      visible = same_trans (with_params_next ws _ w lt c.word-item.is same) before.visible;
     }

@@ -6,5 +6,5 @@ use Rattle.cw_serial.proofs.checking.in_params.Given as goal
 abbrev pub invariant-loop-word : goal.invariant-loop-word
 invariant-loop-word l = record {
   faults : in_params l.initial.visible l.params ≡ in_params l.visible (drop l.word-index l.params);
-  visible : IsSame (with_params l.visible (drop l.word-index l.params)) (with_params l.initial.visible l.params)
+  visible : IsSame (with_params l.visible (drop l.word-index l.params)) (with_params l.initial.visible l.params);
 }
