@@ -1,5 +1,5 @@
 -- The answer of a whole check, from those of its parts in their order.
-use Rattle.std.proofs.Common.{◌≡◌, [], Option, Some, None, Err, refl}
+use Rattle.std.proofs.Common.{◌≡◌, [], Some, None, Err, refl}
 use Rattle.cw_text.specs.declared.ast.Ast.{Ast}
 use Rattle.cw_text.specs.Syntax.{tree_of}
 use Rattle.cw_strand.specs.declared.naming.NameFault.{NameFault}

@@ -1,13 +1,12 @@
 -- What one more item adds to what is declared.
-use Rattle.std.proofs.Common.{◌≡◌, ℕ, ℤ, ◌+◌, List, [], ◌∷◌, ◌++◌, cond, if◌then◌else◌, nat_lt, Bool, true, false, Option, Some, None, refl, ap, sym, ◌∙◌, append_assoc}
+use Rattle.std.proofs.Common.{◌≡◌, ℕ, ℤ, ◌+◌, List, [], ◌∷◌, ◌++◌, cond, if◌then◌else◌, nat_lt, Bool, true, false, Option, Some, None, refl, sym, ◌∙◌, append_assoc}
 use Rattle.std.specs.Option.{option_or}
 use Rattle.std.specs.Cmp.Lexicographic.{bytes_decides}
-use Rattle.cw_code.specs.declared.CellInfo.{CellInfo}
 use Rattle.cw_text.specs.declared.ast.Word.{Word}
 use Rattle.cw_text.specs.Lexemes.{list_eq}
 use Rattle.cw_text.specs.Syntax.{Block, Declaration, cell, func}
 use Rattle.cw_strand.specs.declared.naming.NameKind.TheVariants.{TooManyCells}
-use Rattle.cw_strand.specs.Names.{Thing, Scope, find, a_cell, a_function, fault, declared_new, elements, in_items, globals, cells_from}
+use Rattle.cw_strand.specs.Names.{Thing, Scope, find, a_cell, a_function, fault, declared_new, elements, globals}
 use Rattle.cw_serial.specs.declared.items.Declared.{Declared}
 use Rattle.cw_serial.specs.Scopes.{IsSame}
 use Rattle.cw_serial.specs.Items.{IsSameWith}

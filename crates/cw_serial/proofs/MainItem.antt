@@ -1,5 +1,5 @@
 -- Which item is the function main.
-use Rattle.std.proofs.Common.{◌≡◌, ℕ, ◌+◌, List, [], ◌∷◌, map, refl, add-one}
+use Rattle.std.proofs.Common.{◌≡◌, ℕ, List, [], ◌∷◌, map, refl, add-one}
 use Rattle.std.specs.List.{position_from}
 use Rattle.cw_text.specs.declared.ast.Item.{Item}
 use Rattle.cw_text.specs.declared.ast.Item.TheVariants.{Cell, Func}

@@ -1,5 +1,5 @@
 -- Going over statements and parameters one by one, where what was looked at so far has no fault.
-use Rattle.std.proofs.Common.{◌≡◌, ℕ, ◌+◌, ◌<◌, List, [], ◌∷◌, length, drop, get_or, None, refl, ap, sym, ◌∙◌}
+use Rattle.std.proofs.Common.{◌≡◌, ℕ, ◌+◌, ◌<◌, List, ◌∷◌, length, drop, get_or, None, refl, ap, sym, ◌∙◌}
 use Rattle.std.proofs.lemmas.List.{drop_more}
 use Rattle.cw_text.specs.declared.ast.Word.{Word}
 use Rattle.cw_text.specs.declared.ast.Stmt.{Stmt}

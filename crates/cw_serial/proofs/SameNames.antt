@@ -1,10 +1,10 @@
 -- The naming rules ask a scope for nothing but what each name stands for in it.
-use Rattle.std.proofs.Common.{◌≡◌, ℕ, ◌+◌, List, [], ◌∷◌, ◌++◌, cond, Bool, true, false, Option, Some, None, refl, ap, sym, ◌∙◌}
+use Rattle.std.proofs.Common.{◌≡◌, ℕ, ◌+◌, List, [], ◌∷◌, ◌++◌, cond, Bool, true, false, Option, Some, refl, ap, ◌∙◌}
 use Rattle.std.specs.Option.{option_or}
 use Rattle.cw_text.specs.declared.ast.Word.{Word}
 use Rattle.cw_text.specs.Lexemes.{list_eq}
 use Rattle.cw_text.specs.Syntax.{Term, number, name, unary, binary, Statement, set_new, assign, out, Block, empty, first, Declaration, cell, func}
-use Rattle.cw_strand.specs.Names.{Thing, Scope, find, a_local, a_cell, a_function, used, declared_new, ◌then◌, in_term, scope_after, in_statement, in_block, in_params, with_params, elements, in_items, in_functions}
+use Rattle.cw_strand.specs.Names.{Thing, Scope, find, a_local, a_cell, a_function, used, in_term, scope_after, in_statement, in_block, in_params, with_params, elements, in_items, in_functions}
 use Rattle.cw_serial.specs.Scopes.{IsSame}
 
 -- ## Two scopes in which each name stands for the same

@@ -1,5 +1,5 @@
 -- What the items that were looked at so far declare.
-use Rattle.std.specs.Prelude.{◌≡◌, ℕ, Bool, false, codes, List, [], ◌∷◌, ◌++◌, Result, Ok, Err, Some}
+use Rattle.std.specs.Prelude.{◌≡◌, Bool, false, codes, List, ◌∷◌, ◌++◌, Result, Ok, Err, Some}
 use Rattle.cw_text.specs.Lexemes.{list_eq}
 use Rattle.cw_text.specs.Syntax.{Declaration, cell, func}
 use Rattle.cw_strand.specs.Names.{in_items, globals, cells_from, cells_of}

@@ -1,5 +1,5 @@
 -- Names and what they stand for, as the naming rules see them, and what an answer says of a naming fault.
-use Rattle.std.specs.Prelude.{◌≡◌, ℕ, List, map, String, string_bytes, Option, Some, None, Result, Ok, Err}
+use Rattle.std.specs.Prelude.{◌≡◌, ℕ, List, map, String, string_bytes, Some, None, Result, Ok, Err}
 use Rattle.cw_strand.specs.Names.{Scope, find, Fault}
 use Rattle.cw_strand.specs.Names as names
 use Rattle.cw_serial.specs.declared.program.NameRefusal.{NameRefusal}

@@ -1,4 +1,4 @@
-use Rattle.std.proofs.Common.{refl, sym, ◌∙◌}
+use Rattle.std.proofs.Common.{refl, ◌∙◌}
 use Rattle.std.proofs.lemmas.Result.{err_from_is_err_and}
 use Rattle.cw_serial.proofs.FirstFault.{refuses_functions, refuses_main, has_no_fault}
 use Rattle.cw_serial.proofs.checking.checked.Goals as goal

@@ -1,4 +1,4 @@
-use Rattle.std.proofs.Common.{rules, w64, refl, ap, sym, ◌∙◌, ◌+◌, ◌++◌, ◌∷◌, []}
+use Rattle.std.proofs.Common.{rules, w64, refl, ap, sym, ◌+◌}
 use mir.Val.{SFits}
 use Rattle.std.proofs.lemmas.Int.{to_z-of_z}
 use Rattle.cw_serial.proofs.ItemSteps.{adds_cell, adds_function}
