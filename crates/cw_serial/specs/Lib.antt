@@ -1,4 +1,6 @@
+pub mod Items
 pub mod Machine
 pub mod Programs
 pub mod Records
 pub mod Rows
+pub mod Scopes

@@ -7,9 +7,12 @@
 ghost use Rattle.cw_serial.specs.Rows.{Ends};
 
 mod checking;
+mod items;
 mod machine;
 mod program;
 mod record;
+mod scope;
+mod visible;
 
 pub use checking::checked;
 pub use cw_code::{CellInfo, FaultKind, Limits};
@@ -22,3 +25,6 @@ pub use record::{Name, Picks, Record, RecordEnd, SerialEnd, depth_first};
 pub fn worked_runs()
     ensures { Ends }
 {}
+
+#[cfg(test)]
+mod tests_checking;

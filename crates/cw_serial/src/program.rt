@@ -51,3 +51,14 @@ impl From<cw_base::OutOfMemory> for NameRefusal {
         NameRefusal::OutOfMemory
     }
 }
+
+impl From<NameFault> for NameRefusal {
+    ghost use Rattle.std.specs.Prelude.{◌≡◌};
+    ghost use Rattle.cw_serial.specs.declared.program.NameRefusal.TheVariants.{Name};
+
+    ghost from_gives = { λ f e. e ≡ Name f };
+
+    fn from(fault: NameFault) -> Self {
+        NameRefusal::Name(fault)
+    }
+}
