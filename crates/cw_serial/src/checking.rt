@@ -118,27 +118,21 @@ fn in_functions(names: &Scope, alloc: Global, items: &[Item]) -> Result<(), Name
     Ok(())
 }
 
+/// Whether an item is the function `main`.
+fn is_main(item: &Item) -> bool
+    ensures { result ≡ is_main (declaration_of item.now) }
+{
+    match item {
+        Item::Func { name, .. } => name.as_str() == "main",
+        Item::Cell { .. } => false,
+    }
+}
+
 /// The number of the item that is the function `main`.
 fn main_of(items: &[Item]) -> Option<usize>
     ensures { result ≡ position_from (λ item. is_main (declaration_of item)) 0 items.now }
 {
     items.iter().position(|item| is_main(item))
-}
-
-/// The program that a tree is, or the first naming fault with the line of its name. Items are looked at first, in the
-/// order of the text, then the functions, each from its first token, and last whether there is a `main`. A tree whose
-/// `main` has 2^32 or more items before it is refused as if memory ran out: no text that can be read is one.
-pub fn checked(alloc: Global, ast: Ast) -> Result<Program, NameRefusal>
-    ensures exact { Checks ast result }
-{
-    let declared = Declared::of_items(alloc, &ast.items)?;
-    in_functions(&declared.names, alloc, &ast.items)?;
-    let main = main_item(&ast.items)?;
-    Ok(Program {
-        ast,
-        cells: Seq::from_vec(declared.cells),
-        main,
-    })
 }
 
 /// The number of the item that is the function `main`, or the fault that there is none.
@@ -155,12 +149,19 @@ fn main_item(items: &[Item]) -> Result<u32, NameRefusal>
     u32::try_from(number).map_err(|_| NameRefusal::OutOfMemory)
 }
 
-/// Whether an item is the function `main`.
-fn is_main(item: &Item) -> bool
-    ensures { result ≡ is_main (declaration_of item.now) }
+/// The program that a tree is, or the first naming fault with the line of its name. Items are looked at first, in the
+/// order of the text, then the functions, each from its first token, and last whether there is a `main`. A tree whose
+/// `main` has 2^32 or more items before it is refused as if memory ran out: no text that can be read is one.
+pub fn checked(alloc: Global, ast: Ast) -> Result<Program, NameRefusal>
+    ensures exact { Checks ast result }
 {
-    match item {
-        Item::Func { name, .. } => name.as_str() == "main",
-        Item::Cell { .. } => false,
-    }
+    let items = ast.items.as_slice();
+    let declared = Declared::of_items(alloc, items)?;
+    in_functions(&declared.names, alloc, items)?;
+    let main = main_item(items)?;
+    Ok(Program {
+        ast,
+        cells: Seq::from_vec(declared.cells),
+        main,
+    })
 }
