@@ -8,8 +8,10 @@ ghost use Rattle.cw_serial.specs.Rows.{Ends};
 
 mod checking;
 mod machine;
+mod operators;
 mod program;
 mod record;
+mod stack;
 
 pub use checking::checked;
 pub use cw_code::{CellInfo, FaultKind, Limits};
