@@ -2,3 +2,4 @@ pub mod Machine
 pub mod Programs
 pub mod Records
 pub mod Rows
+pub mod Standing

@@ -8,6 +8,7 @@ ghost use Rattle.cw_serial.specs.Rows.{Ends};
 
 mod checking;
 mod machine;
+mod names;
 mod operators;
 mod program;
 mod record;
