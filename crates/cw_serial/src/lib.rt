@@ -13,6 +13,7 @@ mod operators;
 mod program;
 mod record;
 mod stack;
+mod work;
 
 pub use checking::checked;
 pub use cw_code::{CellInfo, FaultKind, Limits};
