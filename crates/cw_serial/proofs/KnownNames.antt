@@ -1,16 +1,19 @@
 -- What a map of names has, in the words of the language's own look-ups.
-use Rattle.std.proofs.Common.{◌≡◌, ℕ, ℤ, List, [], ◌∷◌, Bool, true, false, Option, Some, cond, refl, ap, ◌∙◌, arith}
+use Rattle.std.proofs.Common.{◌≡◌, ℕ, ℤ, List, [], ◌∷◌, Bool, true, false, Option, Some, cond, map, pos, refl, ap, sym, ◌∙◌, arith}
 use Rattle.std.specs.Bool.{Decides}
 use Rattle.std.specs.Borrow.{Bor}
-use Rattle.std.specs.BTreeMap.{BTreeMap, UpdatesBy}
+use Rattle.std.specs.BTreeMap.{BTreeMap, UpdatesBy, is_at}
+use Rattle.std.specs.Map.{lookup}
 use Rattle.std.specs.Cmp.Lexicographic.{slice_cmp, nat_list_eq_equiv}
-use Rattle.std.specs.Ordering.{nat_cmp}
+use Rattle.std.specs.Ordering.{nat_cmp, is_eq}
 use Rattle.std.specs.Str.{bytes_eq}
 use Rattle.std.proofs.lemmas.Slice.Eq.{bytes_eq-Decides}
-use Rattle.std.proofs.lemmas.Map.Text.{btree_map_updates_str}
+use Rattle.std.proofs.lemmas.Map.Text.{btree_map_updates_str, is_eq-slice_cmp}
+use Rattle.cw_code.specs.declared.CellInfo.{CellInfo}
 use Rattle.cw_text.specs.Lexemes.{list_eq}
-use Rattle.cw_strand.specs.Meaning.{Locals, local_of, with_local}
-use Rattle.cw_serial.specs.Standing.{named}
+use Rattle.cw_strand.specs.Meaning.{Locals, local_of, with_local, element_of}
+use Rattle.cw_serial.specs.declared.names.Names.{Names}
+use Rattle.cw_serial.specs.Standing.{named, HasLocals, HasElements}
 
 pub list_eq-is_bytes_eq : (xs ys : List ℕ) → list_eq xs ys ≡ bytes_eq xs ys
 list_eq-is_bytes_eq [] [] = refl
@@ -42,3 +45,32 @@ first_gets false false x xs n v m p q later = rw (later refl)
 pub local_of-with_local : (ls : Locals) (n : List ℕ) (v : ℤ) (m : List ℕ) (w : ℤ) → local_of ls n ≡ Some w → local_of (with_local ls n v) m ≡ cond (list_eq m n) (Some v) (local_of ls m)
 local_of-with_local [] n v m w h = absurd cc
 local_of-with_local (x ∷ xs) n v m w h = first_gets (list_eq n x.0) (list_eq m n) x xs n v m refl refl (λ e. local_of-with_local xs n v m w (rw e at h))
+
+-- ## Names stand for something
+
+-- the entries of a map, each name with its value in another form
+abbrev with_names : {V W : Type 0} → (List ℕ → V → W) → List (Bor (List ℕ) × V) → List W
+with_names f es = map (λ e. f e.0.now e.1) es
+
+abbrev own_locals : Names ℤ → Locals
+own_locals names = with_names (λ n v. (n, v)) names.map.entries
+
+abbrev own_cells : Names ℕ → List CellInfo
+own_cells names = with_names (λ n c. record { name = n; len = 0; base = c; init = pos 0 }) names.map.entries
+
+same_test : (n m : List ℕ) → is_eq (slice_cmp nat_cmp n m) ≡ list_eq n m
+same_test n m = is_eq-slice_cmp n m ∙ sym (list_eq-is_bytes_eq n m)
+
+local_there : (n : List ℕ) (es : List (Bor (List ℕ) × ℤ)) → lookup (is_at (λ k. slice_cmp nat_cmp n k.now)) es ≡ local_of (with_names (λ n v. (n, v)) es) n
+local_there n [] = refl
+local_there n (e ∷ es) = rw (same_test n e.0.now, local_there n es)
+
+element_there : (n : List ℕ) (es : List (Bor (List ℕ) × ℕ)) → lookup (is_at (λ k. slice_cmp nat_cmp n k.now)) es ≡ element_of (with_names (λ n c. record { name = n; len = 0; base = c; init = pos 0 }) es) n
+element_there n [] = refl
+element_there n (e ∷ es) = rw (same_test n e.0.now, element_there n es)
+
+pub some_locals : (names : Names ℤ) → (ls : Locals) × HasLocals names ls
+some_locals names = (own_locals names, λ n. local_there n names.map.entries)
+
+pub some_cells : (names : Names ℕ) → (cells : List CellInfo) × HasElements names cells
+some_cells names = (own_cells names, λ n. element_there n names.map.entries)

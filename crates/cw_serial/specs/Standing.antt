@@ -6,6 +6,8 @@ use Rattle.std.specs.BTreeMap.{get_by}
 use Rattle.cw_code.specs.declared.CellInfo.{CellInfo}
 use Rattle.cw_text.specs.Syntax.{term_of, block_of}
 use Rattle.cw_strand.specs.Meaning.{Locals, local_of, element_of, Task, value, lift, join, perform, bind, store_in, show, finish, State, Step, on, wants, ends, fails, step}
+use Rattle.cw_strand.specs.declared.want.Want.{Want}
+use Rattle.cw_strand.specs.declared.want.Want.TheVariants as want
 use Rattle.cw_serial.specs.declared.names.Names.{Names}
 use Rattle.cw_serial.specs.declared.work.Task.{Task as Written}
 use Rattle.cw_serial.specs.declared.work.Task.TheVariants as written
@@ -55,6 +57,13 @@ Leads (wants x t) (outcome.Wants y) w = (x ≡ y) × Stands w t
 Leads ends outcome.Ends w = Unit {0}
 Leads (fails k) (outcome.Fails j) w = k ≡ j
 Leads other o w = ⊥
+
+-- Where a strand rests at this step, it wants this, and has this work once that is answered.
+abbrev pub IsAt : Step → Want → Work → Type 0
+IsAt (on t) w work = ⊥
+IsAt (wants x t) w work = (x ≡ w) × Stands work t
+IsAt ends w work = want.Done ≡ w
+IsAt (fails k) w work = want.Fault k ≡ w
 
 -- This task, which was the nearest, was done, where the cells are these.
 abbrev pub Does : List CellInfo → Work → Task → Outcome → Work → Type 0

@@ -1,7 +1,7 @@
 ghost use Rattle.std.specs.Prelude.{List, IfOk};
 ghost use Rattle.cw_code.specs.declared.CellInfo.{CellInfo};
 ghost use Rattle.cw_text.specs.Syntax.{term_of, block_of};
-ghost use Rattle.cw_strand.specs.Meaning.{Locals, value, lift, join, perform, bind, store_in, show, read, result as outcome_of, local_of, element_of, step};
+ghost use Rattle.cw_strand.specs.Meaning.{Locals, value, lift, join, perform, bind, store_in, show, read, result as outcome_of, local_of, element_of, State, step, settled};
 
 use crate::names::Names;
 use crate::operators::{one, two};
@@ -46,7 +46,21 @@ pub struct Work<'a> {
 }
 
 impl<'a> Work<'a> {
-    ghost use Rattle.cw_serial.specs.Standing.{HasElements, HasLocals, Does, Leads, state, task_of};
+    ghost use Rattle.cw_serial.specs.Standing.{HasElements, HasLocals, Does, Leads, Stands, IsAt, state, task_of};
+
+    /// Does all that it does by itself, and the step at which it stands then.
+    pub fn run(&mut self, elements: &Names<'_, u32>) -> Result<Want, OutOfMemory>
+        ensures { IfOk result (λ w. (cells : List CellInfo) (s : State) → HasElements elements.now cells → Stands self.old s → IsAt (step cells (settled cells s)) w self.new) }
+    {
+        'steps: loop {
+            match self.step(elements)? {
+                Outcome::On => {}
+                Outcome::Wants(want) => return Ok(want),
+                Outcome::Ends => return Ok(Want::Done),
+                Outcome::Fails(kind) => return Ok(Want::Fault(kind)),
+            }
+        }
+    }
 
     /// Does the nearest task.
     fn step(&mut self, elements: &Names<'_, u32>) -> Result<Outcome, OutOfMemory>
