@@ -14,6 +14,7 @@ use Rattle.cw_serial.specs.declared.work.Task.TheVariants as written
 use Rattle.cw_serial.specs.declared.work.Outcome.{Outcome}
 use Rattle.cw_serial.specs.declared.work.Outcome.TheVariants as outcome
 use Rattle.cw_serial.specs.declared.work.Work.{Work}
+use Rattle.cw_serial.specs.declared.strand.Strand.{Strand}
 
 -- what a name stands for
 abbrev pub named : {V : Type 0} → Names V → List ℕ → Option V
@@ -64,6 +65,16 @@ IsAt (on t) w work = ⊥
 IsAt (wants x t) w work = (x ≡ w) × Stands work t
 IsAt ends w work = want.Done ≡ w
 IsAt (fails k) w work = want.Fault k ≡ w
+
+-- The strand is in this state.
+abbrev pub IsStrand : List CellInfo → Strand → State → Type 0
+IsStrand cells strand s = IsAt (step cells s) strand.want strand.work
+
+-- the strand goes on once its want is answered
+abbrev pub IsAnswerable : Want → Type 0
+IsAnswerable want.Done = ⊥
+IsAnswerable (want.Fault k) = ⊥
+IsAnswerable w = Unit {0}
 
 -- This task, which was the nearest, was done, where the cells are these.
 abbrev pub Does : List CellInfo → Work → Task → Outcome → Work → Type 0

@@ -13,6 +13,7 @@ mod operators;
 mod program;
 mod record;
 mod stack;
+mod strand;
 mod work;
 
 pub use checking::checked;

@@ -1,7 +1,7 @@
-ghost use Rattle.std.specs.Prelude.{List, IfOk};
+ghost use Rattle.std.specs.Prelude.{◌≡◌, List, IfOk, OnOk};
 ghost use Rattle.cw_code.specs.declared.CellInfo.{CellInfo};
 ghost use Rattle.cw_text.specs.Syntax.{term_of, block_of};
-ghost use Rattle.cw_strand.specs.Meaning.{Locals, value, lift, join, perform, bind, store_in, show, read, result as outcome_of, local_of, element_of, State, step, settled};
+ghost use Rattle.cw_strand.specs.Meaning.{Locals, value, lift, join, perform, bind, store_in, show, read, result as outcome_of, local_of, element_of, State, step, settled, in_place};
 
 use crate::names::Names;
 use crate::operators::{one, two};
@@ -47,6 +47,16 @@ pub struct Work<'a> {
 
 impl<'a> Work<'a> {
     ghost use Rattle.cw_serial.specs.Standing.{HasElements, HasLocals, Does, Leads, Stands, IsAt, state, task_of};
+
+    /// The newest operand, where there is one, is this.
+    pub fn replace(&mut self, value: i64) -> Result<(), OutOfMemory>
+        ensures { OnOk result (self.new ≡ record self.old { values = in_place value self.old.values }) }
+    {
+        if self.values.pop().is_some() {
+            self.values.push(value)?;
+        }
+        Ok(())
+    }
 
     /// Does all that it does by itself, and the step at which it stands then.
     pub fn run(&mut self, elements: &Names<'_, u32>) -> Result<Want, OutOfMemory>
