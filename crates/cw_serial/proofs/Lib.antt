@@ -1,3 +1,4 @@
 pub mod KnownNames
 pub mod DoneTasks
 pub mod SettledWork
+pub mod Beginnings

@@ -9,6 +9,7 @@ ghost use Rattle.cw_serial.specs.Rows.{Ends};
 mod checking;
 mod machine;
 mod names;
+mod one_memory;
 mod operators;
 mod program;
 mod record;
