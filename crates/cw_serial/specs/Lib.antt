@@ -3,3 +3,4 @@ pub mod Programs
 pub mod Records
 pub mod Rows
 pub mod Standing
+pub mod OneMemory

@@ -14,6 +14,75 @@ use cw_strand::{Given, Want};
 use cw_text::{Item, Stmt};
 use std::alloc::Global;
 
+/// The machine with one memory, at its strand's want.
+#[derive(Drop)]
+pub struct OneMemory<'a> {
+    pub elements: Names<'a, u32>,
+    pub memory: Vec<i64>,
+    pub outputs: Vec<i64>,
+    pub strand: Strand<'a>,
+}
+
+impl<'a> OneMemory<'a> {
+    ghost use Rattle.cw_strand.specs.Meaning.{State};
+    ghost use Rattle.cw_serial.specs.declared.program.Program.{Program};
+    ghost use Rattle.cw_serial.specs.Machine.{Machine, begun, pick};
+    ghost use Rattle.cw_serial.specs.Programs.{strands_of};
+    ghost use Rattle.cw_serial.specs.OneMemory.{IsMachine, Meets, Picks};
+
+    /// The machine before the first pick.
+    pub fn begin(alloc: Global, program: &'a Program) -> Result<OneMemory<'a>, OutOfMemory>
+        ensures { IfOk result (λ m. IsMachine program.now m (begun (strands_of program.now) (first_memory program.now.cells))) }
+    {
+        let cells = program.cells.as_slice();
+        let elements = elements_of(alloc, cells)?;
+        let memory = first_memory(alloc, cells)?;
+        let strand = Strand::start(alloc, body_of(program), &elements)?;
+        Ok(OneMemory {
+            elements,
+            memory,
+            outputs: Vec::new(alloc),
+            strand,
+        })
+    }
+
+    /// Does what the strand stands at, unless that is its end, and says whether it did.
+    pub fn pick(&mut self) -> Result<bool, OutOfMemory>
+        ensures { IfOk result (λ moved. (p : Program) (m : Machine State) → IsMachine p self.old m → Picks p (pick (strands_of p) m) moved self.new) }
+    {
+        let Some(given) = self.meet()? else {
+            return Ok(false);
+        };
+        self.strand.answer(given, &self.elements)?;
+        Ok(true)
+    }
+
+    /// Meets the strand's want in memory and outputs.
+    fn meet(&mut self) -> Result<Option<Given>, OutOfMemory>
+        ensures met { IfOk result (λ given. Meets self.old.strand.want self.old given self.new) }
+        ensures strand { OnOk result (self.new.strand ≡ self.old.strand) }
+        ensures elements { OnOk result (self.new.elements ≡ self.old.elements) }
+    {
+        match self.strand.want {
+            Want::Load(element) => {
+                let value = self.memory.get(element as usize).copied().unwrap_or(0);
+                Ok(Some(Given::Value(value)))
+            }
+            Want::Store(element, value) => {
+                if let Some(held) = self.memory.get_mut(element as usize) {
+                    *held = value;
+                }
+                Ok(Some(Given::Nothing))
+            }
+            Want::Out(value) => {
+                self.outputs.push(value)?;
+                Ok(Some(Given::Nothing))
+            }
+            Want::Done | Want::Fault(_) => Ok(None),
+        }
+    }
+}
+
 /// What the memory holds at first.
 fn first_memory(alloc: Global, cells: &[CellInfo]) -> Result<Vec<i64>, OutOfMemory>
     ensures { IfOk result (λ v. v.items ≡ first_memory cells.now) }
