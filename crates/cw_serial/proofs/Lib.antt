@@ -2,3 +2,4 @@ pub mod KnownNames
 pub mod DoneTasks
 pub mod SettledWork
 pub mod Beginnings
+pub mod Played

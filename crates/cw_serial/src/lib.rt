@@ -13,6 +13,7 @@ mod one_memory;
 mod operators;
 mod program;
 mod record;
+mod root;
 mod stack;
 mod strand;
 mod work;

@@ -1,14 +1,15 @@
-ghost use Rattle.std.specs.Prelude.{◌≡◌, ◌++◌, List, IfOk, OnOk, replicate};
+ghost use Rattle.std.specs.Prelude.{◌≡◌, ◌++◌, List, IfOk, OnOk, None, if◌then◌else◌, replicate};
 ghost use Rattle.cw_code.specs.declared.CellInfo.{CellInfo};
 ghost use Rattle.cw_text.specs.Syntax.{block_of, tree_of};
 ghost use Rattle.cw_serial.specs.Standing.{HasElements};
 ghost use Rattle.cw_strand.specs.Names.{first_memory, elements};
 ghost use Rattle.cw_strand.specs.Meaning.{body_at};
 
-use crate::Program;
+use crate::{Name, Program, SerialEnd};
 use crate::names::Names;
+use crate::root::names_root;
 use crate::strand::Strand;
-use cw_base::OutOfMemory;
+use cw_base::{OutOfMemory, Seq};
 use cw_code::CellInfo;
 use cw_strand::{Given, Want};
 use cw_text::{Item, Stmt};
@@ -26,7 +27,7 @@ pub struct OneMemory<'a> {
 impl<'a> OneMemory<'a> {
     ghost use Rattle.cw_strand.specs.Meaning.{State};
     ghost use Rattle.cw_serial.specs.declared.program.Program.{Program};
-    ghost use Rattle.cw_serial.specs.Machine.{Machine, begun, pick};
+    ghost use Rattle.cw_serial.specs.Machine.{Machine, begun, pick, names_root, shown};
     ghost use Rattle.cw_serial.specs.Programs.{strands_of};
     ghost use Rattle.cw_serial.specs.OneMemory.{IsMachine, Meets, Picks};
 
@@ -46,8 +47,18 @@ impl<'a> OneMemory<'a> {
         })
     }
 
+    /// Makes the pick of the strand that this number names, and says whether it can be made.
+    pub fn pick_named(&mut self, names: &[Name], number: u32) -> Result<bool, OutOfMemory>
+        ensures { IfOk result (λ moved. (p : Program) (m : Machine State) → IsMachine p self.old m → Picks p (if names_root names.now number then pick (strands_of p) m else None) moved self.new) }
+    {
+        if !names_root(names, number) {
+            return Ok(false);
+        }
+        self.pick()
+    }
+
     /// Does what the strand stands at, unless that is its end, and says whether it did.
-    pub fn pick(&mut self) -> Result<bool, OutOfMemory>
+    fn pick(&mut self) -> Result<bool, OutOfMemory>
         ensures { IfOk result (λ moved. (p : Program) (m : Machine State) → IsMachine p self.old m → Picks p (pick (strands_of p) m) moved self.new) }
     {
         let Some(given) = self.meet()? else {
@@ -55,6 +66,21 @@ impl<'a> OneMemory<'a> {
         };
         self.strand.answer(given, &self.elements)?;
         Ok(true)
+    }
+
+    /// What it shows of itself where the picks are used up, so many of them, and the last of them names the root, or not.
+    pub fn shown(self, root: bool, name: u32, place: u32) -> SerialEnd
+        ensures { (p : Program) (m : Machine State) → IsMachine p self.entry m → result ≡ shown (strands_of p) m ((strands_of p).want m.strand) root name place }
+    {
+        match self.strand.want {
+            Want::Done => SerialEnd::Finished {
+                memory: Seq::from_vec(self.memory),
+                outputs: Seq::from_vec(self.outputs),
+            },
+            _ if !root => SerialEnd::Stuck { place },
+            Want::Fault(kind) => SerialEnd::Fault { name, kind },
+            Want::Load(_) | Want::Store(..) | Want::Out(_) => SerialEnd::At { name },
+        }
     }
 
     /// Meets the strand's want in memory and outputs.
