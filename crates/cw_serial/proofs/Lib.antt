@@ -3,3 +3,4 @@ pub mod DoneTasks
 pub mod SettledWork
 pub mod Beginnings
 pub mod Played
+pub mod RootRun

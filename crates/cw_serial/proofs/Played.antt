@@ -50,14 +50,14 @@ module _ (p : Program) (picks : Order) where
 
   -- a pick, by its number
   abbrev pub Picked : OneMemory → ℕ → Bool → OneMemory → Type 0
-  Picked old n moved new = (m : Machine State) → IsMachine p old m → Picks p (at_pick (strands_of p) picks.names m n) moved new
+  Picked old n moved new = (m : Machine State) → IsMachine p old m → Picks p m (at_pick (strands_of p) picks.names m n) moved new
 
   module _ (new : OneMemory) (place n : ℕ) (there : slice_get picks.list place ≡ Some n) where
-    goes_on : (m : Machine State) (o : Option (Machine State)) → at_pick (strands_of p) picks.names m n ≡ o → Picks p o true new → Leaves m place → Plays new (place + 1)
+    goes_on : (m : Machine State) (o : Option (Machine State)) → at_pick (strands_of p) picks.names m n ≡ o → Picks p m o true new → Leaves m place → Plays new (place + 1)
     goes_on m None is h same = absurd h
     goes_on m (Some t) is h same = (t, h, played_on (strands_of p) picks.names picks.list picks.last (end_under p picks) place n m t there is same)
 
-    is_stuck : (m : Machine State) (o : Option (Machine State)) → at_pick (strands_of p) picks.names m n ≡ o → Picks p o false new → Leaves m place → last.Stuck place ≡ end_under p picks
+    is_stuck : (m : Machine State) (o : Option (Machine State)) → at_pick (strands_of p) picks.names m n ≡ o → Picks p m o false new → Leaves m place → last.Stuck place ≡ end_under p picks
     is_stuck m (Some t) is h same = absurd h
     is_stuck m None is h same = played_stuck (strands_of p) picks.names picks.list picks.last (end_under p picks) place n m there is same
 

@@ -5,7 +5,7 @@ ghost use Rattle.cw_serial.specs.Standing.{HasElements};
 ghost use Rattle.cw_strand.specs.Names.{first_memory, elements};
 ghost use Rattle.cw_strand.specs.Meaning.{body_at};
 
-use crate::{Name, Program, SerialEnd};
+use crate::{Name, Program, RecordEnd, SerialEnd};
 use crate::names::Names;
 use crate::root::names_root;
 use crate::strand::Strand;
@@ -29,7 +29,7 @@ impl<'a> OneMemory<'a> {
     ghost use Rattle.cw_serial.specs.declared.program.Program.{Program};
     ghost use Rattle.cw_serial.specs.Machine.{Machine, begun, pick, names_root, shown};
     ghost use Rattle.cw_serial.specs.Programs.{strands_of};
-    ghost use Rattle.cw_serial.specs.OneMemory.{IsMachine, Meets, Picks};
+    ghost use Rattle.cw_serial.specs.OneMemory.{IsMachine, Meets, Picks, IsOver, end_at};
 
     /// The machine before the first pick.
     pub fn begin(alloc: Global, program: &'a Program) -> Result<OneMemory<'a>, OutOfMemory>
@@ -49,7 +49,7 @@ impl<'a> OneMemory<'a> {
 
     /// Makes the pick of the strand that this number names, and says whether it can be made.
     pub fn pick_named(&mut self, names: &[Name], number: u32) -> Result<bool, OutOfMemory>
-        ensures { IfOk result (λ moved. (p : Program) (m : Machine State) → IsMachine p self.old m → Picks p (if names_root names.now number then pick (strands_of p) m else None) moved self.new) }
+        ensures { IfOk result (λ moved. (p : Program) (m : Machine State) → IsMachine p self.old m → Picks p m (if names_root names.now number then pick (strands_of p) m else None) moved self.new) }
     {
         if !names_root(names, number) {
             return Ok(false);
@@ -58,8 +58,8 @@ impl<'a> OneMemory<'a> {
     }
 
     /// Does what the strand stands at, unless that is its end, and says whether it did.
-    fn pick(&mut self) -> Result<bool, OutOfMemory>
-        ensures { IfOk result (λ moved. (p : Program) (m : Machine State) → IsMachine p self.old m → Picks p (pick (strands_of p) m) moved self.new) }
+    pub fn pick(&mut self) -> Result<bool, OutOfMemory>
+        ensures { IfOk result (λ moved. (p : Program) (m : Machine State) → IsMachine p self.old m → Picks p m (pick (strands_of p) m) moved self.new) }
     {
         let Some(given) = self.meet()? else {
             return Ok(false);
@@ -80,6 +80,20 @@ impl<'a> OneMemory<'a> {
             _ if !root => SerialEnd::Stuck { place },
             Want::Fault(kind) => SerialEnd::Fault { name, kind },
             Want::Load(_) | Want::Store(..) | Want::Out(_) => SerialEnd::At { name },
+        }
+    }
+
+    /// How the run ended whose strand is at its end.
+    pub fn ended(self) -> RecordEnd
+        requires { IsOver self.strand.want }
+        ensures { result ≡ end_at self.entry.strand.want self.entry }
+    {
+        match self.strand.want {
+            Want::Fault(kind) => RecordEnd::Fault { strand: 0, kind },
+            _ => RecordEnd::Finished {
+                memory: Seq::from_vec(self.memory),
+                outputs: Seq::from_vec(self.outputs),
+            },
         }
     }
 

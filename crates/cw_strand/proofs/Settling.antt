@@ -105,3 +105,17 @@ module _ (cells : List CellInfo) where
   -- a step by itself leads to where all of them lead
   pub settled_on : (s t : State) → step cells s ≡ on t → settled cells s ≡ settled cells t
   settled_on s t is = first_step (work s.todo) s t is (step_leaves_less cells s t is)
+
+  -- settling makes no work
+  after_leaves : (n : ℕ) (s : State) (x : Step) → ((u : State) → work (rested cells n u).todo ≤ work u.todo) → step cells s ≡ x → work (after x s (λ u. rested cells n u)).todo ≤ work s.todo
+  after_leaves n s (on u) low is = let less = step_leaves_less cells s u is in omega (arith, low u)
+  after_leaves n s (wants w u) low is = omega arith
+  after_leaves n s ends low is = omega arith
+  after_leaves n s (fails k) low is = omega arith
+
+  rested_leaves : (n : ℕ) (s : State) → work (rested cells n s).todo ≤ work s.todo
+  rested_leaves zero s = omega arith
+  rested_leaves (suc n) s = after_leaves n s (step cells s) (λ u. rested_leaves n u) refl
+
+  pub settled_leaves : (s : State) → work (settled cells s).todo ≤ work s.todo
+  settled_leaves s = rested_leaves (work s.todo) s
