@@ -4,3 +4,9 @@ pub mod ItemSteps
 pub mod MainItem
 pub mod NameSteps
 pub mod SameNames
+pub mod KnownNames
+pub mod DoneTasks
+pub mod SettledWork
+pub mod Beginnings
+pub mod Played
+pub mod RootRun

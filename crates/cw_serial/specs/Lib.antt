@@ -4,3 +4,5 @@ pub mod Programs
 pub mod Records
 pub mod Rows
 pub mod Scopes
+pub mod Standing
+pub mod OneMemory

@@ -9,10 +9,17 @@ ghost use Rattle.cw_serial.specs.Rows.{Ends};
 mod checking;
 mod items;
 mod machine;
+mod names;
+mod one_memory;
+mod operators;
 mod program;
 mod record;
+mod root;
 mod scope;
+mod stack;
+mod strand;
 mod visible;
+mod work;
 
 pub use checking::checked;
 pub use cw_code::{CellInfo, FaultKind, Limits};

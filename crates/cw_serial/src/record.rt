@@ -2,6 +2,7 @@ ghost use Rattle.std.specs.Prelude.{◌≡◌, IfOk};
 ghost use Rattle.cw_serial.specs.Records.{IsDepthFirst, HasEnded, Replays};
 
 use crate::Program;
+use crate::one_memory::OneMemory;
 use cw_base::{OutOfMemory, Seq};
 use cw_code::{FaultKind, Limits};
 use std::alloc::Global;
@@ -14,6 +15,13 @@ pub struct Name {
     pub fork: u32,
     pub right: bool,
 }
+
+/// The name of the strand of main.
+const ROOT: Name = Name {
+    parent: 0,
+    fork: 0,
+    right: false,
+};
 
 /// An order: the strands that it names, of which number 0 is the root, the numbers of the strands to pick one after
 /// another, and the strand that it ends with.
@@ -55,7 +63,7 @@ pub struct Record {
 
 /// The run of one worker. Fuel and size are not counted yet: no text that can be read comes near their limits.
 pub fn depth_first(
-    _alloc: Global,
+    alloc: Global,
     program: Program,
     words: Seq<i64>,
     limits: Limits,
@@ -67,6 +75,33 @@ pub fn depth_first(
     ensures ended { IfOk result (λ r. HasEnded r.end) }
     ensures replays { IfOk result (λ r. Replays r.program r.order r.end) }
 {
-    let _ = (program, words, limits);
-    Err(OutOfMemory)
+    let (order, end) = run(alloc, &program)?;
+    Ok(Record {
+        program,
+        words,
+        limits,
+        order,
+        end,
+    })
+}
+
+/// Runs the root to its end.
+fn run(alloc: Global, program: &Program) -> Result<(Picks, RecordEnd), OutOfMemory>
+    ensures order { IfOk result (λ r. IsDepthFirst r.0) }
+    ensures ended { IfOk result (λ r. HasEnded r.1) }
+    ensures replays { IfOk result (λ r. Replays program.now r.0 r.1) }
+{
+    let mut list = Seq::new(alloc);
+    let mut machine = OneMemory::begin(alloc, program)?;
+    'picks: while machine.pick()? {
+        list.push(0)?;
+    }
+    let mut names = Seq::new(alloc);
+    names.push(ROOT)?;
+    let order = Picks {
+        names,
+        list,
+        last: 0,
+    };
+    Ok((order, machine.ended()))
 }

@@ -1,1 +1,2 @@
 pub mod LocalWork
+pub mod Settling

@@ -1,0 +1,39 @@
+ghost use Rattle.std.specs.Prelude.{◌≡◌, ℕ, List, Some, None, OnOk, if◌then◌else◌};
+ghost use Rattle.cw_text.specs.Lexemes.{list_eq};
+
+use cw_base::OutOfMemory;
+use std::alloc::Global;
+use std::collections::BTreeMap;
+
+/// What names stand for, each name once.
+#[derive(Drop)]
+pub struct Names<'a, V> {
+    map: BTreeMap<&'a str, V>,
+}
+
+impl<'a, V: Copy> Names<'a, V> {
+    ghost use Rattle.cw_serial.specs.Standing.{named};
+
+    pub fn new(alloc: Global) -> Names<'a, V>
+        ensures { (n : List ℕ) → named result n ≡ None }
+    {
+        Names {
+            map: BTreeMap::new(alloc),
+        }
+    }
+
+    /// What a name stands for.
+    pub fn get(&self, name: &str) -> Option<V>
+        ensures { result ≡ named self.now name.now }
+    {
+        self.map.get(name).copied()
+    }
+
+    /// The name stands for this from now on.
+    pub fn set(&mut self, name: &'a str, value: V) -> Result<(), OutOfMemory>
+        ensures { OnOk result ((n : List ℕ) → named self.new n ≡ (if list_eq n name.now then Some value else named self.old n)) }
+    {
+        self.map.insert(name, value)?;
+        Ok(())
+    }
+}

@@ -1,0 +1,234 @@
+ghost use Rattle.std.specs.Prelude.{◌≡◌, List, IfOk, OnOk};
+ghost use Rattle.cw_code.specs.declared.CellInfo.{CellInfo};
+ghost use Rattle.cw_text.specs.Syntax.{term_of, block_of};
+ghost use Rattle.cw_strand.specs.Meaning.{Locals, value, lift, join, perform, bind, store_in, show, read, result as outcome_of, local_of, element_of, State, step, settled, in_place};
+
+use crate::names::Names;
+use crate::operators::{one, two};
+use crate::stack::Stack;
+use cw_base::OutOfMemory;
+use cw_code::FaultKind;
+use cw_strand::Want;
+use cw_text::{Expr, Op, Stmt};
+use std::alloc::Global;
+
+/// Something to be done.
+#[derive(Clone, Copy)]
+pub enum Task<'a> {
+    /// An expression gives its value.
+    Value(&'a Expr),
+    /// An operator of one operand takes it.
+    Lift(Op),
+    /// An operator of two operands takes them.
+    Join(Op),
+    Perform(&'a [Stmt]),
+    Bind(&'a str),
+    StoreIn(&'a str),
+    Show,
+    Finish,
+}
+
+/// What a task came to.
+#[derive(Clone, Copy)]
+pub enum Outcome {
+    On,
+    Wants(Want),
+    Ends,
+    Fails(FaultKind),
+}
+
+/// What a strand has still to do, and what it has at hand.
+#[derive(Drop)]
+pub struct Work<'a> {
+    pub todo: Stack<Task<'a>>,
+    pub values: Stack<i64>,
+    pub locals: Names<'a, i64>,
+}
+
+impl<'a> Work<'a> {
+    ghost use Rattle.cw_serial.specs.Standing.{HasElements, HasLocals, Does, Leads, Stands, IsAt, state, task_of};
+
+    /// The newest operand, where there is one, is this.
+    pub fn replace(&mut self, value: i64) -> Result<(), OutOfMemory>
+        ensures { OnOk result (self.new ≡ record self.old { values = in_place value self.old.values }) }
+    {
+        if self.values.pop().is_some() {
+            self.values.push(value)?;
+        }
+        Ok(())
+    }
+
+    /// Does all that it does by itself, and the step at which it stands then.
+    pub fn run(&mut self, elements: &Names<'_, u32>) -> Result<Want, OutOfMemory>
+        ensures { IfOk result (λ w. (cells : List CellInfo) (s : State) → HasElements elements.now cells → Stands self.old s → IsAt (step cells (settled cells s)) w self.new) }
+    {
+        'steps: loop {
+            match self.step(elements)? {
+                Outcome::On => {}
+                Outcome::Wants(want) => return Ok(want),
+                Outcome::Ends => return Ok(Want::Done),
+                Outcome::Fails(kind) => return Ok(Want::Fault(kind)),
+            }
+        }
+    }
+
+    /// Does the nearest task.
+    fn step(&mut self, elements: &Names<'_, u32>) -> Result<Outcome, OutOfMemory>
+        ensures { IfOk result (λ o. (cells : List CellInfo) (ls : Locals) → HasElements elements.now cells → HasLocals self.old.locals ls → Leads (step cells (state self.old ls)) o self.new) }
+    {
+        let Some(task) = self.todo.pop() else {
+            return Ok(Outcome::Ends);
+        };
+        self.act(task, elements)
+    }
+
+    /// Does a task that was the nearest.
+    fn act(&mut self, task: Task<'a>, elements: &Names<'_, u32>) -> Result<Outcome, OutOfMemory>
+        ensures { IfOk result (λ o. (cells : List CellInfo) → HasElements elements.now cells → Does cells self.old (task_of task.entry) o self.new) }
+    {
+        match task {
+            Task::Value(of) => self.value(of, elements),
+            Task::Lift(op) => self.lift(op),
+            Task::Join(op) => self.join(op),
+            Task::Perform(block) => self.perform(block),
+            Task::Bind(name) => self.bind(name),
+            Task::StoreIn(name) => self.store_in(name, elements),
+            Task::Show => Ok(self.show()),
+            Task::Finish => Ok(Outcome::Ends),
+        }
+    }
+
+    /// The value of an expression, or what gives it.
+    fn value(&mut self, of: &'a Expr, elements: &Names<'_, u32>) -> Result<Outcome, OutOfMemory>
+        ensures { IfOk result (λ o. (cells : List CellInfo) → HasElements elements.now cells → Does cells self.old (value (term_of of.now)) o self.new) }
+    {
+        match of {
+            Expr::Number(n) => self.values.push(*n)?,
+            Expr::Name(word) => return self.read(word.name.as_str(), elements),
+            Expr::Unary { op, of } => {
+                self.todo.push(Task::Lift(*op))?;
+                self.todo.push(Task::Value(of))?;
+            }
+            Expr::Binary { op, left, right } => {
+                self.todo.push(Task::Join(*op))?;
+                self.todo.push(Task::Value(right))?;
+                self.todo.push(Task::Value(left))?;
+            }
+        }
+        Ok(Outcome::On)
+    }
+
+    /// A name gives its value.
+    fn read(&mut self, name: &str, elements: &Names<'_, u32>) -> Result<Outcome, OutOfMemory>
+        ensures { IfOk result (λ o. (cells : List CellInfo) (ls : Locals) → HasElements elements.now cells → HasLocals self.old.locals ls → Leads (read (local_of ls name.now) (element_of cells name.now) (state self.old ls)) o self.new) }
+    {
+        if let Some(value) = self.locals.get(name) {
+            self.values.push(value)?;
+            return Ok(Outcome::On);
+        }
+        let Some(element) = elements.get(name) else {
+            return Ok(Outcome::Ends);
+        };
+        self.values.push(0)?;
+        Ok(Outcome::Wants(Want::Load(element)))
+    }
+
+    /// An operator of one operand takes it.
+    fn lift(&mut self, op: Op) -> Result<Outcome, OutOfMemory>
+        ensures { IfOk result (λ o. (cells : List CellInfo) → Does cells self.old (lift op) o self.new) }
+    {
+        let Some(x) = self.values.pop() else {
+            return Ok(Outcome::Ends);
+        };
+        self.give(one(op, x))
+    }
+
+    /// An operator of two operands takes them.
+    fn join(&mut self, op: Op) -> Result<Outcome, OutOfMemory>
+        ensures { IfOk result (λ o. (cells : List CellInfo) → Does cells self.old (join op) o self.new) }
+    {
+        let Some(y) = self.values.pop() else {
+            return Ok(Outcome::Ends);
+        };
+        let Some(x) = self.values.pop() else {
+            return Ok(Outcome::Ends);
+        };
+        self.give(two(op, x, y))
+    }
+
+    /// What an operator gives is a value, or a fault.
+    fn give(&mut self, given: Result<i64, FaultKind>) -> Result<Outcome, OutOfMemory>
+        ensures { IfOk result (λ o. (ls : Locals) → HasLocals self.old.locals ls → Leads (outcome_of given self.old.values (state self.old ls)) o self.new) }
+    {
+        match given {
+            Ok(value) => {
+                self.values.push(value)?;
+                Ok(Outcome::On)
+            }
+            Err(kind) => Ok(Outcome::Fails(kind)),
+        }
+    }
+
+    /// The first statement is replaced by its parts.
+    fn perform(&mut self, block: &'a [Stmt]) -> Result<Outcome, OutOfMemory>
+        ensures { IfOk result (λ o. (cells : List CellInfo) → Does cells self.old (perform (block_of block.now)) o self.new) }
+    {
+        let [first, rest @ ..] = block else {
+            return Ok(Outcome::On);
+        };
+        self.todo.push(Task::Perform(rest))?;
+        match first {
+            Stmt::Let { name, value } => {
+                self.todo.push(Task::Bind(name.name.as_str()))?;
+                self.todo.push(Task::Value(value))?;
+            }
+            Stmt::Assign { name, value } => {
+                self.todo.push(Task::StoreIn(name.name.as_str()))?;
+                self.todo.push(Task::Value(value))?;
+            }
+            Stmt::Out(value) => {
+                self.todo.push(Task::Show)?;
+                self.todo.push(Task::Value(value))?;
+            }
+        }
+        Ok(Outcome::On)
+    }
+
+    /// A new local.
+    fn bind(&mut self, name: &'a str) -> Result<Outcome, OutOfMemory>
+        ensures { IfOk result (λ o. (cells : List CellInfo) → Does cells self.old (bind name.now) o self.new) }
+    {
+        let Some(value) = self.values.pop() else {
+            return Ok(Outcome::Ends);
+        };
+        self.locals.set(name, value)?;
+        Ok(Outcome::On)
+    }
+
+    /// A name gets a value.
+    fn store_in(&mut self, name: &'a str, elements: &Names<'_, u32>) -> Result<Outcome, OutOfMemory>
+        ensures { IfOk result (λ o. (cells : List CellInfo) → HasElements elements.now cells → Does cells self.old (store_in name.now) o self.new) }
+    {
+        let Some(value) = self.values.pop() else {
+            return Ok(Outcome::Ends);
+        };
+        if self.locals.get(name).is_some() {
+            self.locals.set(name, value)?;
+            return Ok(Outcome::On);
+        }
+        let Some(element) = elements.get(name) else {
+            return Ok(Outcome::Ends);
+        };
+        Ok(Outcome::Wants(Want::Store(element, value)))
+    }
+
+    /// A value is shown.
+    fn show(&mut self) -> Outcome
+        ensures { (cells : List CellInfo) → Does cells self.old show result self.new }
+    {
+        match self.values.pop() {
+            None => Outcome::Ends,
+            Some(value) => Outcome::Wants(Want::Out(value)),
+        }
+    }
+}
