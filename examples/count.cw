@@ -1,0 +1,7 @@
+// One is added to a cell, and the cell is shown.
+cell c;
+
+fn main() {
+  c = c + 1;
+  out c;
+}
