@@ -15,6 +15,7 @@ refuses : (ast : Ast) (e : NameRefusal) (f : Fault) → Finds {A = Unit {0}} (Er
 refuses ast (Name x) f found first = first x found
 refuses ast OutOfMemory f found first = tt
 
+-- Where the items have no fault, and g has their names, the functions' fault is the first; then comes the want of a main.
 module _ (ast : Ast) (g : Scope) (same : IsSame g (globals (tree_of ast))) (items : in_items [] 0 (tree_of ast) ≡ None) where
   pub refuses_functions : (e : NameRefusal) → Finds {A = Unit {0}} (Err e) (in_functions g (tree_of ast)) → Checks ast (Err e)
   refuses_functions e found = refuses ast e _ found (λ x is. rw (items, ← in_functions_same same (tree_of ast), is) refl)

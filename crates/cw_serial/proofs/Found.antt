@@ -12,17 +12,20 @@ use Rattle.cw_strand.specs.Names.{find}
 use Rattle.cw_serial.specs.declared.scope.Thing.{Thing}
 use Rattle.cw_serial.specs.Scopes.{thing_of, scope_of, IsSame}
 
+-- the two tests of names are one
 pub list_eq-is_bytes_eq : (xs ys : List ℕ) → list_eq xs ys ≡ bytes_eq xs ys
 list_eq-is_bytes_eq [] [] = refl
 list_eq-is_bytes_eq [] (y ∷ ys) = refl
 list_eq-is_bytes_eq (x ∷ xs) [] = refl
 list_eq-is_bytes_eq (x ∷ xs) (y ∷ ys) = rw (list_eq-is_bytes_eq xs ys)
 
+-- one entry, with what is found behind it
 entry_finds : (b : Bool) (t : Thing) (o : Option Thing) → cond b (Some (thing_of t)) (option_map thing_of o) ≡ option_map thing_of (cond b (Some t) o)
 entry_finds true t o = refl
 entry_finds false t o = refl
 
 module _ {Y : Type 0} where
+  -- the same over the entries
   find-scope_of : (n : List ℕ) (es : List (String Y × Thing)) → find n (scope_of es) ≡ option_map thing_of (lookup (is_at (text_cmp n)) es)
   find-scope_of n [] = refl
   find-scope_of n (e ∷ es) = rw (list_eq-is_bytes_eq n (string_bytes e.0), is_eq-slice_cmp n (string_bytes e.0), find-scope_of n es) (entry_finds (bytes_eq n (string_bytes e.0)) e.1 _)

@@ -18,6 +18,7 @@ none_from_declared_new : (o : Option Thing) (line : ℕ) → declared_new o line
 none_from_declared_new None line none = refl
 none_from_declared_new (Some t) line none = cc
 
+-- it does not matter whether a thing comes first or last, where nothing hides it
 found_later : (b : Bool) (t : Thing) (o p : Option Thing) → (b ≡ true → o ≡ None) → cond b (Some t) (option_or o p) ≡ option_or o (cond b (Some t) p)
 found_later true t o p none = rw (none refl) refl
 found_later false t o p none = refl
@@ -35,6 +36,7 @@ names_next : {g h : Scope} (x : List ℕ) (line : ℕ) (t : Thing) (left : Scope
 names_next {g} x line t left none same = same_trans (same_append left same) (same_moved x t g left (none_from_declared_new _ line none))
 
 module _ {old new : Declared} (x : List ℕ) (line : ℕ) where
+  -- a cell whose name is new, and with which there are not too many elements
   pub adds_cell : (len : ℕ) (init : ℤ) (ds : List Declaration) → declared_new (find x old.names) line ≡ None → (if nat_lt 4096 (old.elements + elements len) then fault TooManyCells line else None) ≡ None → IsSame new.names ((x, a_cell) ∷ old.names) → new.elements ≡ old.elements + elements len → new.cells.items ≡ old.cells.items ++ (record { name = x; len = len; base = old.elements; init = init } ∷ []) → IsSameWith (cell x line len init ∷ ds) old ds new
   adds_cell len init ds none room same size cells = record {
     faults = rw (none, room, size, in_items_same same (old.elements + elements len) ds) refl;
@@ -42,6 +44,7 @@ module _ {old new : Declared} (x : List ℕ) (line : ℕ) where
     cells = rw (cells, size) (append_assoc old.cells.items _ _);
   }
 
+  -- a function whose name is new
   pub adds_function : (params : List Word) (body : Block) (ds : List Declaration) → declared_new (find x old.names) line ≡ None → IsSame new.names ((x, a_function) ∷ old.names) → new.elements ≡ old.elements → new.cells.items ≡ old.cells.items → IsSameWith (func x line params body ∷ ds) old ds new
   adds_function params body ds none same size cells = record {
     faults = rw (none, size, in_items_same same old.elements ds) refl;

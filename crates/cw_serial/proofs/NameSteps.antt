@@ -12,9 +12,11 @@ use Rattle.cw_serial.proofs.SameNames.{in_block_same, in_params_same, with_param
 pub item_first : {X : Type 0} (xs : List X) (i : ℕ) (x : X) → i < length xs → x ≡ get_or xs i x → drop i xs ≡ x ∷ drop (i + 1) xs
 item_first xs i x lt is = drop_more xs i x lt ∙ ap (λ y. y ∷ drop (i + 1) xs) (sym is)
 
+-- a statement without a fault: what is left is looked at with the names after it
 pub in_block_next : (g : Scope) {h : Scope} (xs : List Stmt) (i : ℕ) (x : Stmt) → i < length xs → x ≡ get_or xs i x → in_statement g (statement_of x) ≡ None → IsSame h (scope_after (statement_of x) g) → in_block g (block_of (drop i xs)) ≡ in_block h (block_of (drop (i + 1) xs))
 in_block_next g xs i x lt is none same = rw (item_first xs i x lt is, none, in_block_same same (block_of (drop (i + 1) xs))) refl
 
+-- a parameter whose name is new, in the same way
 module _ {g h : Scope} (ws : List Word) (i : ℕ) (w : Word) (lt : i < length ws) (is : w ≡ get_or ws i w) (same : IsSame h ((w.name, a_local) ∷ g)) where
   pub in_params_next : declared_new (find w.name g) w.line ≡ None → in_params g (drop i ws) ≡ in_params h (drop (i + 1) ws)
   in_params_next none = rw (item_first ws i w lt is, none, in_params_same same (drop (i + 1) ws)) refl

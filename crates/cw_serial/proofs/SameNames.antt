@@ -15,6 +15,7 @@ same_trans a b = record { finds = λ n. a.finds n ∙ b.finds n }
 pub same_cons : {g h : Scope} (x : List ℕ × Thing) → IsSame g h → IsSame (x ∷ g) (x ∷ h)
 same_cons x same = record { finds = λ n. ap (λ o. cond (list_eq n x.0) (Some x.1) o) (same.finds n) }
 
+-- one name, before what is found in two scopes
 found_or : (b : Bool) (t : Thing) (o p : Option Thing) → cond b (Some t) (option_or o p) ≡ option_or (cond b (Some t) o) p
 found_or true t o p = refl
 found_or false t o p = refl

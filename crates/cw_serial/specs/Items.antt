@@ -25,6 +25,7 @@ pub record IsAllOf (ds : List Declaration) (d : Declared) : Type 0 where
   pub names : IsSame d.names (globals ds)
   pub cells : d.cells.items ≡ cells_of ds
 
+-- whether it is the function main
 abbrev pub is_main : Declaration → Bool
 is_main (cell x l len i) = false
 is_main (func x l ps b) = list_eq x (codes "main")

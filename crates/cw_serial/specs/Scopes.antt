@@ -7,6 +7,7 @@ use Rattle.cw_serial.specs.declared.program.NameRefusal.TheVariants as refusal
 use Rattle.cw_serial.specs.declared.scope.Thing.{Thing}
 use Rattle.cw_serial.specs.declared.scope.Thing.TheVariants as thing
 
+-- what a name stands for, in the words of the naming rules
 abbrev pub thing_of : Thing → names.Thing
 thing_of thing.Local = names.a_local
 thing_of thing.Cell = names.a_cell

@@ -1,7 +1,8 @@
 //! The machine with one memory: checked programs, the machine's end under given picks, and the run of one worker.
 //! Stands on `cw_text`, `cw_code`, `cw_strand`.
 //! Contracts cite `specs/Machine.antt` (the machine, over any strands), `specs/Programs.antt` (what a checked program is)
-//! and `specs/Records.antt` (what a run keeps, and when it replays).
+//! and `specs/Records.antt` (what a run keeps, and when it replays). Those of the functions that check names also cite
+//! `specs/Scopes.antt` (names and what they stand for) and `specs/Items.antt` (what items declare).
 #![tactic(auto)]
 
 ghost use Rattle.cw_serial.specs.Rows.{Ends};
