@@ -1,8 +1,12 @@
 pub mod Digits
 pub mod Fronts
+pub mod Levels
+pub mod Operators
 pub mod Passing
 pub mod Places
 pub mod Prefixes
+pub mod PrintedTerms
+pub mod PrintedPrograms
 pub mod Readings
 pub mod Spelled
 pub mod Steps

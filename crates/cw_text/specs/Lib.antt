@@ -7,3 +7,5 @@ pub mod Cursor
 pub mod Places
 pub mod Parser
 pub mod Rows
+pub mod Printed
+pub mod PrintedRow

@@ -5,10 +5,14 @@
 //! (the tree without its places in memory). `specs/Places.antt` says of the tokens where in the text they stand.
 #![tactic(auto)]
 
-ghost use Rattle.std.specs.Prelude.{ℕ, List};
+ghost use Rattle.std.specs.Prelude.{ℕ, List, ◌≡◌};
 ghost use Rattle.cw_text.specs.declared.mark.Mark.{Mark};
 ghost use Rattle.cw_text.specs.Lexemes.{lexemes};
 ghost use Rattle.cw_text.specs.Places.{Follow};
+ghost use Rattle.cw_text.specs.Grammar.{program_of};
+ghost use Rattle.cw_text.specs.Printed.{IsReadable, printed};
+ghost use Rattle.cw_text.specs.PrintedRow.{Worked};
+ghost use Rattle.cw_text.specs.Syntax.{Declaration};
 ghost use Rattle.cw_text.specs.Rows.{Tokens, Programs, Heights, Brackets, Refusals};
 
 mod ast;
@@ -41,6 +45,12 @@ pub fn worked_texts()
 /// The tokens of a text follow each other without a hole, and a line is 1 and the number of newlines before it.
 pub fn tokens_follow()
     ensures { (words : List Mark) (text : List ℕ) → Follow words text 0 (lexemes words text) }
+{}
+
+/// The tokens of a tree read as that tree, with its lines.
+pub fn printed_is_read()
+    ensures read { (ds : List Declaration) → IsReadable ds → program_of (printed ds) ≡ Ok ds }
+    ensures worked { Worked }
 {}
 
 #[cfg(test)]

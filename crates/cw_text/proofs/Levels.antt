@@ -1,0 +1,109 @@
+-- Expressions that are read, by the tightness that is wanted of them.
+use Rattle.std.proofs.Common.{◌≡◌, ℕ, zero, suc, ◌+◌, ◌<◌, ◌≤◌, max, List, ◌∷◌, ◌∙◌, subst, inl, inr, arith}
+use Rattle.std.proofs.lemmas.Bool.{cases_lt}
+use Rattle.cw_text.specs.declared.ast.Op.{Op}
+use Rattle.cw_text.specs.declared.mark.Mark.TheVariants as m
+use Rattle.cw_text.specs.Lexemes.{Lexemes, comes, mark}
+use Rattle.cw_text.specs.Syntax.{Term, binary, unary, height}
+use Rattle.cw_text.specs.Grammar.{Symbol, Values, a_term, act, closing, comparison, comparison_of, expr, join, lifted, operand, pending, product_of, products, read, read_from, sum_of, sums}
+use Rattle.cw_text.specs.Printed.{mark_of, tightness}
+use Rattle.cw_text.proofs.Operators.{NotNext, takes_product, takes_sum, takes_comparison, takes_prefix, skips_products, skips_sums, skips_comparison, product_of-mark_of, sum_of-mark_of, comparison_of-mark_of, no_sum}
+use Rattle.cw_text.proofs.Steps.{read-expr, read-join, read-lifted, taken_open}
+
+-- the symbols of an expression, and those that are left once it was read
+abbrev pub begins : ℕ → List Symbol → List Symbol
+begins zero k = operand ∷ products ∷ sums ∷ comparison ∷ k
+begins (suc zero) k = operand ∷ products ∷ sums ∷ k
+begins (suc (suc zero)) k = operand ∷ products ∷ k
+begins (suc (suc (suc n))) k = operand ∷ k
+
+abbrev pub leaves : ℕ → List Symbol → List Symbol
+leaves zero k = k
+leaves (suc zero) k = sums ∷ k
+leaves (suc (suc zero)) k = products ∷ k
+leaves (suc (suc (suc n))) k = k
+
+-- with room for so many more open, these lexemes are read as an expression with others behind it
+pub record Reads (more n : ℕ) (e : Term) (xs ys : Lexemes) : Type 0 where
+  pub reading : (k : List Symbol) (vs : Values) → pending k + more ≤ 200 → read (begins n k) vs xs ≡ read (leaves n k) (a_term e ∷ vs) ys
+
+-- what comes behind an expression does not belong to it
+abbrev pub Ends : ℕ → Lexemes → Type 0
+Ends zero xs = NotNext product_of xs × NotNext sum_of xs × NotNext comparison_of xs
+Ends (suc zero) xs = NotNext product_of xs
+Ends (suc (suc n)) xs = Unit {0}
+
+pub ends_tighter : (n t : ℕ) (xs : Lexemes) → n ≤ t → Ends n xs → Ends t xs
+ends_tighter zero zero xs within ends = ends
+ends_tighter zero (suc zero) xs within ends = ends.0
+ends_tighter (suc zero) (suc zero) xs within ends = ends
+ends_tighter (suc (suc n)) (suc zero) xs within ends = absurd (omega arith)
+ends_tighter (suc n) zero xs within ends = absurd (omega arith)
+ends_tighter n (suc (suc t)) xs within ends = tt
+
+pub Reads-more : {n : ℕ} {e : Term} {xs ys : Lexemes} (more most : ℕ) → more ≤ most → Reads more n e xs ys → Reads most n e xs ys
+Reads-more more most within r = record { reading = λ k vs low. r.reading k vs (omega arith) }
+
+-- ## Where less tightness is wanted
+
+one_looser : {more : ℕ} {e : Term} {xs ys : Lexemes} (n : ℕ) → Ends n ys → Reads more (suc n) e xs ys → Reads more n e xs ys
+one_looser {e = e} {ys = ys} zero ends r = record { reading = λ k vs low. r.reading (comparison ∷ k) vs low ∙ skips_sums (comparison ∷ k) (a_term e ∷ vs) ys ends.1 ∙ skips_comparison k (a_term e ∷ vs) ys ends.2 }
+one_looser {e = e} {ys = ys} (suc zero) ends r = record { reading = λ k vs low. r.reading (sums ∷ k) vs low ∙ skips_products (sums ∷ k) (a_term e ∷ vs) ys ends }
+one_looser (suc (suc zero)) ends r = record { reading = λ k vs low. r.reading (products ∷ k) vs low }
+one_looser (suc (suc (suc n))) ends r = record { reading = λ k vs low. r.reading k vs low }
+
+pub looser : {more : ℕ} {e : Term} {xs ys : Lexemes} (n t : ℕ) → n ≤ t → Ends n ys → Reads more t e xs ys → Reads more n e xs ys
+looser {more} {e} {xs} {ys} n zero within ends r = let same : zero ≡ n = omega arith in subst (λ t. Reads more t e xs ys) same r
+looser {more} {e} {xs} {ys} n (suc t) within ends r =
+    elim (cases_lt n (suc t)) [
+      | inl less ↦ looser n t (omega arith) ends (one_looser t (ends_tighter n t ys (omega arith) ends) r)
+      | inr greatest ↦ let same : suc t ≡ n = omega arith in subst (λ t. Reads more t e xs ys) same r
+    ]
+
+-- ## Operators and brackets
+
+pub in_brackets : {more l j : ℕ} {e : Term} {xs ys : Lexemes} → Reads more 0 e xs (comes (mark m.ParenClose) j ys) → Reads (more + 1) 3 e (comes (mark m.ParenOpen) l xs) ys
+in_brackets {l = l} {j = j} {e = e} {xs = xs} {ys = ys} r = record {
+  reading = λ k vs low.
+      taken_open (expr ∷ closing m.ParenClose ∷ k) vs l (comes (mark m.ParenOpen) l xs) (omega arith)
+      ∙ read-expr (closing m.ParenClose ∷ k) vs xs
+      ∙ r.reading (closing m.ParenClose ∷ k) vs (omega arith)
+      ∙ taken_open k (a_term e ∷ vs) j (comes (mark m.ParenClose) j ys) (omega arith);
+}
+
+pub of_one : {more l : ℕ} {e : Term} {xs ys : Lexemes} (o : Op) → tightness o ≡ 3 → height (unary o e) ≤ 200 → Reads more 3 e xs ys → Reads (more + 1) 3 (unary o e) (comes (mark (mark_of o)) l xs) ys
+of_one {l = l} {e = e} {xs = xs} {ys = ys} o prefix high r = record {
+  reading = λ k vs low.
+      takes_prefix o l k vs xs prefix (omega arith)
+      ∙ r.reading (lifted o l ∷ k) vs (omega arith)
+      ∙ read-lifted o l e k vs ys high;
+}
+
+-- an operator between its operands
+pub of_two : {more l : ℕ} {e f : Term} {xs ys zs : Lexemes} (o : Op) (t : ℕ) → tightness o ≡ t → t < 3 → height (binary o e f) ≤ 200 → Ends t zs →
+    Reads more (max 1 t) e xs (comes (mark (mark_of o)) l ys) → Reads more (t + 1) f ys zs → Reads more t (binary o e f) xs zs
+of_two {l = l} {e = e} {f = f} {ys = ys} {zs = zs} o zero is two high ends a b = record {
+  reading = λ k vs low.
+      a.reading (comparison ∷ k) vs low
+      ∙ skips_sums (comparison ∷ k) (a_term e ∷ vs) (comes (mark (mark_of o)) l ys) (no_sum o is)
+      ∙ takes_comparison (mark_of o) o l k (a_term e ∷ vs) ys (comparison_of-mark_of o is) (omega arith)
+      ∙ b.reading (act (join o) ∷ read_from l ∷ k) (a_term e ∷ vs) low
+      ∙ skips_sums (act (join o) ∷ read_from l ∷ k) (a_term f ∷ a_term e ∷ vs) zs ends.1
+      ∙ read-join o l e f k vs zs high;
+}
+of_two {l = l} {e = e} {f = f} {ys = ys} {zs = zs} o (suc zero) is two high ends a b = record {
+  reading = λ k vs low.
+      a.reading k vs low
+      ∙ takes_sum (mark_of o) o l k (a_term e ∷ vs) ys (sum_of-mark_of o is) (omega arith)
+      ∙ b.reading (act (join o) ∷ read_from l ∷ sums ∷ k) (a_term e ∷ vs) low
+      ∙ skips_products (act (join o) ∷ read_from l ∷ sums ∷ k) (a_term f ∷ a_term e ∷ vs) zs ends
+      ∙ read-join o l e f (sums ∷ k) vs zs high;
+}
+of_two {l = l} {e = e} {f = f} {ys = ys} {zs = zs} o (suc (suc zero)) is two high ends a b = record {
+  reading = λ k vs low.
+      a.reading k vs low
+      ∙ takes_product (mark_of o) o l k (a_term e ∷ vs) ys (product_of-mark_of o is) (omega arith)
+      ∙ b.reading (act (join o) ∷ read_from l ∷ products ∷ k) (a_term e ∷ vs) low
+      ∙ read-join o l e f (products ∷ k) vs zs high;
+}
+of_two o (suc (suc (suc t))) is two high ends a b = absurd (omega arith)

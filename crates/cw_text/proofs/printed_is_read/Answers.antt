@@ -1,0 +1,9 @@
+use Rattle.std.proofs.Common.{refl}
+use Rattle.cw_text.proofs.PrintedPrograms.{printed_read}
+use Rattle.cw_text.proofs.printed_is_read.Goals as goal
+
+pub returns-clause-read : goal.returns-clause-read
+returns-clause-read c = printed_read
+
+pub returns-clause-worked : goal.returns-clause-worked
+returns-clause-worked c = refl

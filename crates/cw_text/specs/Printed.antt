@@ -1,0 +1,151 @@
+-- The tokens that a tree is printed as, and which trees can be read from their tokens.
+use Rattle.std.specs.Prelude.{ℕ, zero, suc, ◌+◌, ◌^◌, ◌<◌, ◌≤◌, max, ◌≡◌, Bool, true, false, List, [], ◌∷◌, ◌++◌, if◌then◌else◌, nat_lt, codes, ℤ, pos, negsuc, nat_abs, All}
+use Rattle.std.specs.List.{flat_map, join_by}
+use Rattle.cw_text.specs.declared.ast.Op.{Op}
+use Rattle.cw_text.specs.declared.ast.Op.TheVariants as op
+use Rattle.cw_text.specs.declared.ast.Word.{Word}
+use Rattle.cw_text.specs.declared.mark.Mark.{Mark}
+use Rattle.cw_text.specs.declared.mark.Mark.TheVariants as m
+use Rattle.cw_text.specs.Syntax.{Term, number, name, unary, binary, Statement, set_new, assign, out, Block, empty, first, Declaration, cell, func, height}
+use Rattle.cw_text.specs.Lexemes.{Token, Lexemes, end_on, comes, name as a_name, number as a_number, mark}
+
+-- a token and its line
+abbrev pub Placed : Type 0
+Placed = Token × ℕ
+
+-- these tokens, and others behind them
+abbrev pub before : List Placed → Lexemes → Lexemes
+before [] xs = xs
+before (p ∷ ps) xs = comes p.0 p.1 (before ps xs)
+
+-- A name has its line in the tree. Every other token is put on line 1.
+abbrev pub named : List ℕ → ℕ → List Placed
+named n l = (a_name n, l) ∷ []
+
+abbrev pub word_tokens : Word → List Placed
+word_tokens w = named w.name w.line
+
+abbrev pub sign : Mark → List Placed
+sign a = (mark a, 1) ∷ []
+
+abbrev pub number_tokens : ℤ → List Placed
+number_tokens (pos n) = (a_number n, 1) ∷ []
+number_tokens (negsuc n) = sign m.Minus ++ (a_number (suc n), 1) ∷ []
+
+-- ## Expressions
+
+abbrev pub mark_of : Op → Mark
+mark_of op.Add = m.Plus
+mark_of op.Sub = m.Minus
+mark_of op.Mul = m.Star
+mark_of op.Neg = m.Minus
+mark_of op.Not = m.Bang
+mark_of op.Eq = m.EqEq
+mark_of op.Ne = m.BangEq
+mark_of op.Lt = m.Less
+mark_of op.Le = m.LessEq
+mark_of op.Gt = m.Greater
+mark_of op.Ge = m.GreaterEq
+
+-- how tightly an operator binds: a comparison 0, a sum 1, a product 2, an operator of one operand 3
+abbrev pub tightness : Op → ℕ
+tightness op.Add = 1
+tightness op.Sub = 1
+tightness op.Mul = 2
+tightness op.Neg = 3
+tightness op.Not = 3
+tightness o = 0
+
+-- The tightness that an operator wants of its operands: sums and products group to the left, comparisons do not chain.
+abbrev pub of_left : Op → ℕ
+of_left o = max 1 (tightness o)
+
+abbrev pub of_right : Op → ℕ
+of_right o = tightness o + 1
+
+abbrev pub bracketed : Bool → List Placed → List Placed
+bracketed true ps = sign m.ParenOpen ++ ps ++ sign m.ParenClose
+bracketed false ps = ps
+
+-- an expression where so much tightness is wanted
+abbrev pub term_tokens : ℕ → Term → List Placed
+term_tokens n (number z) = number_tokens z
+term_tokens n (name w) = word_tokens w
+term_tokens n (unary o e) = sign (mark_of o) ++ term_tokens 3 e
+term_tokens n (binary o l r) = bracketed (nat_lt (tightness o) n) (term_tokens (of_left o) l ++ sign (mark_of o) ++ term_tokens (of_right o) r)
+
+-- ## Statements and items
+
+abbrev pub statement_tokens : Statement → List Placed
+statement_tokens (set_new w e) = sign m.Let ++ word_tokens w ++ sign m.Assign ++ term_tokens 0 e ++ sign m.Semicolon
+statement_tokens (assign w e) = word_tokens w ++ sign m.Assign ++ term_tokens 0 e ++ sign m.Semicolon
+statement_tokens (out e) = sign m.Out ++ term_tokens 0 e ++ sign m.Semicolon
+
+abbrev pub statements_tokens : Block → List Placed
+statements_tokens empty = []
+statements_tokens (first s b) = statement_tokens s ++ statements_tokens b
+
+abbrev pub block_tokens : Block → List Placed
+block_tokens b = sign m.BraceOpen ++ statements_tokens b ++ sign m.BraceClose
+
+abbrev pub size_tokens : ℕ → List Placed
+size_tokens zero = []
+size_tokens (suc n) = sign m.SquareOpen ++ number_tokens (pos (suc n)) ++ sign m.SquareClose
+
+abbrev pub init_tokens : ℤ → List Placed
+init_tokens (pos zero) = []
+init_tokens z = sign m.Assign ++ number_tokens z
+
+abbrev pub params_tokens : List Word → List Placed
+params_tokens ps = sign m.ParenOpen ++ join_by word_tokens (sign m.Comma) ps ++ sign m.ParenClose
+
+abbrev pub declaration_tokens : Declaration → List Placed
+declaration_tokens (cell n l len z) = sign m.Cell ++ named n l ++ size_tokens len ++ init_tokens z ++ sign m.Semicolon
+declaration_tokens (func n l ps b) = sign m.Fn ++ named n l ++ params_tokens ps ++ block_tokens b
+
+abbrev pub tokens : List Declaration → List Placed
+tokens ds = flat_map declaration_tokens ds
+
+-- a program, which ends on line 1
+abbrev pub printed : List Declaration → Lexemes
+printed ds = before (tokens ds) (end_on 1)
+
+-- ## What can be read
+
+-- Numbers are those of a text, and each operator has as many operands as it takes.
+abbrev pub IsWellFormed : Term → Type 0
+IsWellFormed (number (pos n)) = n < 2 ^ 63
+IsWellFormed (number (negsuc n)) = ⊥
+IsWellFormed (name w) = Unit {0}
+IsWellFormed (unary o e) = (tightness o ≡ 3) × IsWellFormed e
+IsWellFormed (binary o l r) = (tightness o < 3) × IsWellFormed l × IsWellFormed r
+
+-- how many brackets and operators of one operand are open at most at one place of an expression's tokens
+abbrev pub most_open : ℕ → Term → ℕ
+most_open n (number z) = 0
+most_open n (name w) = 0
+most_open n (unary o e) = most_open 3 e + 1
+most_open n (binary o l r) = max (most_open (of_left o) l) (most_open (of_right o) r) + (if nat_lt (tightness o) n then 1 else 0)
+
+-- an expression inside so many brackets
+pub record IsReadableTerm (around : ℕ) (e : Term) : Type 0 where
+  pub formed : IsWellFormed e
+  pub low : height e ≤ 200
+  pub shallow : most_open 0 e + around ≤ 200
+
+abbrev pub IsReadableStatement : (around : ℕ) → Statement → Type 0
+IsReadableStatement n (set_new w e) = IsReadableTerm n e
+IsReadableStatement n (assign w e) = IsReadableTerm n e
+IsReadableStatement n (out e) = IsReadableTerm n e
+
+abbrev pub IsReadableBlock : (around : ℕ) → Block → Type 0
+IsReadableBlock n empty = Unit {0}
+IsReadableBlock n (first s b) = IsReadableStatement n s × IsReadableBlock n b
+
+-- So far a cell is plain, and the only function is main, without parameters.
+abbrev pub IsReadableDeclaration : Declaration → Type 0
+IsReadableDeclaration (cell n l len z) = (len ≡ 0) × (nat_abs z < 2 ^ 63)
+IsReadableDeclaration (func n l ps b) = (n ≡ codes "main") × (ps ≡ []) × IsReadableBlock 1 b
+
+abbrev pub IsReadable : List Declaration → Type 0
+IsReadable ds = All IsReadableDeclaration ds

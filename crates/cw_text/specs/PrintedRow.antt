@@ -1,0 +1,44 @@
+-- A worked tree, and the text that it is printed as: brackets stand where the tree needs them, and nowhere else.
+use Rattle.std.specs.Prelude.{◌≡◌, List, [], ◌∷◌, codes, pos, negsuc}
+use Rattle.cw_text.specs.Syntax.{Term, name, number, unary, binary, set_new, assign, out, empty, first, Declaration, cell, func}
+use Rattle.cw_text.specs.Lexemes.{keywords, lexemes}
+use Rattle.cw_text.specs.Printed.{printed}
+use Rattle.cw_text.specs.Rows.{w}
+use Rattle.cw_text.specs.declared.ast.Op.TheVariants as op
+
+abbrev pub a : Term
+a = name (w (codes "a"))
+
+abbrev pub b : Term
+b = name (w (codes "b"))
+
+abbrev pub less : Term
+less = binary op.Lt a b
+
+abbrev pub difference : Term
+difference = binary op.Sub a b
+
+abbrev pub product : Term
+product = binary op.Mul a b
+
+abbrev pub tree : List Declaration
+tree =
+    cell (codes "a") 1 0 (pos 0)
+    ∷ cell (codes "b") 1 0 (negsuc 2)
+    ∷ func (codes "main") 1 []
+    (first (set_new (w (codes "x")) (binary op.Eq less less))
+    (first (assign (w (codes "a")) (binary op.Le difference product))
+    (first (out (binary op.Sub (binary op.Add less difference) less))
+    (first (out (binary op.Add (binary op.Sub difference product) (binary op.Add product (number (pos 7)))))
+    (first (out (binary op.Mul (binary op.Mul less product) less))
+    (first (out (binary op.Mul (binary op.Mul difference (unary op.Neg a)) difference))
+    (first (out (binary op.Mul product (unary op.Not less)))
+    (first (out (unary op.Neg (unary op.Neg (unary op.Not difference))))
+    (first (out (binary op.Add (unary op.Neg product) (unary op.Neg (number (pos 0)))))
+    empty)))))))))
+    ∷ []
+
+abbrev pub Worked : Type 0
+Worked =
+    lexemes keywords (codes "cell a ; cell b = - 3 ; fn main ( ) { let x = ( a < b ) == ( a < b ) ; a = a - b <= a * b ; out ( a < b ) + ( a - b ) - ( a < b ) ; out a - b - a * b + ( a * b + 7 ) ; out ( a < b ) * ( a * b ) * ( a < b ) ; out ( a - b ) * - a * ( a - b ) ; out a * b * ! ( a < b ) ; out - - ! ( a - b ) ; out - ( a * b ) + - 0 ; }")
+    ≡ printed tree
