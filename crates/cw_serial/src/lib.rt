@@ -29,3 +29,6 @@ pub use record::{Name, Picks, Record, RecordEnd, SerialEnd, depth_first};
 pub fn worked_runs()
     ensures { Ends }
 {}
+
+#[cfg(test)]
+mod tests_machine;

@@ -5,10 +5,10 @@ ghost use Rattle.cw_serial.specs.Standing.{HasElements};
 ghost use Rattle.cw_strand.specs.Names.{first_memory, elements};
 ghost use Rattle.cw_strand.specs.Meaning.{body_at};
 
-use crate::{Name, Program, RecordEnd, SerialEnd};
 use crate::names::Names;
 use crate::root::names_root;
 use crate::strand::Strand;
+use crate::{Name, Program, RecordEnd, SerialEnd};
 use cw_base::{OutOfMemory, Seq};
 use cw_code::CellInfo;
 use cw_strand::{Given, Want};
@@ -89,11 +89,12 @@ impl<'a> OneMemory<'a> {
         ensures { result ≡ end_at self.entry.strand.want self.entry }
     {
         match self.strand.want {
-            Want::Fault(kind) => RecordEnd::Fault { strand: 0, kind },
-            _ => RecordEnd::Finished {
+            Want::Done => RecordEnd::Finished {
                 memory: Seq::from_vec(self.memory),
                 outputs: Seq::from_vec(self.outputs),
             },
+            Want::Fault(kind) => RecordEnd::Fault { strand: 0, kind },
+            Want::Load(_) | Want::Store(..) | Want::Out(_) => unreachable!(),
         }
     }
 

@@ -18,15 +18,7 @@ pub fn one(op: Op, x: i64) -> Result<i64, FaultKind>
     match op {
         Op::Neg => x.checked_neg().ok_or(FaultKind::Overflow),
         Op::Not => truth(x == 0),
-        Op::Add
-        | Op::Sub
-        | Op::Mul
-        | Op::Eq
-        | Op::Ne
-        | Op::Lt
-        | Op::Le
-        | Op::Gt
-        | Op::Ge => Ok(x),
+        Op::Add | Op::Sub | Op::Mul | Op::Eq | Op::Ne | Op::Lt | Op::Le | Op::Gt | Op::Ge => Ok(x),
     }
 }
 
