@@ -22,7 +22,7 @@ use Rattle.cw_serial.specs.Machine.{Machine, value_at, begun, pick, does, shown,
 use Rattle.cw_serial.specs.Programs.{strands_of, end_under}
 use Rattle.cw_serial.specs.Records.{root, SameEnd, Replays}
 use Rattle.cw_serial.specs.Standing.{tasks_of, IsAt, IsStrand}
-use Rattle.cw_serial.specs.OneMemory.{IsMachine, Picks, IsOver, end_at}
+use Rattle.cw_serial.specs.OneMemory.{IsMachine, Picks, end_at}
 
 -- ## Orders
 

@@ -78,11 +78,11 @@ IsAt (fails k) w work = want.Fault k ≡ w
 abbrev pub IsStrand : List CellInfo → Strand → State → Type 0
 IsStrand cells strand s = IsAt (step cells s) strand.want strand.work
 
--- the strand goes on once its want is answered
-abbrev pub IsAnswerable : Want → Type 0
-IsAnswerable want.Done = ⊥
-IsAnswerable (want.Fault k) = ⊥
-IsAnswerable w = Unit {0}
+-- a strand that wants this is at its end
+abbrev pub IsOver : Want → Type 0
+IsOver want.Done = Unit {0}
+IsOver (want.Fault k) = Unit {0}
+IsOver w = ⊥
 
 -- the nearest task was done
 abbrev pub Steps : Names ℕ → Work → Outcome → Work → Type 0

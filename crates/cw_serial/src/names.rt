@@ -31,7 +31,8 @@ impl<'a, V: Copy> Names<'a, V> {
 
     /// The name stands for this from now on.
     pub fn set(&mut self, name: &'a str, value: V) -> Result<(), OutOfMemory>
-        ensures { OnOk result ((n : List ℕ) → value_named self.new n ≡ (if list_eq n name.now then Some value else value_named self.old n)) }
+        ensures { OnOk result ((n : List ℕ) → value_named self.new n
+            ≡ (if list_eq n name.now then Some value else value_named self.old n)) }
     {
         self.map.insert(name, value)?;
         Ok(())

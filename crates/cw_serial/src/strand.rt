@@ -19,7 +19,7 @@ pub struct Strand<'a> {
 }
 
 impl<'a> Strand<'a> {
-    ghost use Rattle.cw_serial.specs.Standing.{ForCells, IsStrand, IsAnswerable};
+    ghost use Rattle.cw_serial.specs.Standing.{ForCells, IsStrand, IsOver};
 
     /// The strand of a main with this body.
     pub fn start(
@@ -43,7 +43,7 @@ impl<'a> Strand<'a> {
 
     /// Goes on to the next want, once this one is answered.
     pub fn answer(&mut self, given: Given, elements: &Names<'_, u32>) -> Result<(), OutOfMemory>
-        requires { IsAnswerable self.old.want }
+        requires { ¬ IsOver self.old.want }
         ensures { OnOk result (ForCells elements.now (λ cells. (s : State) →
             IsStrand cells self.old s → IsStrand cells self.new (answered cells (step cells s) given s))) }
     {
