@@ -12,7 +12,7 @@ use Rattle.cw_serial.specs.declared.work.Task.{Task as Written}
 use Rattle.cw_serial.specs.declared.work.Outcome.{Outcome}
 use Rattle.cw_serial.specs.declared.work.Work.{Work}
 use Rattle.cw_serial.specs.declared.work.Outcome.TheVariants as outcome
-use Rattle.cw_serial.specs.Standing.{HasElements, HasLocals, Leads, Does, state, named}
+use Rattle.cw_serial.specs.Standing.{ForCells, ForLocals, Leads, Does, state_of, value_named}
 use Rattle.cw_serial.proofs.KnownNames.{local_of-with_local}
 
 abbrev with : List Written → List ℤ → Names ℤ → Work
@@ -25,7 +25,7 @@ any_operands (Err f) vs us k ls = refl
 
 module _ (op : Op) (todo : List Written) (us vs : List ℤ) (names : Names ℤ) (new : Work) where
   abbrev Gives : Result ℤ FaultKind → Outcome → Type 0
-  Gives g o = (ls : Locals) → HasLocals names ls → Leads (result g vs (state (with todo vs names) ls)) o new
+  Gives g o = ForLocals names (λ ls. Leads (result g vs (state_of (with todo vs names) ls)) o new)
 
   pub lifts : (r : Result Outcome OutOfMemory) (x : ℤ) → us ≡ x ∷ vs → IfOk r (Gives (one op x)) → IfOk r (λ o. (cells : List CellInfo) → Does cells (with todo us names) (lift op) o new)
   lifts (Err e) x is h = tt
@@ -36,13 +36,13 @@ module _ (op : Op) (todo : List Written) (us vs : List ℤ) (names : Names ℤ) 
   joins (Ok o) x y is h = λ cells ls known. rw (is, any_operands (two op x y) vs) (h ls known)
 
 -- a local that is there gets a value
-pub stores : (cells : List CellInfo) (todo : List Written) (us vs : List ℤ) (names names' : Names ℤ) (n : List ℕ) (v : ℤ) (o : Option ℤ) → us ≡ v ∷ vs → named names n ≡ o → is_some o ≡ true → ((m : List ℕ) → named names' m ≡ cond (list_eq m n) (Some v) (named names m)) → Does cells (with todo us names) (store_in n) outcome.On (with todo vs names')
+pub stores : (cells : List CellInfo) (todo : List Written) (us vs : List ℤ) (names names' : Names ℤ) (n : List ℕ) (v : ℤ) (o : Option ℤ) → us ≡ v ∷ vs → value_named names n ≡ o → is_some o ≡ true → ((m : List ℕ) → value_named names' m ≡ cond (list_eq m n) (Some v) (value_named names m)) → Does cells (with todo us names) (store_in n) outcome.On (with todo vs names')
 stores cells todo us vs names names' n v None is has some sets = absurd cc
 stores cells todo us vs names names' n v (Some w) is has some sets = λ ls known.
     let there : local_of ls n ≡ Some w = sym (known n) ∙ has in
     rw (is, there) (record { todo = refl; values = refl; locals = λ m. sets m ∙ (rw (known m) (sym (local_of-with_local ls n v m w there))) })
 
 -- a task that was done without a look at the cells
-pub without_cells : (r : Result Outcome OutOfMemory) (elements : Names ℕ) (old new : Work) (t u : Task) → t ≡ u → IfOk r (λ o. (cells : List CellInfo) → Does cells old u o new) → IfOk r (λ o. (cells : List CellInfo) → HasElements elements cells → Does cells old t o new)
+pub without_cells : (r : Result Outcome OutOfMemory) (elements : Names ℕ) (old new : Work) (t u : Task) → t ≡ u → IfOk r (λ o. (cells : List CellInfo) → Does cells old u o new) → IfOk r (λ o. ForCells elements (λ cells. Does cells old t o new))
 without_cells (Err e) elements old new t u is h = tt
 without_cells (Ok o) elements old new t u is h = λ cells known. rw is (h cells)

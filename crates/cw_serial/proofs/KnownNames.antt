@@ -13,7 +13,7 @@ use Rattle.cw_code.specs.declared.CellInfo.{CellInfo}
 use Rattle.cw_text.specs.Lexemes.{list_eq}
 use Rattle.cw_strand.specs.Meaning.{Locals, local_of, with_local, element_of}
 use Rattle.cw_serial.specs.declared.names.Names.{Names}
-use Rattle.cw_serial.specs.Standing.{named, HasLocals, HasElements}
+use Rattle.cw_serial.specs.Standing.{value_named, HasLocals, HasElements}
 
 pub list_eq-is_bytes_eq : (xs ys : List ℕ) → list_eq xs ys ≡ bytes_eq xs ys
 list_eq-is_bytes_eq [] [] = refl
@@ -22,8 +22,8 @@ list_eq-is_bytes_eq (x ∷ xs) [] = refl
 list_eq-is_bytes_eq (x ∷ xs) (y ∷ ys) = rw (list_eq-is_bytes_eq xs ys)
 
 -- a name that was set stands for its new value, and every other one for what it stood for
-pub named-set : {V : Type 0} (name : List ℕ) (old new : BTreeMap (Bor (List ℕ)) V) (v : V) → UpdatesBy (λ x y. slice_cmp nat_cmp x.now y.now) (λ k. slice_cmp nat_cmp name k.now) old new (Some v) → (n : List ℕ) → named (record { map = new }) n ≡ cond (list_eq n name) (Some v) (named (record { map = old }) n)
-named-set name old new v h n = btree_map_updates_str name old new (Some v) h n ∙ rw (list_eq-is_bytes_eq n name, nat_list_eq_equiv.symm n name)
+pub value_named-set : {V : Type 0} (name : List ℕ) (old new : BTreeMap (Bor (List ℕ)) V) (v : V) → UpdatesBy (λ x y. slice_cmp nat_cmp x.now y.now) (λ k. slice_cmp nat_cmp name k.now) old new (Some v) → (n : List ℕ) → value_named (record { map = new }) n ≡ cond (list_eq n name) (Some v) (value_named (record { map = old }) n)
+value_named-set name old new v h n = btree_map_updates_str name old new (Some v) h n ∙ rw (list_eq-is_bytes_eq n name, nat_list_eq_equiv.symm n name)
 
 list_eq-Decides : (xs ys : List ℕ) → Decides (list_eq xs ys) (xs ≡ ys)
 list_eq-Decides xs ys = rw (list_eq-is_bytes_eq xs ys) (bytes_eq-Decides xs ys)

@@ -21,8 +21,8 @@ use Rattle.cw_serial.specs.declared.one_memory.OneMemory.{OneMemory}
 use Rattle.cw_serial.specs.Machine.{Machine, value_at, begun, pick, does, shown, play}
 use Rattle.cw_serial.specs.Programs.{strands_of, end_under}
 use Rattle.cw_serial.specs.Records.{root, SameEnd, Replays}
-use Rattle.cw_serial.specs.Standing.{tasks, IsAt, IsStrand}
-use Rattle.cw_serial.specs.OneMemory.{IsMachine, Picks, IsOver, end_at}
+use Rattle.cw_serial.specs.Standing.{tasks_of, IsAt, IsStrand}
+use Rattle.cw_serial.specs.OneMemory.{IsMachine, Picks, end_at}
 
 -- ## Orders
 
@@ -45,9 +45,9 @@ leads_more s b m t list leads is rest = rw (append_assoc list (0 ∷ []) rest, l
 abbrev pub wants_left : Want → Work → ℕ
 wants_left Done w = 0
 wants_left (Fault k) w = 0
-wants_left x w = suc (work (tasks w))
+wants_left x w = suc (work (tasks_of w))
 
-left_below : (x : Want) (w : Work) (n : ℕ) → work (tasks w) < n → wants_left x w < suc n
+left_below : (x : Want) (w : Work) (n : ℕ) → work (tasks_of w) < n → wants_left x w < suc n
 left_below Done w n h = omega arith
 left_below (Fault k) w n h = omega arith
 left_below (Load c) w n h = omega arith
@@ -69,7 +69,7 @@ keeps_work Nothing t = refl
 keeps_work (Value v) t = refl
 
 -- once a want is met
-met_left : (cells : List CellInfo) (old new : Strand) (t : State) (w : Want) (g : Given) → wants_left w old.work ≡ suc (work (tasks old.work)) → IsAt (wants w t) old.want old.work → IsStrand cells new (settled cells (with_value g t)) → wants_left new.want new.work < wants_left old.want old.work
+met_left : (cells : List CellInfo) (old new : Strand) (t : State) (w : Want) (g : Given) → wants_left w old.work ≡ suc (work (tasks_of old.work)) → IsAt (wants w t) old.want old.work → IsStrand cells new (settled cells (with_value g t)) → wants_left new.want new.work < wants_left old.want old.work
 met_left cells old new t w g left here next =
     let low = settled_left cells (with_value g t) _ new.want new.work refl next in
     let there = ap work here.1.todo in

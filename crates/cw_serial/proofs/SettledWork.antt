@@ -12,22 +12,18 @@ use Rattle.cw_serial.specs.declared.work.Outcome.{Outcome}
 use Rattle.cw_serial.specs.declared.work.Outcome.TheVariants as outcome
 use Rattle.cw_serial.specs.declared.work.Work.{Work}
 use Rattle.cw_serial.proofs.KnownNames.{some_locals, some_cells}
-use Rattle.cw_serial.specs.Standing.{HasElements, HasLocals, Leads, Stands, IsAt, state, tasks}
+use Rattle.cw_serial.specs.Standing.{ForCells, HasElements, Steps, Comes, Leads, Stands, IsAt, state_of, tasks_of}
 
 -- the state in which a strand with this work is
-pub state_is : (w : Work) (s : State) → Stands w s → state w s.locals ≡ s
+pub state_is : (w : Work) (s : State) → Stands w s → state_of w s.locals ≡ s
 state_is w s h = ap (λ (k : List Task). record { todo = k; values = w.values; locals = s.locals }) (sym h.todo) ∙ ap (λ (vs : List ℤ). record { todo = s.todo; values = vs; locals = s.locals }) (sym h.values)
-
--- a step of the work came to this, whatever the cells and the locals are
-abbrev pub Steps : Names ℕ → Work → Outcome → Work → Type 0
-Steps elements old o new = (cells : List CellInfo) (ls : Locals) → HasElements elements cells → HasLocals old.locals ls → Leads (step cells (state old ls)) o new
 
 -- the work that is left settles where the work settled that there was
 abbrev pub Settles : Names ℕ → Work → Work → Type 0
-Settles elements old new = (cells : List CellInfo) (s : State) → HasElements elements cells → Stands old s → (t : State) × Stands new t × (settled cells s ≡ settled cells t)
+Settles elements old new = ForCells elements (λ cells. (s : State) → Stands old s → (t : State) × Stands new t × (settled cells s ≡ settled cells t))
 
 pub settles_first : (elements : Names ℕ) (w : Work) → Settles elements w w
-settles_first elements w cells s known h = (s, h, refl)
+settles_first elements w cells known s h = (s, h, refl)
 
 -- where a step is not by itself, its state is settled
 rests : (cells : List CellInfo) (t : State) (x : Step) (w : Want) (new : Work) → step cells t ≡ x → IsStill x → IsAt x w new → IsAt (step cells (settled cells t)) w new
@@ -65,7 +61,7 @@ LeavesLess outcome.On before after = after < before
 LeavesLess (outcome.Wants w) before after = after < before
 LeavesLess o before after = Unit {0}
 
-less_left : (cells : List CellInfo) (s : State) (x : Step) (o : Outcome) (new : Work) → step cells s ≡ x → Leads x o new → LeavesLess o (work s.todo) (work (tasks new))
+less_left : (cells : List CellInfo) (s : State) (x : Step) (o : Outcome) (new : Work) → step cells s ≡ x → Leads x o new → LeavesLess o (work s.todo) (work (tasks_of new))
 less_left cells s (on t) outcome.On new is h = rw (← h.todo) (step_leaves_less cells s t is)
 less_left cells s (wants w t) (outcome.Wants v) new is h = rw (← h.1.todo) (want_leaves_less cells s t w is)
 less_left cells s (on t) (outcome.Wants v) new is h = absurd h
@@ -77,37 +73,33 @@ less_left cells s (fails k) (outcome.Wants v) new is h = absurd h
 less_left cells s x outcome.Ends new is h = tt
 less_left cells s x (outcome.Fails k) new is h = tt
 
-pub step_leaves : (elements : Names ℕ) (old new : Work) (o : Outcome) → Steps elements old o new → LeavesLess o (work (tasks old)) (work (tasks new))
+pub step_leaves : (elements : Names ℕ) (old new : Work) (o : Outcome) → Steps elements old o new → LeavesLess o (work (tasks_of old)) (work (tasks_of new))
 step_leaves elements old new o steps =
     let (cells, known) = some_cells elements in
     let (ls, has) = some_locals old.locals in
-    less_left cells (state old ls) (step cells (state old ls)) o new refl (steps cells ls known has)
+    less_left cells (state_of old ls) (step cells (state_of old ls)) o new refl (steps cells known ls has)
 
 -- from one state of the loop, in which the work is `mid`
 module _ (elements : Names ℕ) (old mid new : Work) (settles : Settles elements old mid) where
   stepped : (o : Outcome) → Steps elements mid o new → (cells : List CellInfo) (t : State) → HasElements elements cells → Stands mid t → Leads (step cells t) o new
-  stepped o steps cells t known h = subst (λ (s : State). Leads (step cells s) o new) (state_is mid t h) (steps cells t.locals known h.locals)
+  stepped o steps cells t known h = subst (λ (s : State). Leads (step cells s) o new) (state_is mid t h) (steps cells known t.locals h.locals)
 
   pub settles_on : Steps elements mid outcome.On new → Settles elements old new
-  settles_on steps cells s known h =
-      let (t, stands, same) = settles cells s known h in
+  settles_on steps cells known s h =
+      let (t, stands, same) = settles cells known s h in
       let (u, there, onward) = goes_on cells t (step cells t) new refl (stepped outcome.On steps cells t known stands) in
       (u, there, same ∙ onward)
 
-  -- the work comes to this want
-  abbrev pub Comes : Want → Type 0
-  Comes w = (cells : List CellInfo) (s : State) → HasElements elements cells → Stands old s → IsAt (step cells (settled cells s)) w new
-
-  comes : (w : Want) (o : Outcome) → Steps elements mid o new → ((cells : List CellInfo) (t : State) → Leads (step cells t) o new → IsAt (step cells (settled cells t)) w new) → Comes w
-  comes w o steps rest cells s known h =
-      let (t, stands, same) = settles cells s known h in
+  comes : (w : Want) (o : Outcome) → Steps elements mid o new → ((cells : List CellInfo) (t : State) → Leads (step cells t) o new → IsAt (step cells (settled cells t)) w new) → Comes elements old w new
+  comes w o steps rest cells known s h =
+      let (t, stands, same) = settles cells known s h in
       subst (λ (u : State). IsAt (step cells u) w new) (sym same) (rest cells t (stepped o steps cells t known stands))
 
-  pub comes_to : (w : Want) → Steps elements mid (outcome.Wants w) new → Comes w
+  pub comes_to : (w : Want) → Steps elements mid (outcome.Wants w) new → Comes elements old w new
   comes_to w steps = comes w (outcome.Wants w) steps (λ cells t h. stands_at cells t (step cells t) w new refl h)
 
-  pub comes_to_end : Steps elements mid outcome.Ends new → Comes want.Done
+  pub comes_to_end : Steps elements mid outcome.Ends new → Comes elements old want.Done new
   comes_to_end steps = comes want.Done outcome.Ends steps (λ cells t h. has_ended cells t (step cells t) new refl h)
 
-  pub comes_to_fault : (k : FaultKind) → Steps elements mid (outcome.Fails k) new → Comes (want.Fault k)
+  pub comes_to_fault : (k : FaultKind) → Steps elements mid (outcome.Fails k) new → Comes elements old (want.Fault k) new
   comes_to_fault k steps = comes (want.Fault k) (outcome.Fails k) steps (λ cells t h. has_failed cells t (step cells t) k new refl h)

@@ -38,12 +38,6 @@ Picks p m (Some t) true new = IsMachine p new t
 Picks p m None false new = IsMachine p new m
 Picks p m t moved new = ⊥
 
--- a strand that wants this is at its end
-abbrev pub IsOver : Want → Type 0
-IsOver Done = Unit {0}
-IsOver (Fault k) = Unit {0}
-IsOver w = ⊥
-
 -- how a run ends whose strand is at its end
 abbrev pub end_at : Want → OneMemory → RecordEnd
 end_at (Fault k) code = ending.Fault 0 k

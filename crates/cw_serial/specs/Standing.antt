@@ -5,7 +5,7 @@ use Rattle.std.specs.Ordering.{nat_cmp}
 use Rattle.std.specs.BTreeMap.{get_by}
 use Rattle.cw_code.specs.declared.CellInfo.{CellInfo}
 use Rattle.cw_text.specs.Syntax.{term_of, block_of}
-use Rattle.cw_strand.specs.Meaning.{Locals, local_of, element_of, Task, value, lift, join, perform, bind, store_in, show, finish, State, Step, on, wants, ends, fails, step}
+use Rattle.cw_strand.specs.Meaning.{Locals, local_of, element_of, Task, value, lift, join, perform, bind, store_in, show, finish, State, Step, on, wants, ends, fails, step, settled}
 use Rattle.cw_strand.specs.declared.want.Want.{Want}
 use Rattle.cw_strand.specs.declared.want.Want.TheVariants as want
 use Rattle.cw_serial.specs.declared.names.Names.{Names}
@@ -17,16 +17,24 @@ use Rattle.cw_serial.specs.declared.work.Work.{Work}
 use Rattle.cw_serial.specs.declared.strand.Strand.{Strand}
 
 -- what a name stands for
-abbrev pub named : {V : Type 0} → Names V → List ℕ → Option V
-named names n = get_by (λ k. slice_cmp nat_cmp n k.now) names.map
+abbrev pub value_named : {V : Type 0} → Names V → List ℕ → Option V
+value_named names n = get_by (λ k. slice_cmp nat_cmp n k.now) names.map
 
 -- the names stand for the cells' elements
 abbrev pub HasElements : Names ℕ → List CellInfo → Type 0
-HasElements names cells = (n : List ℕ) → named names n ≡ element_of cells n
+HasElements names cells = (n : List ℕ) → value_named names n ≡ element_of cells n
 
 -- the names stand for the locals' values
 abbrev pub HasLocals : Names ℤ → Locals → Type 0
-HasLocals names ls = (n : List ℕ) → named names n ≡ local_of ls n
+HasLocals names ls = (n : List ℕ) → value_named names n ≡ local_of ls n
+
+-- this holds of all cells for whose elements the names stand
+abbrev pub ForCells : Names ℕ → (List CellInfo → Type 0) → Type 0
+ForCells names P = (cells : List CellInfo) → HasElements names cells → P cells
+
+-- this holds of all locals for whose values the names stand
+abbrev pub ForLocals : Names ℤ → (Locals → Type 0) → Type 0
+ForLocals names P = (ls : Locals) → HasLocals names ls → P ls
 
 abbrev pub task_of : Written → Task
 task_of (written.Value e) = value (term_of e.now)
@@ -38,16 +46,16 @@ task_of (written.StoreIn n) = store_in n.now
 task_of written.Show = show
 task_of written.Finish = finish
 
-abbrev pub tasks : Work → List Task
-tasks w = map task_of w.todo
+abbrev pub tasks_of : Work → List Task
+tasks_of w = map task_of w.todo
 
 -- the state of a strand with this work, where its locals are these
-abbrev pub state : Work → Locals → State
-state w ls = record { todo = tasks w; values = w.values; locals = ls }
+abbrev pub state_of : Work → Locals → State
+state_of w ls = record { todo = tasks_of w; values = w.values; locals = ls }
 
 -- The work is that of a strand in this state.
 pub record Stands (w : Work) (s : State) : Type 0 where
-  pub todo : s.todo ≡ tasks w
+  pub todo : s.todo ≡ tasks_of w
   pub values : s.values ≡ w.values
   pub locals : HasLocals w.locals s.locals
 
@@ -70,12 +78,20 @@ IsAt (fails k) w work = want.Fault k ≡ w
 abbrev pub IsStrand : List CellInfo → Strand → State → Type 0
 IsStrand cells strand s = IsAt (step cells s) strand.want strand.work
 
--- the strand goes on once its want is answered
-abbrev pub IsAnswerable : Want → Type 0
-IsAnswerable want.Done = ⊥
-IsAnswerable (want.Fault k) = ⊥
-IsAnswerable w = Unit {0}
+-- a strand that wants this is at its end
+abbrev pub IsOver : Want → Type 0
+IsOver want.Done = Unit {0}
+IsOver (want.Fault k) = Unit {0}
+IsOver w = ⊥
+
+-- the nearest task was done
+abbrev pub Steps : Names ℕ → Work → Outcome → Work → Type 0
+Steps elements old o new = ForCells elements (λ cells. ForLocals old.locals (λ ls. Leads (step cells (state_of old ls)) o new))
 
 -- This task, which was the nearest, was done, where the cells are these.
 abbrev pub Does : List CellInfo → Work → Task → Outcome → Work → Type 0
-Does cells old t o new = (ls : Locals) → HasLocals old.locals ls → Leads (step cells (record { todo = t ∷ tasks old; values = old.values; locals = ls })) o new
+Does cells old t o new = ForLocals old.locals (λ ls. Leads (step cells (record (state_of old ls) { todo = t ∷ tasks_of old })) o new)
+
+-- All was done that the strand does by itself, and then it wants this.
+abbrev pub Comes : Names ℕ → Work → Want → Work → Type 0
+Comes elements old w new = ForCells elements (λ cells. (s : State) → Stands old s → IsAt (step cells (settled cells s)) w new)

@@ -36,3 +36,5 @@ pub fn worked_runs()
 
 #[cfg(test)]
 mod tests_checking;
+#[cfg(test)]
+mod tests_machine;

@@ -12,10 +12,10 @@ pub struct Names<'a, V> {
 }
 
 impl<'a, V: Copy> Names<'a, V> {
-    ghost use Rattle.cw_serial.specs.Standing.{named};
+    ghost use Rattle.cw_serial.specs.Standing.{value_named};
 
     pub fn new(alloc: Global) -> Names<'a, V>
-        ensures { (n : List ℕ) → named result n ≡ None }
+        ensures { (n : List ℕ) → value_named result n ≡ None }
     {
         Names {
             map: BTreeMap::new(alloc),
@@ -24,14 +24,15 @@ impl<'a, V: Copy> Names<'a, V> {
 
     /// What a name stands for.
     pub fn get(&self, name: &str) -> Option<V>
-        ensures { result ≡ named self.now name.now }
+        ensures { result ≡ value_named self.now name.now }
     {
         self.map.get(name).copied()
     }
 
     /// The name stands for this from now on.
     pub fn set(&mut self, name: &'a str, value: V) -> Result<(), OutOfMemory>
-        ensures { OnOk result ((n : List ℕ) → named self.new n ≡ (if list_eq n name.now then Some value else named self.old n)) }
+        ensures { OnOk result ((n : List ℕ) → value_named self.new n
+            ≡ (if list_eq n name.now then Some value else value_named self.old n)) }
     {
         self.map.insert(name, value)?;
         Ok(())

@@ -29,11 +29,13 @@ impl<'a> OneMemory<'a> {
     ghost use Rattle.cw_serial.specs.declared.program.Program.{Program};
     ghost use Rattle.cw_serial.specs.Machine.{Machine, begun, pick, names_root, shown};
     ghost use Rattle.cw_serial.specs.Programs.{strands_of};
-    ghost use Rattle.cw_serial.specs.OneMemory.{IsMachine, Meets, Picks, IsOver, end_at};
+    ghost use Rattle.cw_serial.specs.Standing.{IsOver};
+    ghost use Rattle.cw_serial.specs.OneMemory.{IsMachine, Meets, Picks, end_at};
 
     /// The machine before the first pick.
     pub fn begin(alloc: Global, program: &'a Program) -> Result<OneMemory<'a>, OutOfMemory>
-        ensures { IfOk result (λ m. IsMachine program.now m (begun (strands_of program.now) (first_memory program.now.cells))) }
+        ensures { IfOk result (λ m.
+            IsMachine program.now m (begun (strands_of program.now) (first_memory program.now.cells))) }
     {
         let cells = program.cells.as_slice();
         let elements = elements_of(alloc, cells)?;
@@ -49,7 +51,8 @@ impl<'a> OneMemory<'a> {
 
     /// Makes the pick of the strand that this number names, and says whether it can be made.
     pub fn pick_named(&mut self, names: &[Name], number: u32) -> Result<bool, OutOfMemory>
-        ensures { IfOk result (λ moved. (p : Program) (m : Machine State) → IsMachine p self.old m → Picks p m (if names_root names.now number then pick (strands_of p) m else None) moved self.new) }
+        ensures { IfOk result (λ moved. (p : Program) (m : Machine State) → IsMachine p self.old m →
+            Picks p m (if names_root names.now number then pick (strands_of p) m else None) moved self.new) }
     {
         if !names_root(names, number) {
             return Ok(false);
@@ -59,7 +62,8 @@ impl<'a> OneMemory<'a> {
 
     /// Does what the strand stands at, unless that is its end, and says whether it did.
     pub fn pick(&mut self) -> Result<bool, OutOfMemory>
-        ensures { IfOk result (λ moved. (p : Program) (m : Machine State) → IsMachine p self.old m → Picks p m (pick (strands_of p) m) moved self.new) }
+        ensures { IfOk result (λ moved. (p : Program) (m : Machine State) → IsMachine p self.old m →
+            Picks p m (pick (strands_of p) m) moved self.new) }
     {
         let Some(given) = self.meet()? else {
             return Ok(false);
@@ -70,7 +74,8 @@ impl<'a> OneMemory<'a> {
 
     /// What it shows of itself where the picks are used up, so many of them, and the last of them names the root, or not.
     pub fn shown(self, root: bool, name: u32, place: u32) -> SerialEnd
-        ensures { (p : Program) (m : Machine State) → IsMachine p self.entry m → result ≡ shown (strands_of p) m ((strands_of p).want m.strand) root name place }
+        ensures { (p : Program) (m : Machine State) → IsMachine p self.entry m →
+            result ≡ shown (strands_of p) m ((strands_of p).want m.strand) root name place }
     {
         match self.strand.want {
             Want::Done => SerialEnd::Finished {
@@ -89,11 +94,12 @@ impl<'a> OneMemory<'a> {
         ensures { result ≡ end_at self.entry.strand.want self.entry }
     {
         match self.strand.want {
-            Want::Fault(kind) => RecordEnd::Fault { strand: 0, kind },
-            _ => RecordEnd::Finished {
+            Want::Done => RecordEnd::Finished {
                 memory: Seq::from_vec(self.memory),
                 outputs: Seq::from_vec(self.outputs),
             },
+            Want::Fault(kind) => RecordEnd::Fault { strand: 0, kind },
+            Want::Load(_) | Want::Store(..) | Want::Out(_) => unreachable!(),
         }
     }
 
@@ -136,7 +142,8 @@ fn first_memory(alloc: Global, cells: &[CellInfo]) -> Result<Vec<i64>, OutOfMemo
 
 /// Adds the elements of a cell.
 fn add_elements(memory: &mut Vec<i64>, cell: &CellInfo) -> Result<(), OutOfMemory>
-    ensures { OnOk result (memory.new.items ≡ memory.old.items ++ replicate (elements cell.now.len) cell.now.init) }
+    ensures { OnOk result
+        (memory.new.items ≡ memory.old.items ++ replicate (elements cell.now.len) cell.now.init) }
 {
     let elements = cell.len.max(1) as usize;
     memory.resize(memory.len() + elements, cell.init)?;

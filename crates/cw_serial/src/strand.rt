@@ -1,5 +1,4 @@
-ghost use Rattle.std.specs.Prelude.{List, IfOk, OnOk};
-ghost use Rattle.cw_code.specs.declared.CellInfo.{CellInfo};
+ghost use Rattle.std.specs.Prelude.{IfOk, OnOk};
 ghost use Rattle.cw_text.specs.Syntax.{block_of};
 ghost use Rattle.cw_strand.specs.Meaning.{State, start, settled, step, answered};
 
@@ -20,7 +19,7 @@ pub struct Strand<'a> {
 }
 
 impl<'a> Strand<'a> {
-    ghost use Rattle.cw_serial.specs.Standing.{HasElements, IsStrand, IsAnswerable};
+    ghost use Rattle.cw_serial.specs.Standing.{ForCells, IsStrand, IsOver};
 
     /// The strand of a main with this body.
     pub fn start(
@@ -28,7 +27,8 @@ impl<'a> Strand<'a> {
         body: &'a [Stmt],
         elements: &Names<'_, u32>,
     ) -> Result<Strand<'a>, OutOfMemory>
-        ensures { IfOk result (λ st. (cells : List CellInfo) → HasElements elements.now cells → IsStrand cells st (settled cells (start cells (block_of body.now)))) }
+        ensures { IfOk result (λ st. ForCells elements.now (λ cells.
+            IsStrand cells st (settled cells (start cells (block_of body.now))))) }
     {
         let mut work = Work {
             todo: Stack::new(alloc),
@@ -43,8 +43,9 @@ impl<'a> Strand<'a> {
 
     /// Goes on to the next want, once this one is answered.
     pub fn answer(&mut self, given: Given, elements: &Names<'_, u32>) -> Result<(), OutOfMemory>
-        requires { IsAnswerable self.old.want }
-        ensures { OnOk result ((cells : List CellInfo) (s : State) → HasElements elements.now cells → IsStrand cells self.old s → IsStrand cells self.new (answered cells (step cells s) given s)) }
+        requires { ¬ IsOver self.old.want }
+        ensures { OnOk result (ForCells elements.now (λ cells. (s : State) →
+            IsStrand cells self.old s → IsStrand cells self.new (answered cells (step cells s) given s))) }
     {
         if let Given::Value(value) = given {
             self.work.replace(value)?;

@@ -1,7 +1,7 @@
 ghost use Rattle.std.specs.Prelude.{◌≡◌, List, IfOk, OnOk};
 ghost use Rattle.cw_code.specs.declared.CellInfo.{CellInfo};
 ghost use Rattle.cw_text.specs.Syntax.{term_of, block_of};
-ghost use Rattle.cw_strand.specs.Meaning.{Locals, value, lift, join, perform, bind, store_in, show, read, result as outcome_of, local_of, element_of, State, step, settled, in_place};
+ghost use Rattle.cw_strand.specs.Meaning.{value, lift, join, perform, bind, store_in, show, read, result as outcome_of, local_of, element_of, in_place};
 
 use crate::names::Names;
 use crate::operators::{one, two};
@@ -46,7 +46,7 @@ pub struct Work<'a> {
 }
 
 impl<'a> Work<'a> {
-    ghost use Rattle.cw_serial.specs.Standing.{HasElements, HasLocals, Does, Leads, Stands, IsAt, state, task_of};
+    ghost use Rattle.cw_serial.specs.Standing.{ForCells, ForLocals, Steps, Does, Comes, Leads, state_of, task_of};
 
     /// The newest operand, where there is one, is this.
     pub fn replace(&mut self, value: i64) -> Result<(), OutOfMemory>
@@ -60,7 +60,7 @@ impl<'a> Work<'a> {
 
     /// Does all that it does by itself, and the step at which it stands then.
     pub fn run(&mut self, elements: &Names<'_, u32>) -> Result<Want, OutOfMemory>
-        ensures { IfOk result (λ w. (cells : List CellInfo) (s : State) → HasElements elements.now cells → Stands self.old s → IsAt (step cells (settled cells s)) w self.new) }
+        ensures { IfOk result (λ w. Comes elements.now self.old w self.new) }
     {
         'steps: loop {
             match self.step(elements)? {
@@ -74,7 +74,7 @@ impl<'a> Work<'a> {
 
     /// Does the nearest task.
     fn step(&mut self, elements: &Names<'_, u32>) -> Result<Outcome, OutOfMemory>
-        ensures { IfOk result (λ o. (cells : List CellInfo) (ls : Locals) → HasElements elements.now cells → HasLocals self.old.locals ls → Leads (step cells (state self.old ls)) o self.new) }
+        ensures { IfOk result (λ o. Steps elements.now self.old o self.new) }
     {
         let Some(task) = self.todo.pop() else {
             return Ok(Outcome::Ends);
@@ -84,7 +84,8 @@ impl<'a> Work<'a> {
 
     /// Does a task that was the nearest.
     fn act(&mut self, task: Task<'a>, elements: &Names<'_, u32>) -> Result<Outcome, OutOfMemory>
-        ensures { IfOk result (λ o. (cells : List CellInfo) → HasElements elements.now cells → Does cells self.old (task_of task.entry) o self.new) }
+        ensures { IfOk result (λ o. ForCells elements.now (λ cells.
+            Does cells self.old (task_of task.entry) o self.new)) }
     {
         match task {
             Task::Value(of) => self.value(of, elements),
@@ -100,7 +101,8 @@ impl<'a> Work<'a> {
 
     /// The value of an expression, or what gives it.
     fn value(&mut self, of: &'a Expr, elements: &Names<'_, u32>) -> Result<Outcome, OutOfMemory>
-        ensures { IfOk result (λ o. (cells : List CellInfo) → HasElements elements.now cells → Does cells self.old (value (term_of of.now)) o self.new) }
+        ensures { IfOk result (λ o. ForCells elements.now (λ cells.
+            Does cells self.old (value (term_of of.now)) o self.new)) }
     {
         match of {
             Expr::Number(n) => self.values.push(*n)?,
@@ -120,7 +122,8 @@ impl<'a> Work<'a> {
 
     /// A name gives its value.
     fn read(&mut self, name: &str, elements: &Names<'_, u32>) -> Result<Outcome, OutOfMemory>
-        ensures { IfOk result (λ o. (cells : List CellInfo) (ls : Locals) → HasElements elements.now cells → HasLocals self.old.locals ls → Leads (read (local_of ls name.now) (element_of cells name.now) (state self.old ls)) o self.new) }
+        ensures { IfOk result (λ o. ForCells elements.now (λ cells. ForLocals self.old.locals (λ ls.
+            Leads (read (local_of ls name.now) (element_of cells name.now) (state_of self.old ls)) o self.new))) }
     {
         if let Some(value) = self.locals.get(name) {
             self.values.push(value)?;
@@ -158,7 +161,8 @@ impl<'a> Work<'a> {
 
     /// What an operator gives is a value, or a fault.
     fn give(&mut self, given: Result<i64, FaultKind>) -> Result<Outcome, OutOfMemory>
-        ensures { IfOk result (λ o. (ls : Locals) → HasLocals self.old.locals ls → Leads (outcome_of given self.old.values (state self.old ls)) o self.new) }
+        ensures { IfOk result (λ o. ForLocals self.old.locals (λ ls.
+            Leads (outcome_of given self.old.values (state_of self.old ls)) o self.new)) }
     {
         match given {
             Ok(value) => {
@@ -198,16 +202,17 @@ impl<'a> Work<'a> {
     fn bind(&mut self, name: &'a str) -> Result<Outcome, OutOfMemory>
         ensures { IfOk result (λ o. (cells : List CellInfo) → Does cells self.old (bind name.now) o self.new) }
     {
-        let Some(value) = self.values.pop() else {
+        let Some(first) = self.values.pop() else {
             return Ok(Outcome::Ends);
         };
-        self.locals.set(name, value)?;
+        self.locals.set(name, first)?;
         Ok(Outcome::On)
     }
 
     /// A name gets a value.
     fn store_in(&mut self, name: &'a str, elements: &Names<'_, u32>) -> Result<Outcome, OutOfMemory>
-        ensures { IfOk result (λ o. (cells : List CellInfo) → HasElements elements.now cells → Does cells self.old (store_in name.now) o self.new) }
+        ensures { IfOk result (λ o. ForCells elements.now (λ cells.
+            Does cells self.old (store_in name.now) o self.new)) }
     {
         let Some(value) = self.values.pop() else {
             return Ok(Outcome::Ends);
