@@ -1,7 +1,8 @@
 //! The machine with one memory: checked programs, the machine's end under given picks, and the run of one worker.
 //! Stands on `cw_text`, `cw_code`, `cw_strand`.
 //! Contracts cite `specs/Machine.antt` (the machine, over any strands), `specs/Programs.antt` (what a checked program is)
-//! and `specs/Records.antt` (what a run keeps, and when it replays).
+//! and `specs/Records.antt` (what a run keeps, and when it replays). Private ones cite `specs/Standing.antt` (what the
+//! strand in memory stands for) and `specs/OneMemory.antt` (what the machine in memory stands for).
 #![tactic(auto)]
 
 ghost use Rattle.cw_serial.specs.Rows.{Ends};
