@@ -1,5 +1,5 @@
 -- The machine in memory plays the picks one by one.
-use Rattle.std.proofs.Common.{◌≡◌, ◌≤◌, ◌∙◌, ◌+◌, ℕ, zero, suc, List, [], ◌∷◌, Bool, true, false, Option, Some, None, drop, length, refl, sym, ap, add-one}
+use Rattle.std.proofs.Common.{◌≡◌, ◌≤◌, ◌∙◌, ◌+◌, ℕ, zero, suc, List, [], ◌∷◌, Bool, true, false, Option, Some, None, drop, length, refl, sym, add-one}
 use Rattle.std.specs.Bool.{if◌then◌else◌}
 use Rattle.std.specs.List.{slice_get}
 use Rattle.std.proofs.Math.ListN.{drop_of_length-le}

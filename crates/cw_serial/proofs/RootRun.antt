@@ -1,5 +1,5 @@
 -- The root's run to its end, one pick for each of its wants.
-use Rattle.std.proofs.Common.{◌≡◌, ◌<◌, ◌≤◌, ◌∙◌, ◌+◌, ◌++◌, ℕ, zero, suc, List, [], ◌∷◌, true, false, Option, Some, None, length, replicate, Bool, refl, sym, ap, subst, add-one, arith}
+use Rattle.std.proofs.Common.{◌≡◌, ◌<◌, ◌∙◌, ◌++◌, ℕ, suc, List, [], ◌∷◌, true, false, Option, Some, None, length, replicate, Bool, refl, sym, ap, subst, add-one, arith}
 use Rattle.std.proofs.lemmas.List.{append_assoc, append-nil, length-append, replicate-append-replicate}
 use Rattle.cw_strand.specs.declared.want.Want.{Want}
 use Rattle.cw_strand.specs.declared.want.Want.TheVariants.{Load, Store, Out, Done, Fault}
@@ -12,7 +12,6 @@ use Rattle.cw_strand.specs.Meaning.{State, Step, on, wants, ends, fails, work, s
 use Rattle.cw_strand.proofs.Settling.{want_leaves_less, settled_leaves}
 use Rattle.cw_serial.specs.declared.program.Program.{Program}
 use Rattle.cw_serial.specs.declared.record.Name.{Name}
-use Rattle.cw_serial.specs.declared.record.Picks.{Picks as Order}
 use Rattle.cw_serial.specs.declared.record.RecordEnd.{RecordEnd}
 use Rattle.cw_serial.specs.declared.record.SerialEnd.{SerialEnd}
 use Rattle.cw_serial.specs.declared.work.Work.{Work}

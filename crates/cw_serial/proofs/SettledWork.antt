@@ -4,7 +4,7 @@ use Rattle.cw_code.specs.declared.CellInfo.{CellInfo}
 use Rattle.cw_code.specs.declared.FaultKind.{FaultKind}
 use Rattle.cw_strand.specs.declared.want.Want.{Want}
 use Rattle.cw_strand.specs.declared.want.Want.TheVariants as want
-use Rattle.cw_strand.specs.Meaning.{State, Locals, Task, Step, on, wants, ends, fails, step, settled, work}
+use Rattle.cw_strand.specs.Meaning.{State, Task, Step, on, wants, ends, fails, step, settled, work}
 use Rattle.cw_strand.proofs.LocalWork.{step_leaves_less}
 use Rattle.cw_strand.proofs.Settling.{IsStill, wanting, ending, failing, settled_stays, settled_on, want_leaves_less}
 use Rattle.cw_serial.specs.declared.names.Names.{Names}

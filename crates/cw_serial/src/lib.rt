@@ -1,8 +1,9 @@
 //! The machine with one memory: checked programs, the machine's end under given picks, and the run of one worker.
 //! Stands on `cw_text`, `cw_code`, `cw_strand`.
 //! Contracts cite `specs/Machine.antt` (the machine, over any strands), `specs/Programs.antt` (what a checked program is)
-//! and `specs/Records.antt` (what a run keeps, and when it replays). Those of the functions that check names also cite
-//! `specs/Scopes.antt` (names and what they stand for) and `specs/Items.antt` (what items declare).
+//! and `specs/Records.antt` (what a run keeps, and when it replays). Private ones cite `specs/Scopes.antt` and
+//! `specs/Items.antt` (names and what items declare), `specs/Standing.antt` and `specs/OneMemory.antt` (what the strand
+//! and the machine in memory stand for).
 #![tactic(auto)]
 
 ghost use Rattle.cw_serial.specs.Rows.{Ends};

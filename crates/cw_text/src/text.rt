@@ -3,7 +3,8 @@ ghost use Rattle.cw_text.specs.Text.{line_of, program, Reads};
 
 use crate::cursor::Cursor;
 use crate::scan::newlines;
-use crate::{Ast, TextFault, TextKind, TextRefusal, parser};
+use crate::parser::{self, refusal};
+use crate::{Ast, TextKind, TextRefusal};
 use std::alloc::Global;
 use std::str;
 
@@ -17,12 +18,6 @@ fn line_of(text: &[u8], place: usize) -> u32
     ensures { result ≡ line_of place text.now }
 {
     1 + newlines(&text[..place]) as u32
-}
-
-fn refusal(kind: TextKind, line: u32) -> TextRefusal
-    ensures { result ≡ TextRefusal.Text (record { kind = kind; line = line }) }
-{
-    TextRefusal::Text(TextFault { kind, line })
 }
 
 /// Reads a program. The answer is the tree that the text spells, or the text's first fault with its line.

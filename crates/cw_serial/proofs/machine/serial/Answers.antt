@@ -1,4 +1,4 @@
-use Rattle.std.proofs.Common.{◌≡◌, ◌≤◌, length, rules, arith}
+use Rattle.std.proofs.Common.{◌≡◌, ◌≤◌, length, arith}
 use Rattle.cw_serial.proofs.Played.{plays_on, stuck_at, shown_at}
 use Rattle.cw_serial.proofs.machine.serial.Goals as goal
 
