@@ -7,6 +7,7 @@ pub mod Places
 pub mod Prefixes
 pub mod PrintedTerms
 pub mod PrintedPrograms
+pub mod Readable
 pub mod Readings
 pub mod Spelled
 pub mod Steps
