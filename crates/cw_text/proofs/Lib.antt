@@ -9,6 +9,8 @@ pub mod PrintedTerms
 pub mod PrintedPrograms
 pub mod Readable
 pub mod Readings
+pub mod ReadPrograms
+pub mod Sound
 pub mod Spelled
 pub mod Steps
 pub mod Turns
