@@ -7,7 +7,10 @@ pub mod Places
 pub mod Prefixes
 pub mod PrintedTerms
 pub mod PrintedPrograms
+pub mod Readable
 pub mod Readings
+pub mod ReadPrograms
+pub mod Sound
 pub mod Spelled
 pub mod Steps
 pub mod Turns

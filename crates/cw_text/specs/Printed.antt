@@ -149,3 +149,9 @@ IsReadableDeclaration (func n l ps b) = (n ≡ codes "main") × (ps ≡ []) × I
 
 abbrev pub IsReadable : List Declaration → Type 0
 IsReadable ds = All IsReadableDeclaration ds
+
+-- Numbers are less than 2 ^ 63, as in the tokens of a text.
+abbrev pub HasSmallNumbers : Lexemes → Type 0
+HasSmallNumbers (end_on l) = Unit {0}
+HasSmallNumbers (comes (a_number n) l xs) = (n < 2 ^ 63) × HasSmallNumbers xs
+HasSmallNumbers (comes t l xs) = HasSmallNumbers xs

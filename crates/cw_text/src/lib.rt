@@ -7,12 +7,13 @@
 
 ghost use Rattle.std.specs.Prelude.{ℕ, List, ◌≡◌};
 ghost use Rattle.cw_text.specs.declared.mark.Mark.{Mark};
-ghost use Rattle.cw_text.specs.Lexemes.{lexemes};
+ghost use Rattle.cw_text.specs.Lexemes.{Lexemes, lexemes};
 ghost use Rattle.cw_text.specs.Places.{Follow};
 ghost use Rattle.cw_text.specs.Grammar.{program_of};
-ghost use Rattle.cw_text.specs.Printed.{IsReadable, printed};
+ghost use Rattle.cw_text.specs.Printed.{HasSmallNumbers, IsReadable, printed};
 ghost use Rattle.cw_text.specs.PrintedRow.{Worked};
 ghost use Rattle.cw_text.specs.Syntax.{Declaration};
+ghost use Rattle.cw_text.specs.Text.{program};
 ghost use Rattle.cw_text.specs.Rows.{Tokens, Programs, Heights, Brackets, Refusals};
 
 mod ast;
@@ -50,6 +51,10 @@ pub fn tokens_follow()
 /// The tokens of a tree read as that tree, with its lines.
 pub fn printed_is_read()
     ensures read { (ds : List Declaration) → IsReadable ds → program_of (printed ds) ≡ Ok ds }
+    ensures readable { (xs : Lexemes) (ds : List Declaration) →
+        HasSmallNumbers xs → program_of xs ≡ Ok ds → IsReadable ds }
+    ensures texts { (text : List ℕ) (ds : List Declaration) →
+        program text ≡ Ok ds → program_of (printed ds) ≡ Ok ds }
     ensures worked { Worked }
 {}
 

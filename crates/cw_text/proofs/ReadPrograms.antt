@@ -1,0 +1,101 @@
+-- The tree of whatever is read can be read from its own tokens.
+use Rattle.std.proofs.Common.{◌≡◌, ℕ, zero, suc, ◌^◌, nat_lt, Bool, true, false, List, [], ◌∷◌, Result, Ok, Err, subst, codes, ◌||◌, ◌-◌, length, nat_le}
+use Rattle.std.proofs.lemmas.Bool.{cond_both, leb-false}
+use Rattle.std.proofs.lemmas.List.Elements.{All-nil}
+use Rattle.std.specs.Char.{is_ascii_digit}
+use Rattle.std.specs.List.{take_while}
+use Rattle.std.specs.Str.Lossy.{utf8_valid_len}
+use Rattle.cw_text.specs.Text.{program}
+use Rattle.cw_text.specs.declared.fault.TextFault.{TextFault}
+use Rattle.cw_text.specs.declared.fault.TextKind.TheVariants.{BadNumber}
+use Rattle.cw_text.specs.declared.mark.Mark.{Mark}
+use Rattle.cw_text.specs.Lexemes.{Token, Front, gap, found, front, begun_by, width, lexemes_from, lexemes, line_after, keywords, signs, sign_front, word_token, number_token, value_of_digits, begins_by, begins_with, spelling, is_blank, is_letter, is_word, after_digits, list_eq, Lexemes, end_on, comes, mark, number as a_number, bad, end}
+use Rattle.cw_text.specs.Syntax.{Declaration}
+use Rattle.cw_text.specs.Grammar.{Symbol, Values, State, declared, feed, items, program_in, program_of, read, then_read}
+use Rattle.cw_text.specs.Printed.{HasSmallNumbers, IsReadableDeclaration, IsReadable}
+use Rattle.cw_text.proofs.Sound.{HasDeclared, Fits, Leads, Sound, step}
+
+-- values that are readable declarations, or a fault
+abbrev Declares : Result Values TextFault → Type 0
+Declares (Ok vs) = HasDeclared vs
+Declares (Err e) = Unit {0}
+
+over : (r : Result State TextFault) → Leads end r → Declares (then_read r (λ k vs. Ok vs))
+over (Ok s) h = subst (λ k. Sound k s.1) h.0 h.1
+over (Err e) h = tt
+
+led_on : (t : Token) (r : Result State TextFault) (go : List Symbol → Values → Result Values TextFault) → Leads t r →
+    ((k : List Symbol) (vs : Values) → Sound k vs → Declares (go k vs)) → Declares (then_read r go)
+led_on end (Ok s) go h on = on s.0 s.1 h.1
+led_on t (Ok s) go h on = on s.0 s.1 h
+led_on t (Err e) go h on = tt
+
+small_first : (t : Token) (l : ℕ) (xs : Lexemes) → HasSmallNumbers (comes t l xs) → Fits t × HasSmallNumbers xs
+small_first (a_number n) l xs h = (h.0, h.1)
+small_first t l xs h = (tt, h)
+
+read_declares : (xs : Lexemes) (k : List Symbol) (vs : Values) → HasSmallNumbers xs → Sound k vs → Declares (read k vs xs)
+read_declares (end_on l) k vs small sound = over (feed k vs end l) (step k vs end l tt sound)
+read_declares (comes t l xs) k vs small sound =
+    let parts = small_first t l xs small in
+    led_on t (feed k vs t l) (λ k vs. read k vs xs) (step k vs t l parts.0 sound) (λ k vs sound. read_declares xs k vs parts.1 sound)
+
+program_declares : (r : Result Values TextFault) (ds : List Declaration) → Declares r → program_in r ≡ Ok ds → IsReadable ds
+program_declares (Ok (declared es ∷ [])) ds h is = let e : es ≡ ds = cc in subst IsReadable e h
+program_declares (Ok vs) ds h is = absurd h
+program_declares (Err e) ds h is = cc
+
+pub read_is_readable : (xs : Lexemes) (ds : List Declaration) → HasSmallNumbers xs → program_of xs ≡ Ok ds → IsReadable ds
+read_is_readable xs ds small is = program_declares (read (items ∷ []) (declared [] ∷ []) xs) ds (read_declares xs (items ∷ []) (declared [] ∷ []) small (All-nil IsReadableDeclaration)) is
+
+-- ## The numbers of a text
+
+-- a front that is no number, or a small one
+abbrev IsSmall : Front → Type 0
+IsSmall (gap n) = Unit {0}
+IsSmall (found t n) = Fits t
+
+word_small : (ks : List Mark) (text : List ℕ) → Fits (word_token ks text)
+word_small [] text = tt
+word_small (k ∷ ks) text = cond_both (list_eq (spelling k) text) (mark k) (word_token ks text) Fits (λ _. tt) (λ _. word_small ks text)
+
+neither : (a b : Bool) → (a || b) ≡ false → b ≡ false
+neither false b h = h
+neither true b h = cc
+
+number_small : (digits rest : List ℕ) → Fits (number_token digits rest)
+number_small digits rest =
+    let runs_on = begins_by is_letter rest in
+    let value = value_of_digits digits in
+    cond_both (runs_on || nat_le (2 ^ 63) value) (bad BadNumber) (a_number value) Fits (λ _. tt) (λ h. leb-false (2 ^ 63) value (neither runs_on (nat_le (2 ^ 63) value) h))
+
+sign_small : (ss : List Mark) (text : List ℕ) → IsSmall (sign_front ss text)
+sign_small [] text = tt
+sign_small (s ∷ ss) text = cond_both (begins_with (spelling s) text) (found (mark s) (length (spelling s))) (sign_front ss text) IsSmall (λ _. tt) (λ _. sign_small ss text)
+
+front_small : (ks : List Mark) (text : List ℕ) → IsSmall (front ks text)
+front_small ks [] = tt
+front_small ks (c ∷ cs) =
+    cond_both (is_blank c) _ _ IsSmall (λ _. tt)
+    (λ _. cond_both (is_letter c) _ _ IsSmall (λ _. word_small ks (c ∷ take_while is_word cs))
+    (λ _. cond_both (is_ascii_digit c) _ _ IsSmall (λ _. number_small (c ∷ take_while is_ascii_digit cs) (after_digits cs))
+    (λ _. cond_both (begins_with (codes "//") (c ∷ cs)) _ _ IsSmall (λ _. tt) (λ _. sign_small signs (c ∷ cs)))))
+
+begun_small : (f : Front) (l : ℕ) (xs : Lexemes) → IsSmall f → HasSmallNumbers xs → HasSmallNumbers (begun_by f l xs)
+begun_small (gap n) l xs small rest = rest
+begun_small (found (a_number v) n) l xs small rest = (small, rest)
+begun_small (found t n) l xs small rest = rest
+
+lexemes_small : (ks : List Mark) (line taken : ℕ) (text : List ℕ) → HasSmallNumbers (lexemes_from ks line taken text)
+lexemes_small ks line taken [] = tt
+lexemes_small ks line (suc n) (c ∷ cs) = lexemes_small ks (line_after c line) n cs
+lexemes_small ks line zero (c ∷ cs) =
+    let f = front ks (c ∷ cs) in
+    begun_small f line _ (front_small ks (c ∷ cs)) (lexemes_small ks (line_after c line) (width f - 1) cs)
+
+-- a text is read as what its tokens are, or refused
+pub text_is_readable : (text : List ℕ) (ds : List Declaration) → program text ≡ Ok ds → IsReadable ds
+text_is_readable text ds =
+    cond_both (nat_lt 1048576 (length text)) _ _ (λ r. r ≡ Ok ds → IsReadable ds) (λ _ h. cc)
+    (λ _. cond_both (nat_lt (utf8_valid_len text) (length text)) _ _ (λ r. r ≡ Ok ds → IsReadable ds) (λ _ h. cc)
+    (λ _. read_is_readable (lexemes keywords text) ds (lexemes_small keywords 1 0 text)))

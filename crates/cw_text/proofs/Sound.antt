@@ -1,0 +1,197 @@
+-- Sound states of reading: with readable parts, each way on ends in a readable tree. Every token leads from a sound
+-- state to a sound state.
+use Rattle.std.proofs.Common.{◌≡◌, ℕ, zero, suc, ◌+◌, ◌^◌, ◌<◌, ◌≤◌, nat_lt, cond, Bool, true, false, List, [], ◌∷◌, ◌++◌, Option, Some, None, Result, Ok, Err, refl, sym, subst, arith, ℤ, pos, neg_ℤ, nat_abs, codes, ◌==◌, ◌&&◌, lit≤, lit<}
+use Rattle.std.proofs.lemmas.Bool.{cond_both, eqb-true, ltb-false}
+use Rattle.std.proofs.lemmas.List.Elements.{All-push}
+use Rattle.cw_text.specs.declared.ast.Op.{Op}
+use Rattle.cw_text.specs.declared.ast.Op.TheVariants as op
+use Rattle.cw_text.specs.declared.ast.Word.{Word}
+use Rattle.cw_text.specs.declared.fault.TextFault.{TextFault}
+use Rattle.cw_text.specs.declared.fault.TextKind.TheVariants.{Unexpected}
+use Rattle.cw_text.specs.declared.mark.Mark.{Mark}
+use Rattle.cw_text.specs.declared.mark.Mark.TheVariants as m
+use Rattle.cw_text.specs.Lexemes.{Token, list_eq, mark, name as a_name, number as a_number, bad, end}
+use Rattle.cw_text.specs.Syntax.{Term, Statement, set_new, assign, out, cell, func, number, name, unary, binary, Block, empty, with_statement}
+use Rattle.cw_text.specs.Grammar.{Symbol, Values, State, a_term, a_word, a_block, an_init, declared, act, block, cell_init, cell_done, func_done, let_done, assign_done, out_done, closing, comparison, exactly, expr, feed, init, items, lift, lifted, main_word, negated, newest_height, operand, pending, products, read_from, stmts, sums, go_on, infix_by, opened, operand_by, take, refuse, rest_of_expr, same_mark, join, push, product_of, sum_of, comparison_of, with_init, word, word_at}
+use Rattle.cw_text.specs.Printed.{IsReadableDeclaration, IsReadableStatement, IsReadableBlock, IsReadable}
+use Rattle.cw_text.proofs.Readable.{IsReadableAt, readable_looser, readable_bracketed, readable_unary, readable_binary, product_tightness, sum_tightness, comparison_tightness, readable_with, whole}
+
+-- the declarations, and nothing else
+abbrev pub HasDeclared : Values → Type 0
+HasDeclared (declared ds ∷ []) = IsReadable ds
+HasDeclared vs = ⊥
+
+-- the newest value is a term with this property, and it is before these values
+abbrev pub HasTerm : (Term → Values → Type 0) → Values → Type 0
+HasTerm P (a_term e ∷ vs) = P e vs
+HasTerm P vs = ⊥
+
+abbrev pub HasBlock : (Block → Values → Type 0) → Values → Type 0
+HasBlock P (a_block b ∷ vs) = P b vs
+HasBlock P vs = ⊥
+
+-- what is read as an expression may take the place of the newest value
+abbrev pub Goes : (n around : ℕ) → (Values → Type 0) → Values → Type 0
+Goes n around P vs = (e : Term) → IsReadableAt n around e → P (a_term e ∷ vs)
+
+abbrev pub Sound : List Symbol → Values → Type 0
+Sound [] vs = HasDeclared vs
+Sound (act f ∷ k) vs = Sound k (f vs)
+Sound (exactly a ∷ k) vs = Sound k vs
+Sound (closing a ∷ k) vs = Sound k vs
+Sound (lifted o l ∷ k) vs = newest_height (lift o vs) ≤ 200 → Sound k (lift o vs)
+Sound (read_from l ∷ k) vs = newest_height vs ≤ 200 → Sound k vs
+Sound (word ∷ k) vs = (w : Word) → Sound k (a_word w ∷ vs)
+Sound (main_word ∷ k) vs = (l : ℕ) → Sound k (a_word (word_at (codes "main") l) ∷ vs)
+Sound (init ∷ k) vs = (z : ℤ) → nat_abs z < 2 ^ 63 → Sound k (with_init z vs)
+Sound (negated ∷ k) vs = (z : ℤ) → nat_abs z < 2 ^ 63 → Sound k (with_init z vs)
+Sound (cell_init ∷ k) vs = Sound k vs × ((z : ℤ) → nat_abs z < 2 ^ 63 → Sound k (with_init z vs))
+Sound (operand ∷ k) vs = Goes 3 (pending k) (Sound k) vs
+Sound (expr ∷ k) vs = Goes 0 (pending k) (Sound k) vs
+Sound (products ∷ k) vs = HasTerm (λ e ws. IsReadableAt 2 (pending k) e × Goes 2 (pending k) (Sound k) ws) vs
+Sound (sums ∷ k) vs = HasTerm (λ e ws. IsReadableAt 1 (pending k) e × Goes 1 (pending k) (Sound k) ws) vs
+Sound (comparison ∷ k) vs = HasTerm (λ e ws. IsReadableAt 1 (pending k) e × Goes 0 (pending k) (Sound k) ws) vs
+Sound (block ∷ k) vs = (b : Block) → IsReadableBlock (pending k + 1) b → Sound k (a_block b ∷ vs)
+Sound (stmts ∷ k) vs = HasBlock (λ b ws. IsReadableBlock (pending k) b × ((c : Block) → IsReadableBlock (pending k) c → Sound k (a_block c ∷ ws))) vs
+Sound (items ∷ []) vs = HasDeclared vs
+Sound (items ∷ s ∷ k) vs = ⊥
+
+abbrev pub Fits : Token → Type 0
+Fits (a_number n) = n < 2 ^ 63
+Fits t = Unit {0}
+
+-- A token leads to a sound state, and the end leaves nothing open.
+abbrev pub Leads : Token → Result State TextFault → Type 0
+Leads t (Err e) = Unit {0}
+Leads end (Ok s) = (s.0 ≡ []) × Sound s.0 s.1
+Leads t (Ok s) = Sound s.0 s.1
+
+unless : (b : Bool) (t : Token) (f : TextFault) (r : Result State TextFault) → (b ≡ false → Leads t r) → Leads t (cond b (Err f) r)
+unless b t f r h = cond_both b (Err f) r (Leads t) (λ _. tt) h
+
+opened_leads : (k : List Symbol) (vs : Values) (t : Token) (l : ℕ) → (pending k ≤ 200 → Leads t (Ok (k, vs))) → Leads t (opened k vs l)
+opened_leads k vs t l h = unless (nat_lt 200 (pending k)) t _ (Ok (k, vs)) (λ few. h (ltb-false 200 (pending k) few))
+
+only_leads : (same : Bool) (k : List Symbol) (vs : Values) (a : Mark) (l : ℕ) (rest : Result State TextFault) → Sound k vs →
+    Leads (mark a) (go_on (cond same (take []) (refuse Unexpected)) k vs l rest)
+only_leads true k vs a l rest sound = opened_leads k vs (mark a) l (λ _. sound)
+only_leads false k vs a l rest sound = tt
+
+infix_leads : (found : Option Op) (right following k : List Symbol) (vs : Values) (a : Mark) (l : ℕ) (rest : Result State TextFault) →
+    ((o : Op) → found ≡ Some o → Sound ((operand ∷ right ++ act (join o) ∷ read_from l ∷ following) ++ k) vs) →
+    Leads (mark a) rest → Leads (mark a) (go_on (infix_by found right following l) k vs l rest)
+infix_leads None right following k vs a l rest taken skipped = skipped
+infix_leads (Some o) right following k vs a l rest taken skipped =
+    opened_leads ((operand ∷ right ++ act (join o) ∷ read_from l ∷ following) ++ k) vs (mark a) l (λ low. taken o refl)
+
+operand_leads : (ss k : List Symbol) (vs : Values) (t : Token) (l : ℕ) (rest : Result State TextFault) → Fits t →
+    Goes 3 (pending (ss ++ k)) (Sound (ss ++ k)) vs → Leads t (go_on (operand_by ss t l) k vs l rest)
+operand_leads ss k vs (a_number n) l rest fits sound =
+    opened_leads (act (push (a_term (number (pos n)))) ∷ (ss ++ k)) vs (a_number n) l
+    (λ low. sound (number (pos n)) (record { formed = fits; low = lit≤ tt; shallow = omega arith }))
+operand_leads ss k vs (a_name n) l rest fits sound =
+    opened_leads (act (push (a_term (name (word_at n l)))) ∷ (ss ++ k)) vs (a_name n) l
+    (λ low. sound (name (word_at n l)) (record { formed = tt; low = lit≤ tt; shallow = omega arith }))
+operand_leads ss k vs (mark m.ParenOpen) l rest fits sound =
+    opened_leads (expr ∷ closing m.ParenClose ∷ (ss ++ k)) vs (mark m.ParenOpen) l
+    (λ low e h. sound e (readable_bracketed h))
+operand_leads ss k vs (mark m.Minus) l rest fits sound =
+    opened_leads (operand ∷ lifted op.Neg l ∷ (ss ++ k)) vs (mark m.Minus) l
+    (λ low e h high. sound (unary op.Neg e) (readable_unary op.Neg refl high h))
+operand_leads ss k vs (mark m.Bang) l rest fits sound =
+    opened_leads (operand ∷ lifted op.Not l ∷ (ss ++ k)) vs (mark m.Bang) l
+    (λ low e h high. sound (unary op.Not e) (readable_unary op.Not refl high h))
+operand_leads ss k vs (mark a) l rest fits sound = tt
+operand_leads ss k vs (bad b) l rest fits sound = tt
+operand_leads ss k vs end l rest fits sound = tt
+
+equal_both : (b c : Bool) (x y : ℕ) (xs ys : List ℕ) → (b && c) ≡ true → (b ≡ true → x ≡ y) → (c ≡ true → xs ≡ ys) → x ∷ xs ≡ y ∷ ys
+equal_both false c x y xs ys h f g = cc
+equal_both true c x y xs ys h f g = let e = f refl in let es = g h in cc
+
+list_eq-true : (xs ys : List ℕ) → list_eq xs ys ≡ true → xs ≡ ys
+list_eq-true [] [] h = refl
+list_eq-true [] (y ∷ ys) h = cc
+list_eq-true (x ∷ xs) [] h = cc
+list_eq-true (x ∷ xs) (y ∷ ys) h = equal_both (x == y) (list_eq xs ys) x y xs ys h (eqb-true x y) (list_eq-true xs ys)
+
+nat_abs-neg : (n : ℕ) → nat_abs (neg_ℤ (pos n)) ≡ n
+nat_abs-neg zero = refl
+nat_abs-neg (suc n) = refl
+
+main_leads : (is_main : Bool) (n : List ℕ) (k : List Symbol) (vs : Values) (l : ℕ) (rest : Result State TextFault) → list_eq n (codes "main") ≡ is_main → Sound (main_word ∷ k) vs →
+    Leads (a_name n) (go_on (cond is_main (take (act (push (a_word (word_at n l))) ∷ [])) (refuse Unexpected)) k vs l rest)
+main_leads true n k vs l rest is sound =
+    opened_leads (act (push (a_word (word_at n l))) ∷ k) vs (a_name n) l
+    (λ low. subst (λ n. Sound k (a_word (word_at n l) ∷ vs)) (sym (list_eq-true n (codes "main") is)) (sound l))
+main_leads false n k vs l rest is sound = tt
+
+-- statements with one more
+more_sound : (k : List Symbol) (vs : Values) (b : Block) (s : Statement) → Sound (stmts ∷ k) (a_block b ∷ vs) → IsReadableStatement (pending k) s → Sound (stmts ∷ k) (a_block (with_statement b s) ∷ vs)
+more_sound k vs b s sound new = (readable_with (pending k) b s sound.0 new, sound.1)
+
+pub step : (k : List Symbol) (vs : Values) (t : Token) (l : ℕ) → Fits t → Sound k vs → Leads t (feed k vs t l)
+step [] vs t l fits sound = tt
+step (act f ∷ k) vs t l fits sound = step k (f vs) t l fits sound
+step (lifted o j ∷ k) vs t l fits sound = unless (nat_lt 200 (newest_height (lift o vs))) t _ _ (λ few. step k (lift o vs) t l fits (sound (ltb-false 200 (newest_height (lift o vs)) few)))
+step (read_from j ∷ k) vs t l fits sound = unless (nat_lt 200 (newest_height vs)) t _ _ (λ few. step k vs t l fits (sound (ltb-false 200 (newest_height vs) few)))
+step (exactly a ∷ k) vs (mark b) l fits sound = only_leads (same_mark a b) k vs b l _ sound
+step (exactly a ∷ k) vs t l fits sound = tt
+step (closing a ∷ k) vs (mark b) l fits sound = only_leads (same_mark a b) k vs b l _ sound
+step (closing a ∷ k) vs t l fits sound = tt
+step (word ∷ k) vs (a_name n) l fits sound = opened_leads (act (push (a_word (word_at n l))) ∷ k) vs (a_name n) l (λ low. sound (word_at n l))
+step (word ∷ k) vs t l fits sound = tt
+step (main_word ∷ k) vs (a_name n) l fits sound = main_leads (list_eq n (codes "main")) n k vs l _ refl sound
+step (main_word ∷ k) vs t l fits sound = tt
+step (init ∷ k) vs (a_number n) l fits sound = opened_leads (act (with_init (pos n)) ∷ k) vs (a_number n) l (λ low. sound (pos n) fits)
+step (init ∷ k) vs (mark m.Minus) l fits sound = opened_leads (negated ∷ k) vs (mark m.Minus) l (λ low. sound)
+step (init ∷ k) vs t l fits sound = tt
+step (negated ∷ k) vs (a_number n) l fits sound = opened_leads (act (with_init (neg_ℤ (pos n))) ∷ k) vs (a_number n) l (λ low. sound (neg_ℤ (pos n)) (rw nat_abs-neg fits))
+step (negated ∷ k) vs t l fits sound = tt
+step (cell_init ∷ k) vs (mark m.Assign) l fits sound = opened_leads (init ∷ k) vs (mark m.Assign) l (λ low. sound.1)
+step (cell_init ∷ k) vs t l fits sound = step k vs t l fits sound.0
+step (operand ∷ k) vs t l fits sound = operand_leads [] k vs t l _ fits sound
+step (expr ∷ k) vs t l fits sound = operand_leads rest_of_expr k vs t l _ fits (λ e h.
+    (readable_looser 2 3 (lit≤ tt) h, λ e h. (readable_looser 1 2 (lit≤ tt) h, λ e h. (h, sound))))
+step (products ∷ k) (a_term e ∷ vs) (mark a) l fits sound =
+    infix_leads (product_of a) [] (products ∷ []) k (a_term e ∷ vs) a l _
+    (λ o is f h high. (readable_binary o 2 (product_tightness a o is) (lit< tt) high sound.0 h, sound.1))
+    (step k (a_term e ∷ vs) (mark a) l tt (sound.1 e sound.0))
+step (products ∷ k) (a_term e ∷ vs) t l fits sound = step k (a_term e ∷ vs) t l fits (sound.1 e sound.0)
+step (products ∷ k) vs t l fits sound = absurd sound
+step (sums ∷ k) (a_term e ∷ vs) (mark a) l fits sound =
+    infix_leads (sum_of a) (products ∷ []) (sums ∷ []) k (a_term e ∷ vs) a l _
+    (λ o is f h. (readable_looser 2 3 (lit≤ tt) h, λ f h high. (readable_binary o 1 (sum_tightness a o is) (lit< tt) high sound.0 h, sound.1)))
+    (step k (a_term e ∷ vs) (mark a) l tt (sound.1 e sound.0))
+step (sums ∷ k) (a_term e ∷ vs) t l fits sound = step k (a_term e ∷ vs) t l fits (sound.1 e sound.0)
+step (sums ∷ k) vs t l fits sound = absurd sound
+step (comparison ∷ k) (a_term e ∷ vs) (mark a) l fits sound =
+    infix_leads (comparison_of a) (products ∷ sums ∷ []) [] k (a_term e ∷ vs) a l _
+    (λ o is f h. (readable_looser 2 3 (lit≤ tt) h, λ f h. (readable_looser 1 2 (lit≤ tt) h, λ f h high. sound.1 (binary o e f) (readable_binary o 0 (comparison_tightness a o is) (lit< tt) high sound.0 h))))
+    (step k (a_term e ∷ vs) (mark a) l tt (sound.1 e (readable_looser 0 1 (lit≤ tt) sound.0)))
+step (comparison ∷ k) (a_term e ∷ vs) t l fits sound = step k (a_term e ∷ vs) t l fits (sound.1 e (readable_looser 0 1 (lit≤ tt) sound.0))
+step (comparison ∷ k) vs t l fits sound = absurd sound
+step (block ∷ k) vs (mark m.BraceOpen) l fits sound = opened_leads (act (push (a_block empty)) ∷ stmts ∷ closing m.BraceClose ∷ k) vs (mark m.BraceOpen) l (λ low. (tt, sound))
+step (block ∷ k) vs t l fits sound = tt
+step (stmts ∷ k) (a_block b ∷ vs) (mark m.Let) l fits sound =
+    opened_leads (word ∷ exactly m.Assign ∷ expr ∷ exactly m.Semicolon ∷ act let_done ∷ stmts ∷ k) (a_block b ∷ vs) (mark m.Let) l
+    (λ low w e h. more_sound k vs b (set_new w e) sound (whole h))
+step (stmts ∷ k) (a_block b ∷ vs) (mark m.Out) l fits sound =
+    opened_leads (expr ∷ exactly m.Semicolon ∷ act out_done ∷ stmts ∷ k) (a_block b ∷ vs) (mark m.Out) l
+    (λ low e h. more_sound k vs b (out e) sound (whole h))
+step (stmts ∷ k) (a_block b ∷ vs) (a_name n) l fits sound =
+    opened_leads (act (push (a_word (word_at n l))) ∷ exactly m.Assign ∷ expr ∷ exactly m.Semicolon ∷ act assign_done ∷ stmts ∷ k) (a_block b ∷ vs) (a_name n) l
+    (λ low e h. more_sound k vs b (assign (word_at n l) e) sound (whole h))
+step (stmts ∷ k) (a_block b ∷ vs) t l fits sound = step k (a_block b ∷ vs) t l fits (sound.1 b sound.0)
+step (stmts ∷ k) vs t l fits sound = absurd sound
+step (items ∷ []) (declared ds ∷ []) (mark m.Cell) l fits sound =
+    opened_leads (word ∷ act (push (an_init (pos 0))) ∷ cell_init ∷ exactly m.Semicolon ∷ act cell_done ∷ items ∷ []) (declared ds ∷ []) (mark m.Cell) l
+    (λ low w.
+    let one = λ (z : ℤ) (h : nat_abs z < 2 ^ 63). All-push IsReadableDeclaration ds (cell w.name w.line 0 z) sound (refl, h) in
+    (one (pos 0) (lit< tt), one))
+step (items ∷ []) (declared ds ∷ []) (mark m.Fn) l fits sound =
+    opened_leads (main_word ∷ exactly m.ParenOpen ∷ closing m.ParenClose ∷ block ∷ act func_done ∷ items ∷ []) (declared ds ∷ []) (mark m.Fn) l
+    (λ low j b h. All-push IsReadableDeclaration ds (func (codes "main") j [] b) sound (refl, refl, h))
+step (items ∷ []) (declared ds ∷ []) end l fits sound = (refl, sound)
+step (items ∷ []) (declared ds ∷ []) t l fits sound = tt
+step (items ∷ k) vs t l fits sound = absurd sound
