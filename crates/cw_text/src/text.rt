@@ -2,8 +2,8 @@ ghost use Rattle.std.specs.Prelude.{◌≡◌, ◌≤◌, ◌<◌, ◌^◌, leng
 ghost use Rattle.cw_text.specs.Text.{line_of, program, Reads};
 
 use crate::cursor::Cursor;
-use crate::scan::newlines;
 use crate::parser::{self, refusal};
+use crate::scan::newlines;
 use crate::{Ast, TextKind, TextRefusal};
 use std::alloc::Global;
 use std::str;
