@@ -4,8 +4,8 @@
 //! the syntax tree, `specs/Names.antt` has the naming rules, `specs/Arithmetic.antt` the operators.
 #![tactic(auto)]
 
-ghost use Rattle.cw_strand.specs.Rows.{Faults, Traces};
-ghost use Rattle.cw_strand.specs.Laws.{LocalWorkEnds};
+ghost use Rattle.cw_strand.specs.Rows.{Faults, Traces, Endings};
+ghost use Rattle.cw_strand.specs.Laws.{LocalWorkEnds, EndsOnlyWhenDone};
 
 mod naming;
 mod want;
@@ -22,4 +22,10 @@ pub fn worked_programs()
 /// A strand never goes on by itself for ever: it always comes to a want.
 pub fn local_work_ends()
     ensures { LocalWorkEnds }
+{}
+
+/// A strand of a program without a naming fault is over only where it has done all that it had to do, or at a fault.
+pub fn ends_only_when_done()
+    ensures ends { EndsOnlyWhenDone }
+    ensures worked { Endings }
 {}
