@@ -1,6 +1,6 @@
 -- The machine with one memory, driven by picks. It does one want of a strand at each pick, and knows nothing of what else
 -- a strand is. So far it has the strand of main alone.
-use Rattle.std.specs.Prelude.{ℕ, ℤ, zero, suc, ◌-◌, ◌==◌, ◌&&◌, Bool, true, false, not, pos, List, [], ◌∷◌, ◌++◌, slice_get, slice_set, Option, Some, None, unwrap_or, if◌then◌else◌}
+use Rattle.std.specs.Prelude.{ℕ, ℤ, suc, ◌==◌, ◌&&◌, Bool, true, false, not, pos, List, [], ◌∷◌, ◌++◌, slice_get, slice_set, Option, Some, None, unwrap_or, if◌then◌else◌}
 use Rattle.cw_strand.specs.declared.want.Want.{Want}
 use Rattle.cw_strand.specs.declared.want.Want.TheVariants.{Load, Store, Out, Done, Fault}
 use Rattle.cw_strand.specs.declared.want.Given.TheVariants.{Nothing, Value}

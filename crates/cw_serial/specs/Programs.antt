@@ -1,7 +1,7 @@
 -- What a checked program is, and the machine of one.
-use Rattle.std.specs.Prelude.{◌≡◌, ℕ, ℤ, List, Option, Some, None, Result, Ok, Err}
+use Rattle.std.specs.Prelude.{◌≡◌, List, Some, None, Result, Ok, Err}
 use Rattle.cw_text.specs.declared.ast.Ast.{Ast}
-use Rattle.cw_text.specs.Syntax.{Declaration, Block, tree_of}
+use Rattle.cw_text.specs.Syntax.{Declaration, tree_of}
 use Rattle.cw_strand.specs.Names.{naming_fault, cells_of, main_of, first_memory}
 use Rattle.cw_strand.specs.Strands.{Strands}
 use Rattle.cw_strand.specs.Meaning.{State, strands, body_at}

@@ -1,5 +1,5 @@
 -- What a run keeps, and when it replays.
-use Rattle.std.specs.Prelude.{◌≡◌, ℕ, ◌≤◌, List, [], ◌∷◌, length, replicate, false}
+use Rattle.std.specs.Prelude.{◌≡◌, ℕ, ◌≤◌, [], ◌∷◌, length, replicate, false}
 use Rattle.cw_serial.specs.declared.program.Program.{Program}
 use Rattle.cw_serial.specs.declared.record.Name.{Name}
 use Rattle.cw_serial.specs.declared.record.Picks.{Picks}

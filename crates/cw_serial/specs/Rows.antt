@@ -1,5 +1,5 @@
 -- Worked runs of the machine.
-use Rattle.std.specs.Prelude.{ℕ, ℤ, ◌≡◌, List, [], ◌∷◌, codes, pos, unwrap_or}
+use Rattle.std.specs.Prelude.{ℕ, ◌≡◌, List, [], ◌∷◌, codes, pos, unwrap_or}
 use Rattle.cw_code.specs.declared.FaultKind.TheVariants.{Overflow}
 use Rattle.cw_strand.specs.Names.{cells_of, main_of, first_memory}
 use Rattle.cw_strand.specs.Meaning.{strands, body_at}

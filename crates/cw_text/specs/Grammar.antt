@@ -5,7 +5,7 @@
 -- the nearest symbol does not allow is the first fault. What has been read is a list of values, the newest first;
 -- the symbol `act` makes a tree of the newest ones. `after` is the grammar: what may come in place of a symbol
 -- once a token was read.
-use Rattle.std.specs.Prelude.{ℕ, zero, suc, ◌+◌, Bool, true, false, List, [], ◌∷◌, ◌++◌, Option, Some, None, Result, Ok, Err, if◌then◌else◌, nat_lt, codes, ℤ, pos, neg_ℤ}
+use Rattle.std.specs.Prelude.{ℕ, ◌+◌, Bool, List, [], ◌∷◌, ◌++◌, Option, Some, None, Result, Ok, Err, if◌then◌else◌, nat_lt, codes, ℤ, pos, neg_ℤ}
 use Rattle.cw_text.specs.declared.ast.Op.{Op}
 use Rattle.cw_text.specs.declared.ast.Op.TheVariants as op
 use Rattle.cw_text.specs.declared.ast.Word.{Word}

@@ -2,7 +2,7 @@
 use Rattle.std.specs.Prelude.{Result, ◌++◌, pos, negsuc, replicate, ℕ, ◌≡◌, List, [], ◌∷◌, codes, Ok, Err}
 use Rattle.std.specs.List.{flat_map}
 use Rattle.cw_text.specs.Syntax.{Declaration, func, cell, empty, first, set_new, assign, out, binary, name, number, unary}
-use Rattle.cw_text.specs.Lexemes.{Lexemes, end_on, comes, name as a_name, number as a_number, mark, bad, lexemes, keywords}
+use Rattle.cw_text.specs.Lexemes.{end_on, comes, name as a_name, number as a_number, mark, bad, lexemes, keywords}
 use Rattle.cw_text.specs.Grammar.{program_of}
 use Rattle.cw_text.specs.declared.fault.TextKind.{TextKind}
 use Rattle.cw_text.specs.declared.fault.TextKind.TheVariants.{BadChar, BadNumber, Unexpected, TooDeep}

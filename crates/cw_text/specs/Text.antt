@@ -1,5 +1,5 @@
 -- A whole text: its length, its characters, its tokens.
-use Rattle.std.specs.Prelude.{◌≡◌, ℕ, ◌+◌, List, [], ◌∷◌, length, take, Result, Ok, Err, if◌then◌else◌, nat_lt, ◌==◌, count_by}
+use Rattle.std.specs.Prelude.{◌≡◌, ℕ, ◌+◌, List, length, take, Result, Ok, Err, if◌then◌else◌, nat_lt, ◌==◌, count_by}
 use Rattle.std.specs.Str.Lossy.{utf8_valid_len}
 use Rattle.cw_text.specs.declared.ast.Ast.{Ast}
 use Rattle.cw_text.specs.declared.mark.Mark.{Mark}
