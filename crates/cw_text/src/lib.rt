@@ -2,7 +2,8 @@
 //! Stands on `cw_base`.
 //! Contracts cite `specs/Text.antt`, which says what a whole text reads as, over `specs/Lexemes.antt` (tokens),
 //! `specs/Grammar.antt` (which tokens are a program, and the first fault of those that are none) and `specs/Syntax.antt`
-//! (the tree without its places in memory). `specs/Places.antt` says of the tokens where in the text they stand.
+//! (the tree without its places in memory). `specs/Places.antt` says of the tokens where in the text they stand, and
+//! `specs/Printed.antt` which tokens a tree is printed as.
 #![tactic(auto)]
 
 ghost use Rattle.std.specs.Prelude.{ℕ, List, ◌≡◌};
@@ -48,7 +49,8 @@ pub fn tokens_follow()
     ensures { (words : List Mark) (text : List ℕ) → Follow words text 0 (lexemes words text) }
 {}
 
-/// The tokens of a tree read as that tree, with its lines.
+/// Reading undoes printing: a tree's tokens read as that tree, with its lines, if it can be read at all. The tree of
+/// whatever was read can be.
 pub fn printed_is_read()
     ensures read { (ds : List Declaration) → IsReadable ds → program_of (printed ds) ≡ Ok ds }
     ensures readable { (xs : Lexemes) (ds : List Declaration) →
