@@ -1,3 +1,4 @@
+use Rattle.cw_text.proofs.Lines.{program_of-same}
 use Rattle.cw_text.proofs.PrintedPrograms.{printed_read}
 use Rattle.cw_text.proofs.ReadPrograms.{read_is_readable, text_is_readable}
 use Rattle.cw_text.proofs.printed_is_read.Goals as goal
@@ -10,3 +11,6 @@ returns-clause-readable c = read_is_readable
 
 pub returns-clause-texts : goal.returns-clause-texts
 returns-clause-texts c = λ text ds h. printed_read ds (text_is_readable text ds h)
+
+pub returns-clause-lines : goal.returns-clause-lines
+returns-clause-lines c = program_of-same
