@@ -63,8 +63,12 @@ term_read n (name w) xs within formed low ends = looser n 3 within ends (name_re
 term_read n (unary o e) xs within formed low ends = looser n 3 within ends (of_one o formed.0 low (term_read 3 e xs (omega arith) formed.1 (omega arith) tt))
 term_read n (binary o l r) xs within formed low ends =
     let most = max (most_open (of_left o) l) (most_open (of_right o) r) in
-    let left = λ (ys : Lexemes). Reads-more (most_open (of_left o) l) most (omega arith) (term_read (of_left o) l (comes (mark (mark_of o)) 1 ys) (omega arith) formed.1 (omega arith) (ends_left o ys)) in
-    let right = λ (zs : Lexemes) (closed : Ends (tightness o) zs). Reads-more (most_open (of_right o) r) most (omega arith) (term_read (of_right o) r zs (omega arith) formed.2 (omega arith) (ends_tighter (tightness o) (of_right o) zs (omega arith) closed)) in
+    let left = λ (ys : Lexemes).
+    Reads-more (most_open (of_left o) l) most (omega arith)
+    (term_read (of_left o) l (comes (mark (mark_of o)) 1 ys) (omega arith) formed.1 (omega arith) (ends_left o ys)) in
+    let right = λ (zs : Lexemes) (closed : Ends (tightness o) zs).
+    Reads-more (most_open (of_right o) r) most (omega arith)
+    (term_read (of_right o) r zs (omega arith) formed.2 (omega arith) (ends_tighter (tightness o) (of_right o) zs (omega arith) closed)) in
     in_place most n (tightness o) (binary o l r) _ xs (nat_lt (tightness o) n) refl within (omega arith) ends
     (λ zs closed. subst (λ xs. Reads most (tightness o) (binary o l r) xs zs) (sym (infix_before (term_tokens (of_left o) l) (term_tokens (of_right o) r) (mark_of o) zs))
     (of_two o (tightness o) refl formed.0 low closed (left (before (term_tokens (of_right o) r) zs)) (right zs closed)))

@@ -15,6 +15,7 @@ pub record IsReadableAt (n around : ℕ) (e : Term) : Type 0 where
   pub low : height e ≤ 200
   pub shallow : most_open n e + around ≤ 200
 
+-- the bracket that an operator of tightness k needs, or none
 bit_looser : (k n t : ℕ) → n ≤ t → cond (nat_lt k n) 1 0 ≤ cond (nat_lt k t) 1 0
 bit_looser k n t within = grind (arith, nat_tests)
 

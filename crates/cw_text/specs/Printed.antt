@@ -88,10 +88,12 @@ statements_tokens (first s b) = statement_tokens s ++ statements_tokens b
 abbrev pub block_tokens : Block → List Placed
 block_tokens b = sign m.BraceOpen ++ statements_tokens b ++ sign m.BraceClose
 
+-- a plain cell has no size
 abbrev pub size_tokens : ℕ → List Placed
 size_tokens zero = []
 size_tokens (suc n) = sign m.SquareOpen ++ number_tokens (pos (suc n)) ++ sign m.SquareClose
 
+-- 0 is not written
 abbrev pub init_tokens : ℤ → List Placed
 init_tokens (pos zero) = []
 init_tokens z = sign m.Assign ++ number_tokens z
@@ -127,7 +129,7 @@ most_open n (name w) = 0
 most_open n (unary o e) = most_open 3 e + 1
 most_open n (binary o l r) = max (most_open (of_left o) l) (most_open (of_right o) r) + (if nat_lt (tightness o) n then 1 else 0)
 
--- an expression inside so many brackets
+-- an expression whose tokens can be read inside so many brackets
 pub record IsReadableTerm (around : ℕ) (e : Term) : Type 0 where
   pub formed : IsWellFormed e
   pub low : height e ≤ 200
@@ -155,3 +157,9 @@ abbrev pub HasSmallNumbers : Lexemes → Type 0
 HasSmallNumbers (end_on l) = Unit {0}
 HasSmallNumbers (comes (a_number n) l xs) = (n < 2 ^ 63) × HasSmallNumbers xs
 HasSmallNumbers (comes t l xs) = HasSmallNumbers xs
+
+-- the same tokens, where those that are no names stand on line 1
+abbrev pub only_name_lines : Lexemes → Lexemes
+only_name_lines (end_on l) = end_on 1
+only_name_lines (comes (a_name n) l xs) = comes (a_name n) l (only_name_lines xs)
+only_name_lines (comes t l xs) = comes t 1 (only_name_lines xs)

@@ -2,7 +2,8 @@
 //! Stands on `cw_base`.
 //! Contracts cite `specs/Text.antt`, which says what a whole text reads as, over `specs/Lexemes.antt` (tokens),
 //! `specs/Grammar.antt` (which tokens are a program, and the first fault of those that are none) and `specs/Syntax.antt`
-//! (the tree without its places in memory). `specs/Places.antt` says of the tokens where in the text they stand.
+//! (the tree without its places in memory). `specs/Places.antt` says of the tokens where in the text they stand, and
+//! `specs/Printed.antt` which tokens a tree is printed as.
 #![tactic(auto)]
 
 ghost use Rattle.std.specs.Prelude.{ℕ, List, ◌≡◌};
@@ -10,7 +11,7 @@ ghost use Rattle.cw_text.specs.declared.mark.Mark.{Mark};
 ghost use Rattle.cw_text.specs.Lexemes.{Lexemes, lexemes};
 ghost use Rattle.cw_text.specs.Places.{Follow};
 ghost use Rattle.cw_text.specs.Grammar.{program_of};
-ghost use Rattle.cw_text.specs.Printed.{HasSmallNumbers, IsReadable, printed};
+ghost use Rattle.cw_text.specs.Printed.{HasSmallNumbers, IsReadable, only_name_lines, printed};
 ghost use Rattle.cw_text.specs.PrintedRow.{Worked};
 ghost use Rattle.cw_text.specs.Syntax.{Declaration};
 ghost use Rattle.cw_text.specs.Text.{program};
@@ -48,9 +49,12 @@ pub fn tokens_follow()
     ensures { (words : List Mark) (text : List ℕ) → Follow words text 0 (lexemes words text) }
 {}
 
-/// The tokens of a tree read as that tree, with its lines.
+/// Reading undoes printing: a tree's tokens read as that tree, with its lines, if it can be read at all. The tree of
+/// whatever was read can be. Of the lines of tokens only those of names count.
 pub fn printed_is_read()
     ensures read { (ds : List Declaration) → IsReadable ds → program_of (printed ds) ≡ Ok ds }
+    ensures lines { (xs ys : Lexemes) (ds : List Declaration) → only_name_lines xs ≡ only_name_lines ys →
+        program_of xs ≡ Ok ds → program_of ys ≡ Ok ds }
     ensures readable { (xs : Lexemes) (ds : List Declaration) →
         HasSmallNumbers xs → program_of xs ≡ Ok ds → IsReadable ds }
     ensures texts { (text : List ℕ) (ds : List Declaration) →
