@@ -5,7 +5,7 @@ use Rattle.cw_code.specs.declared.CellInfo.{CellInfo}
 use Rattle.cw_code.specs.declared.FaultKind.{FaultKind}
 use Rattle.cw_text.specs.declared.ast.Op.{Op}
 use Rattle.cw_strand.specs.Arithmetic.{one, two}
-use Rattle.cw_text.specs.Lexemes.{list_eq}
+use Rattle.std.specs.Str.{bytes_eq}
 use Rattle.cw_strand.specs.Meaning.{Task, Locals, lift, join, store_in, result, local_of}
 use Rattle.cw_serial.specs.declared.names.Names.{Names}
 use Rattle.cw_serial.specs.declared.work.Task.{Task as Written}
@@ -36,7 +36,7 @@ module _ (op : Op) (todo : List Written) (us vs : List ℤ) (names : Names ℤ) 
   joins (Ok o) x y is h = λ cells ls known. rw (is, any_operands (two op x y) vs) (h ls known)
 
 -- a local that is there gets a value
-pub stores : (cells : List CellInfo) (todo : List Written) (us vs : List ℤ) (names names' : Names ℤ) (n : List ℕ) (v : ℤ) (o : Option ℤ) → us ≡ v ∷ vs → value_named names n ≡ o → is_some o ≡ true → ((m : List ℕ) → value_named names' m ≡ cond (list_eq m n) (Some v) (value_named names m)) → Does cells (with todo us names) (store_in n) outcome.On (with todo vs names')
+pub stores : (cells : List CellInfo) (todo : List Written) (us vs : List ℤ) (names names' : Names ℤ) (n : List ℕ) (v : ℤ) (o : Option ℤ) → us ≡ v ∷ vs → value_named names n ≡ o → is_some o ≡ true → ((m : List ℕ) → value_named names' m ≡ cond (bytes_eq m n) (Some v) (value_named names m)) → Does cells (with todo us names) (store_in n) outcome.On (with todo vs names')
 stores cells todo us vs names names' n v None is has some sets = absurd cc
 stores cells todo us vs names names' n v (Some w) is has some sets = λ ls known.
     let there : local_of ls n ≡ Some w = sym (known n) ∙ has in

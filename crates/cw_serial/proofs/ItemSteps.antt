@@ -3,14 +3,13 @@ use Rattle.std.proofs.Common.{◌≡◌, ℕ, ℤ, ◌+◌, List, [], ◌∷◌,
 use Rattle.std.specs.Option.{option_or}
 use Rattle.std.specs.Cmp.Lexicographic.{bytes_decides}
 use Rattle.cw_text.specs.declared.ast.Word.{Word}
-use Rattle.cw_text.specs.Lexemes.{list_eq}
+use Rattle.std.specs.Str.{bytes_eq}
 use Rattle.cw_text.specs.Syntax.{Block, Declaration, cell, func}
 use Rattle.cw_strand.specs.declared.naming.NameKind.TheVariants.{TooManyCells}
 use Rattle.cw_strand.specs.Names.{Thing, Scope, find, a_cell, a_function, fault, declared_new, elements, globals}
 use Rattle.cw_serial.specs.declared.items.Declared.{Declared}
 use Rattle.cw_serial.specs.Scopes.{IsSame}
 use Rattle.cw_serial.specs.Items.{IsSameWith}
-use Rattle.cw_serial.proofs.Found.{list_eq-is_bytes_eq}
 use Rattle.cw_serial.proofs.SameNames.{same_trans, find-append, same_append, in_items_same}
 
 -- a name that may be declared stood for nothing
@@ -26,10 +25,10 @@ found_later false t o p none = refl
 -- it does not matter whether a name comes before others or after them, where it is none of these
 same_moved : (x : List ℕ) (t : Thing) (g h : Scope) → find x g ≡ None → IsSame ((x, t) ∷ (g ++ h)) (g ++ ((x, t) ∷ h))
 same_moved x t g h none = record {
-  finds = λ n. rw (find-append n g h, find-append n g ((x, t) ∷ h)) (found_later (list_eq n x) t (find n g) (find n h) (hidden n));
+  finds = λ n. rw (find-append n g h, find-append n g ((x, t) ∷ h)) (found_later (bytes_eq n x) t (find n g) (find n h) (hidden n));
 } where
-  hidden : (n : List ℕ) → list_eq n x ≡ true → find n g ≡ None
-  hidden n is = rw ((bytes_decides n x).0 (sym (list_eq-is_bytes_eq n x) ∙ is)) none
+  hidden : (n : List ℕ) → bytes_eq n x ≡ true → find n g ≡ None
+  hidden n is = rw ((bytes_decides n x).0 is) none
 
 -- one more name is known, and so it is no longer among those that come
 names_next : {g h : Scope} (x : List ℕ) (line : ℕ) (t : Thing) (left : Scope) → declared_new (find x g) line ≡ None → IsSame h ((x, t) ∷ g) → IsSame (h ++ left) (g ++ ((x, t) ∷ left))

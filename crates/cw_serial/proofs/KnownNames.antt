@@ -10,31 +10,21 @@ use Rattle.std.specs.Str.{bytes_eq}
 use Rattle.std.proofs.lemmas.Slice.Eq.{bytes_eq-Decides}
 use Rattle.std.proofs.lemmas.Map.Text.{btree_map_updates_str, is_eq-slice_cmp}
 use Rattle.cw_code.specs.declared.CellInfo.{CellInfo}
-use Rattle.cw_text.specs.Lexemes.{list_eq}
 use Rattle.cw_strand.specs.Meaning.{Locals, local_of, with_local, element_of}
 use Rattle.cw_serial.specs.declared.names.Names.{Names}
 use Rattle.cw_serial.specs.Standing.{value_named, HasLocals, HasElements}
 
-pub list_eq-is_bytes_eq : (xs ys : List ℕ) → list_eq xs ys ≡ bytes_eq xs ys
-list_eq-is_bytes_eq [] [] = refl
-list_eq-is_bytes_eq [] (y ∷ ys) = refl
-list_eq-is_bytes_eq (x ∷ xs) [] = refl
-list_eq-is_bytes_eq (x ∷ xs) (y ∷ ys) = rw (list_eq-is_bytes_eq xs ys)
-
 -- a name that was set stands for its new value, and every other one for what it stood for
-pub value_named-set : {V : Type 0} (name : List ℕ) (old new : BTreeMap (Bor (List ℕ)) V) (v : V) → UpdatesBy (λ x y. slice_cmp nat_cmp x.now y.now) (λ k. slice_cmp nat_cmp name k.now) old new (Some v) → (n : List ℕ) → value_named (record { map = new }) n ≡ cond (list_eq n name) (Some v) (value_named (record { map = old }) n)
-value_named-set name old new v h n = btree_map_updates_str name old new (Some v) h n ∙ rw (list_eq-is_bytes_eq n name, nat_list_eq_equiv.symm n name)
-
-list_eq-Decides : (xs ys : List ℕ) → Decides (list_eq xs ys) (xs ≡ ys)
-list_eq-Decides xs ys = rw (list_eq-is_bytes_eq xs ys) (bytes_eq-Decides xs ys)
+pub value_named-set : {V : Type 0} (name : List ℕ) (old new : BTreeMap (Bor (List ℕ)) V) (v : V) → UpdatesBy (λ x y. slice_cmp nat_cmp x.now y.now) (λ k. slice_cmp nat_cmp name k.now) old new (Some v) → (n : List ℕ) → value_named (record { map = new }) n ≡ cond (bytes_eq n name) (Some v) (value_named (record { map = old }) n)
+value_named-set name old new v h n = btree_map_updates_str name old new (Some v) h n ∙ rw (nat_list_eq_equiv.symm n name)
 
 -- names that are not equal are not both found at once
-other_name : (n m x : List ℕ) → list_eq n x ≡ false → list_eq m n ≡ true → list_eq m x ≡ false
-other_name n m x p q = rw ((list_eq-Decides m n).0 q) p
+other_name : (n m x : List ℕ) → bytes_eq n x ≡ false → bytes_eq m n ≡ true → bytes_eq m x ≡ false
+other_name n m x p q = rw ((bytes_eq-Decides m n).0 q) p
 
 -- the first of the locals has the name, or not
-first_gets : (b c : Bool) (x : List ℕ × ℤ) (xs : Locals) (n : List ℕ) (v : ℤ) (m : List ℕ) → list_eq n x.0 ≡ b → list_eq m n ≡ c → (b ≡ false → local_of (with_local xs n v) m ≡ cond c (Some v) (local_of xs m)) → local_of (cond b ((x.0, v) ∷ xs) (x ∷ with_local xs n v)) m ≡ cond c (Some v) (cond (list_eq m x.0) (Some x.1) (local_of xs m))
-first_gets true c x xs n v m p q later = rw (← (list_eq-Decides n x.0).0 p, q) (same_name c) where
+first_gets : (b c : Bool) (x : List ℕ × ℤ) (xs : Locals) (n : List ℕ) (v : ℤ) (m : List ℕ) → bytes_eq n x.0 ≡ b → bytes_eq m n ≡ c → (b ≡ false → local_of (with_local xs n v) m ≡ cond c (Some v) (local_of xs m)) → local_of (cond b ((x.0, v) ∷ xs) (x ∷ with_local xs n v)) m ≡ cond c (Some v) (cond (bytes_eq m x.0) (Some x.1) (local_of xs m))
+first_gets true c x xs n v m p q later = rw (← (bytes_eq-Decides n x.0).0 p, q) (same_name c) where
   same_name : (c : Bool) → cond c (Some v) (local_of xs m) ≡ cond c (Some v) (cond c (Some x.1) (local_of xs m))
   same_name true = refl
   same_name false = refl
@@ -42,9 +32,9 @@ first_gets false true x xs n v m p q later = rw (other_name n m x.0 p q) (later 
 first_gets false false x xs n v m p q later = rw (later refl)
 
 -- a local that is there and gets a value is found with it, and every other one as before
-pub local_of-with_local : (ls : Locals) (n : List ℕ) (v : ℤ) (m : List ℕ) (w : ℤ) → local_of ls n ≡ Some w → local_of (with_local ls n v) m ≡ cond (list_eq m n) (Some v) (local_of ls m)
+pub local_of-with_local : (ls : Locals) (n : List ℕ) (v : ℤ) (m : List ℕ) (w : ℤ) → local_of ls n ≡ Some w → local_of (with_local ls n v) m ≡ cond (bytes_eq m n) (Some v) (local_of ls m)
 local_of-with_local [] n v m w h = absurd cc
-local_of-with_local (x ∷ xs) n v m w h = first_gets (list_eq n x.0) (list_eq m n) x xs n v m refl refl (λ e. local_of-with_local xs n v m w (rw e at h))
+local_of-with_local (x ∷ xs) n v m w h = first_gets (bytes_eq n x.0) (bytes_eq m n) x xs n v m refl refl (λ e. local_of-with_local xs n v m w (rw e at h))
 
 -- ## Names stand for something
 
@@ -58,8 +48,8 @@ own_locals names = with_names (λ n v. (n, v)) names.map.entries
 abbrev own_cells : Names ℕ → List CellInfo
 own_cells names = with_names (λ n c. record { name = n; len = 0; base = c; init = pos 0 }) names.map.entries
 
-same_test : (n m : List ℕ) → is_eq (slice_cmp nat_cmp n m) ≡ list_eq n m
-same_test n m = is_eq-slice_cmp n m ∙ sym (list_eq-is_bytes_eq n m)
+same_test : (n m : List ℕ) → is_eq (slice_cmp nat_cmp n m) ≡ bytes_eq n m
+same_test n m = is_eq-slice_cmp n m
 
 local_there : (n : List ℕ) (es : List (Bor (List ℕ) × ℤ)) → lookup (is_at (λ k. slice_cmp nat_cmp n k.now)) es ≡ local_of (with_names (λ n v. (n, v)) es) n
 local_there n [] = refl

@@ -2,7 +2,7 @@
 use Rattle.std.proofs.Common.{◌≡◌, ℕ, ◌+◌, List, [], ◌∷◌, ◌++◌, cond, Bool, true, false, Option, Some, refl, ap, ◌∙◌}
 use Rattle.std.specs.Option.{option_or}
 use Rattle.cw_text.specs.declared.ast.Word.{Word}
-use Rattle.cw_text.specs.Lexemes.{list_eq}
+use Rattle.std.specs.Str.{bytes_eq}
 use Rattle.cw_text.specs.Syntax.{Term, number, name, unary, binary, Statement, set_new, assign, out, Block, empty, first, Declaration, cell, func}
 use Rattle.cw_strand.specs.Names.{Thing, Scope, find, a_local, a_cell, a_function, used, in_term, scope_after, in_statement, in_block, in_params, with_params, elements, in_items, in_functions}
 use Rattle.cw_serial.specs.Scopes.{IsSame}
@@ -13,7 +13,7 @@ pub same_trans : {g h k : Scope} → IsSame g h → IsSame h k → IsSame g k
 same_trans a b = record { finds = λ n. a.finds n ∙ b.finds n }
 
 pub same_cons : {g h : Scope} (x : List ℕ × Thing) → IsSame g h → IsSame (x ∷ g) (x ∷ h)
-same_cons x same = record { finds = λ n. ap (λ o. cond (list_eq n x.0) (Some x.1) o) (same.finds n) }
+same_cons x same = record { finds = λ n. ap (λ o. cond (bytes_eq n x.0) (Some x.1) o) (same.finds n) }
 
 -- one name, before what is found in two scopes
 found_or : (b : Bool) (t : Thing) (o p : Option Thing) → cond b (Some t) (option_or o p) ≡ option_or (cond b (Some t) o) p
@@ -23,7 +23,7 @@ found_or false t o p = refl
 -- a name is looked for in the first scope, and then in the other
 pub find-append : (n : List ℕ) (g h : Scope) → find n (g ++ h) ≡ option_or (find n g) (find n h)
 find-append n [] h = refl
-find-append n (x ∷ g) h = rw (find-append n g h) (found_or (list_eq n x.0) x.1 (find n g) (find n h))
+find-append n (x ∷ g) h = rw (find-append n g h) (found_or (bytes_eq n x.0) x.1 (find n g) (find n h))
 
 pub same_append : {g h : Scope} (k : Scope) → IsSame g h → IsSame (g ++ k) (h ++ k)
 same_append {g} {h} k same = record { finds = λ n. rw (find-append n g k, find-append n h k, same.finds n) refl }

@@ -1,6 +1,6 @@
 -- What the items that were looked at so far declare.
 use Rattle.std.specs.Prelude.{◌≡◌, Bool, false, codes, List, ◌∷◌, ◌++◌, Result, Ok, Err, Some}
-use Rattle.cw_text.specs.Lexemes.{list_eq}
+use Rattle.std.specs.Str.{bytes_eq}
 use Rattle.cw_text.specs.Syntax.{Declaration, cell, func}
 use Rattle.cw_strand.specs.Names.{in_items, globals, cells_from, cells_of}
 use Rattle.cw_serial.specs.declared.program.NameRefusal.{NameRefusal}
@@ -28,4 +28,4 @@ pub record IsAllOf (ds : List Declaration) (d : Declared) : Type 0 where
 -- whether it is the function main
 abbrev pub is_main : Declaration → Bool
 is_main (cell x l len i) = false
-is_main (func x l ps b) = list_eq x (codes "main")
+is_main (func x l ps b) = bytes_eq x (codes "main")

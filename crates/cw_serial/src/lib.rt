@@ -36,6 +36,4 @@ pub fn worked_runs()
 {}
 
 #[cfg(test)]
-mod tests_checking;
-#[cfg(test)]
-mod tests_machine;
+mod tests;

@@ -1,5 +1,5 @@
 ghost use Rattle.std.specs.Prelude.{◌≡◌, ℕ, List, Some, None, OnOk, if◌then◌else◌};
-ghost use Rattle.cw_text.specs.Lexemes.{list_eq};
+ghost use Rattle.std.specs.Str.{bytes_eq};
 
 use cw_base::OutOfMemory;
 use std::alloc::Global;
@@ -32,7 +32,7 @@ impl<'a, V: Copy> Names<'a, V> {
     /// The name stands for this from now on.
     pub fn set(&mut self, name: &'a str, value: V) -> Result<(), OutOfMemory>
         ensures { OnOk result ((n : List ℕ) → value_named self.new n
-            ≡ (if list_eq n name.now then Some value else value_named self.old n)) }
+            ≡ (if bytes_eq n name.now then Some value else value_named self.old n)) }
     {
         self.map.insert(name, value)?;
         Ok(())

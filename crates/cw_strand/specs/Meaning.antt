@@ -4,7 +4,7 @@
 -- expression by its operands and its operator. What it can do by itself it does at once; so it always stands at a want.
 use Rattle.std.specs.Prelude.{ℕ, zero, suc, ◌+◌, List, [], ◌∷◌, Option, Some, None, Result, Ok, Err, if◌then◌else◌, ℤ, pos}
 use Rattle.cw_text.specs.declared.ast.Op.{Op}
-use Rattle.cw_text.specs.Lexemes.{list_eq}
+use Rattle.std.specs.Str.{bytes_eq}
 use Rattle.cw_text.specs.Syntax.{Term, number, name, unary, binary, Statement, set_new, assign, out, Block, empty, first, Declaration, cell, func}
 use Rattle.cw_code.specs.declared.FaultKind.{FaultKind}
 use Rattle.cw_code.specs.declared.CellInfo.{CellInfo}
@@ -20,7 +20,7 @@ use Rattle.cw_strand.specs.Arithmetic.{one, two}
 -- the number of a plain cell's element
 abbrev pub element_of : List CellInfo → List ℕ → Option ℕ
 element_of [] n = None
-element_of (c ∷ cs) n = if list_eq n c.name then Some c.base else element_of cs n
+element_of (c ∷ cs) n = if bytes_eq n c.name then Some c.base else element_of cs n
 
 -- locals, the newest first
 abbrev pub Locals : Type 0
@@ -28,11 +28,11 @@ Locals = List (List ℕ × ℤ)
 
 abbrev pub local_of : Locals → List ℕ → Option ℤ
 local_of [] n = None
-local_of (x ∷ xs) n = if list_eq n x.0 then Some x.1 else local_of xs n
+local_of (x ∷ xs) n = if bytes_eq n x.0 then Some x.1 else local_of xs n
 
 abbrev pub with_local : Locals → List ℕ → ℤ → Locals
 with_local [] n v = []
-with_local (x ∷ xs) n v = if list_eq n x.0 then (x.0, v) ∷ xs else x ∷ with_local xs n v
+with_local (x ∷ xs) n v = if bytes_eq n x.0 then (x.0, v) ∷ xs else x ∷ with_local xs n v
 
 -- ## What is to be done
 

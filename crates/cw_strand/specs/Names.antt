@@ -4,7 +4,7 @@
 use Rattle.std.specs.Prelude.{ℕ, zero, suc, ◌+◌, List, [], ◌∷◌, replicate, Option, Some, None, if◌then◌else◌, nat_lt, codes, ℤ}
 use Rattle.std.specs.List.{flat_map}
 use Rattle.cw_text.specs.declared.ast.Word.{Word}
-use Rattle.cw_text.specs.Lexemes.{list_eq}
+use Rattle.std.specs.Str.{bytes_eq}
 use Rattle.cw_text.specs.Syntax.{Term, number, name, unary, binary, Statement, set_new, assign, out, Block, empty, first, Declaration, cell, func}
 use Rattle.cw_code.specs.declared.CellInfo.{CellInfo}
 use Rattle.cw_strand.specs.declared.naming.NameKind.{NameKind}
@@ -23,7 +23,7 @@ Scope = List (List ℕ × Thing)
 
 abbrev pub find : List ℕ → Scope → Option Thing
 find n [] = None
-find n (x ∷ xs) = if list_eq n x.0 then Some x.1 else find n xs
+find n (x ∷ xs) = if bytes_eq n x.0 then Some x.1 else find n xs
 
 abbrev pub Fault : Type 0
 Fault = Option NameFault
@@ -110,7 +110,7 @@ in_functions g (func x l ps b ∷ ds) = in_params g ps then in_block (with_param
 abbrev pub main_from : ℕ → List Declaration → Option ℕ
 main_from n [] = None
 main_from n (cell x l len i ∷ ds) = main_from (suc n) ds
-main_from n (func x l ps b ∷ ds) = if list_eq x (codes "main") then Some n else main_from (suc n) ds
+main_from n (func x l ps b ∷ ds) = if bytes_eq x (codes "main") then Some n else main_from (suc n) ds
 
 abbrev pub main_of : List Declaration → Option ℕ
 main_of ds = main_from 0 ds

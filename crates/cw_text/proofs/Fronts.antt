@@ -8,7 +8,8 @@ use Rattle.std.specs.List.{take_while}
 use Rattle.cw_text.specs.declared.fault.TextKind.TheVariants.{BadNumber}
 use Rattle.cw_text.specs.declared.mark.Mark.{Mark}
 use Rattle.cw_text.specs.declared.mark.Mark.TheVariants as m
-use Rattle.cw_text.specs.Lexemes.{Token, Front, gap, found, mark, number, bad, end, is_blank, is_letter, is_word, list_eq, begins_with, begins_by, spelling, signs, word_token, number_token, value_of_digits, after_digits, sign_front, front, width}
+use Rattle.cw_text.specs.Lexemes.{Token, Front, gap, found, mark, number, bad, end, is_blank, is_letter, is_word, begins_with, begins_by, spelling, signs, word_token, number_token, value_of_digits, after_digits, sign_front, front, width}
+use Rattle.std.specs.Str.{bytes_eq}
 
 -- ## Words and numbers from their first byte on
 
@@ -52,7 +53,7 @@ pub record IsFrontOf (text : List ℕ) (f : Front) : Type 0 where
 
 word_no_end : (ks : List Mark) (text : List ℕ) → is_end (word_token ks text) ≡ false
 word_no_end [] text = refl
-word_no_end (k ∷ ks) text = either (λ t. is_end t ≡ false) (list_eq (spelling k) text) (mark k) (word_token ks text) (λ _. refl) (λ _. word_no_end ks text)
+word_no_end (k ∷ ks) text = either (λ t. is_end t ≡ false) (bytes_eq (spelling k) text) (mark k) (word_token ks text) (λ _. refl) (λ _. word_no_end ks text)
 
 number_no_end : (digits rest : List ℕ) → is_end (number_token digits rest) ≡ false
 number_no_end digits rest = either (λ t. is_end t ≡ false) (begins_by is_letter rest || nat_le (2 ^ 63) (value_of_digits digits)) (bad BadNumber) (number (value_of_digits digits)) (λ _. refl) (λ _. refl)

@@ -9,7 +9,8 @@ use Rattle.cw_text.specs.Text.{program}
 use Rattle.cw_text.specs.declared.fault.TextFault.{TextFault}
 use Rattle.cw_text.specs.declared.fault.TextKind.TheVariants.{BadNumber}
 use Rattle.cw_text.specs.declared.mark.Mark.{Mark}
-use Rattle.cw_text.specs.Lexemes.{Token, Front, gap, found, front, begun_by, width, lexemes_from, lexemes, line_after, keywords, signs, sign_front, word_token, number_token, value_of_digits, begins_by, begins_with, spelling, is_blank, is_letter, is_word, after_digits, list_eq, Lexemes, end_on, comes, mark, number as a_number, bad, end}
+use Rattle.cw_text.specs.Lexemes.{Token, Front, gap, found, front, begun_by, width, lexemes_from, lexemes, line_after, keywords, signs, sign_front, word_token, number_token, value_of_digits, begins_by, begins_with, spelling, is_blank, is_letter, is_word, after_digits, Lexemes, end_on, comes, mark, number as a_number, bad, end}
+use Rattle.std.specs.Str.{bytes_eq}
 use Rattle.cw_text.specs.Syntax.{Declaration}
 use Rattle.cw_text.specs.Grammar.{Symbol, Values, State, declared, feed, items, program_in, program_of, read, then_read}
 use Rattle.cw_text.specs.Printed.{HasSmallNumbers, IsReadableDeclaration, IsReadable}
@@ -57,7 +58,7 @@ IsSmall (found t n) = Fits t
 
 word_small : (ks : List Mark) (text : List ℕ) → Fits (word_token ks text)
 word_small [] text = tt
-word_small (k ∷ ks) text = cond_both (list_eq (spelling k) text) (mark k) (word_token ks text) Fits (λ _. tt) (λ _. word_small ks text)
+word_small (k ∷ ks) text = cond_both (bytes_eq (spelling k) text) (mark k) (word_token ks text) Fits (λ _. tt) (λ _. word_small ks text)
 
 neither : (a b : Bool) → (a || b) ≡ false → b ≡ false
 neither false b h = h

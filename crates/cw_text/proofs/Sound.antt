@@ -1,7 +1,7 @@
 -- Sound states of reading: with readable parts, each way on ends in a readable tree. Every token leads from a sound
 -- state to a sound state.
-use Rattle.std.proofs.Common.{◌≡◌, ℕ, zero, suc, ◌+◌, ◌^◌, ◌<◌, ◌≤◌, nat_lt, cond, Bool, true, false, List, [], ◌∷◌, ◌++◌, Option, Some, None, Result, Ok, Err, refl, sym, subst, arith, ℤ, pos, neg_ℤ, nat_abs, codes, ◌==◌, ◌&&◌, lit≤, lit<}
-use Rattle.std.proofs.lemmas.Bool.{cond_both, eqb-true, ltb-false}
+use Rattle.std.proofs.Common.{◌≡◌, ℕ, zero, suc, ◌+◌, ◌^◌, ◌<◌, ◌≤◌, nat_lt, cond, Bool, true, false, List, [], ◌∷◌, ◌++◌, Option, Some, None, Result, Ok, Err, refl, sym, subst, arith, ℤ, pos, neg_ℤ, nat_abs, codes, lit≤, lit<}
+use Rattle.std.proofs.lemmas.Bool.{cond_both, ltb-false}
 use Rattle.std.proofs.lemmas.List.Elements.{All-push}
 use Rattle.cw_text.specs.declared.ast.Op.{Op}
 use Rattle.cw_text.specs.declared.ast.Op.TheVariants as op
@@ -10,7 +10,9 @@ use Rattle.cw_text.specs.declared.fault.TextFault.{TextFault}
 use Rattle.cw_text.specs.declared.fault.TextKind.TheVariants.{Unexpected}
 use Rattle.cw_text.specs.declared.mark.Mark.{Mark}
 use Rattle.cw_text.specs.declared.mark.Mark.TheVariants as m
-use Rattle.cw_text.specs.Lexemes.{Token, list_eq, mark, name as a_name, number as a_number, bad, end}
+use Rattle.cw_text.specs.Lexemes.{Token, mark, name as a_name, number as a_number, bad, end}
+use Rattle.std.specs.Str.{bytes_eq}
+use Rattle.std.specs.Cmp.Lexicographic.{same_text}
 use Rattle.cw_text.specs.Syntax.{Term, Statement, set_new, assign, out, cell, func, number, name, unary, binary, Block, empty, with_statement}
 use Rattle.cw_text.specs.Grammar.{Symbol, Values, State, a_term, a_word, a_block, an_init, declared, act, block, cell_init, cell_done, func_done, let_done, assign_done, out_done, closing, comparison, exactly, expr, feed, init, items, lift, lifted, main_word, negated, newest_height, operand, pending, products, read_from, stmts, sums, go_on, infix_by, opened, operand_by, take, refuse, rest_of_expr, same_mark, join, push, product_of, sum_of, comparison_of, with_init, word, word_at}
 use Rattle.cw_text.specs.Printed.{IsReadableDeclaration, IsReadableStatement, IsReadableBlock, IsReadable}
@@ -105,25 +107,15 @@ operand_leads ss k vs (mark a) l rest fits sound = tt
 operand_leads ss k vs (bad b) l rest fits sound = tt
 operand_leads ss k vs end l rest fits sound = tt
 
-equal_both : (b c : Bool) (x y : ℕ) (xs ys : List ℕ) → (b && c) ≡ true → (b ≡ true → x ≡ y) → (c ≡ true → xs ≡ ys) → x ∷ xs ≡ y ∷ ys
-equal_both false c x y xs ys h f g = cc
-equal_both true c x y xs ys h f g = let e = f refl in let es = g h in cc
-
-list_eq-true : (xs ys : List ℕ) → list_eq xs ys ≡ true → xs ≡ ys
-list_eq-true [] [] h = refl
-list_eq-true [] (y ∷ ys) h = cc
-list_eq-true (x ∷ xs) [] h = cc
-list_eq-true (x ∷ xs) (y ∷ ys) h = equal_both (x == y) (list_eq xs ys) x y xs ys h (eqb-true x y) (list_eq-true xs ys)
-
 nat_abs-neg : (n : ℕ) → nat_abs (neg_ℤ (pos n)) ≡ n
 nat_abs-neg zero = refl
 nat_abs-neg (suc n) = refl
 
-main_leads : (is_main : Bool) (n : List ℕ) (k : List Symbol) (vs : Values) (l : ℕ) (rest : Result State TextFault) → list_eq n (codes "main") ≡ is_main → Sound (main_word ∷ k) vs →
+main_leads : (is_main : Bool) (n : List ℕ) (k : List Symbol) (vs : Values) (l : ℕ) (rest : Result State TextFault) → bytes_eq n (codes "main") ≡ is_main → Sound (main_word ∷ k) vs →
     Leads (a_name n) (go_on (cond is_main (take (act (push (a_word (word_at n l))) ∷ [])) (refuse Unexpected)) k vs l rest)
 main_leads true n k vs l rest is sound =
     opened_leads (act (push (a_word (word_at n l))) ∷ k) vs (a_name n) l
-    (λ low. subst (λ n. Sound k (a_word (word_at n l) ∷ vs)) (sym (list_eq-true n (codes "main") is)) (sound l))
+    (λ low. subst (λ n. Sound k (a_word (word_at n l) ∷ vs)) (sym (same_text n (codes "main") (sym is))) (sound l))
 main_leads false n k vs l rest is sound = tt
 
 -- statements with one more
@@ -141,7 +133,7 @@ step (closing a ∷ k) vs (mark b) l fits sound = only_leads (same_mark a b) k v
 step (closing a ∷ k) vs t l fits sound = tt
 step (word ∷ k) vs (a_name n) l fits sound = opened_leads (act (push (a_word (word_at n l))) ∷ k) vs (a_name n) l (λ low. sound (word_at n l))
 step (word ∷ k) vs t l fits sound = tt
-step (main_word ∷ k) vs (a_name n) l fits sound = main_leads (list_eq n (codes "main")) n k vs l _ refl sound
+step (main_word ∷ k) vs (a_name n) l fits sound = main_leads (bytes_eq n (codes "main")) n k vs l _ refl sound
 step (main_word ∷ k) vs t l fits sound = tt
 step (init ∷ k) vs (a_number n) l fits sound = opened_leads (act (with_init (pos n)) ∷ k) vs (a_number n) l (λ low. sound (pos n) fits)
 step (init ∷ k) vs (mark m.Minus) l fits sound = opened_leads (negated ∷ k) vs (mark m.Minus) l (λ low. sound)

@@ -15,7 +15,8 @@ use Rattle.cw_text.specs.declared.fault.TextFault.{TextFault}
 use Rattle.cw_text.specs.declared.mark.Mark.{Mark}
 use Rattle.cw_text.specs.declared.mark.Mark.TheVariants as m
 use Rattle.cw_text.specs.Syntax.{Term, number, name, unary, binary, Statement, set_new, assign, out, Block, empty, Declaration, cell, func, with_statement, height}
-use Rattle.cw_text.specs.Lexemes.{Token, Lexemes, end_on, comes, name as a_name, number as a_number, mark, bad, end, list_eq, spelling}
+use Rattle.cw_text.specs.Lexemes.{Token, Lexemes, end_on, comes, name as a_name, number as a_number, mark, bad, end, spelling}
+use Rattle.std.specs.Str.{bytes_eq}
 
 -- what has been read
 pub data Value : Type 0 where
@@ -99,7 +100,7 @@ newest_height vs = 0
 -- ## The grammar
 
 abbrev pub same_mark : Mark → Mark → Bool
-same_mark a b = list_eq (spelling a) (spelling b)
+same_mark a b = bytes_eq (spelling a) (spelling b)
 
 abbrev pub word_at : List ℕ → ℕ → Word
 word_at n l = record { name = n; line = l }
@@ -162,7 +163,7 @@ abbrev pub after : Symbol → Token → ℕ → Next
 after word (a_name n) l = take (act (push (a_word (word_at n l))) ∷ [])
 after word t l = refuse (why t)
 -- so far the only function is main
-after main_word (a_name n) l = if list_eq n (codes "main") then take (act (push (a_word (word_at n l))) ∷ []) else refuse Unexpected
+after main_word (a_name n) l = if bytes_eq n (codes "main") then take (act (push (a_word (word_at n l))) ∷ []) else refuse Unexpected
 after main_word t l = refuse (why t)
 after (exactly a) (mark b) l = only a b
 after (exactly a) t l = refuse (why t)

@@ -1,6 +1,7 @@
 -- The tokens of a text: names, numbers, keywords and signs, each with its line.
 use Rattle.std.specs.Prelude.{ℕ, zero, suc, ◌+◌, ◌-◌, ◌*◌, ◌^◌, Bool, true, false, ◌||◌, ◌&&◌, not, List, [], ◌∷◌, length, if◌then◌else◌, ◌==◌, nat_le, fold, codes, take_while}
 use Rattle.std.specs.Char.{is_ascii_digit, is_ascii_alphabetic}
+use Rattle.std.specs.Str.{bytes_eq}
 use Rattle.cw_text.specs.declared.fault.TextKind.{TextKind}
 use Rattle.cw_text.specs.declared.fault.TextKind.TheVariants.{BadChar, BadNumber}
 use Rattle.cw_text.specs.declared.mark.Mark.{Mark}
@@ -31,12 +32,6 @@ is_word c = is_letter c || is_ascii_digit c
 
 abbrev pub is_blank : ℕ → Bool
 is_blank c = c == 32 || c == 9 || c == 13 || c == 10
-
-abbrev pub list_eq : List ℕ → List ℕ → Bool
-list_eq [] [] = true
-list_eq [] (y ∷ ys) = false
-list_eq (x ∷ xs) [] = false
-list_eq (x ∷ xs) (y ∷ ys) = x == y && list_eq xs ys
 
 abbrev pub begins_with : List ℕ → List ℕ → Bool
 begins_with [] ys = true
@@ -88,7 +83,7 @@ signs = m.EqEq ∷ m.BangEq ∷ m.LessEq ∷ m.GreaterEq ∷ m.BraceOpen ∷ m.B
 -- the keyword, or else a name
 abbrev pub word_token : List Mark → List ℕ → Token
 word_token [] text = name text
-word_token (k ∷ ks) text = if list_eq (spelling k) text then mark k else word_token ks text
+word_token (k ∷ ks) text = if bytes_eq (spelling k) text then mark k else word_token ks text
 
 -- the first sign of the list with which the text begins
 abbrev pub sign_front : List Mark → List ℕ → Front

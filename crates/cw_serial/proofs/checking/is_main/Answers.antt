@@ -1,6 +1,5 @@
 use Rattle.std.proofs.Common.{codes}
-use Rattle.cw_serial.proofs.Found.{list_eq-is_bytes_eq}
 use Rattle.cw_serial.proofs.checking.is_main.Goals as goal
 
 pub returns-in-Func : goal.returns-in-Func
-returns-in-Func c = rw (c.in-Func.is, list_eq-is_bytes_eq c.in-Func.name (codes "main"), ← c.as_str.ensures) c.eq.ensures
+returns-in-Func c = rw (c.in-Func.is, ← c.as_str.ensures) c.eq.ensures
