@@ -1,0 +1,20 @@
+//! The computation tree of a run: what a node is, who stands above whom, which block is still pending, and who conflicts with whom.
+//! Stands on `cw_base` and `cw_code`.
+//! Contracts cite `specs/Walks.antt` (what stands above a node) and `specs/Names.antt` (names of strands). The other files of
+//! `specs/` hold what the layers above say of a tree, its accesses and its conflicts.
+#![tactic(auto)]
+
+mod access;
+mod closed;
+mod conflict;
+mod node;
+mod picks;
+mod tree;
+mod walks;
+
+pub use access::{Entry, Mark};
+pub use closed::{Closed, Halt};
+pub use conflict::Conflict;
+pub use node::{BlockState, Kind, Node};
+pub use picks::{Name, Picks};
+pub use tree::Tree;
