@@ -2,6 +2,7 @@
 -- A node is its own ancestor. What stands above it begins with its parent.
 use Rattle.std.specs.Prelude.{ℕ, zero, suc, ◌<◌, ◌^◌, ◌==◌, ◌&&◌, Bool, true, false, not, List, [], ◌∷◌, length, drop, Option, Some, None, find, unwrap_or, if◌then◌else◌}
 use Rattle.std.specs.List.{list_any}
+use Rattle.std.specs.Option.{option_or}
 use Rattle.cw_tree.specs.declared.node.Node.{Node}
 use Rattle.cw_tree.specs.Nodes.{parent_of, is_pending, is_block}
 
@@ -58,14 +59,10 @@ conflict t u v =
       bars None = false
       bars (Some b) = not (is_ancestor t b v)
 
--- the outermost of these nodes, innermost first, that passes a test
+-- the outermost that passes a test, of nodes that are listed innermost first
 abbrev pub outermost : (ℕ → Bool) → List ℕ → Option ℕ
 outermost p [] = None
-outermost p (n ∷ ns) =
-    outer (outermost p ns) where
-      outer : Option ℕ → Option ℕ
-      outer (Some m) = Some m
-      outer None = if p n then Some n else None
+outermost p (n ∷ ns) = option_or (outermost p ns) (if p n then Some n else None)
 
 -- the outermost pending block above v that is not above u
 abbrev pub victim : List Node → ℕ → ℕ → Option ℕ

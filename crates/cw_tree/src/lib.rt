@@ -4,13 +4,14 @@
 //! `specs/` hold what the layers above say of a tree, its accesses and its conflicts.
 #![tactic(auto)]
 
+ghost use Rattle.cw_tree.specs.Rows.{Ancestors, Conflicts};
+
 mod access;
 mod closed;
 mod conflict;
 mod node;
 mod picks;
 mod tree;
-mod walks;
 
 pub use access::{Entry, Mark};
 pub use closed::{Closed, Halt};
@@ -18,3 +19,9 @@ pub use conflict::Conflict;
 pub use node::{BlockState, Kind, Node};
 pub use picks::{Name, Picks};
 pub use tree::Tree;
+
+/// What the definitions say of small trees.
+pub fn worked_trees()
+    ensures ancestors { Ancestors }
+    ensures conflicts { Conflicts }
+{}

@@ -2,6 +2,8 @@ ghost use Rattle.std.specs.Prelude.{◌≡◌, ◌-◌, ◌<◌, ◌≤◌, ◌^
 ghost use Rattle.cw_tree.specs.Nodes.{parent_of, is_strand, is_fork, is_block, is_pending, is_aborted, fresh_node, closed};
 ghost use Rattle.cw_tree.specs.Walks.{IsNumbered};
 
+mod walks;
+
 use crate::{BlockState, Kind, Node};
 use cw_base::OutOfMemory;
 use std::alloc::Global;
@@ -64,6 +66,7 @@ impl Tree {
         requires { n < length self.now }
         ensures parent { result ≡ parent_of self.now n }
         ensures low { 0 < n → result < n }
+        ensures numbered { IsNumbered self.now }
     {
         self.nodes[n as usize].parent
     }
