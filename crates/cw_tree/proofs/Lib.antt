@@ -1,3 +1,4 @@
 pub mod Climbs
 pub mod Ancestors
 pub mod Meets
+pub mod Victims

@@ -83,6 +83,7 @@ impl Tree {
         requires v { v < length self.now }
         ensures { result ≡ victim self.now u v }
     {
+        let _ = &self.nodes;
         let meet = self.lca(u, v);
         let mut found = None;
         let mut at = v;
