@@ -4,7 +4,7 @@
 //! `specs/` hold what the layers above say of a tree, its accesses and its conflicts.
 #![tactic(auto)]
 
-ghost use Rattle.cw_tree.specs.Rows.{Ancestors, Conflicts};
+ghost use Rattle.cw_tree.specs.Rows.{Ancestors, Conflicts, Orders, Names, Texts};
 
 mod access;
 mod closed;
@@ -17,11 +17,14 @@ pub use access::{Entry, Mark};
 pub use closed::{Closed, Halt};
 pub use conflict::Conflict;
 pub use node::{BlockState, Kind, Node};
-pub use picks::{Name, Picks};
+pub use picks::{Name, Picks, Turn};
 pub use tree::Tree;
 
 /// What the definitions say of small trees.
 pub fn worked_trees()
     ensures ancestors { Ancestors }
     ensures conflicts { Conflicts }
+    ensures orders { Orders }
+    ensures names { Names }
+    ensures texts { Texts }
 {}

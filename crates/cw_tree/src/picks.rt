@@ -9,6 +9,13 @@ pub struct Name {
     pub right: bool,
 }
 
+/// A step down from a strand to one that it forked: which of its forks, counted from 1, and whether to the right strand.
+#[derive(Clone, Copy, PartialEq, Eq, Debug)]
+pub struct Turn {
+    pub fork: u32,
+    pub right: bool,
+}
+
 /// An order: the strands that it names, of which number 0 is the root, the numbers of the strands to pick one after another, and
 /// the strand that it ends with.
 #[derive(Drop)]
