@@ -22,6 +22,9 @@ above_ancestor t a n h = ancestor_split t a n ∙ or_right (nat_eq n a) (is_abov
 pub ancestor_above : (t : List Node) (a n : ℕ) → n ≢ a → is_ancestor t a n ≡ is_above t a n
 ancestor_above t a n ne = ancestor_split t a n ∙ ap (λ b. b || is_above t a n) (ne_eqb n a ne)
 
+pub ancestor_root : (t : List Node) (a : ℕ) → is_ancestor t a 0 ≡ true → a ≡ 0
+ancestor_root t a e = elim (eqb_tells 0 a) [ inl q ↦ sym q.1 | inr q ↦ absurd (cc (ancestor_above t a 0 (λ z. q.1 z), e)) ]
+
 module _ (t : List Node) (r : IsRooted t) where
   pub above_parent : (a n : ℕ) → 0 < n → n < length t → is_above t a n ≡ is_ancestor t a (parent_of t n)
   above_parent a n p h = ap (λ ns. has (Rattle.std.proofs.Common.drop 1 ns) a) (path_step t r n p h)

@@ -28,3 +28,6 @@ pub fn worked_trees()
     ensures names { Names }
     ensures texts { Texts }
 {}
+
+#[cfg(test)]
+mod tests;

@@ -2,6 +2,7 @@ ghost use Rattle.std.specs.Prelude.{◌≡◌, ◌-◌, ◌<◌, ◌≤◌, ◌^
 ghost use Rattle.cw_tree.specs.Nodes.{parent_of, is_strand, is_fork, is_block, is_pending, is_aborted, fresh_node, closed};
 ghost use Rattle.cw_tree.specs.Walks.{IsNumbered};
 
+mod name;
 mod walks;
 
 use crate::{BlockState, Kind, Node};

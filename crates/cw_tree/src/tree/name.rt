@@ -1,0 +1,104 @@
+ghost use Rattle.std.specs.Prelude.{◌≡◌, ◌<◌, length, map, IfOk, IsTrue, string_bytes};
+ghost use Rattle.cw_tree.specs.Nodes.{all_nodes, is_strand};
+ghost use Rattle.cw_tree.specs.Names.{fork_number, is_right, name_of, name_text};
+
+use crate::{Tree, Turn};
+use cw_base::OutOfMemory;
+use std::fmt::Write;
+
+impl Tree {
+    /// The name of a strand: `0` for the root, and `.kl` or `.kr` for each step down to the left or right strand of a k-th fork.
+    pub fn name(&self, strand: u32) -> Result<String, OutOfMemory>
+        requires there { strand < length self.now }
+        requires strand { IsTrue (is_strand self.now strand) }
+        ensures { IfOk result (λ text. string_bytes text ≡ name_text (name_of self.now strand)) }
+    {
+        let mut text = String::from_str(*self.nodes.allocator(), "0")?;
+        let turns = self.turns(strand)?;
+        for turn in &turns {
+            let side = if turn.right { 'r' } else { 'l' };
+            write!(text, ".{}{side}", turn.fork)?;
+        }
+        Ok(text)
+    }
+
+    /// The steps from the root down to a strand.
+    pub fn turns(&self, strand: u32) -> Result<Vec<Turn>, OutOfMemory>
+        requires { strand < length self.now }
+        ensures { IfOk result (λ turns. turns.items ≡ name_of self.now strand) }
+    {
+        let forks = self.fork_numbers()?;
+        let sides = self.right_strands()?;
+        let mut turns = Vec::new(*self.nodes.allocator());
+        let mut at = strand;
+        while at > 0 {
+            let parent = self.parent(at);
+            if self.is_strand(at) {
+                turns.push(Turn {
+                    fork: forks[parent as usize],
+                    right: sides[at as usize],
+                })?;
+            }
+            at = parent;
+        }
+        turns.reverse();
+        Ok(turns)
+    }
+
+    /// For each node the number that a fork in its place has in its strand.
+    pub fn fork_numbers(&self) -> Result<Vec<u32>, OutOfMemory>
+        ensures { IfOk result (λ numbers. numbers.items ≡ map (fork_number self.now) (all_nodes self.now)) }
+    {
+        let inside = self.forks_inside()?;
+        let alloc = *self.nodes.allocator();
+        let mut numbers = vec![in alloc; 1u32; inside.len()]?;
+        // the forks in a node's children so far
+        let mut passed = vec![in alloc; 0u32; inside.len()]?;
+        for n in 1..inside.len() as u32 {
+            let parent = self.parent(n) as usize;
+            if !self.is_strand(n) {
+                let siblings = if self.is_fork(parent as u32) { 0 } else { passed[parent] };
+                numbers[n as usize] = numbers[parent] + siblings;
+            }
+            passed[parent] += inside[n as usize];
+        }
+        Ok(numbers)
+    }
+
+    // For each node how many forks stand in it, or are it, that count at what follows it in its strand.
+    fn forks_inside(&self) -> Result<Vec<u32>, OutOfMemory> {
+        let count = self.nodes.len();
+        let mut inside = vec![in *self.nodes.allocator(); 0u32; count]?;
+        let mut n = count as u32;
+        // children have greater numbers than their parents
+        while n > 1 {
+            n -= 1;
+            let own = if self.is_strand(n) || self.is_aborted(n) {
+                0
+            } else {
+                inside[n as usize] + u32::from(self.is_fork(n))
+            };
+            inside[n as usize] = own;
+            inside[self.parent(n) as usize] += own;
+        }
+        Ok(inside)
+    }
+
+    /// For each node whether an earlier strand has the same parent.
+    pub fn right_strands(&self) -> Result<Vec<bool>, OutOfMemory>
+        ensures { IfOk result (λ sides. sides.items ≡ map (is_right self.now) (all_nodes self.now)) }
+    {
+        let alloc = *self.nodes.allocator();
+        let mut sides = vec![in alloc; false; self.nodes.len()]?;
+        // whether a strand was met among a node's children
+        let mut forked = vec![in alloc; false; self.nodes.len()]?;
+        for n in 1..self.nodes.len() as u32 {
+            let parent = self.parent(n) as usize;
+            sides[n as usize] = forked[parent];
+            if self.is_strand(n) {
+                forked[parent] = true;
+            }
+        }
+        Ok(sides)
+    }
+}
