@@ -9,7 +9,7 @@ use Rattle.cw_tree.specs.Walks.{IsRooted, path, above, is_ancestor, is_above}
 use Rattle.cw_tree.specs.Series.{are_ordered, is_before}
 use Rattle.cw_tree.proofs.Lists.{In, any_in, any_from}
 use Rattle.cw_tree.proofs.Climbs.{by_parent}
-use Rattle.cw_tree.proofs.Ancestors.{ancestor_root, ancestor_step, ancestor_le}
+use Rattle.cw_tree.proofs.Ancestors.{ancestor_self, ancestor_root, ancestor_step, ancestor_up, ancestor_trans, ancestor_le}
 
 has_in : (ns : List ℕ) (a : ℕ) → list_any (λ m. nat_eq m a) ns ≡ true → In a ns
 has_in ns a e =
@@ -110,3 +110,30 @@ module _ (t : List Node) (r : IsRooted t) where
         | inl less ↦ sym (apart d c (omega arith) p (sym same) (ancestor_linear d c n h f e (omega arith)) q (omega arith))
         | inr le ↦ apart c d (omega arith) q same (ancestor_linear c d n h e f le) p (omega arith)
       ]
+
+  -- what stands before a node does not stand in it
+  pub before_apart : (n m : ℕ) → n < length t → is_before t n m ≡ true → is_ancestor t m n ≡ true → ⊥
+  before_apart n m h e f =
+      let s = of_before t n m e in
+      let o = s.ordered in
+      let same : s.first ≡ s.second = children_apart s.first s.second n h o.some (let a = o.some in let b = o.less in omega arith) o.same s.over_first (ancestor_trans t r s.second m n h s.over_second f) in
+      let less = o.less in
+      omega (arith, same)
+
+  -- the child of a node through which another is reached
+  pub record Branch (a n : ℕ) : Type 0 where
+    pub child : ℕ
+    pub some : 0 < child
+    pub parent : parent_of t child ≡ a
+    pub over : is_ancestor t child n ≡ true
+
+  pub branch : (a n : ℕ) → n < length t → n ≢ a → is_ancestor t a n ≡ true → Branch a n
+  branch a n h =
+      by_parent t r (λ n. n ≢ a → is_ancestor t a n ≡ true → Branch a n) (λ ne e. absurd (ne (sym (ancestor_root t a e))))
+      (λ n p h more ne e.
+      let up = sym (ancestor_step t r a n p h ne) ∙ e in
+      elim (cases_eq (parent_of t n) a) [
+        | inl q ↦ record { child = n; some = p; parent = q; over = ancestor_self t n }
+        | inr other ↦ (let b = more other up in record { child = b.child; some = b.some; parent = b.parent; over = ancestor_up t r b.child n p h b.over })
+      ])
+      n h

@@ -6,3 +6,5 @@ pub mod Lists
 pub mod Counting
 pub mod Strands
 pub mod Kin
+pub mod Reaching
+pub mod Forks
