@@ -16,7 +16,7 @@ use Rattle.cw_tree.proofs.Kin.{AreOrdered, InSeries, of_before, before_of, above
 use Rattle.cw_tree.proofs.Reaching.{is_open, reaches, reaches_list, Reached, reached, reaches_from}
 use Rattle.cw_tree.proofs.Counting.{count, one_if, count_same, count_none, count_or, count_one, count_less}
 
-same_truth : (a b : Bool) → (a ≡ true → b ≡ true) → (b ≡ true → a ≡ true) → a ≡ b
+pub same_truth : (a b : Bool) → (a ≡ true → b ≡ true) → (b ≡ true → a ≡ true) → a ≡ b
 same_truth true true f g = refl
 same_truth true false f g = sym (f refl)
 same_truth false true f g = g refl
@@ -48,10 +48,10 @@ pub forks_after : (t : List Node) (c : ℕ) → count (counts_after t c) (length
 forks_after t c = count_same (counts_after t c) (comes_to t (is_same c)) (length t) (λ g h. after_comes t c g)
 
 module _ (t : List Node) (r : IsRooted t) where
-  comes : (w : ℕ → Bool) (g : ℕ) → g < length t → comes_to t w g ≡ true → (is_fork t g ≡ true) × Reached t w g
+  pub comes : (w : ℕ → Bool) (g : ℕ) → g < length t → comes_to t w g ≡ true → (is_fork t g ≡ true) × Reached t w g
   comes w g h e = let z = and_parts (is_fork t g) (reaches t w g) e in (z.0, reached t r w g h z.1)
 
-  comes_from : (w : ℕ → Bool) (g : ℕ) → g < length t → is_fork t g ≡ true → Reached t w g → comes_to t w g ≡ true
+  pub comes_from : (w : ℕ → Bool) (g : ℕ) → g < length t → is_fork t g ≡ true → Reached t w g → comes_to t w g ≡ true
   comes_from w g h f s = and_from (is_fork t g) (reaches t w g) f (reaches_from t r w g h s)
 
   comes_weaker : (w v : ℕ → Bool) (g : ℕ) → g < length t → ((d : ℕ) → d < length t → w d ≡ true → v d ≡ true) → comes_to t w g ≡ true → comes_to t v g ≡ true

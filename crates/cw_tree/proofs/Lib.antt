@@ -8,3 +8,4 @@ pub mod Strands
 pub mod Kin
 pub mod Reaching
 pub mod Forks
+pub mod Numbers

@@ -34,13 +34,13 @@ is_aborted_state _ = false
 
 -- ## A node by its number
 
+abbrev pub passes : (Node → Bool) → Option Node → Bool
+passes p None = false
+passes p (Some node) = p node
+
 -- whether node n is there and passes a test
 abbrev pub is_node : (Node → Bool) → List Node → ℕ → Bool
-is_node p t n =
-    passes (slice_get t n) where
-      passes : Option Node → Bool
-      passes None = false
-      passes (Some node) = p node
+is_node p t n = passes p (slice_get t n)
 
 abbrev pub is_strand : List Node → ℕ → Bool
 is_strand = is_node (λ x. is_strand_kind x.kind)
