@@ -62,6 +62,10 @@ at_most_one : (b : Bool) → one_if b ≤ 1
 at_most_one true = omega arith
 at_most_one false = omega arith
 
+pub count_le : (p : ℕ → Bool) (k : ℕ) → count p k ≤ k
+count_le p zero = omega arith
+count_le p (suc k) = omega (arith, count_le p k, count_step p k, at_most_one (p k))
+
 -- where 0 does not pass, fewer pass than there are numbers
 pub count_less : (p : ℕ → Bool) (k : ℕ) → p 0 ≡ false → 0 < k → count p k < k
 count_less p zero e h = absurd (omega arith)

@@ -9,3 +9,4 @@ pub mod Kin
 pub mod Reaching
 pub mod Forks
 pub mod Numbers
+pub mod Passes

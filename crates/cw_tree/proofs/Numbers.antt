@@ -41,7 +41,7 @@ pub record Counts (t : List Node) (n g : ℕ) : Type 0 where
   pub before : is_before t g n ≡ true
   pub attempts : (a : ℕ) → is_above t a g ≡ true → is_aborted t a ≡ true → is_above t a n ≡ true
 
-of_counts : (t : List Node) (n g : ℕ) → counts t n g ≡ true → Counts t n g
+pub of_counts : (t : List Node) (n g : ℕ) → counts t n g ≡ true → Counts t n g
 of_counts t n g e =
     let a = and_parts (is_fork t g && nat_eq (strand_of t g) (strand_of t n) && is_before t g n) (list_all (is_past t n) (above t g)) e in
     let b = and_parts (is_fork t g && nat_eq (strand_of t g) (strand_of t n)) (is_before t g n) a.0 in
