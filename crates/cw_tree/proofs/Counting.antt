@@ -1,15 +1,13 @@
 -- How many of the numbers below a bound pass a test.
-use Rattle.std.proofs.Common.{◌≡◌, ◌≢◌, ℕ, zero, suc, ◌+◌, ◌<◌, ◌≤◌, refl, ap, sym, arith, Bool, true, false, cond, inl, inr}
+use Rattle.std.proofs.Common.{◌≡◌, ◌≢◌, ℕ, zero, suc, ◌+◌, ◌<◌, ◌≤◌, refl, ap, sym, arith, Bool, true, false, inl, inr}
 use Rattle.std.specs.Prelude.{◌⊎◌, ◌||◌, count_by}
 use Rattle.std.proofs.lemmas.List.Sums.{sum_by_push}
 use Rattle.std.proofs.lemmas.Bool.{cases_eq}
 use Rattle.cw_tree.specs.Nodes.{below}
+use Rattle.cw_tree.specs.Names.{one_if}
 
 abbrev pub count : (ℕ → Bool) → ℕ → ℕ
 count p k = count_by p (below k)
-
-abbrev pub one_if : Bool → ℕ
-one_if b = cond b 1 0
 
 count_step : (p : ℕ → Bool) (k : ℕ) → count p (suc k) ≡ count p k + one_if (p k)
 count_step p k = sum_by_push (λ n. one_if (p n)) (below k) k

@@ -7,14 +7,14 @@ use Rattle.cw_tree.specs.declared.node.Node.{Node}
 use Rattle.cw_tree.specs.Nodes.{parent_of, is_strand, is_fork, is_aborted}
 use Rattle.cw_tree.specs.Walks.{IsRooted, path, above, is_ancestor, is_above}
 use Rattle.cw_tree.specs.Series.{strand_of, is_before}
-use Rattle.cw_tree.specs.Names.{counts, counts_after}
+use Rattle.cw_tree.specs.Names.{one_if, lets_out, counts, counts_after, forks_after}
 use Rattle.cw_tree.proofs.Lists.{In, all_in, all_from}
 use Rattle.cw_tree.proofs.Climbs.{by_parent}
 use Rattle.cw_tree.proofs.Ancestors.{ancestor_self, ancestor_root, ancestor_step, ancestor_up, ancestor_above, above_ancestor, above_parent, ancestor_le, ancestor_past, ancestor_trans}
 use Rattle.cw_tree.proofs.Strands.{strand_of_strand, strand_of_other, strand_of_le, strand_innermost}
 use Rattle.cw_tree.proofs.Kin.{AreOrdered, InSeries, of_before, before_of, above_in, in_above, ancestor_linear, children_apart, before_apart, branch}
-use Rattle.cw_tree.proofs.Reaching.{is_open, reaches, reaches_list, Reached, reached, reaches_from}
-use Rattle.cw_tree.proofs.Counting.{count, one_if, count_same, count_none, count_or, count_one, count_less}
+use Rattle.cw_tree.proofs.Reaching.{reaches, reaches_list, Reached, reached, reaches_from}
+use Rattle.cw_tree.proofs.Counting.{count, count_same, count_none, count_or, count_one, count_less}
 
 pub same_truth : (a b : Bool) → (a ≡ true → b ≡ true) → (b ≡ true → a ≡ true) → a ≡ b
 same_truth true true f g = refl
@@ -44,8 +44,8 @@ is_same c d = nat_eq d c
 after_comes : (t : List Node) (c g : ℕ) → counts_after t c g ≡ comes_to t (is_same c) g
 after_comes t c g = ap (λ b. is_fork t g && b) (reaches_list t (is_same c) (path t g))
 
-pub forks_after : (t : List Node) (c : ℕ) → count (counts_after t c) (length t) ≡ forks_to t (is_same c)
-forks_after t c = count_same (counts_after t c) (comes_to t (is_same c)) (length t) (λ g h. after_comes t c g)
+pub after_is : (t : List Node) (c : ℕ) → forks_after t c ≡ forks_to t (is_same c)
+after_is t c = count_same (counts_after t c) (comes_to t (is_same c)) (length t) (λ g h. after_comes t c g)
 
 module _ (t : List Node) (r : IsRooted t) where
   pub comes : (w : ℕ → Bool) (g : ℕ) → g < length t → comes_to t w g ≡ true → (is_fork t g ≡ true) × Reached t w g
@@ -97,16 +97,16 @@ module _ (t : List Node) (r : IsRooted t) where
             k.2 (children_apart t r y.node n g h k.0 p k.1 y.over (subst P here z.over))
 
   -- nothing comes past a strand or a block that was rolled back
-  pub forks_stopped : (n : ℕ) → is_open t n ≡ false → forks_to t (is_same n) ≡ 0
+  pub forks_stopped : (n : ℕ) → lets_out t n ≡ false → forks_to t (is_same n) ≡ 0
   forks_stopped n e =
       count_none (comes_to t (is_same n)) (length t) (λ g h. false_from_ne_true (comes_to t (is_same n) g) (λ f.
       let s = (comes (is_same n) g h f).1 in
       let here : s.node ≡ n = eqb-true s.node n s.passes in
-      let P : ℕ → Type 0 = λ m. is_open t m ≡ true in
+      let P : ℕ → Type 0 = λ m. lets_out t m ≡ true in
       absurd (cc (e, subst P here (s.opened s.node s.over (omega arith))))))
 
   -- the forks in a node are those in its children, and the node itself where it is a fork
-  pub forks_inside : (n : ℕ) → n < length t → is_open t n ≡ true → forks_to t (is_same n) ≡ forks_to t (child_from t (suc n) n) + one_if (is_fork t n)
+  pub forks_inside : (n : ℕ) → n < length t → lets_out t n ≡ true → forks_to t (is_same n) ≡ forks_to t (child_from t (suc n) n) + one_if (is_fork t n)
   forks_inside n hn o =
       count_or (comes_to t (is_same n)) (comes_to t (child_from t (suc n) n)) own (length t)
       (λ g h. same_truth (comes_to t (is_same n) g) (comes_to t (child_from t (suc n) n) g || own g) (split g h) (join g h)) apart
@@ -157,7 +157,7 @@ module _ (t : List Node) (r : IsRooted t) where
               | inr q ↦
               (let z = and_parts (is_fork t g) (is_same n g) q in
               let e : g ≡ n = eqb-true g n z.1 in
-              let P : ℕ → Type 0 = λ m. is_open t m ≡ true in
+              let P : ℕ → Type 0 = λ m. lets_out t m ≡ true in
               let Q : ℕ → Type 0 = λ m. is_ancestor t m g ≡ true in
               comes_from (is_same n) g h z.0 (record {
                 node = n;
@@ -166,7 +166,7 @@ module _ (t : List Node) (r : IsRooted t) where
                 opened = λ m a k. (let le : m ≤ g = ancestor_le t r m g h a in let same : n ≡ m = omega (arith, e) in subst P same o);
               }))
             ] where
-              between : (g : ℕ) → g < length t → (s : Reached t (child_from t (suc n) n) g) → (m : ℕ) → is_ancestor t m g ≡ true → n ≤ m → (m < s.node) ⊎ (s.node ≤ m) → parent_of t s.node ≡ n → suc n ≤ s.node → is_open t m ≡ true
+              between : (g : ℕ) → g < length t → (s : Reached t (child_from t (suc n) n) g) → (m : ℕ) → is_ancestor t m g ≡ true → n ≤ m → (m < s.node) ⊎ (s.node ≤ m) → parent_of t s.node ≡ n → suc n ≤ s.node → lets_out t m ≡ true
               between g h s m a k (inr le) up low = s.opened m a le
               between g h s m a k (inl less) up low =
                   let le : s.node ≤ g = ancestor_le t r s.node g h s.over in
@@ -174,7 +174,7 @@ module _ (t : List Node) (r : IsRooted t) where
                   let over : is_ancestor t m (parent_of t s.node) ≡ true = sym (ancestor_step t r m s.node (omega arith) (omega arith) ne) ∙ ancestor_linear t r m s.node g h a s.over (omega arith) in
                   let high : m ≤ parent_of t s.node = ancestor_le t r m (parent_of t s.node) (omega (arith, up)) over in
                   let same : n ≡ m = omega (arith, up) in
-                  let P : ℕ → Type 0 = λ x. is_open t x ≡ true in
+                  let P : ℕ → Type 0 = λ x. lets_out t x ≡ true in
                   subst P same o
         apart : (g : ℕ) → g < length t → comes_to t (child_from t (suc n) n) g ≡ true → own g ≡ true → ⊥
         apart g h f q =

@@ -10,3 +10,4 @@ pub mod Reaching
 pub mod Forks
 pub mod Numbers
 pub mod Passes
+pub mod PassDown

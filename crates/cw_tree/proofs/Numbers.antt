@@ -14,7 +14,7 @@ use Rattle.cw_tree.proofs.Lists.{In, all_in, all_from}
 use Rattle.cw_tree.proofs.Ancestors.{ancestor_self, ancestor_root, ancestor_step, ancestor_up, ancestor_above, above_ancestor, above_parent, ancestor_le, ancestor_past, ancestor_trans}
 use Rattle.cw_tree.proofs.Strands.{strand_of_strand, strand_of_other, strand_of_le, strand_over, strand_innermost, strand_through}
 use Rattle.cw_tree.proofs.Kin.{AreOrdered, InSeries, of_before, before_of, above_in, in_above, ancestor_linear, children_apart, before_apart}
-use Rattle.cw_tree.proofs.Reaching.{is_open, reaches, Reached}
+use Rattle.cw_tree.proofs.Reaching.{reaches, Reached}
 use Rattle.cw_tree.proofs.Counting.{count, count_same, count_none, count_or, count_less}
 use Rattle.cw_tree.proofs.Forks.{same_truth, comes_to, child_to, forks_to, comes, comes_from}
 

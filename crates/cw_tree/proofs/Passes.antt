@@ -1,15 +1,15 @@
 -- What two passes over the nodes keep: the forks in each node's children so far, from the last node down and from the first one up.
-use Rattle.std.proofs.Common.{◌≡◌, ◌≢◌, ℕ, zero, suc, ◌+◌, ◌<◌, ◌≤◌, List, length, refl, ap, sym, ◌∙◌, arith, Bool, true, false, inl, inr, nat_eq, nat_lt, nat_le}
+use Rattle.std.proofs.Common.{◌≡◌, ◌≢◌, ℕ, zero, suc, ◌+◌, ◌<◌, ◌≤◌, List, length, refl, ap, sym, ◌∙◌, arith, Bool, true, false, cond, inl, inr, nat_eq, nat_lt, nat_le}
 use Rattle.std.specs.Prelude.{◌⊎◌, ◌&&◌, ◌||◌}
-use Rattle.std.proofs.lemmas.Bool.{and_parts, and_from, or_cases, or_left, or_right, eqb-true, eq-eqb, ltb-true, lt-ltb, leb-true, le-leb, false_from_ne_true}
+use Rattle.std.proofs.lemmas.Bool.{cases_Bool, and_parts, and_from, or_cases, or_left, or_right, eqb-true, eq-eqb, ltb-true, lt-ltb, leb-true, le-leb, false_from_ne_true}
 use Rattle.cw_tree.specs.declared.node.Node.{Node}
-use Rattle.cw_tree.specs.Nodes.{parent_of}
+use Rattle.cw_tree.specs.Nodes.{parent_of, is_fork}
 use Rattle.cw_tree.specs.Walks.{IsRooted}
-use Rattle.cw_tree.specs.Names.{counts}
+use Rattle.cw_tree.specs.Names.{one_if, lets_out, counts, forks_after}
 use Rattle.cw_tree.proofs.Ancestors.{ancestor_root, ancestor_le}
 use Rattle.cw_tree.proofs.Kin.{of_before}
 use Rattle.cw_tree.proofs.Counting.{count, count_none, count_le, count_less}
-use Rattle.cw_tree.proofs.Forks.{same_truth, comes_to, comes, is_same, child_from, child_to, forks_to, forks_same, forks_more}
+use Rattle.cw_tree.proofs.Forks.{same_truth, comes_to, comes, is_same, child_from, child_to, forks_to, after_is, forks_same, forks_more, forks_stopped, forks_inside}
 use Rattle.cw_tree.proofs.Numbers.{of_counts}
 
 -- a child of x numbered at least low
@@ -92,6 +92,22 @@ module _ (t : List Node) (r : IsRooted t) where
         forks_same t r (child_to t (suc n) x) (child_to t n x) (λ d l. same_truth (child_to t (suc n) x d) (child_to t n x d)
         (λ f. (let z = of_to t (suc n) x d f in elim (below_or_at n d z.less) [ inl q ↦ to_of t n x d z.some q z.parent | inr q ↦ absurd (ne (sym z.parent ∙ ap (parent_of t) q)) ]))
         (λ f. let z = of_to t n x d f in let less = z.less in to_of t (suc n) x d z.some (omega arith) z.parent))
+
+  -- what follows a node counts the forks in its children, and the node itself where it is a fork
+  pub counted : (n k : ℕ) → n < length t → k ≡ forks_to t (child_from t (suc n) n) → cond (lets_out t n) (k + one_if (is_fork t n)) 0 ≡ forks_after t n
+  counted n k h e =
+      by_case (cases_Bool (lets_out t n)) where
+        by_case : (lets_out t n ≡ true) ⊎ (lets_out t n ≡ false) → cond (lets_out t n) (k + one_if (is_fork t n)) 0 ≡ forks_after t n
+        by_case (inl o) = ap (λ b. cond b (k + one_if (is_fork t n)) 0) o ∙ ap (λ j. j + one_if (is_fork t n)) e ∙ sym (forks_inside t r n h o) ∙ sym (after_is t n)
+        by_case (inr o) = ap (λ b. cond b (k + one_if (is_fork t n)) 0) o ∙ sym (after_is t n ∙ forks_stopped t r n o)
+
+  -- the root is in no child
+  pub from_less : (low x : ℕ) → 0 < low → 0 < length t → forks_to t (child_from t low x) < length t
+  from_less low x p h =
+      count_less (comes_to t (child_from t low x)) (length t) (false_from_ne_true (comes_to t (child_from t low x) 0) (λ e.
+      let s = (comes t r (child_from t low x) 0 h e).1 in
+      let least = (of_from t low x s.node s.passes).least in
+      omega (arith, ancestor_root t s.node s.over))) h
 
   pub forks_to_le : (w : ℕ → Bool) → forks_to t w ≤ length t
   forks_to_le w = count_le (comes_to t w) (length t)

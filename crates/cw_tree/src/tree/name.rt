@@ -1,6 +1,6 @@
-ghost use Rattle.std.specs.Prelude.{◌≡◌, ◌<◌, length, map, IfOk, IsTrue, string_bytes};
-ghost use Rattle.cw_tree.specs.Nodes.{all_nodes, is_strand};
-ghost use Rattle.cw_tree.specs.Names.{fork_number, is_right, name_of, name_text};
+ghost use Rattle.std.specs.Prelude.{◌≡◌, ℕ, ◌+◌, ◌^◌, ◌<◌, if◌then◌else◌, length, map, slice_index, IfOk, IsTrue, string_bytes};
+ghost use Rattle.cw_tree.specs.Nodes.{all_nodes, is_strand, is_fork};
+ghost use Rattle.cw_tree.specs.Names.{one_if, lets_out, forks_after, fork_number, is_right, name_of, name_text};
 
 use crate::{Tree, Turn};
 use cw_base::OutOfMemory;
@@ -65,23 +65,37 @@ impl Tree {
         Ok(numbers)
     }
 
-    // For each node how many forks stand in it, or are it, that count at what follows it in its strand.
-    fn forks_inside(&self) -> Result<Vec<u32>, OutOfMemory> {
-        let count = self.nodes.len();
+    // For each node but the root, how many forks count at what follows it in its strand.
+    fn forks_inside(&self) -> Result<Vec<u32>, OutOfMemory>
+        ensures len { IfOk result (λ inside. length inside.items ≡ length self.now) }
+        ensures forks { IfOk result (λ inside. (c : ℕ) → 0 < c → c < length self.now → slice_index inside.items c ≡ forks_after self.now c) }
+    {
+        let count = self.nodes().len();
         let mut inside = vec![in *self.nodes.allocator(); 0u32; count]?;
         let mut n = count as u32;
         // children have greater numbers than their parents
         while n > 1 {
             n -= 1;
-            let own = if self.is_strand(n) || self.is_aborted(n) {
-                0
-            } else {
-                inside[n as usize] + u32::from(self.is_fork(n))
-            };
+            let own = self.forks_at(n, inside[n as usize]);
             inside[n as usize] = own;
             inside[self.parent(n) as usize] += own;
         }
         Ok(inside)
+    }
+
+    // How many forks count at what follows a node, where so many stand in its children.
+    fn forks_at(&self, n: u32, in_children: u32) -> u32
+        requires there { n < length self.now }
+        requires fits { in_children + 1 < 2 ^ 32 }
+        ensures { result ≡ (if lets_out self.now n then in_children + one_if (is_fork self.now n) else 0) }
+    {
+        if self.is_strand(n) || self.is_aborted(n) {
+            0
+        } else if self.is_fork(n) {
+            in_children + 1
+        } else {
+            in_children
+        }
     }
 
     /// For each node whether an earlier strand has the same parent.
@@ -89,10 +103,10 @@ impl Tree {
         ensures { IfOk result (λ sides. sides.items ≡ map (is_right self.now) (all_nodes self.now)) }
     {
         let alloc = *self.nodes.allocator();
-        let mut sides = vec![in alloc; false; self.nodes.len()]?;
+        let mut sides = vec![in alloc; false; self.nodes().len()]?;
         // whether a strand was met among a node's children
-        let mut forked = vec![in alloc; false; self.nodes.len()]?;
-        for n in 1..self.nodes.len() as u32 {
+        let mut forked = vec![in alloc; false; self.nodes().len()]?;
+        for n in 1..self.nodes().len() as u32 {
             let parent = self.parent(n) as usize;
             sides[n as usize] = forked[parent];
             if self.is_strand(n) {
