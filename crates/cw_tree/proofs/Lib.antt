@@ -11,3 +11,4 @@ pub mod Forks
 pub mod Numbers
 pub mod Passes
 pub mod PassDown
+pub mod PassUp

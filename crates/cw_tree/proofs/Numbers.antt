@@ -78,6 +78,37 @@ module _ (t : List Node) (r : IsRooted t) where
       let P : ℕ → Type 0 = λ m. is_ancestor t m g ≡ true in
       before_apart t r g n h s.before (subst P (s.strand ∙ strand_of_strand t r n p hn e) (strand_over t r g h))))
 
+  -- what counts at a node is in none of its children
+  apart : (q high g : ℕ) → g < length t → counts t q g ≡ true → comes_to t (child_to t high q) g ≡ true → ⊥
+  apart q high g h e f =
+      let s = (comes t r (child_to t high q) g h f).1 in
+      let y = and_parts (nat_lt 0 s.node && nat_lt s.node high) (nat_eq (parent_of t s.node) q) s.passes in
+      let same : parent_of t s.node ≡ q = eqb-true (parent_of t s.node) q y.1 in
+      let some : 0 < s.node = ltb-true 0 s.node (and_parts (nat_lt 0 s.node) (nat_lt s.node high) y.0).0 in
+      let le : s.node ≤ g = ancestor_le t r s.node g h s.over in
+      let P : ℕ → Type 0 = λ m. is_ancestor t m g ≡ true in
+      before_apart t r g q h (of_counts t q g e).before
+      (subst P same (ancestor_trans t r (parent_of t s.node) s.node g h (ancestor_up t r (parent_of t s.node) s.node some (omega arith) (ancestor_self t (parent_of t s.node))) s.over))
+
+  none_in_root : (q high : ℕ) → 0 < length t → (counts t q 0 || comes_to t (child_to t high q) 0) ≡ false
+  none_in_root q high h =
+      false_from_ne_true (counts t q 0 || comes_to t (child_to t high q) 0) (λ e. elim (or_cases (counts t q 0) (comes_to t (child_to t high q) 0) e) [
+        | inl f ↦
+        (let s = of_before t 0 q (of_counts t q 0 f).before in
+        let some = s.ordered.some in
+        omega (arith, ancestor_root t s.first s.over_first))
+        | inr f ↦
+        (let s = (comes t r (child_to t high q) 0 h f).1 in
+        let y = and_parts (nat_lt 0 s.node && nat_lt s.node high) (nat_eq (parent_of t s.node) q) s.passes in
+        let some : 0 < s.node = ltb-true 0 s.node (and_parts (nat_lt 0 s.node) (nat_lt s.node high) y.0).0 in
+        omega (arith, ancestor_root t s.node s.over))
+      ])
+
+  pub numbers_fit : (q high : ℕ) → 0 < length t → count (counts t q) (length t) + forks_to t (child_to t high q) < length t
+  numbers_fit q high h =
+      let both : ℕ → Bool = λ g. counts t q g || comes_to t (child_to t high q) g in
+      omega (arith, count_or both (counts t q) (comes_to t (child_to t high q)) (length t) (λ g l. refl) (apart q high), count_less both (length t) (none_in_root q high h) h)
+
   module _ (n : ℕ) (p : 0 < n) (hn : n < length t) (other : is_strand t n ≡ false) where
     from_parent : (g : ℕ) → g < length t → Counts t (parent_of t n) g → Counts t n g
     from_parent g h s =
@@ -185,11 +216,4 @@ module _ (t : List Node) (r : IsRooted t) where
           | inl q ↦ counts_of t n g (from_parent g h (of_counts t (parent_of t n) g q))
           | inr q ↦ counts_of t n g (from_sibling g h f q)
         ]))
-        (λ g h e q.
-        let s = (comes t r (child_to t n (parent_of t n)) g h q).1 in
-        let same : parent_of t s.node ≡ parent_of t n = eqb-true (parent_of t s.node) (parent_of t n) (and_parts (nat_lt 0 s.node && nat_lt s.node n) (nat_eq (parent_of t s.node) (parent_of t n)) s.passes).1 in
-        let some : 0 < s.node = ltb-true 0 s.node (and_parts (nat_lt 0 s.node) (nat_lt s.node n) (and_parts (nat_lt 0 s.node && nat_lt s.node n) (nat_eq (parent_of t s.node) (parent_of t n)) s.passes).0).0 in
-        let le : s.node ≤ g = ancestor_le t r s.node g h s.over in
-        let P : ℕ → Type 0 = λ m. is_ancestor t m g ≡ true in
-        before_apart t r g (parent_of t n) h (of_counts t (parent_of t n) g e).before
-        (subst P same (ancestor_trans t r (parent_of t s.node) s.node g h (ancestor_up t r (parent_of t s.node) s.node some (omega arith) (ancestor_self t (parent_of t s.node))) s.over)))
+        (apart (parent_of t n) n)

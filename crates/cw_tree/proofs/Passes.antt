@@ -5,12 +5,10 @@ use Rattle.std.proofs.lemmas.Bool.{cases_Bool, and_parts, and_from, or_cases, or
 use Rattle.cw_tree.specs.declared.node.Node.{Node}
 use Rattle.cw_tree.specs.Nodes.{parent_of, is_fork}
 use Rattle.cw_tree.specs.Walks.{IsRooted}
-use Rattle.cw_tree.specs.Names.{one_if, lets_out, counts, forks_after}
+use Rattle.cw_tree.specs.Names.{one_if, lets_out, forks_after}
 use Rattle.cw_tree.proofs.Ancestors.{ancestor_root, ancestor_le}
-use Rattle.cw_tree.proofs.Kin.{of_before}
 use Rattle.cw_tree.proofs.Counting.{count, count_none, count_le, count_less}
 use Rattle.cw_tree.proofs.Forks.{same_truth, comes_to, comes, is_same, child_from, child_to, forks_to, after_is, forks_same, forks_more, forks_stopped, forks_inside}
-use Rattle.cw_tree.proofs.Numbers.{of_counts}
 
 -- a child of x numbered at least low
 record From (t : List Node) (low x d : ℕ) : Type 0 where
@@ -111,11 +109,3 @@ module _ (t : List Node) (r : IsRooted t) where
 
   pub forks_to_le : (w : ℕ → Bool) → forks_to t w ≤ length t
   forks_to_le w = count_le (comes_to t w) (length t)
-
-  -- a fork's number is at most the number of nodes
-  pub number_le : (n : ℕ) → 0 < length t → count (counts t n) (length t) < length t
-  number_le n h =
-      count_less (counts t n) (length t) (false_from_ne_true (counts t n 0) (λ e.
-      let s = of_before t 0 n (of_counts t n 0 e).before in
-      let some = s.ordered.some in
-      omega (arith, ancestor_root t s.first s.over_first))) h

@@ -1,5 +1,5 @@
 ghost use Rattle.std.specs.Prelude.{◌≡◌, ℕ, ◌+◌, ◌^◌, ◌<◌, if◌then◌else◌, length, map, slice_index, IfOk, IsTrue, string_bytes};
-ghost use Rattle.cw_tree.specs.Nodes.{all_nodes, is_strand, is_fork};
+ghost use Rattle.cw_tree.specs.Nodes.{parent_of, all_nodes, is_strand, is_fork};
 ghost use Rattle.cw_tree.specs.Names.{one_if, lets_out, forks_after, fork_number, is_right, name_of, name_text};
 
 use crate::{Tree, Turn};
@@ -51,18 +51,32 @@ impl Tree {
     {
         let inside = self.forks_inside()?;
         let alloc = *self.nodes.allocator();
-        let mut numbers = vec![in alloc; 1u32; inside.len()]?;
+        let count = self.nodes().len();
+        let mut numbers = vec![in alloc; 1u32; count]?;
         // the forks in a node's children so far
-        let mut passed = vec![in alloc; 0u32; inside.len()]?;
-        for n in 1..inside.len() as u32 {
+        let mut passed = vec![in alloc; 0u32; count]?;
+        for n in 1..count as u32 {
             let parent = self.parent(n) as usize;
-            if !self.is_strand(n) {
-                let siblings = if self.is_fork(parent as u32) { 0 } else { passed[parent] };
-                numbers[n as usize] = numbers[parent] + siblings;
-            }
+            numbers[n as usize] = self.number_at(n, numbers[parent], passed[parent]);
             passed[parent] += inside[n as usize];
         }
         Ok(numbers)
+    }
+
+    // The number at a node, from the number at its parent and how many forks its earlier siblings have.
+    fn number_at(&self, n: u32, at_parent: u32, in_siblings: u32) -> u32
+        requires there { n < length self.now }
+        requires child { 0 < n }
+        requires fits { at_parent + in_siblings < 2 ^ 32 }
+        ensures { result ≡ (if is_strand self.now n then 1 else if is_fork self.now (parent_of self.now n) then at_parent else at_parent + in_siblings) }
+    {
+        if self.is_strand(n) {
+            1
+        } else if self.is_fork(self.parent(n)) {
+            at_parent
+        } else {
+            at_parent + in_siblings
+        }
     }
 
     // For each node but the root, how many forks count at what follows it in its strand.
