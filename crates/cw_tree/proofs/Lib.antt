@@ -12,3 +12,4 @@ pub mod Numbers
 pub mod Passes
 pub mod PassDown
 pub mod PassUp
+pub mod Sides

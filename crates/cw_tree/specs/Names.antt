@@ -5,9 +5,9 @@ use Rattle.std.specs.List.{list_any, list_all, flat_map}
 use Rattle.std.specs.Fmt.{decimal}
 use Rattle.cw_tree.specs.declared.node.Node.{Node}
 use Rattle.cw_tree.specs.declared.picks.Turn.{Turn}
-use Rattle.cw_tree.specs.Nodes.{parent_of, is_strand, is_fork, is_aborted, all_nodes}
+use Rattle.cw_tree.specs.Nodes.{parent_of, is_strand, is_fork, is_aborted, below, all_nodes}
 use Rattle.cw_tree.specs.Walks.{path, above, has, is_above}
-use Rattle.cw_tree.specs.Series.{strand_of, children, is_before}
+use Rattle.cw_tree.specs.Series.{strand_of, is_before}
 
 -- fork g counts at n: it is before n in the same strand, and each block above it that was rolled back is above n too
 abbrev pub counts : List Node → ℕ → ℕ → Bool
@@ -36,9 +36,9 @@ forks_after t c = count_by (counts_after t c) (all_nodes t)
 abbrev pub fork_number : List Node → ℕ → ℕ
 fork_number t f = count_by (counts t f) (all_nodes t) + 1
 
--- strand s is a right one: its fork has an earlier strand
+-- strand s is a right one: an earlier strand has the same parent
 abbrev pub is_right : List Node → ℕ → Bool
-is_right t s = list_any (λ m. is_strand t m && nat_lt m s) (children t (parent_of t s))
+is_right t s = list_any (λ m. nat_lt 0 m && is_strand t m && (parent_of t m == parent_of t s)) (below s)
 
 -- the step down to strand s
 abbrev pub turn : List Node → ℕ → Turn

@@ -117,15 +117,14 @@ impl Tree {
         ensures { IfOk result (λ sides. sides.items ≡ map (is_right self.now) (all_nodes self.now)) }
     {
         let alloc = *self.nodes.allocator();
-        let mut sides = vec![in alloc; false; self.nodes().len()]?;
+        let count = self.nodes().len();
+        let mut sides = vec![in alloc; false; count]?;
         // whether a strand was met among a node's children
-        let mut forked = vec![in alloc; false; self.nodes().len()]?;
-        for n in 1..self.nodes().len() as u32 {
+        let mut forked = vec![in alloc; false; count]?;
+        for n in 1..count as u32 {
             let parent = self.parent(n) as usize;
             sides[n as usize] = forked[parent];
-            if self.is_strand(n) {
-                forked[parent] = true;
-            }
+            forked[parent] |= self.is_strand(n);
         }
         Ok(sides)
     }
