@@ -13,3 +13,4 @@ pub mod Passes
 pub mod PassDown
 pub mod PassUp
 pub mod Sides
+pub mod Turns

@@ -44,8 +44,12 @@ get_below (suc k) n d h =
       | inr e ↦ get_or_push (below k) k d n (length_below k ∙ e) ∙ e
     ]
 
+pub length_map_below : {X : Type 0} (f : ℕ → X) (k : ℕ) → length (map f (below k)) ≡ k
+length_map_below f k = length-map (below k) f ∙ length_below k
+
+pub get_map_below : {X : Type 0} (f : ℕ → X) (k n : ℕ) (d : X) → n < k → get_or (map f (below k)) n d ≡ f n
+get_map_below f k n d h = get_or-map f (below k) n 0 d (omega (arith, length_below k)) ∙ ap f (get_below k n 0 h)
+
 -- a list that has f's value at each number below its length
 pub map_below : {X : Type 0} (f : ℕ → X) (xs : List X) (k : ℕ) → length xs ≡ k → ((n : ℕ) (d : X) → n < k → get_or xs n d ≡ f n) → xs ≡ map f (below k)
-map_below f xs k e h =
-    same_lists xs (map f (below k)) (e ∙ sym (length-map (below k) f ∙ length_below k))
-    (λ n d l. h n d (omega arith) ∙ sym (get_or-map f (below k) n 0 d (omega (arith, length_below k)) ∙ ap f (get_below k n 0 (omega arith))))
+map_below f xs k e h = same_lists xs (map f (below k)) (e ∙ sym (length_map_below f k)) (λ n d l. h n d (omega arith) ∙ sym (get_map_below f k n d (omega arith)))

@@ -44,9 +44,13 @@ is_right t s = list_any (λ m. nat_lt 0 m && is_strand t m && (parent_of t m == 
 abbrev pub turn : List Node → ℕ → Turn
 turn t s = record { fork = fork_number t (parent_of t s); right = is_right t s }
 
+-- the strands on the way up from n but the root, innermost first
+abbrev pub strands_on : List Node → ℕ → List ℕ
+strands_on t n = filter (λ m. nat_lt 0 m && is_strand t m) (path t n)
+
 -- the name of strand s: the steps down to it from the root
 abbrev pub name_of : List Node → ℕ → List Turn
-name_of t s = map (turn t) (reverse (filter (λ m. nat_lt 0 m && is_strand t m) (path t s)))
+name_of t s = reverse (map (turn t) (strands_on t s))
 
 abbrev pub turn_text : Turn → List ℕ
 turn_text x = codes "." ++ decimal x.fork ++ (if x.right then codes "r" else codes "l")
