@@ -2,4 +2,9 @@ pub mod Nodes
 pub mod Walks
 pub mod Series
 pub mod Names
+pub mod Attempts
+pub mod Accesses
+pub mod Shape
+pub mod Journals
+pub mod Refusals
 pub mod Rows

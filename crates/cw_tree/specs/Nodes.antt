@@ -1,5 +1,5 @@
 -- What the nodes of a tree are. A tree is the list of its nodes; a node is named by its place there, its number.
-use Rattle.std.specs.Prelude.{ℕ, zero, suc, ◌==◌, ◌&&◌, Bool, true, false, List, [], ◌∷◌, ◌++◌, length, slice_get, slice_set, Option, Some, None, find, unwrap_or}
+use Rattle.std.specs.Prelude.{ℕ, zero, suc, ◌==◌, ◌&&◌, Bool, true, false, List, [], ◌∷◌, ◌++◌, length, slice_get, slice_set, Option, Some, None, find, if◌then◌else◌}
 use Rattle.cw_tree.specs.declared.node.Node.{Node}
 use Rattle.cw_tree.specs.declared.node.Kind.{Kind}
 use Rattle.cw_tree.specs.declared.node.Kind.TheVariants.{Strand, Fork, Block, Read, Write, Out, Tried}
@@ -19,6 +19,21 @@ is_fork_kind _ = false
 abbrev pub is_block_kind : Kind → Bool
 is_block_kind Block = true
 is_block_kind _ = false
+
+-- a read or a write of cell c
+abbrev pub touches_kind : ℕ → Kind → Bool
+touches_kind c (Read d v) = d == c
+touches_kind c (Write d v) = d == c
+touches_kind c _ = false
+
+-- a refused access of cell c
+abbrev pub tries_kind : ℕ → Kind → Bool
+tries_kind c (Tried d) = d == c
+tries_kind c _ = false
+
+abbrev pub is_tried_kind : Kind → Bool
+is_tried_kind (Tried c) = true
+is_tried_kind _ = false
 
 abbrev pub is_pending_state : BlockState → Bool
 is_pending_state Pending = true
@@ -60,6 +75,15 @@ is_committed = is_node (λ x. is_block_kind x.kind && is_committed_state x.state
 abbrev pub is_aborted : List Node → ℕ → Bool
 is_aborted = is_node (λ x. is_block_kind x.kind && is_aborted_state x.state)
 
+abbrev pub is_tried : List Node → ℕ → Bool
+is_tried = is_node (λ x. is_tried_kind x.kind)
+
+abbrev pub touches : List Node → ℕ → ℕ → Bool
+touches t c = is_node (λ x. touches_kind c x.kind) t
+
+abbrev pub tries : List Node → ℕ → ℕ → Bool
+tries t c = is_node (λ x. tries_kind c x.kind) t
+
 -- a number that node n has, or 0 where it is not there
 abbrev pub number_in : (Node → ℕ) → Option Node → ℕ
 number_in f None = 0
@@ -81,6 +105,19 @@ below (suc n) = below n ++ n ∷ []
 
 abbrev pub all_nodes : List Node → List ℕ
 all_nodes t = below (length t)
+
+-- the last number below n that passes a test
+abbrev pub last_below : (ℕ → Bool) → ℕ → Option ℕ
+last_below p zero = None
+last_below p (suc n) = if p n then Some n else last_below p n
+
+-- the first node with a stamp
+abbrev pub with_stamp : List Node → ℕ → Option ℕ
+with_stamp t stamp = find (λ n. stamp_of t n == stamp) (all_nodes t)
+
+-- the block that was begun at a stamp
+abbrev pub block_with_stamp : List Node → ℕ → Option ℕ
+block_with_stamp t stamp = find (λ n. is_block t n && (stamp_of t n == stamp)) (all_nodes t)
 
 -- ## New nodes and closed blocks
 

@@ -1,12 +1,15 @@
 -- Small trees, and what the definitions say of them.
-use Rattle.std.specs.Prelude.{◌≡◌, ℕ, List, [], ◌∷◌, Some, None, true, false, pos, codes}
+use Rattle.std.specs.Prelude.{◌≡◌, ℕ, ◌-◌, ◌/◌, List, [], ◌∷◌, Some, None, true, false, pos, codes}
 use Rattle.cw_tree.specs.declared.node.Node.{Node}
 use Rattle.cw_tree.specs.declared.node.Kind.{Kind}
 use Rattle.cw_tree.specs.declared.picks.Turn.{Turn}
-use Rattle.cw_tree.specs.declared.node.Kind.TheVariants.{Strand, Fork, Block, Write, Out, Tried}
+use Rattle.cw_tree.specs.declared.node.Kind.TheVariants.{Strand, Fork, Block, Read, Write, Out, Tried}
 use Rattle.cw_tree.specs.declared.node.BlockState.TheVariants.{Pending, Committed, Aborted}
+use Rattle.cw_tree.specs.Nodes.{with_stamp, block_with_stamp, closed}
 use Rattle.cw_tree.specs.Walks.{path, above, lca, xparent, nua, conflict, victim}
-use Rattle.cw_tree.specs.Series.{strand_of, children, parallel, is_before, depth_first}
+use Rattle.cw_tree.specs.Series.{strand_of, place, last_of, children, has_later, parallel, is_before, depth_first}
+use Rattle.cw_tree.specs.Attempts.{block_attempt, access_attempt}
+use Rattle.cw_tree.specs.Accesses.{is_live, by_key, live_accesses, written, read, cell_value, IsChain, IsChainOf}
 use Rattle.cw_tree.specs.Names.{fork_number, is_right, name_of, name_text}
 
 -- a node that is no block, with its parent, what it is, and its stamp
@@ -40,6 +43,13 @@ abbrev pub after_commit : List Node
 after_commit =
     plain 0 Strand 0 ∷ plain 0 Fork 1 ∷ plain 1 Strand 0 ∷ committed 2 2 6 ∷ plain 3 (Write 0 (pos 1)) 3 ∷ plain 1 Strand 0 ∷ pending 5 4 ∷ pending 6 5
     ∷ plain 7 (Tried 0) 0 ∷ []
+
+-- an access is refused twice, and so is one of another cell; then a block is rolled back twice
+abbrev pub tried_often : List Node
+tried_often =
+    plain 0 Strand 0 ∷ plain 0 Fork 1 ∷ plain 1 Strand 0 ∷ plain 2 (Write 0 (pos 1)) 2 ∷ plain 1 Strand 0 ∷ plain 4 (Tried 0) 0 ∷ plain 4 (Tried 0) 0
+    ∷ plain 4 (Tried 1) 0 ∷ plain 4 (Read 0 (pos 1)) 3 ∷ aborted 4 4 6 ∷ plain 9 (Write 0 (pos 5)) 5 ∷ aborted 4 7 8 ∷ pending 4 9
+    ∷ plain 12 (Write 0 (pos 2)) 10 ∷ plain 12 (Read 0 (pos 2)) 11 ∷ plain 12 (Tried 0) 0 ∷ []
 
 abbrev pub left : ℕ → Turn
 left k = record { fork = k; right = false }
@@ -131,3 +141,57 @@ Names =
 
 abbrev pub Texts : Type 0
 Texts = (name_text [] ≡ codes "0") × (name_text (left 1 ∷ right 12 ∷ []) ≡ codes "0.1l.12r")
+
+-- attempts of a block, and of an access
+abbrev pub Attempts : Type 0
+Attempts =
+    (access_attempt tried_often 5 ≡ 1)
+    × (access_attempt tried_often 6 ≡ 2)
+    × (access_attempt tried_often 7 ≡ 1)
+    × (access_attempt tried_often 15 ≡ 1)
+    × (block_attempt tried_often 9 ≡ 1)
+    × (block_attempt tried_often 11 ≡ 2)
+    × (block_attempt tried_often 12 ≡ 3)
+    × (block_attempt tried_again 5 ≡ 2)
+    × (block_attempt tried_again 1 ≡ 1)
+
+-- where strands stand, and which nodes have a stamp
+abbrev pub Places : Type 0
+Places =
+    (place tried_often 4 ≡ 12)
+    × (place tried_often 2 ≡ 2)
+    × (place inside 3 ≡ 4)
+    × (place inside 6 ≡ 6)
+    × (last_of tried_often 4 ≡ 15)
+    × (last_of tried_often 2 ≡ 3)
+    × (last_of inside 6 ≡ 7)
+    × (last_of tried_again 3 ≡ 3)
+    × (has_later tried_often 12 ≡ false)
+    × (has_later tried_often 9 ≡ true)
+    × (with_stamp apart 3 ≡ Some 4)
+    × (with_stamp apart 9 ≡ None)
+    × (block_with_stamp apart 4 ≡ Some 6)
+    × (block_with_stamp apart 3 ≡ None)
+    × (closed apart 3 Committed 6 ≡ after_commit)
+    × (closed apart 20 Committed 6 ≡ apart)
+
+-- live accesses, the chain that they make, and a cell's value
+abbrev pub Values : Type 0
+Values =
+    (is_live tried_often 10 ≡ false)
+    × (is_live tried_often 9 ≡ true)
+    × (is_live tried_often 13 ≡ true)
+    × (live_accesses tried_often 0 ≡ 3 ∷ 8 ∷ 13 ∷ 14 ∷ [])
+    × (live_accesses tried_often 1 ≡ [])
+    × (by_key (λ n. 9 - n) (2 ∷ 5 ∷ 3 ∷ []) ≡ 5 ∷ 3 ∷ 2 ∷ [])
+    × (by_key (λ n. n / 2) (5 ∷ 4 ∷ 3 ∷ 2 ∷ []) ≡ 3 ∷ 2 ∷ 5 ∷ 4 ∷ [])
+    × (written tried_often 13 ≡ Some (pos 2))
+    × (written tried_often 8 ≡ None)
+    × (read tried_often 8 ≡ Some (pos 1))
+    × (cell_value (pos 7) [] ≡ pos 7)
+    × (cell_value (pos 0) (Some (pos 1) ∷ None ∷ Some (pos 2) ∷ None ∷ []) ≡ pos 2)
+    × IsChain tried_often (3 ∷ 8 ∷ 13 ∷ 14 ∷ [])
+    × IsChainOf tried_often (2 ∷ 3 ∷ 10 ∷ 11 ∷ [])
+    × (IsChain tried_often (14 ∷ 3 ∷ []) → ⊥)
+    × (IsChain inside (5 ∷ 7 ∷ []) → ⊥)
+    × IsChain inside (7 ∷ 5 ∷ [])

@@ -4,7 +4,7 @@
 //! `specs/` hold what the layers above say of a tree, its accesses and its conflicts.
 #![tactic(auto)]
 
-ghost use Rattle.cw_tree.specs.Rows.{Ancestors, Conflicts, Orders, Names, Texts};
+ghost use Rattle.cw_tree.specs.Rows.{Ancestors, Conflicts, Orders, Names, Texts, Attempts, Places, Values};
 
 mod access;
 mod closed;
@@ -27,6 +27,9 @@ pub fn worked_trees()
     ensures orders { Orders }
     ensures names { Names }
     ensures texts { Texts }
+    ensures attempts { Attempts }
+    ensures places { Places }
+    ensures values { Values }
 {}
 
 #[cfg(test)]
