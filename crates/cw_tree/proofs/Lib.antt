@@ -14,3 +14,5 @@ pub mod PassDown
 pub mod PassUp
 pub mod Sides
 pub mod Turns
+pub mod Checks
+pub mod KeptRuns

@@ -8,3 +8,4 @@ pub mod Shape
 pub mod Journals
 pub mod Refusals
 pub mod Rows
+pub mod WorkedRun

@@ -5,6 +5,7 @@
 #![tactic(auto)]
 
 ghost use Rattle.cw_tree.specs.Rows.{Ancestors, Conflicts, Orders, Names, Texts, Attempts, Places, Values};
+ghost use Rattle.cw_tree.specs.WorkedRun.{Holds, Stops, Breaks};
 
 mod access;
 mod closed;
@@ -30,6 +31,13 @@ pub fn worked_trees()
     ensures attempts { Attempts }
     ensures places { Places }
     ensures values { Values }
+{}
+
+/// What is kept of a small run meets all that is said of it, and does not where one thing is changed.
+pub fn worked_run()
+    ensures holds { Holds }
+    ensures stops { Stops }
+    ensures breaks { Breaks }
 {}
 
 #[cfg(test)]
