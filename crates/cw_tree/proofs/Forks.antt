@@ -80,12 +80,14 @@ module _ (t : List Node) (r : IsRooted t) where
               | inl q ↦ or_left (comes_to t w g) (comes_to t (is_same n) g) (comes_from w g h z.0 (record { node = s.node; over = s.over; passes = q; opened = s.opened }))
               | inr q ↦ or_right (comes_to t w g) (comes_to t (is_same n) g) (comes_from (is_same n) g h z.0 (record { node = s.node; over = s.over; passes = q; opened = s.opened }))
             ]
+
         join : (g : ℕ) → g < length t → (comes_to t w g || comes_to t (is_same n) g) ≡ true → comes_to t v g ≡ true
         join g h f =
             elim (or_cases (comes_to t w g) (comes_to t (is_same n) g) f) [
               | inl q ↦ comes_weaker w v g h (λ d l x. e d l ∙ or_left (w d) (is_same n d) x) q
               | inr q ↦ comes_weaker (is_same n) v g h (λ d l x. e d l ∙ or_right (w d) (is_same n d) x) q
             ]
+
         apart : (g : ℕ) → g < length t → comes_to t w g ≡ true → comes_to t (is_same n) g ≡ true → ⊥
         apart g h f q =
             let y = (comes w g h f).1 in
@@ -113,8 +115,10 @@ module _ (t : List Node) (r : IsRooted t) where
       ∙ ap (λ k. forks_to t (child_from t (suc n) n) + k) (count_one own n (length t) hn (λ m h ne. and_right (is_fork t m) (is_same n m) (false_from_ne_true (is_same n m) (λ e. ne (eqb-true m n e)))) ∙ ap one_if only) where
         own : ℕ → Bool
         own g = is_fork t g && is_same n g
+
         only : own n ≡ is_fork t n
         only = same_truth (own n) (is_fork t n) (λ e. (and_parts (is_fork t n) (is_same n n) e).0) (λ e. and_from (is_fork t n) (is_same n n) e (eq-eqb n n refl))
+
         split : (g : ℕ) → g < length t → comes_to t (is_same n) g ≡ true → (comes_to t (child_from t (suc n) n) g || own g) ≡ true
         split g h f =
             let z = comes (is_same n) g h f in
@@ -125,46 +129,47 @@ module _ (t : List Node) (r : IsRooted t) where
             elim (cases_eq g n) [
               | inl e ↦ or_right (comes_to t (child_from t (suc n) n) g) (own g) (and_from (is_fork t g) (is_same n g) z.0 (eq-eqb g n e))
               | inr ne ↦
-              or_left (comes_to t (child_from t (suc n) n) g) (own g)
-              (let b = branch t r n g h ne over in
-              let le : b.child ≤ g = ancestor_le t r b.child g h b.over in
-              let low : n < b.child = let q : parent_of t b.child < b.child = r b.child b.some (omega arith) in omega (arith, b.parent) in
-              comes_from (child_from t (suc n) n) g h z.0 (record {
-                node = b.child;
-                over = b.over;
-                passes = and_from (nat_le (suc n) b.child) (nat_eq (parent_of t b.child) n) (le-leb (suc n) b.child (omega arith)) (eq-eqb (parent_of t b.child) n b.parent);
-                opened = λ m a k. s.opened m a (omega (arith, here));
-              }))
+                  or_left (comes_to t (child_from t (suc n) n) g) (own g)
+                  (let b = branch t r n g h ne over in
+                  let le : b.child ≤ g = ancestor_le t r b.child g h b.over in
+                  let low : n < b.child = let q : parent_of t b.child < b.child = r b.child b.some (omega arith) in omega (arith, b.parent) in
+                  comes_from (child_from t (suc n) n) g h z.0 (record {
+                    node = b.child;
+                    over = b.over;
+                    passes = and_from (nat_le (suc n) b.child) (nat_eq (parent_of t b.child) n) (le-leb (suc n) b.child (omega arith)) (eq-eqb (parent_of t b.child) n b.parent);
+                    opened = λ m a k. s.opened m a (omega (arith, here));
+                  }))
             ]
+
         join : (g : ℕ) → g < length t → (comes_to t (child_from t (suc n) n) g || own g) ≡ true → comes_to t (is_same n) g ≡ true
         join g h f =
             elim (or_cases (comes_to t (child_from t (suc n) n) g) (own g) f) [
               | inl q ↦
-              (let z = comes (child_from t (suc n) n) g h q in
-              let s = z.1 in
-              let y = and_parts (nat_le (suc n) s.node) (nat_eq (parent_of t s.node) n) s.passes in
-              let low : suc n ≤ s.node = leb-true (suc n) s.node y.0 in
-              let up : parent_of t s.node ≡ n = eqb-true (parent_of t s.node) n y.1 in
-              let le : s.node ≤ g = ancestor_le t r s.node g h s.over in
-              let P : ℕ → Type 0 = λ m. is_ancestor t m s.node ≡ true in
-              let under : is_ancestor t n s.node ≡ true = subst P up (ancestor_up t r (parent_of t s.node) s.node (omega arith) (omega arith) (ancestor_self t (parent_of t s.node))) in
-              comes_from (is_same n) g h z.0 (record {
-                node = n;
-                over = ancestor_trans t r n s.node g h under s.over;
-                passes = eq-eqb n n refl;
-                opened = λ m a k. between g h s m a k (cases_lt m s.node) up low;
-              }))
+                  (let z = comes (child_from t (suc n) n) g h q in
+                  let s = z.1 in
+                  let y = and_parts (nat_le (suc n) s.node) (nat_eq (parent_of t s.node) n) s.passes in
+                  let low : suc n ≤ s.node = leb-true (suc n) s.node y.0 in
+                  let up : parent_of t s.node ≡ n = eqb-true (parent_of t s.node) n y.1 in
+                  let le : s.node ≤ g = ancestor_le t r s.node g h s.over in
+                  let P : ℕ → Type 0 = λ m. is_ancestor t m s.node ≡ true in
+                  let under : is_ancestor t n s.node ≡ true = subst P up (ancestor_up t r (parent_of t s.node) s.node (omega arith) (omega arith) (ancestor_self t (parent_of t s.node))) in
+                  comes_from (is_same n) g h z.0 (record {
+                    node = n;
+                    over = ancestor_trans t r n s.node g h under s.over;
+                    passes = eq-eqb n n refl;
+                    opened = λ m a k. between g h s m a k (cases_lt m s.node) up low;
+                  }))
               | inr q ↦
-              (let z = and_parts (is_fork t g) (is_same n g) q in
-              let e : g ≡ n = eqb-true g n z.1 in
-              let P : ℕ → Type 0 = λ m. lets_out t m ≡ true in
-              let Q : ℕ → Type 0 = λ m. is_ancestor t m g ≡ true in
-              comes_from (is_same n) g h z.0 (record {
-                node = n;
-                over = subst Q e (ancestor_self t g);
-                passes = eq-eqb n n refl;
-                opened = λ m a k. (let le : m ≤ g = ancestor_le t r m g h a in let same : n ≡ m = omega (arith, e) in subst P same o);
-              }))
+                  (let z = and_parts (is_fork t g) (is_same n g) q in
+                  let e : g ≡ n = eqb-true g n z.1 in
+                  let P : ℕ → Type 0 = λ m. lets_out t m ≡ true in
+                  let Q : ℕ → Type 0 = λ m. is_ancestor t m g ≡ true in
+                  comes_from (is_same n) g h z.0 (record {
+                    node = n;
+                    over = subst Q e (ancestor_self t g);
+                    passes = eq-eqb n n refl;
+                    opened = λ m a k. (let le : m ≤ g = ancestor_le t r m g h a in let same : n ≡ m = omega (arith, e) in subst P same o);
+                  }))
             ] where
               between : (g : ℕ) → g < length t → (s : Reached t (child_from t (suc n) n) g) → (m : ℕ) → is_ancestor t m g ≡ true → n ≤ m → (m < s.node) ⊎ (s.node ≤ m) → parent_of t s.node ≡ n → suc n ≤ s.node → lets_out t m ≡ true
               between g h s m a k (inr le) up low = s.opened m a le
@@ -176,6 +181,7 @@ module _ (t : List Node) (r : IsRooted t) where
                   let same : n ≡ m = omega (arith, up) in
                   let P : ℕ → Type 0 = λ x. lets_out t x ≡ true in
                   subst P same o
+
         apart : (g : ℕ) → g < length t → comes_to t (child_from t (suc n) n) g ≡ true → own g ≡ true → ⊥
         apart g h f q =
             let s = (comes (child_from t (suc n) n) g h f).1 in

@@ -24,10 +24,10 @@ journal zero v es e f =
     let P : ℤ → Type 0 = λ w. IsJournal two_blocks 0 w es in
     let Q : List Entry → Type 0 = λ fs. IsJournal two_blocks 0 (pos 0) fs in
     subst P (some_same (pos 0) v e) (
-      subst Q (some_same two_writes es f) (
-        record { stamp = refl; wrote = refl; value = refl; old = refl; read = λ w q. absurd (cc q) },
-        (record { stamp = refl; wrote = refl; value = refl; old = refl; read = λ w q. absurd (cc q) }, tt)
-      )
+    subst Q (some_same two_writes es f) (
+      record { stamp = refl; wrote = refl; value = refl; old = refl; read = λ w q. absurd (cc q) },
+      (record { stamp = refl; wrote = refl; value = refl; old = refl; read = λ w q. absurd (cc q) }, tt),
+    )
     )
 journal (suc c) v es e f = absurd (cc e)
 

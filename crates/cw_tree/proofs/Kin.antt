@@ -94,11 +94,11 @@ module _ (t : List Node) (r : IsRooted t) where
       elim (cases_eq d c) [
         | inl z ↦ sym z
         | inr ne ↦
-        (let up : is_ancestor t c (parent_of t d) ≡ true = sym (ancestor_step t r c d p h ne) ∙ e in
-        let low : parent_of t d < d = r d p h in
-        let lower : parent_of t c < c = r c q g in
-        let le : c ≤ parent_of t d = ancestor_le t r c (parent_of t d) (omega arith) up in
-        absurd (omega (arith, same)))
+            (let up : is_ancestor t c (parent_of t d) ≡ true = sym (ancestor_step t r c d p h ne) ∙ e in
+            let low : parent_of t d < d = r d p h in
+            let lower : parent_of t c < c = r c q g in
+            let le : c ≤ parent_of t d = ancestor_le t r c (parent_of t d) (omega arith) up in
+            absurd (omega (arith, same)))
       ]
 
   -- no node stands in two children of one node

@@ -60,6 +60,7 @@ module _ (t : List Node) (r : IsRooted t) where
             let same : lca t a b ≡ a = ap (λ ns. unwrap_or (find test ns) 0) (path_split t a) ∙ ap (λ o. unwrap_or o 0) (find_first test a (above t a) e) in
             let P : ℕ → Type 0 = λ m. IsMeet a b m in
             subst P (sym same) (meet_here a b e)
+
         by_case : (a : ℕ) → 0 < a → a < length t → IsMeet (parent_of t a) b (lca t (parent_of t a) b) → (is_ancestor t a b ≡ true) ⊎ (is_ancestor t a b ≡ false) → IsMeet a b (lca t a b)
         by_case a p h more (inl e) = found a e
         by_case a p h more (inr e) =

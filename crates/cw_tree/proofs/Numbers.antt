@@ -94,14 +94,14 @@ module _ (t : List Node) (r : IsRooted t) where
   none_in_root q high h =
       false_from_ne_true (counts t q 0 || comes_to t (child_to t high q) 0) (λ e. elim (or_cases (counts t q 0) (comes_to t (child_to t high q) 0) e) [
         | inl f ↦
-        (let s = of_before t 0 q (of_counts t q 0 f).before in
-        let some = s.ordered.some in
-        omega (arith, ancestor_root t s.first s.over_first))
+            (let s = of_before t 0 q (of_counts t q 0 f).before in
+            let some = s.ordered.some in
+            omega (arith, ancestor_root t s.first s.over_first))
         | inr f ↦
-        (let s = (comes t r (child_to t high q) 0 h f).1 in
-        let y = and_parts (nat_lt 0 s.node && nat_lt s.node high) (nat_eq (parent_of t s.node) q) s.passes in
-        let some : 0 < s.node = ltb-true 0 s.node (and_parts (nat_lt 0 s.node) (nat_lt s.node high) y.0).0 in
-        omega (arith, ancestor_root t s.node s.over))
+            (let s = (comes t r (child_to t high q) 0 h f).1 in
+            let y = and_parts (nat_lt 0 s.node && nat_lt s.node high) (nat_eq (parent_of t s.node) q) s.passes in
+            let some : 0 < s.node = ltb-true 0 s.node (and_parts (nat_lt 0 s.node) (nat_lt s.node high) y.0).0 in
+            omega (arith, ancestor_root t s.node s.over))
       ])
 
   pub numbers_fit : (q high : ℕ) → 0 < length t → count (counts t q) (length t) + forks_to t (child_to t high q) < length t
@@ -176,9 +176,9 @@ module _ (t : List Node) (r : IsRooted t) where
               (let over = above_ancestor t a g i in
               elim (cases_lt a c) [
                 | inl l ↦
-                (let ne : c ≢ a = omega arith in
-                let P : ℕ → Type 0 = λ m. is_ancestor t a m ≡ true in
-                above_parent t r a n p hn ∙ subst P same (sym (ancestor_step t r a c some (omega arith) ne) ∙ ancestor_linear t r a c g h over s.over (omega arith)))
+                    (let ne : c ≢ a = omega arith in
+                    let P : ℕ → Type 0 = λ m. is_ancestor t a m ≡ true in
+                    above_parent t r a n p hn ∙ subst P same (sym (ancestor_step t r a c some (omega arith) ne) ∙ ancestor_linear t r a c g h over s.over (omega arith)))
                 | inr k ↦ absurd (cc (not-true (is_aborted t a) (opened a over k).1, q))
               ]);
         }
@@ -188,10 +188,10 @@ module _ (t : List Node) (r : IsRooted t) where
         let b = of_before t g n s.before in
         elim (cases_eq n b.second) [
           | inl e ↦
-          inr (
-            (ap (is_fork t) (let same = b.ordered.same in ap (parent_of t) e ∙ sym same) ∙ b.ordered.no_fork),
-            to_sibling g h s b.first b.ordered.some (let less = b.ordered.less in omega (arith, e)) (b.ordered.same ∙ ap (parent_of t) (sym e)) b.over_first
-          )
+              inr (
+                (ap (is_fork t) (let same = b.ordered.same in ap (parent_of t) e ∙ sym same) ∙ b.ordered.no_fork),
+                to_sibling g h s b.first b.ordered.some (let less = b.ordered.less in omega (arith, e)) (b.ordered.same ∙ ap (parent_of t) (sym e)) b.over_first,
+              )
           | inr ne ↦ inl (before_of t g (parent_of t n) (record { first = b.first; second = b.second; ordered = b.ordered; over_first = b.over_first; over_second = sym (ancestor_step t r b.second n p hn ne) ∙ b.over_second }))
         ]
 

@@ -88,6 +88,7 @@ module _ (t : List Node) (r : IsRooted t) where
                 ∙ w.sums x (omega arith)
                 ∙ ap (λ k. forks_to t (child_from t k x)) (sym next)
                 ∙ sym (from_same t r (n - 1) (omega arith) x (λ e. ne (e ∙ sym up)))
+
             done_at : (c : ℕ) → n - 1 ≤ c → 0 < c → c < length t → (c ≡ n - 1) ⊎ (c ≡ n - 1 → ⊥) → get_or (set (set inside (n - 1) own) q (v + own)) c 0 ≡ forks_after t c
             done_at c h p b (inl e) =
                 let low = w.low in

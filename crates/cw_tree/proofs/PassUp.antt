@@ -88,6 +88,7 @@ module _ (t : List Node) (r : IsRooted t) where
         done_at : (c : ℕ) → c < n + 1 → c < length t → (c ≡ n) ⊎ (c ≡ n → ⊥) → get_or (set numbers n own) c 0 ≡ fork_number t c
         done_at c h l (inl e) = let len = w.len in ap (λ k. get_or (set numbers n own) k 0) e ∙ get_or-set_same numbers n own 0 (omega arith) ∙ own_is ∙ ap (fork_number t) (sym e)
         done_at c h l (inr ne) = get_or-set_other numbers n c own 0 ne ∙ w.done c (omega arith) l
+
         sum_at : (x : ℕ) → x < length t → (x ≡ q) ⊎ (x ≡ q → ⊥) → get_or (set passed q (s + i)) x 0 ≡ forks_to t (child_to t (n + 1) x)
         sum_at x h (inl e) =
             let len = w.passed_len in

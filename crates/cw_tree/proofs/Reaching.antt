@@ -58,6 +58,7 @@ module _ (t : List Node) (r : IsRooted t) (w : ℕ → Bool) where
           passes = q;
           opened = λ m a le. (let e : g ≡ m = let low : m ≤ g = ancestor_le t r m g h a in omega arith in let P : ℕ → Type 0 = λ m. lets_out t m ≡ true in subst P e o);
         }
+
         further : (g : ℕ) → 0 < g → g < length t → lets_out t g ≡ true → Reached t w (parent_of t g) → Reached t w g
         further g p h o s = record {
           node = s.node;
@@ -83,10 +84,10 @@ module _ (t : List Node) (r : IsRooted t) (w : ℕ → Bool) where
       (elim (cases_eq g s.node) [
         | inl e ↦ or_left (w g) (reaches t w (parent_of t g)) (let P : ℕ → Type 0 = λ m. w m ≡ true in subst P (sym e) s.passes)
         | inr ne ↦
-        or_right (w g) (reaches t w (parent_of t g)) (more (record {
-          node = s.node;
-          over = sym (ancestor_step t r s.node g p h ne) ∙ s.over;
-          passes = s.passes;
-          opened = λ m a le. s.opened m (ancestor_up t r m g p h a) le;
-        }))
+            or_right (w g) (reaches t w (parent_of t g)) (more (record {
+              node = s.node;
+              over = sym (ancestor_step t r s.node g p h ne) ∙ s.over;
+              passes = s.passes;
+              opened = λ m a le. s.opened m (ancestor_up t r m g p h a) le;
+            }))
       ]))

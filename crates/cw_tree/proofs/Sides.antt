@@ -67,6 +67,7 @@ module _ (t : List Node) where
     } where
       own : (x : ℕ) → parent_of t n ≡ x → is_branch t x n ≡ is_strand t n
       own x e = ap (λ b. b && is_strand t n && nat_eq (parent_of t n) x) (lt-ltb 0 n w.some) ∙ ap (λ b. is_strand t n && b) (eq-eqb (parent_of t n) x e) ∙ and-true (is_strand t n)
+
       met_more : (x : ℕ) → x < length t → (x ≡ q) ⊎ (x ≡ q → ⊥) → get_or (set forked q (met || is_strand t n)) x false ≡ is_forked t (n + 1) x
       met_more x h (inl z) =
           let len = w.forked_len in

@@ -14,7 +14,7 @@ number_at-requires-clause-fits c =
     omega (
       arith,
       number_fits c.args.self.now c.nodes-count.ensures.numbered.rooted c.loop-n.n c.loop-n.numbers.items c.loop-n.passed.items c.loop-n.invariant there c.parent-parent.result c.parent-parent.ensures.parent
-      c.index.result.now c.index-in-loop-n.result.now c.index.ensures c.index-in-loop-n.ensures
+          c.index.result.now c.index-in-loop-n.result.now c.index.ensures c.index-in-loop-n.ensures,
     )
 
 pub overflow_add-index_mut : goal.overflow_add-index_mut
@@ -24,8 +24,8 @@ overflow_add-index_mut c =
     omega (
       arith,
       sum_fits c.args.self.now c.nodes-count.ensures.numbered.rooted c.loop-n.n c.loop-n.numbers.items c.loop-n.passed.items c.loop-n.invariant there c.parent-parent.result c.parent-parent.ensures.parent
-      c.index.result.now c.index_mut-in-loop-n.result.now c.index.ensures c.index_mut-in-loop-n.ensures.value
-      c.in_ok-inside.inside.items c.in_ok-inside.ensures.len c.in_ok-inside.ensures.forks c.index-in-loop-n-2.result.now c.index-in-loop-n-2.ensures
+          c.index.result.now c.index_mut-in-loop-n.result.now c.index.ensures c.index_mut-in-loop-n.ensures.value
+          c.in_ok-inside.inside.items c.in_ok-inside.ensures.len c.in_ok-inside.ensures.forks c.index-in-loop-n-2.result.now c.index-in-loop-n-2.ensures,
     )
 
 pub loop-n-preserved : goal.loop-n-preserved

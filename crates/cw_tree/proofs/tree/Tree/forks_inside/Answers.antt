@@ -24,5 +24,5 @@ overflow_add-index_mut c =
     omega (
       arith,
       down_fits c.args.self.now root c.loop-n.n c.loop-n.inside.items c.loop-n.invariant c.loop-n-test.true c.forks_at-own.result c.parent.result c.index_mut-in-loop-n.result.now
-      (c.forks_at-own.ensures ∙ own_counted c.args.self.now root c.loop-n.n c.loop-n.inside.items c.loop-n.invariant c.loop-n-test.true c.index.result.now c.index.ensures) c.parent.ensures.parent c.index_mut-in-loop-n.ensures.value
+          (c.forks_at-own.ensures ∙ own_counted c.args.self.now root c.loop-n.n c.loop-n.inside.items c.loop-n.invariant c.loop-n-test.true c.index.result.now c.index.ensures) c.parent.ensures.parent c.index_mut-in-loop-n.ensures.value,
     )

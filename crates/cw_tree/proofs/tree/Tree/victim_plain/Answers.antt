@@ -32,10 +32,10 @@ loop-at-preserved c =
     let root = c.parent-at.ensures.numbered.rooted in
     let ne : c.loop-at.at ≢ lca t c.args.u c.args.v = λ e. c.loop-at-test.true (e ∙ sym c.lca-meet.ensures) in
     let stays : may_fall t c.args.u q ≡ false =
-        elim c.else-at-u.branch [
-          | else-at-u-via-then-at-u+else-is_pending w ↦ and_left (is_pending t q) _ (sym w.is_pending.ensures ∙ w.if-is_pending.false)
-          | else-at-u-via-else-at-u w ↦ shared_stays t root c.args.u c.requires.u c.args.v c.requires.v q (w.if-at-u.false.0 ∙ c.lca-meet.ensures) w.if-at-u.false.1
-        ]
+    elim c.else-at-u.branch [
+      | else-at-u-via-then-at-u+else-is_pending w ↦ and_left (is_pending t q) _ (sym w.is_pending.ensures ∙ w.if-is_pending.false)
+      | else-at-u-via-else-at-u w ↦ shared_stays t root c.args.u c.requires.u c.args.v c.requires.v q (w.if-at-u.false.0 ∙ c.lca-meet.ensures) w.if-at-u.false.1
+    ]
     in
     record {
       way = way_up t root c.args.u c.requires.u c.args.v c.requires.v c.loop-at.at q c.loop-at.invariant.way ne c.parent-at.ensures.parent;
