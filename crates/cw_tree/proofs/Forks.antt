@@ -1,20 +1,15 @@
 -- How the forks that count at a node are found among its siblings and its parent's.
-use Rattle.std.proofs.Common.{◌≡◌, ◌≢◌, ℕ, zero, suc, ◌+◌, ◌<◌, ◌≤◌, List, length, refl, ap, sym, ◌∙◌, arith, Bool, true, false, cond, inl, inr, subst, nat_eq, nat_lt, nat_le}
-use Rattle.std.specs.Prelude.{◌⊎◌, ◌&&◌, ◌||◌, not}
-use Rattle.std.specs.List.{list_all}
-use Rattle.std.proofs.lemmas.Bool.{and_parts, and_from, and_left, and_right, or_cases, or_left, or_right, cases_Bool, cases_eq, cases_lt, eqb-true, eq-eqb, ltb-true, lt-ltb, leb-true, le-leb, not-true, not_from_false, false_from_ne_true}
+use Rattle.std.proofs.Common.{◌≡◌, ◌≢◌, ℕ, suc, ◌+◌, ◌<◌, ◌≤◌, List, length, refl, ap, sym, ◌∙◌, arith, Bool, true, false, inl, inr, subst, nat_eq, nat_lt, nat_le}
+use Rattle.std.specs.Prelude.{◌⊎◌, ◌&&◌, ◌||◌}
+use Rattle.std.proofs.lemmas.Bool.{and_parts, and_from, and_right, or_cases, or_left, or_right, cases_eq, cases_lt, eqb-true, eq-eqb, leb-true, le-leb, false_from_ne_true}
 use Rattle.cw_tree.specs.declared.node.Node.{Node}
-use Rattle.cw_tree.specs.Nodes.{parent_of, is_strand, is_fork, is_aborted}
-use Rattle.cw_tree.specs.Walks.{IsRooted, path, above, is_ancestor, is_above}
-use Rattle.cw_tree.specs.Series.{strand_of, is_before}
-use Rattle.cw_tree.specs.Names.{one_if, lets_out, counts, counts_after, forks_after}
-use Rattle.cw_tree.proofs.Lists.{In, all_in, all_from}
-use Rattle.cw_tree.proofs.Climbs.{by_parent}
-use Rattle.cw_tree.proofs.Ancestors.{ancestor_self, ancestor_root, ancestor_step, ancestor_up, ancestor_above, above_ancestor, above_parent, ancestor_le, ancestor_past, ancestor_trans}
-use Rattle.cw_tree.proofs.Strands.{strand_of_strand, strand_of_other, strand_of_le, strand_innermost}
-use Rattle.cw_tree.proofs.Kin.{AreOrdered, InSeries, of_before, before_of, above_in, in_above, ancestor_linear, children_apart, before_apart, branch}
+use Rattle.cw_tree.specs.Nodes.{parent_of, is_fork}
+use Rattle.cw_tree.specs.Walks.{IsRooted, path, is_ancestor}
+use Rattle.cw_tree.specs.Names.{one_if, lets_out, counts_after, forks_after}
+use Rattle.cw_tree.proofs.Ancestors.{ancestor_self, ancestor_step, ancestor_up, ancestor_le, ancestor_trans}
+use Rattle.cw_tree.proofs.Kin.{ancestor_linear, children_apart, branch}
 use Rattle.cw_tree.proofs.Reaching.{reaches, reaches_list, Reached, reached, reaches_from}
-use Rattle.cw_tree.proofs.Counting.{count, count_same, count_none, count_or, count_one, count_less}
+use Rattle.cw_tree.proofs.Counting.{count, count_same, count_none, count_or, count_one}
 
 pub same_truth : (a b : Bool) → (a ≡ true → b ≡ true) → (b ≡ true → a ≡ true) → a ≡ b
 same_truth true true f g = refl

@@ -1,5 +1,5 @@
 -- What is kept of a small run: each part holds of it.
-use Rattle.std.proofs.Common.{◌≡◌, ℕ, ℤ, zero, suc, ◌<◌, List, [], ◌∷◌, length, refl, arith, Bool, true, false, Some, None, pos, subst, nat_lt}
+use Rattle.std.proofs.Common.{◌≡◌, ℕ, ℤ, zero, suc, ◌<◌, List, [], ◌∷◌, length, refl, arith, Bool, true, Some, pos, subst, nat_lt}
 use Rattle.std.specs.Prelude.{◌&&◌, not, IsTrue, slice_get, All}
 use Rattle.std.proofs.lemmas.Bool.{and_parts, ltb-true, not-true}
 use Rattle.cw_tree.specs.declared.node.Node.{Node}
@@ -8,12 +8,12 @@ use Rattle.cw_tree.specs.Nodes.{stamp_of, end_of, is_block, is_pending, is_commi
 use Rattle.cw_tree.specs.Walks.{is_above}
 use Rattle.cw_tree.specs.Shape.{NonePending}
 use Rattle.cw_tree.specs.Accesses.{live_accesses}
-use Rattle.cw_tree.specs.Journals.{IsJournal, AreJournals, FitsCells, EndedBetween, AllEndedBetween, JournalsEnded}
-use Rattle.cw_tree.specs.Refusals.{IsRefusal, IsRecorded, AreRefusals, stamp_or_none, outermost_apart}
+use Rattle.cw_tree.specs.Journals.{IsJournal, EndedBetween, AllEndedBetween}
+use Rattle.cw_tree.specs.Refusals.{IsRefusal, IsRecorded, stamp_or_none, outermost_apart}
 use Rattle.cw_tree.specs.Series.{parallel}
 use Rattle.cw_tree.specs.Attempts.{attempt_of}
 use Rattle.cw_tree.specs.Rows.{apart}
-use Rattle.cw_tree.specs.WorkedRun.{two_blocks, refused_write, two_writes, one_strand, early_end, Holds, Stops, Breaks}
+use Rattle.cw_tree.specs.WorkedRun.{two_blocks, refused_write, two_writes, Holds, Stops, Breaks}
 use Rattle.cw_tree.proofs.Checks.{all_below, all_pairs, before_test, around_asker_test, after_test, each_below, implies, implied, is_tree, are_stamps, pending_last, before_after, begun_after, last_after, are_refusals, rolls_back, all_one}
 
 some_same : {B : Type 0} (x y : B) → Some x ≡ Some y → x ≡ y

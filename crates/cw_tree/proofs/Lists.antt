@@ -1,6 +1,6 @@
 -- Members of lists, and tests of some or all of them.
-use Rattle.std.proofs.Common.{◌≡◌, ℕ, zero, suc, ◌<◌, List, [], ◌∷◌, ◌++◌, length, map, get_or, refl, ap, sym, ◌∙◌, arith, Bool, true, inl, inr, length-append}
-use Rattle.std.specs.Prelude.{◌⊎◌, ◌&&◌}
+use Rattle.std.proofs.Common.{◌≡◌, ℕ, zero, suc, ◌<◌, List, [], ◌∷◌, length, map, get_or, refl, ap, sym, ◌∙◌, arith, Bool, true, inl, inr, length-append}
+use Rattle.std.specs.Prelude.{◌⊎◌}
 use Rattle.std.specs.List.{list_any, list_all}
 use Rattle.std.proofs.lemmas.Bool.{or_cases, or_left, or_right, and_parts, and_from}
 use Rattle.std.proofs.lemmas.List.{same_lists, length-map, get_or-map, get_or_push}

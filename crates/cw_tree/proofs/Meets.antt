@@ -1,5 +1,5 @@
 -- The least common ancestor of two nodes: how two walks come to it, and what it is.
-use Rattle.std.proofs.Common.{◌≡◌, ◌≢◌, ℕ, zero, suc, ◌<◌, ◌≤◌, List, ◌∷◌, length, refl, ap, sym, ◌∙◌, arith, Bool, true, false, cond, Option, Some, None, subst, inl, inr}
+use Rattle.std.proofs.Common.{◌≡◌, ◌≢◌, ℕ, ◌<◌, List, ◌∷◌, length, ap, sym, ◌∙◌, arith, Bool, true, false, cond, Option, Some, subst, inl, inr}
 use Rattle.std.specs.Prelude.{◌⊎◌, unwrap_or}
 use Rattle.std.specs.List.{find}
 use Rattle.std.proofs.lemmas.Bool.{cases_Bool}
@@ -7,7 +7,7 @@ use Rattle.cw_tree.specs.declared.node.Node.{Node}
 use Rattle.cw_tree.specs.Nodes.{parent_of}
 use Rattle.cw_tree.specs.Walks.{IsRooted, path, above, is_ancestor, lca}
 use Rattle.cw_tree.proofs.Climbs.{path_split, path_step, by_parent, find_path_same}
-use Rattle.cw_tree.proofs.Ancestors.{ancestor_self, ancestor_step, ancestor_up, ancestor_past, ancestor_above, root_ancestor, above_ancestor}
+use Rattle.cw_tree.proofs.Ancestors.{ancestor_self, ancestor_step, ancestor_up, ancestor_past, root_ancestor}
 
 find_first : (p : ℕ → Bool) (n : ℕ) (ns : List ℕ) → p n ≡ true → find p (n ∷ ns) ≡ Some n
 find_first p n ns e = ap (λ b. cond b (Some n) (find p ns)) e

@@ -1,20 +1,19 @@
 -- The forks that count at a node are those that count at its parent, and those in its earlier siblings.
-use Rattle.std.proofs.Common.{◌≡◌, ◌≢◌, ℕ, zero, suc, ◌+◌, ◌<◌, ◌≤◌, List, length, refl, ap, sym, ◌∙◌, arith, Bool, true, false, cond, inl, inr, subst, nat_eq, nat_lt, Option, Some, None}
+use Rattle.std.proofs.Common.{◌≡◌, ◌≢◌, ℕ, ◌+◌, ◌<◌, ◌≤◌, List, length, refl, ap, sym, ◌∙◌, arith, Bool, true, false, inl, inr, subst, nat_eq, nat_lt, Option, Some, None}
 use Rattle.std.specs.Prelude.{◌⊎◌, ◌&&◌, ◌||◌, not, slice_get}
 use Rattle.std.specs.List.{list_all}
-use Rattle.std.proofs.lemmas.Bool.{and_parts, and_from, and_right, or_cases, or_left, or_right, cases_Bool, cases_eq, cases_lt, eqb-true, eq-eqb, ltb-true, lt-ltb, not-true, not_from_false, not_from_true, false_from_ne_true}
+use Rattle.std.proofs.lemmas.Bool.{and_parts, and_from, or_cases, or_left, or_right, cases_Bool, cases_eq, cases_lt, eqb-true, eq-eqb, ltb-true, lt-ltb, not-true, not_from_false, false_from_ne_true}
 use Rattle.cw_tree.specs.declared.node.Node.{Node}
 use Rattle.cw_tree.specs.declared.node.Kind.{Kind}
-use Rattle.cw_tree.specs.declared.node.Kind.TheVariants.{Strand, Fork, Block, Read, Write, Out, Tried}
+use Rattle.cw_tree.specs.declared.node.Kind.TheVariants.{Fork}
 use Rattle.cw_tree.specs.Nodes.{passes, is_fork_kind, is_block_kind, is_aborted_state, parent_of, is_strand, is_fork, is_aborted}
-use Rattle.cw_tree.specs.Walks.{IsRooted, path, above, is_ancestor, is_above}
+use Rattle.cw_tree.specs.Walks.{IsRooted, above, is_ancestor, is_above}
 use Rattle.cw_tree.specs.Series.{strand_of, is_before}
-use Rattle.cw_tree.specs.Names.{counts, fork_number}
-use Rattle.cw_tree.proofs.Lists.{In, all_in, all_from}
-use Rattle.cw_tree.proofs.Ancestors.{ancestor_self, ancestor_root, ancestor_step, ancestor_up, ancestor_above, above_ancestor, above_parent, ancestor_le, ancestor_past, ancestor_trans}
+use Rattle.cw_tree.specs.Names.{counts}
+use Rattle.cw_tree.proofs.Lists.{all_in, all_from}
+use Rattle.cw_tree.proofs.Ancestors.{ancestor_self, ancestor_root, ancestor_step, ancestor_up, ancestor_above, above_ancestor, above_parent, ancestor_le, ancestor_trans}
 use Rattle.cw_tree.proofs.Strands.{strand_of_strand, strand_of_other, strand_of_le, strand_over, strand_innermost, strand_through}
-use Rattle.cw_tree.proofs.Kin.{AreOrdered, InSeries, of_before, before_of, above_in, in_above, ancestor_linear, children_apart, before_apart}
-use Rattle.cw_tree.proofs.Reaching.{reaches, Reached}
+use Rattle.cw_tree.proofs.Kin.{of_before, before_of, above_in, in_above, ancestor_linear, before_apart}
 use Rattle.cw_tree.proofs.Counting.{count, count_same, count_none, count_or, count_less}
 use Rattle.cw_tree.proofs.Forks.{same_truth, comes_to, child_to, forks_to, comes, comes_from}
 

@@ -1,5 +1,5 @@
 -- The pass from the last node down, which adds up the forks in each node.
-use Rattle.std.proofs.Common.{◌≡◌, ◌≢◌, ℕ, zero, suc, ◌+◌, ◌-◌, ◌<◌, ◌≤◌, List, length, get_or, set, replicate, refl, ap, sym, ◌∙◌, arith, cond, inl, inr}
+use Rattle.std.proofs.Common.{◌≡◌, ◌≢◌, ℕ, suc, ◌+◌, ◌-◌, ◌<◌, ◌≤◌, List, length, get_or, set, replicate, ap, sym, ◌∙◌, arith, cond, inl, inr}
 use Rattle.std.specs.Prelude.{◌⊎◌}
 use Rattle.std.proofs.lemmas.Bool.{cases_eq}
 use Rattle.std.proofs.lemmas.List.{get_or-set_same, get_or-set_other, get_or-replicate, length-set, length-replicate}
@@ -8,7 +8,7 @@ use Rattle.cw_tree.specs.declared.node.Node.{Node}
 use Rattle.cw_tree.specs.Nodes.{parent_of, is_fork}
 use Rattle.cw_tree.specs.Walks.{IsRooted}
 use Rattle.cw_tree.specs.Names.{one_if, lets_out, forks_after}
-use Rattle.cw_tree.proofs.Forks.{is_same, child_from, forks_to, after_is}
+use Rattle.cw_tree.proofs.Forks.{child_from, forks_to, after_is}
 use Rattle.cw_tree.proofs.Passes.{from_none, from_more, from_same, from_less, counted, forks_to_le}
 
 -- the nodes from n on are done, and each of those below has the forks in its children from n on

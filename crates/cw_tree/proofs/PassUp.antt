@@ -1,5 +1,5 @@
 -- The pass from the first node up, which gives each node the number that a fork in its place has.
-use Rattle.std.proofs.Common.{◌≡◌, ◌≢◌, ℕ, zero, suc, ◌+◌, ◌-◌, ◌<◌, ◌≤◌, List, length, map, get_or, set, replicate, refl, ap, sym, ◌∙◌, arith, cond, true, false, inl, inr}
+use Rattle.std.proofs.Common.{◌≡◌, ℕ, suc, ◌+◌, ◌<◌, ◌≤◌, List, length, map, get_or, set, replicate, ap, sym, ◌∙◌, arith, cond, true, false, inl, inr}
 use Rattle.std.specs.Prelude.{◌⊎◌}
 use Rattle.std.proofs.lemmas.Bool.{cases_eq, cases_Bool}
 use Rattle.std.proofs.lemmas.List.{get_or-set_same, get_or-set_other, get_or-replicate, length-set, length-replicate}
@@ -10,7 +10,7 @@ use Rattle.cw_tree.specs.Walks.{IsRooted}
 use Rattle.cw_tree.specs.Names.{counts, fork_number, forks_after}
 use Rattle.cw_tree.proofs.Lists.{map_below}
 use Rattle.cw_tree.proofs.Counting.{count}
-use Rattle.cw_tree.proofs.Forks.{is_same, child_to, forks_to, after_is}
+use Rattle.cw_tree.proofs.Forks.{child_to, forks_to, after_is}
 use Rattle.cw_tree.proofs.Numbers.{none_at_root, none_at_strand, forks_beneath_fork, forks_before, numbers_fit}
 use Rattle.cw_tree.proofs.Passes.{to_none, to_more, to_same}
 

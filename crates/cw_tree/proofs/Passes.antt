@@ -1,5 +1,5 @@
 -- What two passes over the nodes keep: the forks in each node's children so far, from the last node down and from the first one up.
-use Rattle.std.proofs.Common.{◌≡◌, ◌≢◌, ℕ, zero, suc, ◌+◌, ◌<◌, ◌≤◌, List, length, refl, ap, sym, ◌∙◌, arith, Bool, true, false, cond, inl, inr, nat_eq, nat_lt, nat_le}
+use Rattle.std.proofs.Common.{◌≡◌, ◌≢◌, ℕ, suc, ◌+◌, ◌<◌, ◌≤◌, List, length, ap, sym, ◌∙◌, arith, Bool, true, false, cond, inl, inr, nat_eq, nat_lt, nat_le}
 use Rattle.std.specs.Prelude.{◌⊎◌, ◌&&◌, ◌||◌}
 use Rattle.std.proofs.lemmas.Bool.{cases_Bool, and_parts, and_from, or_cases, or_left, or_right, eqb-true, eq-eqb, ltb-true, lt-ltb, leb-true, le-leb, false_from_ne_true}
 use Rattle.cw_tree.specs.declared.node.Node.{Node}
@@ -7,7 +7,7 @@ use Rattle.cw_tree.specs.Nodes.{parent_of, is_fork}
 use Rattle.cw_tree.specs.Walks.{IsRooted}
 use Rattle.cw_tree.specs.Names.{one_if, lets_out, forks_after}
 use Rattle.cw_tree.proofs.Ancestors.{ancestor_root, ancestor_le}
-use Rattle.cw_tree.proofs.Counting.{count, count_none, count_le, count_less}
+use Rattle.cw_tree.proofs.Counting.{count_none, count_le, count_less}
 use Rattle.cw_tree.proofs.Forks.{same_truth, comes_to, comes, is_same, child_from, child_to, forks_to, after_is, forks_same, forks_more, forks_stopped, forks_inside}
 
 -- a child of x numbered at least low

@@ -1,11 +1,11 @@
 -- What the way up from a node meets before a strand or a block that was rolled back.
-use Rattle.std.proofs.Common.{◌≡◌, ◌≢◌, ℕ, zero, suc, ◌<◌, ◌≤◌, List, [], ◌∷◌, length, refl, ap, sym, ◌∙◌, arith, Bool, true, false, cond, inl, inr, subst}
-use Rattle.std.specs.Prelude.{◌⊎◌, ◌&&◌, ◌||◌, not, take_while}
+use Rattle.std.proofs.Common.{◌≡◌, ℕ, ◌<◌, ◌≤◌, List, [], ◌∷◌, length, refl, ap, sym, ◌∙◌, arith, Bool, true, false, cond, inl, inr, subst}
+use Rattle.std.specs.Prelude.{◌&&◌, ◌||◌, take_while}
 use Rattle.std.specs.List.{list_any}
 use Rattle.std.proofs.lemmas.List.Sums.{take_while-cons}
-use Rattle.std.proofs.lemmas.Bool.{and_parts, and_from, or_cases, or_left, or_right, cases_Bool, cases_eq, eqb-true, eq-eqb}
+use Rattle.std.proofs.lemmas.Bool.{and_parts, and_from, or_cases, or_left, or_right, cases_eq}
 use Rattle.cw_tree.specs.declared.node.Node.{Node}
-use Rattle.cw_tree.specs.Nodes.{parent_of, is_strand, is_aborted}
+use Rattle.cw_tree.specs.Nodes.{parent_of}
 use Rattle.cw_tree.specs.Walks.{IsRooted, path, is_ancestor}
 use Rattle.cw_tree.specs.Names.{lets_out}
 use Rattle.cw_tree.proofs.Climbs.{path_step, by_parent}

@@ -1,12 +1,12 @@
 -- The steps down to a strand, as the way up from it meets them.
-use Rattle.std.proofs.Common.{◌≡◌, ℕ, zero, suc, ◌<◌, List, [], ◌∷◌, ◌++◌, length, map, get_or, refl, ap, sym, ◌∙◌, arith, Bool, true, false, cond, append_assoc}
+use Rattle.std.proofs.Common.{◌≡◌, ℕ, ◌<◌, List, [], ◌∷◌, ◌++◌, length, map, get_or, ap, sym, ◌∙◌, Bool, true, false, cond, append_assoc}
 use Rattle.std.specs.Prelude.{◌&&◌, nat_lt}
 use Rattle.std.specs.List.{filter}
 use Rattle.std.proofs.lemmas.Bool.{lt-ltb, and_from, and_right}
 use Rattle.cw_tree.specs.declared.node.Node.{Node}
 use Rattle.cw_tree.specs.declared.picks.Turn.{Turn}
 use Rattle.cw_tree.specs.Nodes.{all_nodes, parent_of, is_strand}
-use Rattle.cw_tree.specs.Walks.{IsRooted, path}
+use Rattle.cw_tree.specs.Walks.{IsRooted}
 use Rattle.cw_tree.specs.Names.{fork_number, is_right, turn, strands_on}
 use Rattle.cw_tree.proofs.Climbs.{path_step}
 use Rattle.cw_tree.proofs.Lists.{get_map_below}

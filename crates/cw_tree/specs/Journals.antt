@@ -1,6 +1,6 @@
 -- Journals: for each cell its live accesses, oldest first, each with the cell's value after it and before it.
 -- The column in an entry's mark is no part of what is said here.
-use Rattle.std.specs.Prelude.{◌≡◌, ℕ, ℤ, ◌<◌, ◌&&◌, Bool, true, not, nat_lt, IsTrue, is_some, List, [], ◌∷◌, length, slice_get, Option, Some, None, unwrap_or}
+use Rattle.std.specs.Prelude.{◌≡◌, ℕ, ℤ, ◌<◌, ◌&&◌, Bool, true, not, nat_lt, IsTrue, is_some, List, [], ◌∷◌, length, slice_get, Some, unwrap_or}
 use Rattle.cw_tree.specs.declared.node.Node.{Node}
 use Rattle.cw_tree.specs.declared.node.Kind.{Kind}
 use Rattle.cw_tree.specs.declared.node.Kind.TheVariants.{Read, Write}

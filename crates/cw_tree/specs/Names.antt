@@ -1,6 +1,6 @@
 -- Names of strands. A strand's k-th fork gives .kl and .kr after its name.
 -- Forks of attempts that were rolled back are not counted by those after them.
-use Rattle.std.specs.Prelude.{ℕ, ◌+◌, ◌==◌, ◌&&◌, ◌||◌, Bool, not, nat_lt, List, [], ◌∷◌, ◌++◌, filter, map, reverse, take_while, count_by, codes, if◌then◌else◌}
+use Rattle.std.specs.Prelude.{ℕ, ◌+◌, ◌==◌, ◌&&◌, ◌||◌, Bool, not, nat_lt, List, ◌++◌, filter, map, reverse, take_while, count_by, codes, if◌then◌else◌}
 use Rattle.std.specs.List.{list_any, list_all, flat_map}
 use Rattle.std.specs.Fmt.{decimal}
 use Rattle.cw_tree.specs.declared.node.Node.{Node}

@@ -6,7 +6,7 @@ use Rattle.std.specs.List.Sorted.{IsStrictlyIncreasing}
 use Rattle.cw_tree.specs.declared.node.Node.{Node}
 use Rattle.cw_tree.specs.declared.conflict.Conflict.{Conflict}
 use Rattle.cw_tree.specs.declared.closed.Halt.{Halt}
-use Rattle.cw_tree.specs.declared.closed.Halt.TheVariants.{Fault, Budget, Memory}
+use Rattle.cw_tree.specs.declared.closed.Halt.TheVariants.{Fault, Budget}
 use Rattle.cw_tree.specs.Nodes.{stamp_of, end_of, is_strand, is_block, is_pending, is_committed, is_aborted, is_tried, touches, tries, block_with_stamp}
 use Rattle.cw_tree.specs.Walks.{path, above, is_above, outermost}
 use Rattle.cw_tree.specs.Series.{strand_of, last_of, has_later, parallel, is_before, depth_first}

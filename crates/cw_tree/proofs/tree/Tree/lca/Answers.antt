@@ -1,4 +1,4 @@
-use Rattle.std.proofs.Common.{arith, ap, sym, ◌∙◌, ◌≡◌, ◌<◌}
+use Rattle.std.proofs.Common.{arith, ap, sym, ◌∙◌, ◌<◌}
 use Rattle.cw_tree.specs.Walks.{lca}
 use Rattle.cw_tree.proofs.Meets.{lca_left, lca_right}
 use Rattle.cw_tree.proofs.tree.Tree.lca.Goals as goal

@@ -1,5 +1,5 @@
 use Rattle.std.proofs.Common.{◌≡◌, ◌<◌, ◌+◌, length}
-use Rattle.cw_tree.specs.Walks.{IsNumbered, lca}
+use Rattle.cw_tree.specs.Walks.{lca}
 use Rattle.cw_tree.proofs.tree.Tree.lca.Given as goal
 
 -- the nodes that were reached have the same least common ancestor
