@@ -1,0 +1,5 @@
+use Rattle.cw_tree.proofs.KeptRuns.{holds, stops, breaks}
+use Rattle.cw_tree.proofs.worked_run.Goals as goal
+
+pub returns : goal.returns
+returns c = record { holds = holds; stops = stops; breaks = breaks }

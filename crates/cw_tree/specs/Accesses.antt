@@ -1,0 +1,67 @@
+-- The accesses of a cell: which are live, the chain that they make, and the cell's value.
+-- Where they outlive a numbering of the tree they are named by their stamps.
+use Rattle.std.specs.Prelude.{ℕ, ℤ, ◌&&◌, Bool, true, false, not, nat_le, IsTrue, List, [], ◌∷◌, map, filter, slice_get, Option, Some, None, unwrap_or, if◌then◌else◌}
+use Rattle.std.specs.List.{list_all}
+use Rattle.cw_tree.specs.declared.node.Node.{Node}
+use Rattle.cw_tree.specs.declared.node.Kind.{Kind}
+use Rattle.cw_tree.specs.declared.node.Kind.TheVariants.{Read, Write}
+use Rattle.cw_tree.specs.Nodes.{stamp_of, is_aborted, touches, all_nodes, with_stamp}
+use Rattle.cw_tree.specs.Walks.{above, is_ancestor, nua}
+
+-- no block above n was rolled back
+abbrev pub is_live : List Node → ℕ → Bool
+is_live t n = list_all (λ a. not (is_aborted t a)) (above t n)
+
+-- n, put into nodes that rise by a key, before those with an equal key
+abbrev pub put_by : (ℕ → ℕ) → ℕ → List ℕ → List ℕ
+put_by key n [] = n ∷ []
+put_by key n (m ∷ ms) = if nat_le (key n) (key m) then n ∷ m ∷ ms else m ∷ put_by key n ms
+
+-- nodes by rising keys; nodes with equal keys stay in their order
+abbrev pub by_key : (ℕ → ℕ) → List ℕ → List ℕ
+by_key key [] = []
+by_key key (n ∷ ns) = put_by key n (by_key key ns)
+
+-- the live accesses of cell c, oldest first
+abbrev pub live_accesses : List Node → ℕ → List ℕ
+live_accesses t c = by_key (stamp_of t) (filter (λ n. touches t c n && is_live t n) (all_nodes t))
+
+abbrev pub value_in : (Kind → Option ℤ) → Option Node → Option ℤ
+value_in f None = None
+value_in f (Some node) = f node.kind
+
+abbrev pub written_kind : Kind → Option ℤ
+written_kind (Write c v) = Some v
+written_kind _ = None
+
+abbrev pub read_kind : Kind → Option ℤ
+read_kind (Read c v) = Some v
+read_kind _ = None
+
+-- what node n wrote, or read
+abbrev pub written : List Node → ℕ → Option ℤ
+written t n = value_in written_kind (slice_get t n)
+
+abbrev pub read : List Node → ℕ → Option ℤ
+read t n = value_in read_kind (slice_get t n)
+
+-- the value of a cell that had value v, after accesses, each with what it wrote if it wrote
+abbrev pub cell_value : ℤ → List (Option ℤ) → ℤ
+cell_value v [] = v
+cell_value v (w ∷ ws) = cell_value (unwrap_or w v) ws
+
+-- the nearest pending block of an access is none, or is an ancestor of the next access's
+abbrev pub lets_follow : List Node → Option ℕ → Option ℕ → Bool
+lets_follow t None b = true
+lets_follow t (Some a) None = false
+lets_follow t (Some a) (Some b) = is_ancestor t a b
+
+-- accesses, oldest first, whose nearest pending blocks lie on one path
+abbrev pub IsChain : List Node → List ℕ → Type 0
+IsChain t [] = Unit {0}
+IsChain t (u ∷ []) = Unit {0}
+IsChain t (u ∷ v ∷ us) = IsTrue (lets_follow t (nua t u) (nua t v)) × IsChain t (v ∷ us)
+
+-- the same of the accesses with these stamps
+abbrev pub IsChainOf : List Node → List ℕ → Type 0
+IsChainOf t stamps = IsChain t (map (λ s. unwrap_or (with_stamp t s) 0) stamps)

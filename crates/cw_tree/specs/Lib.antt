@@ -1,0 +1,11 @@
+pub mod Nodes
+pub mod Walks
+pub mod Series
+pub mod Names
+pub mod Attempts
+pub mod Accesses
+pub mod Shape
+pub mod Journals
+pub mod Refusals
+pub mod Rows
+pub mod WorkedRun

@@ -1,0 +1,74 @@
+-- A small run: two strands, each with a block that writes one cell. The second strand's inner block is refused, its outer
+-- block is rolled back, and both are done again. Each part of what is kept holds of it, and breaks where one thing is changed.
+use Rattle.std.specs.Prelude.{ℕ, ℤ, List, [], ◌∷◌, Some, None, true, false, pos}
+use Rattle.cw_tree.specs.declared.node.Node.{Node}
+use Rattle.cw_tree.specs.declared.node.Kind.TheVariants.{Strand, Fork, Write, Read, Tried}
+use Rattle.cw_tree.specs.declared.access.Entry.{Entry}
+use Rattle.cw_tree.specs.declared.conflict.Conflict.{Conflict}
+use Rattle.cw_tree.specs.declared.closed.Halt.TheVariants.{Budget}
+use Rattle.cw_tree.specs.Shape.{IsTree, AreStamps, PendingLast, NonePending}
+use Rattle.cw_tree.specs.Journals.{IsJournal, AreJournals, FitsCells, EndedBetween, JournalsEnded}
+use Rattle.cw_tree.specs.Refusals.{IsRefusal, AreRefusals, RollsBack, Spent, MayHalt}
+use Rattle.cw_tree.specs.Rows.{plain, committed, aborted, apart}
+
+abbrev pub two_blocks : List Node
+two_blocks =
+    plain 0 Strand 0 ∷ plain 0 Fork 1 ∷ plain 1 Strand 0 ∷ committed 2 2 6 ∷ plain 3 (Write 0 (pos 1)) 3 ∷ plain 1 Strand 0 ∷ aborted 5 4 8 ∷ aborted 6 5 7
+    ∷ plain 7 (Tried 0) 0 ∷ committed 5 9 13 ∷ committed 9 10 12 ∷ plain 10 (Write 0 (pos 2)) 11 ∷ []
+
+abbrev pub refused_write : Conflict
+refused_write = record { cell = 0; last = 3; asker = 8; block = 2; victim = 4; attempt = 1; chain = 3 ∷ [] }
+
+abbrev pub entry : ℕ → ℕ → ℤ → ℤ → Entry
+entry column stamp value old = record { mark = record { strand = column; stamp = stamp }; wrote = true; value = value; old = old }
+
+abbrev pub two_writes : List Entry
+two_writes = entry 1 3 (pos 1) (pos 0) ∷ entry 2 11 (pos 2) (pos 1) ∷ []
+
+-- all that is said of tree, journals and conflicts
+pub record Holds : Type 0 where
+  pub tree : IsTree two_blocks
+  pub stamps : AreStamps two_blocks
+  pub pending_last : PendingLast two_blocks
+  pub none_pending : NonePending two_blocks
+  pub cells : FitsCells two_blocks 1
+  pub journals : AreJournals two_blocks (pos 0 ∷ []) (two_writes ∷ [])
+  pub ended : JournalsEnded two_blocks 1
+  pub refusals : AreRefusals two_blocks (refused_write ∷ [])
+  pub rolls_back : RollsBack two_blocks (refused_write ∷ [])
+  pub halt : MayHalt two_blocks (refused_write ∷ []) 2 None
+
+-- the run that stops at that conflict, with a budget of 1, in the second strand
+pub record Stops : Type 0 where
+  pub tree : IsTree apart
+  pub stamps : AreStamps apart
+  pub pending_last : PendingLast apart
+  pub refusals : AreRefusals apart (refused_write ∷ [])
+  pub rolls_back : RollsBack apart (refused_write ∷ [])
+  pub halt : MayHalt apart (refused_write ∷ []) 1 (Some (Budget 5))
+
+-- a fork with one strand, and a block that ends before what is in it
+abbrev pub one_strand : List Node
+one_strand = plain 0 Strand 0 ∷ plain 0 Fork 1 ∷ plain 1 Strand 0 ∷ []
+
+abbrev pub early_end : List Node
+early_end = plain 0 Strand 0 ∷ committed 0 1 2 ∷ plain 1 (Write 0 (pos 1)) 3 ∷ []
+
+-- a read of a value that was not there
+abbrev pub wrong_read : List Node
+wrong_read = plain 0 Strand 0 ∷ plain 0 (Read 0 (pos 9)) 1 ∷ []
+
+pub record Breaks : Type 0 where
+  pub shape : IsTree one_strand → ⊥
+  pub stamps : AreStamps early_end → ⊥
+  pub read : IsJournal wrong_read 0 (pos 0) (record { mark = record { strand = 0; stamp = 1 }; wrote = false; value = pos 9; old = pos 0 } ∷ []) → ⊥
+  pub value : IsJournal two_blocks 0 (pos 0) (entry 1 3 (pos 1) (pos 0) ∷ entry 2 11 (pos 2) (pos 0) ∷ []) → ⊥
+  pub lost : IsJournal two_blocks 0 (pos 0) (entry 1 3 (pos 1) (pos 0) ∷ []) → ⊥
+  pub unended : EndedBetween apart 4 8 → ⊥
+  pub attempt : IsRefusal two_blocks (record refused_write { attempt = 2 }) 4 3 → ⊥
+  pub inner_victim : IsRefusal two_blocks (record refused_write { victim = 5 }) 4 3 → ⊥
+  pub own_block : IsRefusal two_blocks (record refused_write { block = 4 }) 4 6 → ⊥
+  pub no_conflict : AreRefusals two_blocks [] → ⊥
+  pub twice : AreRefusals two_blocks (refused_write ∷ refused_write ∷ []) → ⊥
+  pub other_strand : Spent apart (refused_write ∷ []) 1 2 → ⊥
+  pub other_budget : Spent apart (refused_write ∷ []) 2 5 → ⊥

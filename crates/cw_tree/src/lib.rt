@@ -1,0 +1,44 @@
+//! The computation tree of a run: what a node is, who stands above whom, which block is still pending, and who conflicts with whom.
+//! Stands on `cw_base` and `cw_code`.
+//! Contracts cite `specs/Walks.antt` (what stands above a node) and `specs/Names.antt` (names of strands). The other files of
+//! `specs/` hold what the layers above say of a tree, its accesses and its conflicts.
+#![tactic(auto)]
+
+ghost use Rattle.cw_tree.specs.Rows.{Ancestors, Conflicts, Orders, Names, Texts, Attempts, Places, Values};
+ghost use Rattle.cw_tree.specs.WorkedRun.{Holds, Stops, Breaks};
+
+mod access;
+mod closed;
+mod conflict;
+mod node;
+mod picks;
+mod tree;
+
+pub use access::{Entry, Mark};
+pub use closed::{Closed, Halt};
+pub use conflict::Conflict;
+pub use node::{BlockState, Kind, Node};
+pub use picks::{Name, Picks, Turn};
+pub use tree::Tree;
+
+/// What the definitions say of small trees.
+pub fn worked_trees()
+    ensures ancestors { Ancestors }
+    ensures conflicts { Conflicts }
+    ensures orders { Orders }
+    ensures names { Names }
+    ensures texts { Texts }
+    ensures attempts { Attempts }
+    ensures places { Places }
+    ensures values { Values }
+{}
+
+/// What is kept of a small run meets all that is said of it, and does not where one thing is changed.
+pub fn worked_run()
+    ensures holds { Holds }
+    ensures stops { Stops }
+    ensures breaks { Breaks }
+{}
+
+#[cfg(test)]
+mod tests;
