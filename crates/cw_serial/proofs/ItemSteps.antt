@@ -1,5 +1,5 @@
 -- What one more item adds to what is declared.
-use Rattle.std.proofs.Common.{◌≡◌, ℕ, ℤ, ◌+◌, List, [], ◌∷◌, ◌++◌, cond, if◌then◌else◌, nat_lt, Bool, true, false, Option, Some, None, refl, sym, ◌∙◌, append_assoc}
+use Rattle.std.proofs.Common.{◌≡◌, ℕ, ℤ, ◌+◌, List, [], ◌∷◌, ◌++◌, cond, if◌then◌else◌, nat_lt, Bool, true, false, Option, Some, None, refl, append_assoc}
 use Rattle.std.specs.Option.{option_or}
 use Rattle.std.specs.Cmp.Lexicographic.{bytes_decides}
 use Rattle.cw_text.specs.declared.ast.Word.{Word}

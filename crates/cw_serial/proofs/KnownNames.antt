@@ -1,6 +1,5 @@
 -- What a map of names has, in the words of the language's own look-ups.
-use Rattle.std.proofs.Common.{◌≡◌, ℕ, ℤ, List, [], ◌∷◌, Bool, true, false, Some, cond, map, pos, refl, sym, ◌∙◌}
-use Rattle.std.specs.Bool.{Decides}
+use Rattle.std.proofs.Common.{◌≡◌, ℕ, ℤ, List, [], ◌∷◌, Bool, true, false, Some, cond, map, pos, refl, ◌∙◌}
 use Rattle.std.specs.Borrow.{Bor}
 use Rattle.std.specs.BTreeMap.{BTreeMap, UpdatesBy, is_at}
 use Rattle.std.specs.Map.{lookup}

@@ -7,8 +7,8 @@ use Rattle.cw_strand.specs.Names.{first_memory}
 use Rattle.cw_strand.specs.Strands.{Strands}
 use Rattle.cw_strand.specs.Meaning.{State}
 use Rattle.cw_serial.specs.declared.program.Program.{Program}
-use Rattle.cw_serial.specs.declared.record.Name.{Name}
-use Rattle.cw_serial.specs.declared.record.Picks.{Picks as Order}
+use Rattle.cw_tree.specs.declared.picks.Name.{Name}
+use Rattle.cw_tree.specs.declared.picks.Picks.{Picks as Order}
 use Rattle.cw_serial.specs.declared.record.SerialEnd.{SerialEnd}
 use Rattle.cw_serial.specs.declared.record.SerialEnd.TheVariants as last
 use Rattle.cw_serial.specs.declared.one_memory.OneMemory.{OneMemory}

@@ -11,7 +11,7 @@ use Rattle.cw_code.specs.declared.CellInfo.{CellInfo}
 use Rattle.cw_strand.specs.Meaning.{State, Step, on, wants, ends, fails, work, step, settled, with_value, wanted}
 use Rattle.cw_strand.proofs.Settling.{want_leaves_less, settled_leaves}
 use Rattle.cw_serial.specs.declared.program.Program.{Program}
-use Rattle.cw_serial.specs.declared.record.Name.{Name}
+use Rattle.cw_tree.specs.declared.picks.Name.{Name}
 use Rattle.cw_serial.specs.declared.record.RecordEnd.{RecordEnd}
 use Rattle.cw_serial.specs.declared.record.SerialEnd.{SerialEnd}
 use Rattle.cw_serial.specs.declared.work.Work.{Work}

@@ -5,8 +5,8 @@ use Rattle.cw_strand.specs.declared.want.Want.{Want}
 use Rattle.cw_strand.specs.declared.want.Want.TheVariants.{Load, Store, Out, Done, Fault}
 use Rattle.cw_strand.specs.declared.want.Given.TheVariants.{Nothing, Value}
 use Rattle.cw_strand.specs.Strands.{Strands}
-use Rattle.cw_serial.specs.declared.record.Name.{Name}
-use Rattle.cw_serial.specs.declared.record.Picks.{Picks}
+use Rattle.cw_tree.specs.declared.picks.Name.{Name}
+use Rattle.cw_tree.specs.declared.picks.Picks.{Picks}
 use Rattle.cw_serial.specs.declared.record.SerialEnd.{SerialEnd}
 use Rattle.cw_serial.specs.declared.record.SerialEnd.TheVariants as last
 

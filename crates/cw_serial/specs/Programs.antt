@@ -8,7 +8,7 @@ use Rattle.cw_strand.specs.Meaning.{State, strands, body_at}
 use Rattle.cw_serial.specs.declared.program.Program.{Program}
 use Rattle.cw_serial.specs.declared.program.NameRefusal.{NameRefusal}
 use Rattle.cw_serial.specs.declared.program.NameRefusal.TheVariants as refusal
-use Rattle.cw_serial.specs.declared.record.Picks.{Picks}
+use Rattle.cw_tree.specs.declared.picks.Picks.{Picks}
 use Rattle.cw_serial.specs.declared.record.SerialEnd.{SerialEnd}
 use Rattle.cw_serial.specs.Machine.{serial_end}
 

@@ -1,8 +1,8 @@
 -- What a run keeps, and when it replays.
 use Rattle.std.specs.Prelude.{◌≡◌, ℕ, ◌≤◌, [], ◌∷◌, length, replicate, false}
 use Rattle.cw_serial.specs.declared.program.Program.{Program}
-use Rattle.cw_serial.specs.declared.record.Name.{Name}
-use Rattle.cw_serial.specs.declared.record.Picks.{Picks}
+use Rattle.cw_tree.specs.declared.picks.Name.{Name}
+use Rattle.cw_tree.specs.declared.picks.Picks.{Picks}
 use Rattle.cw_serial.specs.declared.record.SerialEnd.{SerialEnd}
 use Rattle.cw_serial.specs.declared.record.SerialEnd.TheVariants as last
 use Rattle.cw_serial.specs.declared.record.RecordEnd.{RecordEnd}

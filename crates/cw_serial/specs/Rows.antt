@@ -4,7 +4,7 @@ use Rattle.cw_code.specs.declared.FaultKind.TheVariants.{Overflow}
 use Rattle.cw_strand.specs.Names.{cells_of, main_of, first_memory}
 use Rattle.cw_strand.specs.Meaning.{strands, body_at}
 use Rattle.cw_strand.specs.Rows.{tree}
-use Rattle.cw_serial.specs.declared.record.Name.{Name}
+use Rattle.cw_tree.specs.declared.picks.Name.{Name}
 use Rattle.cw_serial.specs.declared.record.SerialEnd.{SerialEnd}
 use Rattle.cw_serial.specs.declared.record.SerialEnd.TheVariants as last
 use Rattle.cw_serial.specs.Machine.{serial_end}

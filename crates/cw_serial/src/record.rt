@@ -5,16 +5,8 @@ use crate::Program;
 use crate::one_memory::OneMemory;
 use cw_base::{OutOfMemory, Seq};
 use cw_code::{FaultKind, Limits};
+use cw_tree::{Name, Picks};
 use std::alloc::Global;
-
-/// A strand by the fork that started it: the number of the strand that forked, which fork of that strand it was, counted
-/// from 1, and whether it is the right strand of it. The root is `Name { parent: 0, fork: 0, right: false }`.
-#[derive(Clone, Copy, PartialEq, Eq, Debug)]
-pub struct Name {
-    pub parent: u32,
-    pub fork: u32,
-    pub right: bool,
-}
 
 /// The name of the strand of main.
 const ROOT: Name = Name {
@@ -22,15 +14,6 @@ const ROOT: Name = Name {
     fork: 0,
     right: false,
 };
-
-/// An order: the strands that it names, of which number 0 is the root, the numbers of the strands to pick one after
-/// another, and the strand that it ends with.
-#[derive(Drop)]
-pub struct Picks {
-    pub names: Seq<Name>,
-    pub list: Seq<u32>,
-    pub last: u32,
-}
 
 /// How the machine ended. In `Fault` and `At`, `name` is the last strand of the picks. In `Stuck`, `place` is that of the
 /// first pick that cannot be made, or the number of picks.

@@ -1,4 +1,3 @@
-use Rattle.std.proofs.Common.{codes}
 use Rattle.cw_serial.proofs.checking.is_main.Goals as goal
 
 pub returns-in-Func : goal.returns-in-Func
