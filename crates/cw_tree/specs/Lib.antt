@@ -2,6 +2,7 @@ pub mod Nodes
 pub mod Walks
 pub mod Series
 pub mod Names
+pub mod ForkCounts
 pub mod Attempts
 pub mod Accesses
 pub mod Shape
