@@ -8,5 +8,6 @@ pub mod Accesses
 pub mod Shape
 pub mod Journals
 pub mod Refusals
+pub mod Laws
 pub mod Rows
 pub mod WorkedRun
