@@ -4,7 +4,7 @@ use Rattle.std.specs.Prelude.{◌⊎◌, ◌||◌, count_by}
 use Rattle.std.proofs.lemmas.List.Sums.{sum_by_push}
 use Rattle.std.proofs.lemmas.Bool.{cases_eq}
 use Rattle.cw_tree.specs.Nodes.{below}
-use Rattle.cw_tree.specs.Names.{one_if}
+use Rattle.cw_tree.specs.ForkCounts.{one_if}
 
 abbrev pub count : (ℕ → Bool) → ℕ → ℕ
 count p k = count_by p (below k)

@@ -5,7 +5,7 @@ use Rattle.std.proofs.lemmas.Bool.{and_parts, and_from, and_right, or_cases, or_
 use Rattle.cw_tree.specs.declared.node.Node.{Node}
 use Rattle.cw_tree.specs.Nodes.{parent_of, is_fork}
 use Rattle.cw_tree.specs.Walks.{IsRooted, path, is_ancestor}
-use Rattle.cw_tree.specs.Names.{one_if, lets_out, counts_after, forks_after}
+use Rattle.cw_tree.specs.ForkCounts.{one_if, lets_out, counts_after, forks_after}
 use Rattle.cw_tree.proofs.Ancestors.{ancestor_self, ancestor_step, ancestor_up, ancestor_le, ancestor_trans}
 use Rattle.cw_tree.proofs.Kin.{ancestor_linear, children_apart, branch}
 use Rattle.cw_tree.proofs.Reaching.{reaches, reaches_list, Reached, reached, reaches_from}

@@ -16,3 +16,4 @@ pub mod Sides
 pub mod Turns
 pub mod Checks
 pub mod KeptRuns
+pub mod Parting

@@ -15,14 +15,6 @@ find_first p n ns e = ap (λ b. cond b (Some n) (find p ns)) e
 find_rest : (p : ℕ → Bool) (n : ℕ) (ns : List ℕ) → p n ≡ false → find p (n ∷ ns) ≡ find p ns
 find_rest p n ns e = ap (λ b. cond b (Some n) (find p ns)) e
 
-or_zero : Option ℕ → ℕ
-or_zero o = unwrap_or o 0
-
-pub lca_same : (t : List Node) (n : ℕ) → lca t n n ≡ n
-lca_same t n =
-    let test : ℕ → Bool = λ m. is_ancestor t m n in
-    ap (λ ns. unwrap_or (find test ns) 0) (path_split t n) ∙ ap (λ o. unwrap_or o 0) (find_first test n (above t n) (ancestor_self t n))
-
 module _ (t : List Node) (r : IsRooted t) where
   -- a walk from the greater of two nodes comes to the same
   pub lca_left : (a b : ℕ) → a < length t → b < length t → b < a → lca t a b ≡ lca t (parent_of t a) b

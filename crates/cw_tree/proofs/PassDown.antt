@@ -7,7 +7,7 @@ use Rattle.std.proofs.lemmas.Grind.{get_or_default_zero}
 use Rattle.cw_tree.specs.declared.node.Node.{Node}
 use Rattle.cw_tree.specs.Nodes.{parent_of, is_fork}
 use Rattle.cw_tree.specs.Walks.{IsRooted}
-use Rattle.cw_tree.specs.Names.{one_if, lets_out, forks_after}
+use Rattle.cw_tree.specs.ForkCounts.{one_if, lets_out, forks_after}
 use Rattle.cw_tree.proofs.Forks.{child_from, forks_to, after_is}
 use Rattle.cw_tree.proofs.Passes.{from_none, from_more, from_same, from_less, counted, forks_to_le}
 

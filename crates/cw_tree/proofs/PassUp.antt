@@ -7,7 +7,8 @@ use Rattle.std.proofs.lemmas.Grind.{get_or_default_zero}
 use Rattle.cw_tree.specs.declared.node.Node.{Node}
 use Rattle.cw_tree.specs.Nodes.{all_nodes, parent_of, is_strand, is_fork}
 use Rattle.cw_tree.specs.Walks.{IsRooted}
-use Rattle.cw_tree.specs.Names.{counts, fork_number, forks_after}
+use Rattle.cw_tree.specs.Names.{counts, fork_number}
+use Rattle.cw_tree.specs.ForkCounts.{forks_after}
 use Rattle.cw_tree.proofs.Lists.{map_below}
 use Rattle.cw_tree.proofs.Counting.{count}
 use Rattle.cw_tree.proofs.Forks.{child_to, forks_to, after_is}

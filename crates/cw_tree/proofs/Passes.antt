@@ -5,7 +5,7 @@ use Rattle.std.proofs.lemmas.Bool.{cases_Bool, and_parts, and_from, or_cases, or
 use Rattle.cw_tree.specs.declared.node.Node.{Node}
 use Rattle.cw_tree.specs.Nodes.{parent_of, is_fork}
 use Rattle.cw_tree.specs.Walks.{IsRooted}
-use Rattle.cw_tree.specs.Names.{one_if, lets_out, forks_after}
+use Rattle.cw_tree.specs.ForkCounts.{one_if, lets_out, forks_after}
 use Rattle.cw_tree.proofs.Ancestors.{ancestor_root, ancestor_le}
 use Rattle.cw_tree.proofs.Counting.{count_none, count_le, count_less}
 use Rattle.cw_tree.proofs.Forks.{same_truth, comes_to, comes, is_same, child_from, child_to, forks_to, after_is, forks_same, forks_more, forks_stopped, forks_inside}

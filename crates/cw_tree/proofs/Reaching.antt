@@ -7,7 +7,7 @@ use Rattle.std.proofs.lemmas.Bool.{and_parts, and_from, or_cases, or_left, or_ri
 use Rattle.cw_tree.specs.declared.node.Node.{Node}
 use Rattle.cw_tree.specs.Nodes.{parent_of}
 use Rattle.cw_tree.specs.Walks.{IsRooted, path, is_ancestor}
-use Rattle.cw_tree.specs.Names.{lets_out}
+use Rattle.cw_tree.specs.ForkCounts.{lets_out}
 use Rattle.cw_tree.proofs.Climbs.{path_step, by_parent}
 use Rattle.cw_tree.proofs.Ancestors.{ancestor_self, ancestor_root, ancestor_step, ancestor_up, ancestor_le}
 

@@ -34,15 +34,6 @@ pub record Told (t : List Node) (n : ℕ) (sides forked : List Bool) : Type 0 wh
   pub met : (x : ℕ) → x < length t → get_or forked x false ≡ is_forked t n x
 
 module _ (t : List Node) where
-  pub told_start : (k : ℕ) (sides forked : List Bool) → k ≡ length t → sides ≡ replicate k false → forked ≡ replicate k false → Told t 1 sides forked
-  told_start k sides forked e q s = record {
-    some = omega arith;
-    len = ap length q ∙ length-replicate k false ∙ e;
-    forked_len = ap length s ∙ length-replicate k false ∙ e;
-    done = λ c h l. (let z : c ≡ 0 = omega arith in ap (λ xs. get_or xs c false) q ∙ get_or-replicate k c false false (omega arith) ∙ sym (ap (is_right t) z));
-    met = λ x h. ap (λ xs. get_or xs x false) s ∙ get_or-replicate k x false false (omega arith);
-  }
-
   pub told_end : (n : ℕ) (sides forked : List Bool) → Told t n sides forked → length t ≤ n → sides ≡ map (is_right t) (all_nodes t)
   told_end n sides forked w h = map_below (is_right t) sides (length t) w.len (λ c d l. let len = w.len in get_or_default sides c d false (omega arith) ∙ w.done c (omega arith) l)
 

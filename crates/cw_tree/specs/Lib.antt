@@ -2,10 +2,12 @@ pub mod Nodes
 pub mod Walks
 pub mod Series
 pub mod Names
+pub mod ForkCounts
 pub mod Attempts
 pub mod Accesses
 pub mod Shape
 pub mod Journals
 pub mod Refusals
+pub mod Laws
 pub mod Rows
 pub mod WorkedRun

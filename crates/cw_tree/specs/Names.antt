@@ -1,36 +1,17 @@
 -- Names of strands. A strand's k-th fork gives .kl and .kr after its name.
 -- Forks of attempts that were rolled back are not counted by those after them.
-use Rattle.std.specs.Prelude.{ℕ, ◌+◌, ◌==◌, ◌&&◌, ◌||◌, Bool, not, nat_lt, List, ◌++◌, filter, map, reverse, take_while, count_by, codes, if◌then◌else◌}
+use Rattle.std.specs.Prelude.{ℕ, ◌+◌, ◌==◌, ◌&&◌, ◌||◌, Bool, not, nat_lt, List, ◌++◌, filter, map, reverse, count_by, codes, if◌then◌else◌}
 use Rattle.std.specs.List.{list_any, list_all, flat_map}
 use Rattle.std.specs.Fmt.{decimal}
 use Rattle.cw_tree.specs.declared.node.Node.{Node}
 use Rattle.cw_tree.specs.declared.picks.Turn.{Turn}
 use Rattle.cw_tree.specs.Nodes.{parent_of, is_strand, is_fork, is_aborted, below, all_nodes}
-use Rattle.cw_tree.specs.Walks.{path, above, has, is_above}
+use Rattle.cw_tree.specs.Walks.{path, above, is_above}
 use Rattle.cw_tree.specs.Series.{strand_of, is_before}
 
 -- fork g counts at n: it is before n in the same strand, and each block above it that was rolled back is above n too
 abbrev pub counts : List Node → ℕ → ℕ → Bool
 counts t n g = is_fork t g && (strand_of t g == strand_of t n) && is_before t g n && list_all (λ a. not (is_aborted t a) || is_above t a n) (above t g)
-
-abbrev pub one_if : Bool → ℕ
-one_if b = if b then 1 else 0
-
--- n is no strand, and was not rolled back: what follows it in its strand counts the forks in it
-abbrev pub lets_out : List Node → ℕ → Bool
-lets_out t n = not (is_strand t n) && not (is_aborted t n)
-
--- the way up from n before it comes to a strand or a block that was rolled back
-abbrev pub way_out : List Node → ℕ → List ℕ
-way_out t n = take_while (lets_out t) (path t n)
-
--- fork g counts at what follows node c in its strand
-abbrev pub counts_after : List Node → ℕ → ℕ → Bool
-counts_after t c g = is_fork t g && has (way_out t g) c
-
--- how many forks count at what follows node c in its strand
-abbrev pub forks_after : List Node → ℕ → ℕ
-forks_after t c = count_by (counts_after t c) (all_nodes t)
 
 -- which fork of its strand f is, from 1
 abbrev pub fork_number : List Node → ℕ → ℕ

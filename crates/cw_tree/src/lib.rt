@@ -4,6 +4,7 @@
 //! `specs/` hold what the layers above say of a tree, its accesses and its conflicts.
 #![tactic(auto)]
 
+ghost use Rattle.cw_tree.specs.Laws.{SeriesOrParallel};
 ghost use Rattle.cw_tree.specs.Rows.{Ancestors, Conflicts, Orders, Names, Texts, Attempts, Places, Values};
 ghost use Rattle.cw_tree.specs.WorkedRun.{Holds, Stops, Breaks};
 
@@ -20,6 +21,11 @@ pub use conflict::Conflict;
 pub use node::{BlockState, Kind, Node};
 pub use picks::{Name, Picks, Turn};
 pub use tree::Tree;
+
+/// Of two nodes of which neither is an ancestor of the other, one is before the other or they are parallel.
+pub fn series_or_parallel()
+    ensures { SeriesOrParallel }
+{}
 
 /// What the definitions say of small trees.
 pub fn worked_trees()

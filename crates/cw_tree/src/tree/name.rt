@@ -1,6 +1,7 @@
 ghost use Rattle.std.specs.Prelude.{◌≡◌, ℕ, ◌+◌, ◌^◌, ◌<◌, if◌then◌else◌, length, map, slice_index, IfOk, IsTrue, string_bytes};
 ghost use Rattle.cw_tree.specs.Nodes.{parent_of, all_nodes, is_strand, is_fork};
-ghost use Rattle.cw_tree.specs.Names.{one_if, lets_out, forks_after, fork_number, is_right, name_of, name_text};
+ghost use Rattle.cw_tree.specs.Names.{fork_number, is_right, name_of, name_text};
+ghost use Rattle.cw_tree.specs.ForkCounts.{one_if, lets_out, forks_after};
 
 use crate::{Tree, Turn};
 use cw_base::OutOfMemory;

@@ -1,0 +1,5 @@
+use Rattle.cw_tree.proofs.Parting.{series_or_parallel}
+use Rattle.cw_tree.proofs.series_or_parallel.Goals as goal
+
+pub returns : goal.returns
+returns c = series_or_parallel
