@@ -1,1 +1,9 @@
-mod Linking
+pub mod Apart
+pub mod Linking
+pub mod Making
+pub mod Placing
+pub mod Ranges
+pub mod Relinking
+pub mod Rising
+pub mod Rows
+pub mod Spreading

@@ -42,3 +42,17 @@ pub walk-set : (next : List ℕ) (i v at k : ℕ) → Lacks (walk next at k) i �
 walk-set next i v at zero l = refl
 walk-set next i v at (suc k) l =
     ap (λ ys. at ∷ ys) (ap (λ y. walk (set next i v) y k) (get_or-set_other next i at v 0 l.0) ∙ walk-set next i v (get_or next at 0) k l.1)
+
+-- where the links lead, by places in the list
+pub next_at : (next previous xs : List ℕ) (b i : ℕ) → AreLinked next previous xs b → i < length xs → get_or next (get_or xs i 0) 0 ≡ get_or xs (i + 1) b
+next_at next previous [] b i h l = absurd (omega arith)
+next_at next previous (x ∷ []) b zero h l = h.0
+next_at next previous (x ∷ y ∷ xs) b zero h l = h.0
+next_at next previous (x ∷ xs) b (suc i) h l =
+    next_at next previous xs b i h.2 (omega arith) ∙ (let e : i + 1 + 1 ≡ suc (i + 1) = omega arith in let f : suc i + 1 ≡ suc (i + 1) = omega arith in sym (ap (λ k. get_or (x ∷ xs) k b) f))
+
+pub previous_at : (next previous xs : List ℕ) (b i : ℕ) → AreLinked next previous xs b → suc i < length xs → get_or previous (get_or xs (suc i) 0) 0 ≡ get_or xs i 0
+previous_at next previous [] b i h l = absurd (omega arith)
+previous_at next previous (x ∷ []) b i h l = absurd (omega arith)
+previous_at next previous (x ∷ y ∷ xs) b zero h l = h.1
+previous_at next previous (x ∷ y ∷ xs) b (suc i) h l = previous_at next previous (y ∷ xs) b i h.2 (omega arith)

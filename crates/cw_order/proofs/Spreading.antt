@@ -2,7 +2,7 @@
 use Rattle.std.proofs.Common.{ℕ, zero, suc, ◌+◌, ◌*◌, ◌<◌, ◌≤◌, ◌≡◌, ◌≢◌, List, [], ◌∷◌, ◌++◌, length, map, get_or, set, refl, sym, ap, ◌∙◌, subst, arith}
 use Rattle.std.specs.List.{AllByRecursion}
 use Rattle.std.proofs.lemmas.List.{map-append, get_or-set_other, get_or-set_same, length-set}
-use Rattle.cw_order.specs.Links.{first_or, Rise, Lacks, AreApart, spread_over}
+use Rattle.cw_order.specs.Links.{walk, first_or, Rise, Lacks, AreApart, spread_over}
 use Rattle.cw_order.proofs.Apart.{AreDisjoint, apart_parts, apart_across, disjoint_turned, disjoint_parts}
 use Rattle.cw_order.proofs.Rising.{rise_whole, rise_less}
 
@@ -68,3 +68,7 @@ spread_whole front (x ∷ run) back base gap labels t a w some rf rb room g =
     let joined : read_all ls (front ++ (x ∷ run ++ back)) ≡ read_all labels front ++ (read_all ls (x ∷ run) ++ read_all labels back) =
         read_all-append ls front (x ∷ run ++ back) ∙ (ap (λ z. z ++ read_all ls (x ∷ run ++ back)) before ∙ ap (λ z. read_all labels front ++ z) (read_all-append ls (x ∷ run) back ∙ ap (λ z. read_all ls (x ∷ run) ++ z) behind)) in
     subst (λ ns. Rise 1 ns t) (sym joined) all
+
+-- one place of a walk gets its label
+pub spread_more : (next labels : List ℕ) (at left label gap rest : ℕ) → left ≡ suc rest → spread_over (walk next at left) label gap labels ≡ spread_over (walk next (get_or next at 0) rest) (label + gap) gap (set labels at label)
+spread_more next labels at left label gap rest e = ap (λ n. spread_over (walk next at n) label gap labels) e
