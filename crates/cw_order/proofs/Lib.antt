@@ -5,5 +5,6 @@ pub mod Placing
 pub mod Ranges
 pub mod Relinking
 pub mod Rising
+pub mod Rooms
 pub mod Rows
 pub mod Spreading

@@ -56,3 +56,7 @@ previous_at next previous [] b i h l = absurd (omega arith)
 previous_at next previous (x ∷ []) b i h l = absurd (omega arith)
 previous_at next previous (x ∷ y ∷ xs) b zero h l = h.1
 previous_at next previous (x ∷ y ∷ xs) b (suc i) h l = previous_at next previous (y ∷ xs) b i h.2 (omega arith)
+
+pub length-walk : (next : List ℕ) (at k : ℕ) → length (walk next at k) ≡ k
+length-walk next at zero = refl
+length-walk next at (suc k) = ap suc (length-walk next (get_or next at 0) k)

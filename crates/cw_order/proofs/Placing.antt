@@ -36,12 +36,12 @@ stands_at (x ∷ xs) a c = elim (cases_eq x a) [
   later ne (zero, within, e) more = absurd (ne e)
   later ne (suc k, within, e) more = let s = more k (omega arith) e in record { within = omega (arith, s.within); there = s.there }
 
-get_or-read_all : (labels xs : List ℕ) (k : ℕ) → k < length xs → get_or (read_all labels xs) k 0 ≡ get_or labels (get_or xs k 0) 0
+pub get_or-read_all : (labels xs : List ℕ) (k : ℕ) → k < length xs → get_or (read_all labels xs) k 0 ≡ get_or labels (get_or xs k 0) 0
 get_or-read_all labels [] k h = absurd (omega arith)
 get_or-read_all labels (x ∷ xs) zero h = refl
 get_or-read_all labels (x ∷ xs) (suc k) h = get_or-read_all labels xs k (omega arith)
 
-length-read_all : (labels xs : List ℕ) → length (read_all labels xs) ≡ length xs
+pub length-read_all : (labels xs : List ℕ) → length (read_all labels xs) ≡ length xs
 length-read_all labels [] = refl
 length-read_all labels (x ∷ xs) = ap suc (length-read_all labels xs)
 

@@ -76,7 +76,7 @@ row_on r xs at last last2 count2 run ring row ne e f =
     }
 
 -- the head comes first, and never again
-only_first : (xs : List ℕ) (i : ℕ) → Lacks xs 0 → suc i < length (path xs) → get_or (path xs) (suc i) 0 ≢ 0
+pub only_first : (xs : List ℕ) (i : ℕ) → Lacks xs 0 → suc i < length (path xs) → get_or (path xs) (suc i) 0 ≢ 0
 only_first [] i l h = absurd (omega arith)
 only_first (x ∷ xs) zero l h = λ e. l.0 e
 only_first (x ∷ xs) (suc i) l h = only_first xs i l.1 (omega arith)

@@ -90,6 +90,7 @@ impl Ring {
 
     /// A label between that of `at` and the next one. Labels change where none is free; `count` is the number of elements.
     pub(crate) fn label_after(&mut self, at: u32, count: u32) -> u64
+        requires place { at < vec_len self.old.next }
         requires few { count < 2 ^ 32 - 1 }
         requires ring { IsRing self.old (elements_of self.old count) }
         requires there { Contains (path (elements_of self.old count)) at }
@@ -139,6 +140,7 @@ impl Ring {
     /// Spreads the labels of the smallest range round that of `at` that is sparse enough. A range has 4^k labels and begins
     /// at a multiple of 4^k; it is sparse enough where at most 2^k of them are in use. The range of all labels always is.
     fn make_room(&mut self, at: u32, count: u32)
+        requires place { at < vec_len self.old.next }
         requires few { count < 2 ^ 32 - 1 }
         requires ring { IsRing self.old (elements_of self.old count) }
         requires there { Contains (path (elements_of self.old count)) at }
@@ -147,7 +149,7 @@ impl Ring {
         ensures ring { IsRing self.new (elements_of self.old count) }
         ensures room { label_of self.new at + 2 ≤ above_of self.new at }
     {
-        for level in 2..32 {
+        for level in 2..32u32 {
             let most = 1u32 << level;
             let size = u64::from(most) * u64::from(most);
             if let Some(run) = self.sparse_run(at, size, most) {
