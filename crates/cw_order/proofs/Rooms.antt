@@ -286,3 +286,12 @@ room_in_all r r2 xs at count ring has e few places next previous spread =
       ring = spread_ring r xs at 0 gap run ring can (omega arith) places r2 (omega (arith, large)) next previous spread;
       room = spread_room r xs at 0 gap run ring can (omega arith) places r2 large next previous spread;
     }
+
+-- the label above is greater
+pub gap_above : (r : Ring) (xs : List ℕ) (at : ℕ) → IsRing r xs → Contains (path xs) at → label_of r at < above_of r at
+gap_above r xs at ring has =
+    let there : get_or (path xs) has.0 0 ≡ at = get_or_default (path xs) has.0 0 at has.1 ∙ has.2 in
+    let above = above-at r xs has.0 at ring.linked ring.apart has.1 there in
+    let rises = rise_at 1 (read_all r.labels.items (path xs)) END has.0 ring.rising (omega (arith, has.1, length-read_all r.labels.items (path xs))) in
+    let here = get_or-read_all r.labels.items (path xs) has.0 has.1 ∙ ap (label_of r) there in
+    omega (arith, above, rises, here)

@@ -81,7 +81,8 @@ impl Ring {
     fn gap_after(&self, at: u32) -> u64
         requires place { at < vec_len self.now.next }
         requires rises { label_of self.now at ≤ above_of self.now at }
-        ensures { label_of self.now at + result ≡ above_of self.now at }
+        ensures value { label_of self.now at + result ≡ above_of self.now at }
+        ensures end { label_of self.now at + result ≤ END }
     {
         let next = self.next(at);
         let above = if next == HEAD { END } else { self.label(next) };
