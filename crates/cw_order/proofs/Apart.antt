@@ -1,8 +1,8 @@
 -- Lists in which no two are the same, cut and joined.
-use Rattle.std.proofs.Common.{ℕ, zero, suc, ◌+◌, ◌<◌, ◌≤◌, ◌≡◌, ◌≢◌, List, [], ◌∷◌, ◌++◌, length, get_or, refl, sym, ap, ◌∙◌, subst, arith, append_assoc, inl, inr}
+use Rattle.std.proofs.Common.{ℕ, zero, suc, ◌+◌, ◌<◌, ◌≤◌, ◌≡◌, ◌≢◌, List, [], ◌∷◌, ◌++◌, length, get_or, nat_eq, false, refl, sym, ap, ◌∙◌, subst, arith, append_assoc, inl, inr}
 use Rattle.std.specs.Prelude.{◌⊎◌}
-use Rattle.std.specs.List.{Contains}
-use Rattle.std.proofs.lemmas.Bool.{cases_eq}
+use Rattle.std.specs.List.{AllByRecursion, Contains, IsDistinct}
+use Rattle.std.proofs.lemmas.Bool.{cases_eq, ne_eqb}
 use Rattle.cw_order.specs.Links.{Lacks, AreApart}
 
 pub lacks_parts : (xs ys : List ℕ) (y : ℕ) → Lacks (xs ++ ys) y → Lacks xs y × Lacks ys y
@@ -94,3 +94,16 @@ disjoint_parts (x ∷ xs) ys zs d =
     let here = lacks_parts ys zs x d.0 in
     let more = disjoint_parts xs ys zs d.1 in
     ((here.0, more.0), (here.1, more.1))
+
+lacks-distinct : (xs : List ℕ) (x : ℕ) → Lacks xs x → AllByRecursion (λ y. nat_eq x y ≡ false) xs
+lacks-distinct [] x l = tt
+lacks-distinct (y ∷ xs) x l = (ne_eqb x y (λ e. l.0 (sym e)), lacks-distinct xs x l.1)
+
+pub distinct_from_apart : (xs : List ℕ) → AreApart xs → IsDistinct nat_eq xs
+unfolding IsDistinct
+distinct_from_apart [] a = tt
+distinct_from_apart (x ∷ xs) a = (lacks-distinct xs x a.0, distinct_from_apart xs a.1)
+
+pub disjoint_there : (front back ys : List ℕ) (x : ℕ) → AreDisjoint (front ++ x ∷ back) ys → Lacks ys x
+disjoint_there [] back ys x d = d.0
+disjoint_there (z ∷ front) back ys x d = disjoint_there front back ys x d.1

@@ -1,4 +1,6 @@
 pub mod Apart
+pub mod Inserting
+pub mod Keeping
 pub mod Linking
 pub mod Making
 pub mod Placing

@@ -27,7 +27,7 @@ first_is_not : (xs : List ℕ) (b y : ℕ) → Lacks xs y → b ≢ y → first_
 first_is_not [] b y l n = n
 first_is_not (x ∷ xs) b y l n = l.0
 
-back_lacks : (front back : List ℕ) (at : ℕ) → Lacks (drop 1 (front ++ at ∷ back)) 0 → Lacks back 0
+pub back_lacks : (front back : List ℕ) (at : ℕ) → Lacks (drop 1 (front ++ at ∷ back)) 0 → Lacks back 0
 back_lacks [] back at l = l
 back_lacks (x ∷ front) back at l = (lacks_parts front (at ∷ back) 0 l).1.1
 

@@ -68,7 +68,7 @@ first_or-get_or [] b = refl
 first_or-get_or (x ∷ xs) b = refl
 
 -- each place that the links lead to is there
-linked_within : (next previous xs : List ℕ) (b n : ℕ) → All (λ at. at < n) next → length next ≡ n → first_or xs b < n → AreLinked next previous xs b → AllByRecursion (λ x. x < n) xs
+pub linked_within : (next previous xs : List ℕ) (b n : ℕ) → All (λ at. at < n) next → length next ≡ n → first_or xs b < n → AreLinked next previous xs b → AllByRecursion (λ x. x < n) xs
 linked_within next previous [] b n all l f h = tt
 linked_within next previous (x ∷ xs) b n all l f h =
     let there = All-get_or (λ at. at < n) next x 0 (omega (arith, f, l)) all in
