@@ -1,16 +1,20 @@
 -- A ring after an element was put in.
-use Rattle.std.proofs.Common.{ℕ, zero, suc, ◌+◌, ◌-◌, ◌*◌, ◌<◌, ◌≤◌, ◌≡◌, ◌≢◌, List, [], ◌∷◌, ◌++◌, length, get_or, set, drop, cond, nat_eq, refl, sym, ap, ◌∙◌, subst, arith, append_assoc}
+use Rattle.std.proofs.Common.{ℕ, zero, suc, ◌+◌, ◌-◌, ◌*◌, ◌<◌, ◌≤◌, ◌≡◌, ◌≢◌, Option, None, Some, List, [], ◌∷◌, ◌++◌, length, get_or, set, drop, cond, nat_eq, refl, sym, ap, ◌∙◌, subst, arith, append_assoc}
 use Rattle.std.specs.List.{Contains}
+use Rattle.std.specs.Option.{ForSome, unwrap_or}
 use Rattle.std.specs.Vec.{vec_len}
 use Rattle.std.proofs.lemmas.List.{get_or-set_same, get_or-set_other, length-append, length-set}
 use Rattle.std.proofs.lemmas.List.Elements.{All-get_or}
 use Rattle.std.proofs.lemmas.Bool.{ne_eqb}
 use Rattle.cw_order.specs.declared.ring.Ring.{Ring}
 use Rattle.cw_order.specs.declared.ring.TheConstants.{END}
-use Rattle.cw_order.specs.Order.{after}
+use Rattle.cw_order.specs.declared.list.OrderList.TheInside.{Inside}
+use Rattle.cw_order.specs.Order.{after, placed_after}
+use Rattle.cw_order.specs.OrderList.{IsKept, free_of}
 use Rattle.cw_order.specs.Links.{walk, first_or, AreLinked, AreApart, Lacks, Rise}
 use Rattle.cw_order.specs.Ring.{IsRing, path, label_of, above_of, elements_of}
-use Rattle.cw_order.proofs.Apart.{CutAt, cut_at, apart_parts, apart_across, disjoint_there, apart_out, apart_in, lacks_parts}
+use Rattle.cw_order.proofs.Apart.{lacks-contains, CutAt, cut_at, apart_parts, apart_across, disjoint_there, apart_out, apart_in, lacks_parts}
+use Rattle.cw_order.proofs.Keeping.{elements_are, path_within, place_of}
 use Rattle.cw_order.proofs.Linking.{linked_parts, walk-linked, walk-set, length-walk}
 use Rattle.cw_order.proofs.Placing.{after-cut}
 use Rattle.cw_order.proofs.Relinking.{back_lacks, linked_in}
@@ -21,12 +25,6 @@ use Rattle.cw_order.proofs.Spreading.{read_all, read_all-append, read_all-set}
 above-cut : (r : Ring) (back : List ℕ) (at : ℕ) → get_or r.next.items at 0 ≡ first_or back 0 → Lacks back 0 → above_of r at ≡ first_or (read_all r.labels.items back) END
 above-cut r [] at e l = ap (λ y. cond (nat_eq y 0) END (label_of r y)) e
 above-cut r (y ∷ back) at e l = ap (λ y. cond (nat_eq y 0) END (label_of r y)) e ∙ ap (λ b. cond b END (label_of r y)) (ne_eqb y 0 l.0)
-
--- the links from the head on are those of the list that the ring keeps
-pub elements_are : (r : Ring) (xs : List ℕ) (count : ℕ) → AreLinked r.next.items r.previous.items (path xs) 0 → length xs ≡ count → elements_of r count ≡ xs
-elements_are r xs count linked e =
-    let all = walk-linked r.next.items r.previous.items (path xs) 0 linked in
-    ap (λ n. elements_of r n) (sym e) ∙ ap (λ zs. drop 1 zs) all
 
 module _ (r r2 : Ring) (xs ys fs : List ℕ) (at e label : ℕ) (ring : IsRing r xs) (has : Contains (path xs) at) (apart : AreApart (path xs ++ e ∷ fs))
   (places : at < vec_len r.next) (free : e < vec_len r.next) (above : label_of r at < label) (below : label < above_of r at) (is : path ys ≡ after at e (path xs))
@@ -127,3 +125,97 @@ module _ (r r2 : Ring) (xs ys fs : List ℕ) (at e label : ℕ) (ring : IsRing r
 
   pub all_apart : AreApart (path ys ++ fs)
   all_apart = apart_after
+
+-- the head, and the list with e placed
+placed_path : (at : Option ℕ) (e : ℕ) (xs : List ℕ) → ForSome at (Contains xs) → Lacks xs 0 → path (placed_after at e xs) ≡ after (unwrap_or at 0) e (path xs)
+placed_path None e xs has l = refl
+placed_path (Some a) e xs has l =
+    let ne : 0 ≢ a = λ z. lacks-contains xs 0 l (subst (Contains xs) (sym z) (has a refl)) in
+    sym (ap (λ b. cond b (0 ∷ e ∷ xs) (0 ∷ after a e xs)) (ne_eqb 0 a ne))
+
+-- an order list with a new element
+pub record HasInserted (a b : Inside) (at : Option ℕ) : Type 0 where
+  pub kept : IsKept b
+  pub elements : elements_of b.ring b.count ≡ placed_after at a.free (elements_of a.ring a.count)
+
+pub inserted : (a b : Inside) (r : Ring) (at : Option ℕ) (place label : ℕ) → place ≡ unwrap_or at 0 → IsKept a → (a.count ≡ a.room → ⊥) → ForSome at (Contains (elements_of a.ring a.count))
+  → r.next.items ≡ a.ring.next.items → IsRing r (elements_of a.ring a.count)
+  → label_of r place < label → label < above_of r place
+  → b.ring.next.items ≡ set (set r.next.items a.free (get_or r.next.items place 0)) place a.free
+  → b.ring.previous.items ≡ set (set r.previous.items a.free place) (get_or r.next.items place 0) a.free
+  → b.ring.labels.items ≡ set r.labels.items a.free label
+  → b.room ≡ a.room → b.count ≡ a.count + 1 → b.free ≡ get_or r.next.items a.free 0
+  → HasInserted a b at
+inserted a b r at place label place_is kept room has links ring above below next previous labels b_room b_count b_free = record {
+  kept = record {
+    places = omega (arith, sizes, same, kept.places, b_room);
+    few = omega (arith, kept.few, room, b_room, b_count);
+    ring = subst (IsRing b.ring) (sym elements) ring2;
+    there = omega (arith, b_free, next_there, sizes, kept.there);
+    apart = subst (λ zs. AreApart (path zs ++ free_of b)) (sym elements) (subst (λ zs. AreApart (path ys ++ zs)) (sym free_is) all);
+  };
+  elements = elements;
+} where
+  xs : List ℕ
+  xs = elements_of a.ring a.count
+
+  ys : List ℕ
+  ys = placed_after at a.free (elements_of a.ring a.count)
+
+  k : ℕ
+  k = a.room - (a.count + 1)
+
+  fs : List ℕ
+  fs = walk r.next.items (get_or r.next.items a.free 0) (a.room - (a.count + 1))
+
+  left : a.room - a.count ≡ suc (a.room - (a.count + 1))
+  left = omega (arith, kept.few, room)
+
+  old_free : free_of a ≡ a.free ∷ fs
+  old_free = ap (walk a.ring.next.items a.free) left ∙ ap (λ ns. walk ns a.free (suc (a.room - (a.count + 1)))) (sym links)
+
+  apart : AreApart (path xs ++ a.free ∷ fs)
+  apart = subst (λ zs. AreApart (path xs ++ zs)) old_free kept.apart
+
+  same : vec_len r.next ≡ vec_len a.ring.next
+  same = omega (arith, r.next.ok.0, a.ring.next.ok.0, ap length links)
+
+  e_there : a.free < vec_len r.next
+  e_there = omega (arith, same, kept.there)
+
+  at_has : Contains (path xs) place
+  at_has = subst (Contains (path (elements_of a.ring a.count))) (sym place_is) (place_of at (elements_of a.ring a.count) has)
+
+  at_there : place < vec_len r.next
+  at_there = path_within r (elements_of a.ring a.count) place ring (omega (arith, e_there)) at_has
+
+  is : path ys ≡ after place a.free (path xs)
+  is = placed_path at a.free (elements_of a.ring a.count) has ring.apart.0 ∙ ap (λ p. after p a.free (path (elements_of a.ring a.count))) (sym place_is)
+
+  ring2 : IsRing b.ring ys
+  ring2 = ring_after r b.ring xs ys fs place a.free label ring at_has apart at_there e_there above below is next previous labels
+
+  sizes : vec_len b.ring.next ≡ vec_len r.next
+  sizes =
+      let once = length-set r.next.items a.free (get_or r.next.items place 0) in
+      let twice = length-set (set r.next.items a.free (get_or r.next.items place 0)) place a.free in
+      omega (arith, b.ring.next.ok.0, r.next.ok.0, ap length next, once, twice)
+
+  next_there : get_or r.next.items a.free 0 < vec_len r.next
+  next_there = All-get_or (λ x. x < vec_len r.next) r.next.items a.free 0 (omega (arith, r.next.ok.0, e_there)) r.leads_on
+
+  elements : elements_of b.ring b.count ≡ ys
+  elements =
+      let more = length-after r b.ring xs ys fs place a.free label ring at_has apart at_there e_there above below is next previous labels in
+      elements_are b.ring ys b.count ring2.linked (omega (arith, more, length-walk a.ring.next.items (get_or a.ring.next.items 0 0) a.count, b_count))
+
+  free_is : free_of b ≡ fs
+  free_is =
+      let rest : b.room - b.count ≡ a.room - (a.count + 1) = omega (arith, b_room, b_count) in
+      ap (λ n. walk b.ring.next.items b.free n) rest ∙ (
+        ap (λ x. walk b.ring.next.items x (a.room - (a.count + 1))) b_free
+        ∙ walk-after r b.ring xs ys fs place a.free label ring at_has apart at_there e_there above below is next previous labels (get_or r.next.items a.free 0) (a.room - (a.count + 1)) refl
+      )
+
+  all : AreApart (path ys ++ fs)
+  all = all_apart r b.ring xs ys fs place a.free label ring at_has apart at_there e_there above below is next previous labels

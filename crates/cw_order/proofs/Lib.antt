@@ -6,6 +6,7 @@ pub mod Making
 pub mod Placing
 pub mod Ranges
 pub mod Relinking
+pub mod Removing
 pub mod Rising
 pub mod Rooms
 pub mod Rows

@@ -4,7 +4,8 @@ use Rattle.std.specs.Option.{ForSome}
 use Rattle.std.specs.Vec.{vec_len}
 use Rattle.cw_order.specs.Order.{placed_after}
 use Rattle.cw_order.specs.Ring.{elements_of, path}
-use Rattle.cw_order.proofs.Keeping.{HasInserted, inserted, kept_distinct, kept_length, kept_new, place_of, path_within}
+use Rattle.cw_order.proofs.Inserting.{HasInserted, inserted}
+use Rattle.cw_order.proofs.Keeping.{kept_distinct, kept_length, kept_new, place_of, path_within}
 use Rattle.cw_order.proofs.list.OrderList.insert_after.Goals as goal
 
 pub returns-then-self-clause-distinct : goal.returns-then-self-clause-distinct
