@@ -1,5 +1,5 @@
 -- Lists in which no two are the same, cut and joined.
-use Rattle.std.proofs.Common.{ℕ, zero, suc, ◌+◌, ◌<◌, ◌≤◌, ◌≡◌, ◌≢◌, List, [], ◌∷◌, ◌++◌, length, get_or, nat_eq, false, refl, sym, ap, ◌∙◌, subst, arith, append_assoc, inl, inr}
+use Rattle.std.proofs.Common.{ℕ, zero, suc, ◌<◌, ◌≡◌, ◌≢◌, List, [], ◌∷◌, ◌++◌, length, get_or, nat_eq, false, refl, sym, ap, arith, inl, inr}
 use Rattle.std.specs.Prelude.{◌⊎◌}
 use Rattle.std.specs.List.{AllByRecursion, Contains, IsDistinct}
 use Rattle.std.proofs.lemmas.Bool.{cases_eq, ne_eqb}
@@ -54,7 +54,7 @@ pub record CutAt (xs : List ℕ) (y : ℕ) : Type 0 where
 pub cut_at : (xs : List ℕ) (y : ℕ) → Contains xs y → CutAt xs y
 cut_at [] y (k, within, e) = absurd (omega arith)
 cut_at (x ∷ xs) y c = elim (cases_eq x y) [
-    inl e ↦ record { front = []; back = xs; whole = ap (λ z. z ∷ xs) e; first = tt }
+  | inl e ↦ record { front = []; back = xs; whole = ap (λ z. z ∷ xs) e; first = tt }
   | inr ne ↦ later ne c (λ k within e. cut_at xs y (k, within, e))
 ] where
   later : x ≢ y → Contains (x ∷ xs) y → ((k : ℕ) → k < length xs → get_or xs k y ≡ y → CutAt xs y) → CutAt (x ∷ xs) y

@@ -1,5 +1,5 @@
 -- A ring after an element was put in.
-use Rattle.std.proofs.Common.{ℕ, zero, suc, ◌+◌, ◌-◌, ◌*◌, ◌<◌, ◌≤◌, ◌≡◌, ◌≢◌, Option, None, Some, List, [], ◌∷◌, ◌++◌, length, get_or, set, drop, cond, nat_eq, refl, sym, ap, ◌∙◌, subst, arith, append_assoc}
+use Rattle.std.proofs.Common.{ℕ, suc, ◌+◌, ◌-◌, ◌<◌, ◌≡◌, ◌≢◌, Option, None, Some, List, [], ◌∷◌, ◌++◌, length, get_or, set, drop, cond, nat_eq, refl, sym, ap, ◌∙◌, subst, arith, append_assoc}
 use Rattle.std.specs.List.{Contains}
 use Rattle.std.specs.Option.{ForSome, unwrap_or}
 use Rattle.std.specs.Vec.{vec_len}
@@ -15,7 +15,7 @@ use Rattle.cw_order.specs.Links.{walk, first_or, AreLinked, AreApart, Lacks, Ris
 use Rattle.cw_order.specs.Ring.{IsRing, path, label_of, above_of, elements_of}
 use Rattle.cw_order.proofs.Apart.{lacks-contains, CutAt, cut_at, apart_parts, apart_across, disjoint_there, apart_out, apart_in, lacks_parts}
 use Rattle.cw_order.proofs.Keeping.{elements_are, path_within, place_of}
-use Rattle.cw_order.proofs.Linking.{linked_parts, walk-linked, walk-set, length-walk}
+use Rattle.cw_order.proofs.Linking.{linked_parts, walk-set, length-walk}
 use Rattle.cw_order.proofs.Placing.{after-cut}
 use Rattle.cw_order.proofs.Relinking.{back_lacks, linked_in}
 use Rattle.cw_order.proofs.Rising.{rise_parts, rise_whole}
@@ -27,11 +27,10 @@ above-cut r [] at e l = ap (λ y. cond (nat_eq y 0) END (label_of r y)) e
 above-cut r (y ∷ back) at e l = ap (λ y. cond (nat_eq y 0) END (label_of r y)) e ∙ ap (λ b. cond b END (label_of r y)) (ne_eqb y 0 l.0)
 
 module _ (r r2 : Ring) (xs ys fs : List ℕ) (at e label : ℕ) (ring : IsRing r xs) (has : Contains (path xs) at) (apart : AreApart (path xs ++ e ∷ fs))
-  (places : at < vec_len r.next) (free : e < vec_len r.next) (above : label_of r at < label) (below : label < above_of r at) (is : path ys ≡ after at e (path xs))
-  (next : r2.next.items ≡ set (set r.next.items e (get_or r.next.items at 0)) at e)
-  (previous : r2.previous.items ≡ set (set r.previous.items e at) (get_or r.next.items at 0) e)
-  (labels : r2.labels.items ≡ set r.labels.items e label) where
-
+    (places : at < vec_len r.next) (free : e < vec_len r.next) (above : label_of r at < label) (below : label < above_of r at) (is : path ys ≡ after at e (path xs))
+    (next : r2.next.items ≡ set (set r.next.items e (get_or r.next.items at 0)) at e)
+    (previous : r2.previous.items ≡ set (set r.previous.items e at) (get_or r.next.items at 0) e)
+    (labels : r2.labels.items ≡ set r.labels.items e label) where
   cut : CutAt (path xs) at
   cut = cut_at (path xs) at has
 
@@ -74,9 +73,9 @@ module _ (r r2 : Ring) (xs ys fs : List ℕ) (at e label : ℕ) (ring : IsRing r
       let there : get_or r.next.items at 0 < vec_len r.next = All-get_or (λ x. x < vec_len r.next) r.next.items at 0 (omega (arith, places, size)) r.leads_on in
       let step = linked_in r.next.items r.previous.items front back at e linked old zero_out out zero_ne (omega (arith, places, size)) (omega (arith, free, size)) (omega (arith, free, size_back)) (omega (arith, there, next_is, size_back)) in
       subst (λ zs. AreLinked r2.next.items r2.previous.items zs 0) (sym after_is) (
-        subst (λ ns. AreLinked ns r2.previous.items (front ++ at ∷ e ∷ back) 0) (sym (next ∙ ap (λ s. set (set r.next.items e s) at e) next_is)) (
-          subst (λ ps. AreLinked (set (set r.next.items e (first_or back 0)) at e) ps (front ++ at ∷ e ∷ back) 0) (sym (previous ∙ ap (λ s. set (set r.previous.items e at) s e) next_is)) step
-        )
+      subst (λ ns. AreLinked ns r2.previous.items (front ++ at ∷ e ∷ back) 0) (sym (next ∙ ap (λ s. set (set r.next.items e s) at e) next_is)) (
+      subst (λ ps. AreLinked (set (set r.next.items e (first_or back 0)) at e) ps (front ++ at ∷ e ∷ back) 0) (sym (previous ∙ ap (λ s. set (set r.previous.items e at) s e) next_is)) step
+      )
       )
 
   rising_after : Rise 1 (read_all r2.labels.items (path ys)) END
@@ -97,7 +96,7 @@ module _ (r r2 : Ring) (xs ys fs : List ℕ) (at e label : ℕ) (ring : IsRing r
       let front_rises : Rise 1 (read_all ms front) (get_or ms at 0) = subst (Rise 1 (read_all ms front)) (sym same_at) (subst (λ ns. Rise 1 ns (get_or ls at 0)) (sym same_front) parts.0) in
       let whole = rise_whole 1 (read_all ms front) (read_all ms (at ∷ e ∷ back)) END front_rises rest_rises in
       subst (λ ns. Rise 1 (read_all ns (path ys)) END) (sym labels) (
-        subst (λ zs. Rise 1 (read_all ms zs) END) (sym after_is) (subst (λ ns. Rise 1 ns END) (sym (read_all-append ms front (at ∷ e ∷ back))) whole)
+      subst (λ zs. Rise 1 (read_all ms zs) END) (sym after_is) (subst (λ ns. Rise 1 ns END) (sym (read_all-append ms front (at ∷ e ∷ back))) whole)
       )
 
   -- all places, with e in the list
@@ -139,13 +138,13 @@ pub record HasInserted (a b : Inside) (at : Option ℕ) : Type 0 where
   pub elements : elements_of b.ring b.count ≡ placed_after at a.free (elements_of a.ring a.count)
 
 pub inserted : (a b : Inside) (r : Ring) (at : Option ℕ) (place label : ℕ) → place ≡ unwrap_or at 0 → IsKept a → (a.count ≡ a.room → ⊥) → ForSome at (Contains (elements_of a.ring a.count))
-  → r.next.items ≡ a.ring.next.items → IsRing r (elements_of a.ring a.count)
-  → label_of r place < label → label < above_of r place
-  → b.ring.next.items ≡ set (set r.next.items a.free (get_or r.next.items place 0)) place a.free
-  → b.ring.previous.items ≡ set (set r.previous.items a.free place) (get_or r.next.items place 0) a.free
-  → b.ring.labels.items ≡ set r.labels.items a.free label
-  → b.room ≡ a.room → b.count ≡ a.count + 1 → b.free ≡ get_or r.next.items a.free 0
-  → HasInserted a b at
+    → r.next.items ≡ a.ring.next.items → IsRing r (elements_of a.ring a.count)
+    → label_of r place < label → label < above_of r place
+    → b.ring.next.items ≡ set (set r.next.items a.free (get_or r.next.items place 0)) place a.free
+    → b.ring.previous.items ≡ set (set r.previous.items a.free place) (get_or r.next.items place 0) a.free
+    → b.ring.labels.items ≡ set r.labels.items a.free label
+    → b.room ≡ a.room → b.count ≡ a.count + 1 → b.free ≡ get_or r.next.items a.free 0
+    → HasInserted a b at
 inserted a b r at place label place_is kept room has links ring above below next previous labels b_room b_count b_free = record {
   kept = record {
     places = omega (arith, sizes, same, kept.places, b_room);
@@ -213,8 +212,8 @@ inserted a b r at place label place_is kept room has links ring above below next
   free_is =
       let rest : b.room - b.count ≡ a.room - (a.count + 1) = omega (arith, b_room, b_count) in
       ap (λ n. walk b.ring.next.items b.free n) rest ∙ (
-        ap (λ x. walk b.ring.next.items x (a.room - (a.count + 1))) b_free
-        ∙ walk-after r b.ring xs ys fs place a.free label ring at_has apart at_there e_there above below is next previous labels (get_or r.next.items a.free 0) (a.room - (a.count + 1)) refl
+      ap (λ x. walk b.ring.next.items x (a.room - (a.count + 1))) b_free
+      ∙ walk-after r b.ring xs ys fs place a.free label ring at_has apart at_there e_there above below is next previous labels (get_or r.next.items a.free 0) (a.room - (a.count + 1)) refl
       )
 
   all : AreApart (path ys ++ fs)

@@ -1,17 +1,14 @@
 -- What an order list keeps, and that its calls keep it.
-use Rattle.std.proofs.Common.{ℕ, zero, suc, ◌+◌, ◌-◌, ◌*◌, ◌<◌, ◌≤◌, ◌≡◌, ◌≢◌, Option, None, Some, List, [], ◌∷◌, ◌++◌, length, get_or, set, drop, cond, nat_eq, refl, sym, ap, ◌∙◌, subst, arith, append_assoc}
-use Rattle.std.specs.List.{All, AllByRecursion, Contains, IsDistinct}
+use Rattle.std.proofs.Common.{ℕ, suc, ◌+◌, ◌-◌, ◌<◌, ◌≡◌, Option, None, Some, List, ◌∷◌, ◌++◌, length, get_or, drop, nat_eq, refl, sym, ap, ◌∙◌, subst, arith}
+use Rattle.std.specs.List.{Contains, IsDistinct}
 use Rattle.std.specs.Option.{ForSome, unwrap_or}
 use Rattle.std.specs.Vec.{vec_len}
-use Rattle.std.proofs.lemmas.List.{length-set}
-use Rattle.std.proofs.lemmas.List.Elements.{All-from_recursion, All-contains, All-get_or}
-use Rattle.std.proofs.lemmas.Bool.{ne_eqb}
+use Rattle.std.proofs.lemmas.List.Elements.{All-from_recursion, All-contains}
 use Rattle.cw_order.specs.declared.list.OrderList.TheInside.{Inside}
 use Rattle.cw_order.specs.declared.ring.Ring.{Ring}
-use Rattle.cw_order.specs.Order.{after, placed_after, without}
-use Rattle.cw_order.specs.OrderList.{IsKept, free_of}
-use Rattle.cw_order.specs.Links.{walk, first_or, AreLinked, AreApart, Lacks, Rise}
-use Rattle.cw_order.specs.Ring.{IsRing, path, label_of, above_of, elements_of}
+use Rattle.cw_order.specs.OrderList.{IsKept}
+use Rattle.cw_order.specs.Links.{walk, AreLinked, AreApart}
+use Rattle.cw_order.specs.Ring.{IsRing, path, elements_of}
 use Rattle.cw_order.proofs.Apart.{lacks-contains, lacks_parts, apart_out, distinct_from_apart}
 use Rattle.cw_order.proofs.Linking.{walk-linked, length-walk}
 use Rattle.cw_order.proofs.Rooms.{linked_within}

@@ -3,6 +3,7 @@ pub mod Inserting
 pub mod Keeping
 pub mod Linking
 pub mod Making
+pub mod Members
 pub mod Placing
 pub mod Ranges
 pub mod Relinking

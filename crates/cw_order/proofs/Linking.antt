@@ -1,7 +1,7 @@
 -- Links that lead along a list: what they say of its parts, and which writes leave them as they are.
-use Rattle.std.proofs.Common.{ℕ, zero, suc, ◌+◌, ◌<◌, ◌≤◌, ◌≡◌, ◌≢◌, List, [], ◌∷◌, ◌++◌, length, get_or, set, take, drop, refl, sym, ap, ◌∙◌, subst, arith}
-use Rattle.std.proofs.lemmas.List.{get_or-set_other, get_or-set_same}
-use Rattle.cw_order.specs.Links.{walk, first_or, AreLinked, Rise, Lacks, AreApart}
+use Rattle.std.proofs.Common.{ℕ, zero, suc, ◌+◌, ◌<◌, ◌≡◌, List, [], ◌∷◌, ◌++◌, length, get_or, set, drop, refl, sym, ap, ◌∙◌, arith}
+use Rattle.std.proofs.lemmas.List.{get_or-set_other}
+use Rattle.cw_order.specs.Links.{walk, first_or, AreLinked, Lacks}
 
 -- what lies beyond the front is the first of the rest
 pub first_or-append : (xs ys : List ℕ) (b : ℕ) → first_or (xs ++ ys) b ≡ first_or xs (first_or ys b)

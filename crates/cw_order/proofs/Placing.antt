@@ -1,6 +1,6 @@
 -- Elements placed, taken out and compared, in lists cut at a number.
-use Rattle.std.proofs.Common.{ℕ, zero, suc, ◌+◌, ◌<◌, ◌≤◌, ◌≡◌, ◌≢◌, ◌↔◌, List, [], ◌∷◌, ◌++◌, length, map, get_or, nat_eq, true, false, cond, not, refl, sym, ap, ◌∙◌, subst, arith, eq-eqb, inl, inr}
-use Rattle.std.specs.List.{Contains, filter}
+use Rattle.std.proofs.Common.{ℕ, zero, suc, ◌<◌, ◌≡◌, ◌≢◌, ◌↔◌, List, [], ◌∷◌, ◌++◌, length, get_or, cond, not, refl, sym, ap, ◌∙◌, subst, arith, eq-eqb, inl, inr}
+use Rattle.std.specs.List.{Contains}
 use Rattle.std.proofs.lemmas.Bool.{cases_eq, ne_eqb, cases_lt}
 use Rattle.cw_order.specs.Links.{Lacks, Rise}
 use Rattle.cw_order.specs.Order.{after, without, position}
@@ -29,7 +29,7 @@ pub record StandsAt (xs : List ℕ) (a k : ℕ) : Type 0 where
 pub stands_at : (xs : List ℕ) (a : ℕ) → Contains xs a → StandsAt xs a (position xs a)
 stands_at [] a (k, within, e) = absurd (omega arith)
 stands_at (x ∷ xs) a c = elim (cases_eq x a) [
-    inl e ↦ subst (StandsAt (x ∷ xs) a) (sym (ap (λ b. cond b 0 (suc (position xs a))) (eq-eqb x a e))) (record { within = omega arith; there = e })
+  | inl e ↦ subst (StandsAt (x ∷ xs) a) (sym (ap (λ b. cond b 0 (suc (position xs a))) (eq-eqb x a e))) (record { within = omega arith; there = e })
   | inr ne ↦ subst (StandsAt (x ∷ xs) a) (sym (ap (λ b. cond b 0 (suc (position xs a))) (ne_eqb x a ne))) (later ne c (λ k within e. stands_at xs a (k, within, e)))
 ] where
   later : x ≢ a → Contains (x ∷ xs) a → ((k : ℕ) → k < length xs → get_or xs k a ≡ a → StandsAt xs a (position xs a)) → StandsAt (x ∷ xs) a (suc (position xs a))
@@ -60,11 +60,11 @@ labels-positions labels xs t a b r ca cb = (there, back) where
 
   there : get_or labels a 0 < get_or labels b 0 → position xs a < position xs b
   there h = elim (cases_lt (position xs a) (position xs b)) [
-      inl less ↦ less
+    | inl less ↦ less
     | inr le ↦ elim (cases_eq (position xs a) (position xs b)) [
-        inl e ↦ (let s = stands_at xs a ca in let u = stands_at xs b cb in
+      | inl e ↦ (let s = stands_at xs a ca in let u = stands_at xs b cb in
           let same : a ≡ b = sym s.there ∙ (ap (λ k. get_or xs k 0) e ∙ u.there) in
           let equal = ap (λ x. get_or labels x 0) same in absurd (omega (arith, h, equal)))
       | inr ne ↦ (let more = sooner labels xs t (position xs b) (position xs a) b a r (stands_at xs b cb) (stands_at xs a ca) (omega (arith, le, ne)) in absurd (omega (arith, h, more)))
-      ]
     ]
+  ]

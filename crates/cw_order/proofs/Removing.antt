@@ -1,8 +1,8 @@
 -- A ring after an element was taken out.
-use Rattle.std.proofs.Common.{ℕ, zero, suc, ◌+◌, ◌-◌, ◌*◌, ◌<◌, ◌≤◌, ◌≡◌, ◌≢◌, List, [], ◌∷◌, ◌++◌, length, get_or, set, drop, cond, nat_eq, refl, sym, ap, ◌∙◌, subst, arith, append_assoc}
+use Rattle.std.proofs.Common.{ℕ, suc, ◌+◌, ◌-◌, ◌<◌, ◌≡◌, List, [], ◌∷◌, ◌++◌, length, get_or, set, drop, refl, sym, ap, ◌∙◌, subst, arith, append_assoc}
 use Rattle.std.specs.List.{Contains}
 use Rattle.std.specs.Vec.{vec_len}
-use Rattle.std.proofs.lemmas.List.{get_or-set_same, get_or-set_other, length-append, length-set}
+use Rattle.std.proofs.lemmas.List.{get_or-set_same, length-append, length-set}
 use Rattle.std.proofs.lemmas.List.Elements.{All-get_or}
 use Rattle.cw_order.specs.declared.ring.Ring.{Ring}
 use Rattle.cw_order.specs.declared.ring.TheConstants.{END}
@@ -11,7 +11,7 @@ use Rattle.cw_order.specs.Order.{without}
 use Rattle.cw_order.specs.OrderList.{IsKept, free_of}
 use Rattle.cw_order.specs.Links.{walk, first_or, AreLinked, AreApart, Lacks, Rise}
 use Rattle.cw_order.specs.Ring.{IsRing, path, elements_of}
-use Rattle.cw_order.proofs.Apart.{AreDisjoint, CutAt, cut_at, apart_parts, apart_across, apart_out, apart_in, lacks_parts, disjoint_there, contains_there}
+use Rattle.cw_order.proofs.Apart.{AreDisjoint, CutAt, cut_at, apart_parts, apart_across, apart_out, apart_in, disjoint_there, contains_there}
 use Rattle.cw_order.proofs.Keeping.{after_head, elements_are, path_within}
 use Rattle.cw_order.proofs.Linking.{linked_parts, length-walk, walk-set}
 use Rattle.cw_order.proofs.Placing.{without-cut}
@@ -30,10 +30,9 @@ ends_in x [] = record { front = []; last = x; whole = refl }
 ends_in x (y ∷ xs) = let more = ends_in y xs in record { front = x ∷ more.front; last = more.last; whole = ap (λ zs. x ∷ zs) more.whole }
 
 module _ (r r2 : Ring) (xs fs : List ℕ) (e other : ℕ) (ring : IsRing r xs) (has : Contains xs e) (apart : AreApart (path xs ++ fs)) (some : 0 < vec_len r.next)
-  (next : r2.next.items ≡ set (set r.next.items (get_or r.previous.items e 0) (get_or r.next.items e 0)) e other)
-  (previous : r2.previous.items ≡ set r.previous.items (get_or r.next.items e 0) (get_or r.previous.items e 0))
-  (labels : r2.labels.items ≡ r.labels.items) where
-
+    (next : r2.next.items ≡ set (set r.next.items (get_or r.previous.items e 0) (get_or r.next.items e 0)) e other)
+    (previous : r2.previous.items ≡ set r.previous.items (get_or r.next.items e 0) (get_or r.previous.items e 0))
+    (labels : r2.labels.items ≡ r.labels.items) where
   cut : CutAt xs e
   cut = cut_at xs e has
 
@@ -98,9 +97,9 @@ module _ (r r2 : Ring) (xs fs : List ℕ) (e other : ℕ) (ring : IsRing r xs) (
   linked_after =
       let step = linked_out r.next.items r.previous.items front back before e other linked old zero_out (omega (arith, before_there, size)) (omega (arith, next_there, r.previous.ok.0, r.same_places)) in
       subst (λ zs. AreLinked r2.next.items r2.previous.items zs 0) (sym after_is) (
-        subst (λ ns. AreLinked ns r2.previous.items (front ++ before ∷ back) 0) (sym (next ∙ (ap (λ p. set (set r.next.items p (get_or r.next.items e 0)) e other) before_is ∙ ap (λ s. set (set r.next.items before s) e other) next_is))) (
-          subst (λ ps. AreLinked (set (set r.next.items before (first_or back 0)) e other) ps (front ++ before ∷ back) 0) (sym (previous ∙ (ap (λ s. set r.previous.items s (get_or r.previous.items e 0)) next_is ∙ ap (λ p. set r.previous.items (first_or back 0) p) before_is))) step
-        )
+      subst (λ ns. AreLinked ns r2.previous.items (front ++ before ∷ back) 0) (sym (next ∙ (ap (λ p. set (set r.next.items p (get_or r.next.items e 0)) e other) before_is ∙ ap (λ s. set (set r.next.items before s) e other) next_is))) (
+      subst (λ ps. AreLinked (set (set r.next.items before (first_or back 0)) e other) ps (front ++ before ∷ back) 0) (sym (previous ∙ (ap (λ s. set r.previous.items s (get_or r.previous.items e 0)) next_is ∙ ap (λ p. set r.previous.items (first_or back 0) p) before_is))) step
+      )
       )
 
   rising_after : Rise 1 (read_all r2.labels.items (path (without e xs))) END
@@ -111,7 +110,7 @@ module _ (r r2 : Ring) (xs fs : List ℕ) (e other : ℕ) (ring : IsRing r xs) (
       let rest : Rise 1 (read_all ls (before ∷ back)) END = (omega (arith, ups.1.0, ups.1.1.0), ups.1.1.1) in
       let whole = rise_whole 1 (read_all ls front) (read_all ls (before ∷ back)) END ups.0 rest in
       subst (λ ns. Rise 1 (read_all ns (path (without e xs))) END) (sym labels) (
-        subst (λ zs. Rise 1 (read_all ls zs) END) (sym after_is) (subst (λ ns. Rise 1 ns END) (sym (read_all-append ls front (before ∷ back))) whole)
+      subst (λ zs. Rise 1 (read_all ls zs) END) (sym after_is) (subst (λ ns. Rise 1 ns END) (sym (read_all-append ls front (before ∷ back))) whole)
       )
 
   -- all places, with e among the free ones
@@ -147,11 +146,11 @@ pub record HasRemoved (a b : Inside) (e : ℕ) : Type 0 where
   pub elements : elements_of b.ring b.count ≡ without e (elements_of a.ring a.count)
 
 pub removed : (a b : Inside) (e : ℕ) → IsKept a → Contains (elements_of a.ring a.count) e
-  → b.ring.next.items ≡ set (set a.ring.next.items (get_or a.ring.previous.items e 0) (get_or a.ring.next.items e 0)) e a.free
-  → b.ring.previous.items ≡ set a.ring.previous.items (get_or a.ring.next.items e 0) (get_or a.ring.previous.items e 0)
-  → b.ring.labels.items ≡ a.ring.labels.items
-  → b.room ≡ a.room → b.count ≡ a.count - 1 → b.free ≡ e
-  → HasRemoved a b e
+    → b.ring.next.items ≡ set (set a.ring.next.items (get_or a.ring.previous.items e 0) (get_or a.ring.next.items e 0)) e a.free
+    → b.ring.previous.items ≡ set a.ring.previous.items (get_or a.ring.next.items e 0) (get_or a.ring.previous.items e 0)
+    → b.ring.labels.items ≡ a.ring.labels.items
+    → b.room ≡ a.room → b.count ≡ a.count - 1 → b.free ≡ e
+    → HasRemoved a b e
 removed a b e kept has next previous labels b_room b_count b_free = record {
   kept = record {
     places = omega (arith, sizes, kept.places, b_room);
@@ -189,6 +188,6 @@ removed a b e kept has next previous labels b_room b_count b_free = record {
   free_is =
       let more : b.room - b.count ≡ suc (a.room - a.count) = omega (arith, b_room, b_count, one, kept.few) in
       ap (λ n. walk b.ring.next.items b.free n) more ∙ (
-        ap (λ x. walk b.ring.next.items x (suc (a.room - a.count))) b_free
-        ∙ walk-without a.ring b.ring xs (free_of a) e a.free kept.ring has kept.apart some next previous labels (a.room - a.count) refl
+      ap (λ x. walk b.ring.next.items x (suc (a.room - a.count))) b_free
+      ∙ walk-without a.ring b.ring xs (free_of a) e a.free kept.ring has kept.apart some next previous labels (a.room - a.count) refl
       )

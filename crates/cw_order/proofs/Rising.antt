@@ -1,5 +1,5 @@
 -- Numbers that rise, cut and joined, and which of two is the less.
-use Rattle.std.proofs.Common.{ℕ, zero, suc, ◌+◌, ◌*◌, ◌<◌, ◌≤◌, ◌≡◌, ◌≢◌, List, [], ◌∷◌, ◌++◌, length, get_or, refl, sym, ap, ◌∙◌, subst, arith}
+use Rattle.std.proofs.Common.{ℕ, zero, suc, ◌+◌, ◌<◌, ◌≤◌, ◌≡◌, List, [], ◌∷◌, ◌++◌, length, get_or, refl, ap, arith}
 use Rattle.cw_order.specs.Links.{first_or, Rise}
 use Rattle.cw_order.proofs.Linking.{first_or-append}
 

@@ -1,5 +1,5 @@
 -- What is left of a ring where the labels of a run were spread.
-use Rattle.std.proofs.Common.{ℕ, zero, suc, ◌+◌, ◌-◌, ◌*◌, ◌/◌, ◌^◌, ◌<◌, ◌≤◌, ◌≡◌, ◌≢◌, List, [], ◌∷◌, ◌++◌, length, map, get_or, take, drop, nat_eq, true, false, cond, refl, sym, ap, ◌∙◌, subst, arith, inl, inr, eq-eqb}
+use Rattle.std.proofs.Common.{ℕ, zero, suc, ◌+◌, ◌-◌, ◌*◌, ◌/◌, ◌^◌, ◌<◌, ◌≤◌, ◌≡◌, ◌≢◌, List, [], ◌∷◌, ◌++◌, length, get_or, take, drop, nat_eq, cond, refl, sym, ap, ◌∙◌, subst, arith, inl, inr}
 use Rattle.std.specs.List.{All, AllByRecursion, Contains}
 use Rattle.std.proofs.lemmas.List.{get_or-append-add, take-append-drop, length-take-le, length-drop, get_or-take, get_or-drop, get_or_past, get_or_default}
 use Rattle.std.proofs.lemmas.List.Elements.{All-take, All-drop, recursion_from_All, All-from_recursion, All-get_or}
@@ -10,7 +10,7 @@ use Rattle.std.specs.Vec.{vec_len}
 use Rattle.cw_order.specs.declared.ring.Ring.{Ring}
 use Rattle.cw_order.specs.declared.ring.Run.{Run}
 use Rattle.cw_order.specs.declared.ring.TheConstants.{END}
-use Rattle.cw_order.specs.Links.{walk, AreLinked, AreApart, Lacks, Rise, first_or, spread_over}
+use Rattle.cw_order.specs.Links.{walk, AreLinked, AreApart, Rise, first_or, spread_over}
 use Rattle.cw_order.specs.Ring.{IsRing, IsRun, path, label_of, above_of}
 use Rattle.cw_order.proofs.Apart.{apart_parts, apart_across}
 use Rattle.cw_order.proofs.Linking.{first_or-append, next_at, linked_parts, walk-linked}
@@ -91,14 +91,14 @@ get_or-append-first (m ∷ ms) ns (suc k) t h = get_or-append-first ms ns k t (o
 
 -- the label above that of a place is the one of the next place, or the end
 pub above-at : (r : Ring) (xs : List ℕ) (i x : ℕ) → AreLinked r.next.items r.previous.items (path xs) 0 → AreApart (path xs) → i < length (path xs) → get_or (path xs) i 0 ≡ x
-  → above_of r x ≡ get_or (read_all r.labels.items (path xs)) (i + 1) END
+    → above_of r x ≡ get_or (read_all r.labels.items (path xs)) (i + 1) END
 above-at r xs i x linked apart l e = elim (cases_lt (i + 1) (length (path xs))) [
-    inl less ↦ (let one : i + 1 ≡ suc i = omega arith in
+  | inl less ↦ (let one : i + 1 ≡ suc i = omega arith in
       let ne : get_or (path xs) (i + 1) 0 ≢ 0 = λ z. only_first xs i apart.0 (omega (arith, less)) (sym (ap (λ k. get_or (path xs) k 0) one) ∙ z) in
       ap (λ y. cond (nat_eq y 0) END (get_or labels y 0)) on ∙ (ap (λ b. cond b END (get_or labels (get_or (path xs) (i + 1) 0) 0)) (ne_eqb (get_or (path xs) (i + 1) 0) 0 ne)
-        ∙ (sym (get_or-read_all labels (path xs) (i + 1) less) ∙ get_or_default (read_all labels (path xs)) (i + 1) 0 END (omega (arith, length-read_all labels (path xs), less)))))
+      ∙ (sym (get_or-read_all labels (path xs) (i + 1) less) ∙ get_or_default (read_all labels (path xs)) (i + 1) 0 END (omega (arith, length-read_all labels (path xs), less)))))
   | inr past ↦ ap (λ y. cond (nat_eq y 0) END (get_or labels y 0)) (on ∙ get_or_past (path xs) (i + 1) 0 past)
-    ∙ sym (get_or_past (read_all labels (path xs)) (i + 1) END (omega (arith, length-read_all labels (path xs), past)))
+      ∙ sym (get_or_past (read_all labels (path xs)) (i + 1) END (omega (arith, length-read_all labels (path xs), past)))
 ] where
   labels : List ℕ
   labels = r.labels.items
@@ -180,7 +180,7 @@ module _ (r : Ring) (xs : List ℕ) (at base gap : ℕ) (run : Run) (ring : IsRi
 
   back_above : base + length mid * gap ≤ beyond
   back_above = elim (cases_lt (can.start + run.count) (length (path xs))) [
-      inl less ↦ (let some_back : 0 < length back = omega (arith, length-drop run.count rest, length-rest, less) in
+    | inl less ↦ (let some_back : 0 < length back = omega (arith, length-drop run.count rest, length-rest, less) in
         let first = first_or-get_or (read_all labels back) END in
         let any = get_or_default (read_all labels back) 0 END 0 (omega (arith, length-read_all labels back, some_back)) in
         let here = get_or-read_all labels back 0 some_back in
@@ -189,7 +189,7 @@ module _ (r : Ring) (xs : List ℕ) (at base gap : ℕ) (run : Run) (ring : IsRi
         omega (arith, first, any, here, there, ap (λ k. label_of r (get_or (path xs) k 0)) zero_more, can.above less, ap (λ n. n * gap) length-mid))
     | inr past ↦ (let none : length (read_all labels back) ≤ 0 = omega (arith, length-read_all labels back, length-drop run.count rest, length-rest, past) in
         omega (arith, first_or-get_or (read_all labels back) END, get_or_past (read_all labels back) 0 END none, can.end, ap (λ n. n * gap) length-mid))
-    ]
+  ]
 
   -- the labels rise along the whole list
   pub spread_rising : 1 ≤ gap → (labels2 : List ℕ) → labels2 ≡ spread_over (walk r.next.items run.first run.count) base gap labels → Rise 1 (read_all labels2 (path xs)) END
@@ -219,12 +219,12 @@ module _ (r : Ring) (xs : List ℕ) (at base gap : ℕ) (run : Run) (ring : IsRi
       let parts = read_all-append after front (mid ++ back) ∙ ap (λ ns. read_all after front ++ ns) (read_all-append after mid back ∙ ap (λ ns. read_all after mid ++ ns) (spread-beside mid back base gap labels (apart_across mid back inner))) in
       let place : can.place + 1 ≡ length (read_all after front) + (index + 1) = omega (arith, can.from, length-read_all after front, length-front) in
       ap (λ zs. get_or (read_all after zs) (can.place + 1) END) (sym whole) ∙ (
-        ap (λ ns. get_or ns (can.place + 1) END) parts ∙ (
-          ap (λ k. get_or (read_all after front ++ (read_all after mid ++ read_all labels back)) k END) place ∙ (
-            get_or-append-add (read_all after front) (read_all after mid ++ read_all labels back) (index + 1) END
-            ∙ get_or-append-first (read_all after mid) (read_all labels back) (index + 1) END (omega (arith, can.to, can.from, length-read_all after mid, length-mid))
-          )
-        )
+      ap (λ ns. get_or ns (can.place + 1) END) parts ∙ (
+      ap (λ k. get_or (read_all after front ++ (read_all after mid ++ read_all labels back)) k END) place ∙ (
+      get_or-append-add (read_all after front) (read_all after mid ++ read_all labels back) (index + 1) END
+      ∙ get_or-append-first (read_all after mid) (read_all labels back) (index + 1) END (omega (arith, can.to, can.from, length-read_all after mid, length-mid))
+      )
+      )
       )
 
   -- the label of `at` is less by the gap than the one above it
@@ -257,10 +257,10 @@ pub record HasRoom (r : Ring) (xs : List ℕ) (at : ℕ) : Type 0 where
   pub room : label_of r at + 2 ≤ above_of r at
 
 pub room_in_range : (r r2 : Ring) (xs : List ℕ) (at label size by : ℕ) (run : Run) → IsRing r xs → IsRun r xs at size run → 0 < run.count → 0 < vec_len r.next
-  → label ≡ label_of r at → RangeFits label run.count size → by ≡ run.count
-  → r2.next.items ≡ r.next.items → r2.previous.items ≡ r.previous.items
-  → r2.labels.items ≡ spread_over (walk r.next.items run.first run.count) (label / size * size) ((size - 1) / by) r.labels.items
-  → HasRoom r2 xs at
+    → label ≡ label_of r at → RangeFits label run.count size → by ≡ run.count
+    → r2.next.items ≡ r.next.items → r2.previous.items ≡ r.previous.items
+    → r2.labels.items ≡ spread_over (walk r.next.items run.first run.count) (label / size * size) ((size - 1) / by) r.labels.items
+    → HasRoom r2 xs at
 room_in_range r r2 xs at label size by run ring is some places e fits f next previous spread =
     let gap = (size - 1) / run.count in
     let same : (size - 1) / by ≡ gap = ap (λ n. (size - 1) / n) f in
@@ -274,9 +274,9 @@ room_in_range r r2 xs at label size by run ring is some places e fits f next pre
     }
 
 pub room_in_all : (r r2 : Ring) (xs : List ℕ) (at count : ℕ) → IsRing r xs → Contains (path xs) at → count ≡ length xs → count < 2 ^ 32 - 1 → 0 < vec_len r.next
-  → r2.next.items ≡ r.next.items → r2.previous.items ≡ r.previous.items
-  → r2.labels.items ≡ spread_over (walk r.next.items 0 (count + 1)) 0 (END / (count + 1)) r.labels.items
-  → HasRoom r2 xs at
+    → r2.next.items ≡ r.next.items → r2.previous.items ≡ r.previous.items
+    → r2.labels.items ≡ spread_over (walk r.next.items 0 (count + 1)) 0 (END / (count + 1)) r.labels.items
+    → HasRoom r2 xs at
 room_in_all r r2 xs at count ring has e few places next previous spread =
     let gap = END / (count + 1) in
     let can = spread_all r xs at (count + 1) gap has (omega (arith, e)) (mul-div-le END (count + 1)) in

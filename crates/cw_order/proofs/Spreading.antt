@@ -1,5 +1,5 @@
 -- Labels that are spread over a part of a list.
-use Rattle.std.proofs.Common.{ℕ, zero, suc, ◌+◌, ◌*◌, ◌<◌, ◌≤◌, ◌≡◌, ◌≢◌, List, [], ◌∷◌, ◌++◌, length, map, get_or, set, refl, sym, ap, ◌∙◌, subst, arith}
+use Rattle.std.proofs.Common.{ℕ, suc, ◌+◌, ◌*◌, ◌<◌, ◌≤◌, ◌≡◌, List, [], ◌∷◌, ◌++◌, length, map, get_or, set, refl, sym, ap, ◌∙◌, subst, arith}
 use Rattle.std.specs.List.{AllByRecursion}
 use Rattle.std.proofs.lemmas.List.{map-append, get_or-set_other, get_or-set_same, length-set}
 use Rattle.cw_order.specs.Links.{walk, first_or, Rise, Lacks, AreApart, spread_over}
@@ -44,14 +44,14 @@ spread_rises (x ∷ y ∷ run) base gap labels t a w h =
 
 -- the whole list, where the labels of the run were spread between those of its front and its back
 pub spread_whole : (front run back : List ℕ) (base gap : ℕ) (labels : List ℕ) (t : ℕ)
-  → AreApart (front ++ (run ++ back))
-  → AllByRecursion (λ x. x < length labels) run
-  → 0 < length run
-  → Rise 1 (read_all labels front) base
-  → Rise 1 (read_all labels back) t
-  → base + length run * gap ≤ first_or (read_all labels back) t
-  → 1 ≤ gap
-  → Rise 1 (read_all (spread_over run base gap labels) (front ++ (run ++ back))) t
+    → AreApart (front ++ (run ++ back))
+    → AllByRecursion (λ x. x < length labels) run
+    → 0 < length run
+    → Rise 1 (read_all labels front) base
+    → Rise 1 (read_all labels back) t
+    → base + length run * gap ≤ first_or (read_all labels back) t
+    → 1 ≤ gap
+    → Rise 1 (read_all (spread_over run base gap labels) (front ++ (run ++ back))) t
 spread_whole front [] back base gap labels t a w some rf rb room g = absurd (omega arith)
 spread_whole front (x ∷ run) back base gap labels t a w some rf rb room g =
     let inner = apart_parts front (x ∷ run ++ back) a in
@@ -64,9 +64,9 @@ spread_whole front (x ∷ run) back base gap labels t a w some rf rb room g =
     let within = rise_less gap 1 (read_all ls (x ∷ run)) (first_or (read_all labels back) t) g (spread_rises (x ∷ run) base gap labels (first_or (read_all labels back) t) parts.0 w room) in
     let rest : Rise 1 (read_all ls (x ∷ run) ++ read_all labels back) t = rise_whole 1 (read_all ls (x ∷ run)) (read_all labels back) t within rb in
     let all : Rise 1 (read_all labels front ++ (read_all ls (x ∷ run) ++ read_all labels back)) t =
-        rise_whole 1 (read_all labels front) (read_all ls (x ∷ run) ++ read_all labels back) t (subst (Rise 1 (read_all labels front)) (sym first) rf) rest in
+    rise_whole 1 (read_all labels front) (read_all ls (x ∷ run) ++ read_all labels back) t (subst (Rise 1 (read_all labels front)) (sym first) rf) rest in
     let joined : read_all ls (front ++ (x ∷ run ++ back)) ≡ read_all labels front ++ (read_all ls (x ∷ run) ++ read_all labels back) =
-        read_all-append ls front (x ∷ run ++ back) ∙ (ap (λ z. z ++ read_all ls (x ∷ run ++ back)) before ∙ ap (λ z. read_all labels front ++ z) (read_all-append ls (x ∷ run) back ∙ ap (λ z. read_all ls (x ∷ run) ++ z) behind)) in
+    read_all-append ls front (x ∷ run ++ back) ∙ (ap (λ z. z ++ read_all ls (x ∷ run ++ back)) before ∙ ap (λ z. read_all labels front ++ z) (read_all-append ls (x ∷ run) back ∙ ap (λ z. read_all ls (x ∷ run) ++ z) behind)) in
     subst (λ ns. Rise 1 ns t) (sym joined) all
 
 -- one place of a walk gets its label

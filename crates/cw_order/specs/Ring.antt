@@ -1,5 +1,5 @@
 -- How a ring keeps a list, and what its calls find and leave.
-use Rattle.std.specs.Prelude.{ℕ, suc, ◌-◌, ◌+◌, ◌*◌, ◌/◌, ◌≤◌, ◌<◌, ◌≡◌, ◌==◌, List, ◌∷◌, map, length, slice_index, if◌then◌else◌}
+use Rattle.std.specs.Prelude.{ℕ, ◌-◌, ◌+◌, ◌*◌, ◌/◌, ◌≤◌, ◌<◌, ◌≡◌, ◌==◌, List, ◌∷◌, map, length, slice_index, if◌then◌else◌}
 use Rattle.cw_order.specs.declared.ring.Ring.{Ring}
 use Rattle.cw_order.specs.declared.ring.Run.{Run}
 use Rattle.cw_order.specs.declared.ring.TheConstants.{END}

@@ -52,8 +52,9 @@ impl OrderList {
     /// Adds a new element right after the given one, or first where none is given.
     pub fn insert_after(&mut self, at: Option<u32>) -> Result<u32, Full>
         requires { ForSome at (Contains self.old.elements) }
-        ensures new { IfOk result (λ e. Contains self.old.elements e → ⊥) }
+        ensures new { IfOk result (λ e. ¬ Contains self.old.elements e) }
         ensures placed { IfOk result (λ e. self.new.elements ≡ placed_after at e self.old.elements) }
+        ensures there { IfOk result (Contains self.new.elements) }
         ensures distinct { IsDistinct nat_eq self.new.elements }
         ensures few { length self.new.elements ≤ self.new.room }
         ensures room { self.new.room ≡ self.old.room }

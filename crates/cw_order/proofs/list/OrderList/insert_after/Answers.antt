@@ -6,6 +6,7 @@ use Rattle.cw_order.specs.Order.{placed_after}
 use Rattle.cw_order.specs.Ring.{elements_of, path}
 use Rattle.cw_order.proofs.Inserting.{HasInserted, inserted}
 use Rattle.cw_order.proofs.Keeping.{kept_distinct, kept_length, kept_new, place_of, path_within}
+use Rattle.cw_order.proofs.Members.{placed_new}
 use Rattle.cw_order.proofs.list.OrderList.insert_after.Goals as goal
 
 pub returns-then-self-clause-distinct : goal.returns-then-self-clause-distinct
@@ -48,8 +49,8 @@ is_inserted c =
     let old = c.self.inside in
     let has : ForSome c.args.at (Contains (elements_of old.ring old.count)) = subst (λ o. ForSome c.args.at (Contains o.elements)) (sym c.self.view_is) c.requires in
     inserted old (record { ring = c.link_after.new.self; room = old.room; count = old.count + 1; free = c.next-self-inside.result }) c.label_after-label.new.self c.args.at c.unwrap_or-at.result c.label_after-label.result
-      c.unwrap_or-at.ensures c.self.invariant c.if-self.false has c.label_after-label.ensures.next c.label_after-label.ensures.ring c.label_after-label.ensures.above c.label_after-label.ensures.below
-      c.link_after.ensures.next c.link_after.ensures.previous c.link_after.ensures.labels refl refl c.next-self-inside.ensures.value
+    c.unwrap_or-at.ensures c.self.invariant c.if-self.false has c.label_after-label.ensures.next c.label_after-label.ensures.ring c.label_after-label.ensures.above c.label_after-label.ensures.below
+    c.link_after.ensures.next c.link_after.ensures.previous c.link_after.ensures.labels refl refl c.next-self-inside.ensures.value
 
 pub invariant_of-self : goal.invariant_of-self
 invariant_of-self c = (is_inserted c).kept
@@ -59,6 +60,11 @@ returns-clause-new c = subst (λ o. Contains o.elements c.self.inside.free → �
 
 pub returns-clause-placed : goal.returns-clause-placed
 returns-clause-placed c = (is_inserted c).elements ∙ ap (λ o. placed_after c.args.at c.self.inside.free o.elements) c.self.view_is
+
+pub returns-clause-there : goal.returns-clause-there
+returns-clause-there c =
+    let has : ForSome c.args.at (Contains (elements_of c.self.inside.ring c.self.inside.count)) = subst (λ o. ForSome c.args.at (Contains o.elements)) (sym c.self.view_is) c.requires in
+    subst (λ zs. Contains zs c.self.inside.free) (sym (is_inserted c).elements) (placed_new c.args.at c.self.inside.free _ has)
 
 pub returns-clause-distinct : goal.returns-clause-distinct
 returns-clause-distinct c = kept_distinct _ (is_inserted c).kept
@@ -71,5 +77,5 @@ returns-clause-few c =
 pub returns-clause-full : goal.returns-clause-full
 returns-clause-full c =
     let not_full : length c.args.self.now.elements ≡ c.args.self.now.room → ⊥ =
-      subst (λ o. length o.elements ≡ o.room → ⊥) c.self.view_is (λ e. c.if-self.false (omega (arith, e, kept_length c.self.inside))) in
+    subst (λ o. length o.elements ≡ o.room → ⊥) c.self.view_is (λ e. c.if-self.false (omega (arith, e, kept_length c.self.inside))) in
     (λ e. absurd cc, λ e. absurd (not_full e))

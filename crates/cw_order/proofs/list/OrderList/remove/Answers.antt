@@ -1,5 +1,5 @@
-use Rattle.std.proofs.Common.{◌≡◌, ◌-◌, ◌<◌, nat_eq, subst, sym, ap, ◌∙◌, refl, arith}
-use Rattle.std.specs.List.{Contains, IsDistinct}
+use Rattle.std.proofs.Common.{◌-◌, subst, sym, ap, ◌∙◌, refl, arith}
+use Rattle.std.specs.List.{Contains}
 use Rattle.cw_order.specs.Order.{without}
 use Rattle.cw_order.specs.Ring.{elements_of}
 use Rattle.cw_order.proofs.Keeping.{after_head, kept_distinct, path_within}

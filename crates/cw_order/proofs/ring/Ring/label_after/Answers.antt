@@ -1,5 +1,5 @@
-use Rattle.std.proofs.Common.{◌<◌, ◌≤◌, arith}
-use Rattle.cw_order.specs.Ring.{elements_of, label_of, above_of}
+use Rattle.std.proofs.Common.{arith}
+use Rattle.cw_order.specs.Ring.{elements_of}
 use Rattle.cw_order.proofs.Rooms.{gap_above}
 use Rattle.cw_order.proofs.ring.Ring.label_after.Goals as goal
 

@@ -1,4 +1,4 @@
-use Rattle.std.proofs.Common.{◌≡◌, ◌+◌, ◌-◌, ◌*◌, ◌/◌, ◌<◌, ◌^◌, sym, refl, subst, ◌∙◌, ap, arith}
+use Rattle.std.proofs.Common.{◌≡◌, ◌+◌, ◌-◌, ◌*◌, ◌/◌, ◌<◌, ◌^◌, sym, subst, arith}
 use Rattle.std.specs.Vec.{vec_len}
 use Rattle.cw_order.specs.declared.ring.TheConstants.{END}
 use Rattle.cw_order.specs.Links.{walk, spread_over}

@@ -1,5 +1,4 @@
-use Rattle.std.proofs.Common.{◌≡◌, ◌≢◌, ◌/◌, ap, sym, refl, ◌∙◌, arith, rules, inl, inr}
-use Rattle.cw_order.specs.Ring.{label_of}
+use Rattle.std.proofs.Common.{sym, refl, ◌∙◌, arith, inl, inr}
 use Rattle.cw_order.proofs.Rows.{row_back, row_from, row_from_on, row_whole}
 use Rattle.cw_order.proofs.ring.Ring.sparse_run.Goals as goal
 use Rattle.cw_order.proofs.ring.Ring.sparse_run.Goals.{then-loop-run-test+else-label-size, else-loop-run-test}
@@ -19,11 +18,11 @@ loop-run-2-init c = record {
   some = c.loop-run.invariant.some;
   few = c.loop-run.invariant.few;
   row = λ xs ring has. row_from c.args.self.now xs c.args.at c.args.size c.args.at c.loop-run.run c.requires.size ring (c.loop-run.invariant.row xs ring has) (
-    elim c.loop-run-test.branch [
-      then-loop-run-test+else-label-size w ↦ inr (λ q. w.if-label-size.false (let e = w.label-in-loop-run.ensures in let f = w.previous.ensures.value in cc (q, c.label.ensures)))
-      | else-loop-run-test w ↦ inl w.loop-run-test.false
-    ]
-  );
+      elim c.loop-run-test.branch [
+        | then-loop-run-test+else-label-size w ↦ inr (λ q. w.if-label-size.false (let e = w.label-in-loop-run.ensures in let f = w.previous.ensures.value in cc (q, c.label.ensures)))
+        | else-loop-run-test w ↦ inl w.loop-run-test.false
+      ]
+      );
 }
 
 pub loop-run-2-preserved : goal.loop-run-2-preserved
@@ -37,8 +36,8 @@ loop-run-2-preserved c = record {
 
 pub returns-else-label-size-2-clause-run : goal.returns-else-label-size-2-clause-run
 returns-else-label-size-2-clause-run c = λ xs ring has.
-  row_whole c.args.self.now xs c.args.at c.args.size c.loop-run-2.last c.loop-run-2.run c.requires.size ring (c.loop-run-2.invariant.row xs ring has) (inr (λ q. c.if-label-size-2.false (cc (q, c.label.ensures, c.label-in-loop-run-2.ensures, c.next-in-loop-run-2.ensures.value))))
+    row_whole c.args.self.now xs c.args.at c.args.size c.loop-run-2.last c.loop-run-2.run c.requires.size ring (c.loop-run-2.invariant.row xs ring has) (inr (λ q. c.if-label-size-2.false (cc (q, c.label.ensures, c.label-in-loop-run-2.ensures, c.next-in-loop-run-2.ensures.value))))
 
 pub returns-after-loop-run-2-clause-run : goal.returns-after-loop-run-2-clause-run
 returns-after-loop-run-2-clause-run c = λ xs ring has.
-  row_whole c.args.self.now xs c.args.at c.args.size c.loop-run-2.last c.loop-run-2.run c.requires.size ring (c.loop-run-2.invariant.row xs ring has) (inl (sym c.next.ensures.value ∙ c.loop-run-2-test.false))
+    row_whole c.args.self.now xs c.args.at c.args.size c.loop-run-2.last c.loop-run-2.run c.requires.size ring (c.loop-run-2.invariant.row xs ring has) (inl (sym c.next.ensures.value ∙ c.loop-run-2-test.false))

@@ -1,4 +1,4 @@
-use Rattle.std.proofs.Common.{◌≡◌, ◌<◌, ◌≤◌, ◌-◌, List, ℕ, vec_len}
+use Rattle.std.proofs.Common.{◌<◌, ◌≤◌, ◌-◌, List, ℕ, vec_len}
 use Rattle.std.specs.List.{Contains}
 use Rattle.cw_order.specs.Ring.{IsRing, path}
 use Rattle.cw_order.proofs.Rows.{IsRow, IsRowFrom}

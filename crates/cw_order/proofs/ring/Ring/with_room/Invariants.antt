@@ -1,4 +1,4 @@
-use Rattle.std.proofs.Common.{◌≡◌, ◌<◌, ◌≤◌, ◌+◌, ℕ, vec_len, slice_index}
+use Rattle.std.proofs.Common.{◌≡◌, ◌<◌, ◌+◌, ℕ, vec_len, slice_index}
 use Rattle.cw_order.proofs.ring.Ring.with_room.Given as goal
 
 abbrev pub invariant-loop-below : goal.invariant-loop-below
