@@ -1,0 +1,14 @@
+pub mod Apart
+pub mod Inserting
+pub mod Keeping
+pub mod Linking
+pub mod Making
+pub mod Members
+pub mod Placing
+pub mod Ranges
+pub mod Relinking
+pub mod Removing
+pub mod Rising
+pub mod Rooms
+pub mod Rows
+pub mod Spreading

@@ -1,0 +1,38 @@
+-- Lists of places that are kept by links, and labels that rise along them.
+use Rattle.std.specs.Prelude.{ℕ, zero, suc, ◌+◌, ◌≤◌, ◌≡◌, ◌≢◌, List, [], ◌∷◌, slice_index, slice_set}
+
+-- the places that are met from `at` on, so many of them
+abbrev pub walk : List ℕ → ℕ → ℕ → List ℕ
+walk next at zero = []
+walk next at (suc k) = at ∷ walk next (slice_index next at) k
+
+-- the first of xs, or what lies beyond its end
+abbrev pub first_or : List ℕ → ℕ → ℕ
+first_or [] beyond = beyond
+first_or (x ∷ xs) beyond = x
+
+-- `next` leads from each place to the one after it and from the last to what lies beyond, and `previous` leads back
+abbrev pub AreLinked : List ℕ → List ℕ → List ℕ → ℕ → Type 0
+AreLinked next previous [] beyond = Unit {0}
+AreLinked next previous (x ∷ xs) beyond =
+    (slice_index next x ≡ first_or xs beyond) × (slice_index previous (first_or xs beyond) ≡ x) × AreLinked next previous xs beyond
+
+-- each number is less by `gap` or more than the one after it, and the last than what lies beyond
+abbrev pub Rise : ℕ → List ℕ → ℕ → Type 0
+Rise gap [] beyond = Unit {0}
+Rise gap (n ∷ ns) beyond = (n + gap ≤ first_or ns beyond) × Rise gap ns beyond
+
+-- y is not in the list
+abbrev pub Lacks : List ℕ → ℕ → Type 0
+Lacks [] y = Unit {0}
+Lacks (x ∷ xs) y = (x ≢ y) × Lacks xs y
+
+-- no two are the same
+abbrev pub AreApart : List ℕ → Type 0
+AreApart [] = Unit {0}
+AreApart (x ∷ xs) = Lacks xs x × AreApart xs
+
+-- the labels after these places were given `base`, `base + gap` and so on
+abbrev pub spread_over : List ℕ → ℕ → ℕ → List ℕ → List ℕ
+spread_over [] base gap labels = labels
+spread_over (x ∷ xs) base gap labels = spread_over xs (base + gap) gap (slice_set labels x base)

@@ -1,0 +1,97 @@
+ghost use Rattle.std.specs.Prelude.{◌≡◌, ◌+◌, ◌<◌, ◌≤◌, ◌↔◌, [], IsTrue, IsErr, IfOk, OnErr, Contains, length, nat_eq};
+ghost use Rattle.std.specs.List.{IsDistinct};
+ghost use Rattle.std.specs.Option.{ForSome};
+ghost use Rattle.cw_order.specs.Order.{placed_after, without, position};
+
+use crate::Steps;
+use crate::ring::{HEAD, Ring};
+use cw_base::OutOfMemory;
+use std::alloc::Global;
+use std::marker::Model;
+use std::sync::ledger::Ledger;
+
+/// The list holds as many elements as it can.
+#[derive(Clone, Copy, PartialEq, Eq, Debug)]
+pub struct Full;
+
+/// A list of distinct elements in which `before` takes one step.
+#[derive(Drop)]
+pub struct OrderList {
+    ring: Ring,
+    room: u32,
+    count: u32,
+    free: u32,
+}
+
+impl Model for OrderList {
+    ghost use Rattle.cw_order.specs.Order.{Order};
+
+    ghost Value = { Order };
+
+    ghost use Rattle.cw_order.specs.OrderList.{order_of, IsKept};
+
+    ghost view = { order_of };
+
+    ghost invariant = { IsKept };
+}
+
+impl OrderList {
+    /// An empty list. No later call takes memory.
+    pub fn with_room(alloc: Global, n: u32) -> Result<OrderList, OutOfMemory>
+        ensures empty { IfOk result (λ l. l.elements ≡ []) }
+        ensures room { IfOk result (λ l. l.room ≡ n) }
+    {
+        Ok(OrderList {
+            ring: Ring::with_room(alloc, n)?,
+            room: n,
+            count: 0,
+            free: n,
+        })
+    }
+
+    /// Adds a new element right after the given one, or first where none is given.
+    pub fn insert_after(&mut self, at: Option<u32>) -> Result<u32, Full>
+        requires { ForSome at (Contains self.old.elements) }
+        ensures new { IfOk result (λ e. ¬ Contains self.old.elements e) }
+        ensures placed { IfOk result (λ e. self.new.elements ≡ placed_after at e self.old.elements) }
+        ensures there { IfOk result (Contains self.new.elements) }
+        ensures distinct { IsDistinct nat_eq self.new.elements }
+        ensures few { length self.new.elements ≤ self.new.room }
+        ensures room { self.new.room ≡ self.old.room }
+        ensures full { IsErr result ↔ (length self.old.elements ≡ self.old.room) }
+        ensures err { OnErr result (self.new ≡ self.old) }
+    {
+        if self.count == self.room {
+            return Err(Full);
+        }
+        let at = at.unwrap_or(HEAD);
+        let label = self.ring.label_after(at, self.count);
+        let element = self.free;
+        self.free = self.ring.next(element);
+        self.ring.link_after(at, element, label);
+        self.count += 1;
+        Ok(element)
+    }
+
+    pub fn remove(&mut self, e: u32)
+        requires { Contains self.old.elements e }
+        ensures removed { self.new.elements ≡ without e self.old.elements }
+        ensures distinct { IsDistinct nat_eq self.new.elements }
+        ensures room { self.new.room ≡ self.old.room }
+    {
+        self.ring.unlink(e, self.free);
+        self.free = e;
+        self.count -= 1;
+    }
+
+    /// Whether `a` stands before `b`.
+    pub fn before<L: Ledger>(&self, a: u32, b: u32, steps: &mut Steps<L>) -> bool
+        requires first { Contains self.now.elements a }
+        requires second { Contains self.now.elements b }
+        ensures order { IsTrue result ↔ (position self.now.elements a < position self.now.elements b) }
+        ensures cost { steps.new ≡ steps.old + 1 }
+    {
+        steps.tick();
+        self.ring.label(a) < self.ring.label(b)
+    }
+}

@@ -1,0 +1,215 @@
+ghost use Rattle.std.specs.Prelude.{◌≡◌, ℕ, ◌<◌, All, vec_len};
+
+use cw_base::OutOfMemory;
+use std::alloc::Global;
+
+/// What stands before the first element and after the last one.
+pub(crate) const HEAD: u32 = 0;
+
+/// Above each label.
+pub(crate) const END: u64 = u64::MAX;
+
+/// Elements in a row: the first one, and how many.
+#[derive(Clone, Copy)]
+struct Run {
+    first: u32,
+    count: u32,
+}
+
+/// The head and the elements of a list as a ring of links, with labels that rise from the head on. Numbers that are not
+/// in the ring are linked by `next` alone.
+#[derive(Drop)]
+pub(crate) struct Ring {
+    next: Vec<u32>,
+    previous: Vec<u32>,
+    labels: Vec<u64>,
+    ghost same_places: { vec_len previous ≡ vec_len next },
+    ghost labelled: { vec_len labels ≡ vec_len next },
+    ghost leads_on: { All (λ at. at < vec_len next) next.items },
+    ghost leads_back: { All (λ at. at < vec_len next) previous.items },
+}
+
+impl Ring {
+    ghost use Rattle.std.specs.Prelude.{◌≡◌, ◌≤◌, ◌<◌, ◌+◌, ◌-◌, ◌*◌, ◌^◌, ℕ, List, [], vec_len, slice_index, slice_set, IfOk, IfSome};
+    ghost use Rattle.std.specs.List.{Contains};
+    ghost use Rattle.cw_order.specs.Links.{walk, spread_over};
+    ghost use Rattle.cw_order.specs.Ring.{IsRing, IsRun, label_of, above_of, path, elements_of};
+
+    /// The head alone. From `room` on down to 1, each other number is linked to the one below it.
+    pub(crate) fn with_room(alloc: Global, room: u32) -> Result<Ring, OutOfMemory>
+        ensures places { IfOk result (λ r. vec_len r.next ≡ room + 1) }
+        ensures empty { IfOk result (λ r. IsRing r []) }
+        ensures free { IfOk result (λ r. (k : ℕ) → k < room → slice_index r.next.items (k + 1) ≡ k) }
+    {
+        let places = room as usize + 1;
+        let mut next = Vec::with_capacity(alloc, places)?;
+        next.push(HEAD)?;
+        for below in 0..room {
+            next.push(below)?;
+        }
+        Ok(Ring {
+            next,
+            previous: vec![in alloc; HEAD; places]?,
+            labels: vec![in alloc; 0; places]?,
+        })
+    }
+
+    pub(crate) fn next(&self, at: u32) -> u32
+        requires { at < vec_len self.now.next }
+        ensures value { result ≡ slice_index self.now.next.items at }
+        ensures place { result < vec_len self.now.next }
+    {
+        self.next[at as usize]
+    }
+
+    fn previous(&self, at: u32) -> u32
+        requires { at < vec_len self.now.next }
+        ensures value { result ≡ slice_index self.now.previous.items at }
+        ensures place { result < vec_len self.now.next }
+    {
+        self.previous[at as usize]
+    }
+
+    pub(crate) fn label(&self, at: u32) -> u64
+        requires { at < vec_len self.now.next }
+        ensures { result ≡ label_of self.now at }
+    {
+        self.labels[at as usize]
+    }
+
+    /// How far the next label, or the end, is above that of `at`.
+    fn gap_after(&self, at: u32) -> u64
+        requires place { at < vec_len self.now.next }
+        requires rises { label_of self.now at ≤ above_of self.now at }
+        ensures value { label_of self.now at + result ≡ above_of self.now at }
+        ensures end { label_of self.now at + result ≤ END }
+    {
+        let next = self.next(at);
+        let above = if next == HEAD { END } else { self.label(next) };
+        above - self.label(at)
+    }
+
+    /// A label between that of `at` and the next one. Labels change where none is free; `count` is the number of elements.
+    pub(crate) fn label_after(&mut self, at: u32, count: u32) -> u64
+        requires place { at < vec_len self.old.next }
+        requires few { count < 2 ^ 32 - 1 }
+        requires ring { IsRing self.old (elements_of self.old count) }
+        requires there { Contains (path (elements_of self.old count)) at }
+        ensures next { self.new.next.items ≡ self.old.next.items }
+        ensures previous { self.new.previous.items ≡ self.old.previous.items }
+        ensures ring { IsRing self.new (elements_of self.old count) }
+        ensures above { label_of self.new at < result }
+        ensures below { result < above_of self.new at }
+    {
+        if self.gap_after(at) < 2 {
+            self.make_room(at, count);
+        }
+        self.label(at) + self.gap_after(at) / 2
+    }
+
+    /// Puts `element` into the ring, right after `at`.
+    pub(crate) fn link_after(&mut self, at: u32, element: u32, label: u64)
+        requires at { at < vec_len self.old.next }
+        requires element { element < vec_len self.old.next }
+        ensures next { self.new.next.items ≡ slice_set (slice_set self.old.next.items element (slice_index self.old.next.items at)) at element }
+        ensures previous { self.new.previous.items ≡ slice_set (slice_set self.old.previous.items element at) (slice_index self.old.next.items at) element }
+        ensures labels { self.new.labels.items ≡ slice_set self.old.labels.items element label }
+    {
+        let next = self.next(at);
+        self.next[element as usize] = next;
+        self.previous[element as usize] = at;
+        self.labels[element as usize] = label;
+        self.next[at as usize] = element;
+        self.previous[next as usize] = element;
+    }
+
+    /// Takes `element` out of the ring, and links it to `next`.
+    pub(crate) fn unlink(&mut self, element: u32, next: u32)
+        requires element { element < vec_len self.old.next }
+        requires next { next < vec_len self.old.next }
+        ensures next { self.new.next.items ≡ slice_set (slice_set self.old.next.items (slice_index self.old.previous.items element) (slice_index self.old.next.items element)) element next }
+        ensures previous { self.new.previous.items ≡ slice_set self.old.previous.items (slice_index self.old.next.items element) (slice_index self.old.previous.items element) }
+        ensures labels { self.new.labels.items ≡ self.old.labels.items }
+    {
+        let before = self.previous(element);
+        let after = self.next(element);
+        self.next[before as usize] = after;
+        self.previous[after as usize] = before;
+        self.next[element as usize] = next;
+    }
+
+    /// Spreads the labels of the smallest range round that of `at` that is sparse enough. A range has 4^k labels and begins
+    /// at a multiple of 4^k; it is sparse enough where at most 2^k of them are in use. The range of all labels always is.
+    fn make_room(&mut self, at: u32, count: u32)
+        requires place { at < vec_len self.old.next }
+        requires few { count < 2 ^ 32 - 1 }
+        requires ring { IsRing self.old (elements_of self.old count) }
+        requires there { Contains (path (elements_of self.old count)) at }
+        ensures next { self.new.next.items ≡ self.old.next.items }
+        ensures previous { self.new.previous.items ≡ self.old.previous.items }
+        ensures ring { IsRing self.new (elements_of self.old count) }
+        ensures room { label_of self.new at + 2 ≤ above_of self.new at }
+    {
+        for level in 2..32u32 {
+            let most = 1u32 << level;
+            let size = u64::from(most) * u64::from(most);
+            if let Some(run) = self.sparse_run(at, size, most) {
+                let base = self.label(at) / size * size;
+                let gap = (size - 1) / u64::from(run.count);
+                self.spread(run.first, run.count, base, gap);
+                return;
+            }
+        }
+        let all = count + 1;
+        self.spread(HEAD, all, 0, END / u64::from(all));
+    }
+
+    /// Those whose labels are in one range with that of `at`, if there are at most so many.
+    fn sparse_run(&self, at: u32, size: u64, most: u32) -> Option<Run>
+        requires place { at < vec_len self.now.next }
+        requires size { 0 < size }
+        requires most { 0 < most }
+        ensures place { IfSome result (λ run. run.first < vec_len self.now.next) }
+        ensures few { IfSome result (λ run. (0 < run.count) × (run.count ≤ most)) }
+        ensures run { IfSome result (λ run. (xs : List ℕ) → IsRing self.now xs → Contains (path xs) at → IsRun self.now xs at size run) }
+    {
+        let range = self.label(at) / size;
+        let mut run = Run {
+            first: at,
+            count: 1,
+        };
+        while run.first != HEAD && self.label(self.previous(run.first)) / size == range {
+            if run.count == most {
+                return None;
+            }
+            run.first = self.previous(run.first);
+            run.count += 1;
+        }
+        let mut last = at;
+        while self.next(last) != HEAD && self.label(self.next(last)) / size == range {
+            if run.count == most {
+                return None;
+            }
+            last = self.next(last);
+            run.count += 1;
+        }
+        Some(run)
+    }
+
+    /// Gives so many in a row, from `first` on, the labels `base`, `base + gap` and so on.
+    fn spread(&mut self, first: u32, count: u32, base: u64, gap: u64)
+        requires place { first < vec_len self.old.next }
+        requires fits { base + count * gap < 2 ^ 64 }
+        ensures next { self.new.next.items ≡ self.old.next.items }
+        ensures previous { self.new.previous.items ≡ self.old.previous.items }
+        ensures labels { self.new.labels.items ≡ spread_over (walk self.old.next.items first count) base gap self.old.labels.items }
+    {
+        let mut at = first;
+        let mut label = base;
+        for _done in 0..count {
+            self.labels[at as usize] = label;
+            at = self.next(at);
+            label += gap;
+        }
+    }
+}
