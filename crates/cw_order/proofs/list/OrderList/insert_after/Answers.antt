@@ -1,4 +1,4 @@
-use Rattle.std.proofs.Common.{◌≡◌, ◌+◌, ◌<◌, ◌≤◌, length, nat_eq, subst, sym, ap, ◌∙◌, refl, arith}
+use Rattle.std.proofs.Common.{◌≡◌, ◌≢◌, ◌+◌, ◌<◌, ◌≤◌, length, nat_eq, subst, sym, ap, ◌∙◌, refl, arith}
 use Rattle.std.specs.List.{Contains, IsDistinct}
 use Rattle.std.specs.Option.{ForSome}
 use Rattle.std.specs.Vec.{vec_len}
@@ -47,16 +47,19 @@ link_after-requires-clause-at c =
 is_inserted : (c : goal.After-self-2-1) → HasInserted c.self.inside (record { ring = c.link_after.new.self; room = c.self.inside.room; count = c.self.inside.count + 1; free = c.next-self-inside.result }) c.args.at
 is_inserted c =
     let old = c.self.inside in
+    let room : old.count ≢ old.room = omega arith in
     let has : ForSome c.args.at (Contains (elements_of old.ring old.count)) = subst (λ o. ForSome c.args.at (Contains o.elements)) (sym c.self.view_is) c.requires in
     inserted old (record { ring = c.link_after.new.self; room = old.room; count = old.count + 1; free = c.next-self-inside.result }) c.label_after-label.new.self c.args.at c.unwrap_or-at.result c.label_after-label.result
-    c.unwrap_or-at.ensures c.self.invariant c.if-self.false has c.label_after-label.ensures.next c.label_after-label.ensures.ring c.label_after-label.ensures.above c.label_after-label.ensures.below
+    c.unwrap_or-at.ensures c.self.invariant room has c.label_after-label.ensures.next c.label_after-label.ensures.ring c.label_after-label.ensures.above c.label_after-label.ensures.below
     c.link_after.ensures.next c.link_after.ensures.previous c.link_after.ensures.labels refl refl c.next-self-inside.ensures.value
 
 pub invariant_of-self : goal.invariant_of-self
 invariant_of-self c = (is_inserted c).kept
 
 pub returns-clause-new : goal.returns-clause-new
-returns-clause-new c = subst (λ o. Contains o.elements c.self.inside.free → ⊥) c.self.view_is (kept_new c.self.inside c.self.invariant c.if-self.false)
+returns-clause-new c =
+    let room : c.self.inside.count ≢ c.self.inside.room = omega arith in
+    subst (λ o. Contains o.elements c.self.inside.free → ⊥) c.self.view_is (kept_new c.self.inside c.self.invariant room)
 
 pub returns-clause-placed : goal.returns-clause-placed
 returns-clause-placed c = (is_inserted c).elements ∙ ap (λ o. placed_after c.args.at c.self.inside.free o.elements) c.self.view_is
@@ -77,5 +80,5 @@ returns-clause-few c =
 pub returns-clause-full : goal.returns-clause-full
 returns-clause-full c =
     let not_full : length c.args.self.now.elements ≡ c.args.self.now.room → ⊥ =
-    subst (λ o. length o.elements ≡ o.room → ⊥) c.self.view_is (λ e. c.if-self.false (omega (arith, e, kept_length c.self.inside))) in
+    subst (λ o. length o.elements ≡ o.room → ⊥) c.self.view_is (λ e. omega (arith, e, kept_length c.self.inside)) in
     (λ e. absurd cc, λ e. absurd (not_full e))
