@@ -141,8 +141,13 @@ impl Ring {
         self.next[element as usize] = next;
     }
 
-    /// Spreads the labels of the smallest range round that of `at` that is sparse enough. A range has 4^k labels and begins
-    /// at a multiple of 4^k; it is sparse enough where at most 2^k of them are in use. The range of all labels always is.
+    /// Spreads the labels of the smallest range round that of `at` that is sparse enough, as Bender, Cole, Demaine,
+    /// Farach-Colton and Zito do ("Two simplified algorithms for maintaining order in a list", 2002). A range has 4^k
+    /// labels and begins at a multiple of 4^k; it is sparse enough where at most 2^k of them are in use.
+    //
+    // Once a range is spread, each of its quarters takes 2^k / 4 more elements before it is too dense to be spread by
+    // itself. So an insertion pays for four new labels at each k, and k is at most one above the binary logarithm of the
+    // number of elements. There are fewer than 2^32 elements, so the range of all labels is always sparse enough.
     fn make_room(&mut self, at: u32, count: u32)
         requires place { at < vec_len self.old.next }
         requires few { count < 2 ^ 32 - 1 }
