@@ -1,12 +1,14 @@
 -- What an order list keeps, and that its calls keep it.
-use Rattle.std.proofs.Common.{ℕ, suc, ◌+◌, ◌-◌, ◌<◌, ◌≡◌, Option, None, Some, List, ◌∷◌, ◌++◌, length, get_or, drop, nat_eq, refl, sym, ap, ◌∙◌, subst, arith}
+use Rattle.std.proofs.Common.{ℕ, suc, ◌+◌, ◌-◌, ◌<◌, ◌≡◌, Option, None, Some, List, ◌∷◌, ◌++◌, length, get_or, drop, nat_eq, refl, sym, ap, ◌∙◌, subst, arith, false, true, inl, inr}
+use Rattle.std.proofs.lemmas.Bool.{cases_eq, false≢true}
 use Rattle.std.specs.List.{Contains, IsDistinct}
 use Rattle.std.specs.Option.{ForSome, unwrap_or}
 use Rattle.std.specs.Vec.{vec_len}
 use Rattle.std.proofs.lemmas.List.Elements.{All-from_recursion, All-contains}
 use Rattle.cw_order.specs.declared.list.OrderList.TheInside.{Inside}
 use Rattle.cw_order.specs.declared.ring.Ring.{Ring}
-use Rattle.cw_order.specs.OrderList.{IsKept}
+use Rattle.cw_order.specs.Order.{Order}
+use Rattle.cw_order.specs.OrderList.{order_of, IsKept}
 use Rattle.cw_order.specs.Links.{walk, AreLinked, AreApart}
 use Rattle.cw_order.specs.Ring.{IsRing, path, elements_of}
 use Rattle.cw_order.proofs.Apart.{lacks-contains, lacks_parts, apart_out, distinct_from_apart}
@@ -47,3 +49,9 @@ kept_new a kept room has =
     let apart : AreApart (path (elements_of a.ring a.count) ++ a.free ∷ fs) = subst (λ zs. AreApart (path (elements_of a.ring a.count) ++ zs)) (ap (walk a.ring.next.items a.free) left) kept.apart in
     let out = lacks_parts (path (elements_of a.ring a.count)) fs a.free (apart_out (path (elements_of a.ring a.count)) fs a.free apart).0 in
     lacks-contains (elements_of a.ring a.count) a.free out.0.1 has
+
+-- a list that is not full has fewer elements than it can hold
+pub kept_below : (a : Inside) (o : Order) → order_of a ≡ o → IsKept a → (length o.elements ≡ o.room → false ≡ true) → a.count < a.room
+kept_below a o view_is kept full =
+    let there : a.count ≡ a.room → false ≡ true = λ e. full (subst (λ p. length p.elements ≡ p.room) view_is (kept_length a ∙ e)) in
+    elim (cases_eq a.count a.room) [ inl e ↦ absurd (false≢true (there e)) | inr ne ↦ omega (arith, ne, kept.few) ]

@@ -36,3 +36,19 @@ AreApart (x ∷ xs) = Lacks xs x × AreApart xs
 abbrev pub spread_over : List ℕ → ℕ → ℕ → List ℕ → List ℕ
 spread_over [] base gap labels = labels
 spread_over (x ∷ xs) base gap labels = spread_over xs (base + gap) gap (slice_set labels x base)
+
+-- the links once e stands right after `at`
+abbrev pub next_with : List ℕ → ℕ → ℕ → List ℕ
+next_with next at e = slice_set (slice_set next e (slice_index next at)) at e
+
+abbrev pub previous_with : List ℕ → List ℕ → ℕ → ℕ → List ℕ
+previous_with next previous at e = slice_set (slice_set previous e at) (slice_index next at) e
+
+-- the links once e is out, and leads to `other` instead
+abbrev pub next_without : List ℕ → List ℕ → ℕ → ℕ → List ℕ
+next_without next previous e other =
+    slice_set (slice_set next (slice_index previous e) (slice_index next e)) e other
+
+abbrev pub previous_without : List ℕ → List ℕ → ℕ → List ℕ
+previous_without next previous e =
+    slice_set previous (slice_index next e) (slice_index previous e)

@@ -49,6 +49,12 @@ impl OrderList {
         })
     }
 
+    fn is_full(&self) -> bool
+        ensures { IsTrue result ↔ (length self.now.elements ≡ self.now.room) }
+    {
+        self.count == self.room
+    }
+
     /// Adds a new element right after the given one, or first where none is given.
     pub fn insert_after(&mut self, at: Option<u32>) -> Result<u32, Full>
         requires { ForSome at (Contains self.old.elements) }
@@ -61,7 +67,7 @@ impl OrderList {
         ensures full { IsErr result ↔ (length self.old.elements ≡ self.old.room) }
         ensures err { OnErr result (self.new ≡ self.old) }
     {
-        if self.count == self.room {
+        if self.is_full() {
             return Err(Full);
         }
         let at = at.unwrap_or(HEAD);

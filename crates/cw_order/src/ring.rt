@@ -32,7 +32,7 @@ pub(crate) struct Ring {
 impl Ring {
     ghost use Rattle.std.specs.Prelude.{◌≡◌, ◌≤◌, ◌<◌, ◌+◌, ◌-◌, ◌*◌, ◌^◌, ℕ, List, [], vec_len, slice_index, slice_set, IfOk, IfSome};
     ghost use Rattle.std.specs.List.{Contains};
-    ghost use Rattle.cw_order.specs.Links.{walk, spread_over};
+    ghost use Rattle.cw_order.specs.Links.{walk, spread_over, next_with, previous_with, next_without, previous_without};
     ghost use Rattle.cw_order.specs.Ring.{IsRing, IsRun, label_of, above_of, path, elements_of};
 
     /// The head alone. From `room` on down to 1, each other number is linked to the one below it.
@@ -111,8 +111,9 @@ impl Ring {
     pub(crate) fn link_after(&mut self, at: u32, element: u32, label: u64)
         requires at { at < vec_len self.old.next }
         requires element { element < vec_len self.old.next }
-        ensures next { self.new.next.items ≡ slice_set (slice_set self.old.next.items element (slice_index self.old.next.items at)) at element }
-        ensures previous { self.new.previous.items ≡ slice_set (slice_set self.old.previous.items element at) (slice_index self.old.next.items at) element }
+        ensures next { self.new.next.items ≡ next_with self.old.next.items at element }
+        ensures previous { self.new.previous.items
+            ≡ previous_with self.old.next.items self.old.previous.items at element }
         ensures labels { self.new.labels.items ≡ slice_set self.old.labels.items element label }
     {
         let next = self.next(at);
@@ -127,8 +128,10 @@ impl Ring {
     pub(crate) fn unlink(&mut self, element: u32, next: u32)
         requires element { element < vec_len self.old.next }
         requires next { next < vec_len self.old.next }
-        ensures next { self.new.next.items ≡ slice_set (slice_set self.old.next.items (slice_index self.old.previous.items element) (slice_index self.old.next.items element)) element next }
-        ensures previous { self.new.previous.items ≡ slice_set self.old.previous.items (slice_index self.old.next.items element) (slice_index self.old.previous.items element) }
+        ensures next { self.new.next.items
+            ≡ next_without self.old.next.items self.old.previous.items element next }
+        ensures previous { self.new.previous.items
+            ≡ previous_without self.old.next.items self.old.previous.items element }
         ensures labels { self.new.labels.items ≡ self.old.labels.items }
     {
         let before = self.previous(element);
@@ -138,8 +141,13 @@ impl Ring {
         self.next[element as usize] = next;
     }
 
-    /// Spreads the labels of the smallest range round that of `at` that is sparse enough. A range has 4^k labels and begins
-    /// at a multiple of 4^k; it is sparse enough where at most 2^k of them are in use. The range of all labels always is.
+    /// Spreads the labels of the smallest range round that of `at` that is sparse enough, as Bender, Cole, Demaine,
+    /// Farach-Colton and Zito do ("Two simplified algorithms for maintaining order in a list", 2002). A range has 4^k
+    /// labels and begins at a multiple of 4^k; it is sparse enough where at most 2^k of them are in use.
+    //
+    // Once a range is spread, each of its quarters takes 2^k / 4 more elements before it is too dense to be spread by
+    // itself. So an insertion pays for four new labels at each k, and k is at most one above the binary logarithm of the
+    // number of elements. There are fewer than 2^32 elements, so the range of all labels is always sparse enough.
     fn make_room(&mut self, at: u32, count: u32)
         requires place { at < vec_len self.old.next }
         requires few { count < 2 ^ 32 - 1 }
@@ -171,7 +179,8 @@ impl Ring {
         requires most { 0 < most }
         ensures place { IfSome result (λ run. run.first < vec_len self.now.next) }
         ensures few { IfSome result (λ run. (0 < run.count) × (run.count ≤ most)) }
-        ensures run { IfSome result (λ run. (xs : List ℕ) → IsRing self.now xs → Contains (path xs) at → IsRun self.now xs at size run) }
+        ensures run { IfSome result (λ run. (xs : List ℕ)
+            → IsRing self.now xs → Contains (path xs) at → IsRun self.now xs at size run) }
     {
         let range = self.label(at) / size;
         let mut run = Run {
@@ -202,7 +211,8 @@ impl Ring {
         requires fits { base + count * gap < 2 ^ 64 }
         ensures next { self.new.next.items ≡ self.old.next.items }
         ensures previous { self.new.previous.items ≡ self.old.previous.items }
-        ensures labels { self.new.labels.items ≡ spread_over (walk self.old.next.items first count) base gap self.old.labels.items }
+        ensures labels { self.new.labels.items
+            ≡ spread_over (walk self.old.next.items first count) base gap self.old.labels.items }
     {
         let mut at = first;
         let mut label = base;

@@ -79,7 +79,7 @@ fn insert_many(alloc: Global, places: Places, n: u32) -> Result<(), Fail> {
     Ok(())
 }
 
-/// What no clause says: that this does not take for ever.
+/// What no clause says: that renumbering stays cheap, wherever the new elements go.
 #[test]
 fn many_insertions_end_soon(rt: HostRuntime) -> Result<(), Fail> {
     for places in [

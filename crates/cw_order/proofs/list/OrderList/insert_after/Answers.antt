@@ -1,24 +1,26 @@
-use Rattle.std.proofs.Common.{◌≡◌, ◌+◌, ◌<◌, ◌≤◌, length, nat_eq, subst, sym, ap, ◌∙◌, refl, arith}
+use Rattle.std.proofs.Common.{◌≢◌, ◌+◌, ◌<◌, length, nat_eq, subst, sym, ap, ◌∙◌, refl, arith}
 use Rattle.std.specs.List.{Contains, IsDistinct}
 use Rattle.std.specs.Option.{ForSome}
 use Rattle.std.specs.Vec.{vec_len}
 use Rattle.cw_order.specs.Order.{placed_after}
 use Rattle.cw_order.specs.Ring.{elements_of, path}
 use Rattle.cw_order.proofs.Inserting.{HasInserted, inserted}
-use Rattle.cw_order.proofs.Keeping.{kept_distinct, kept_length, kept_new, place_of, path_within}
+use Rattle.cw_order.proofs.Keeping.{kept_below, kept_distinct, kept_length, kept_new, place_of, path_within}
 use Rattle.cw_order.proofs.Members.{placed_new}
 use Rattle.cw_order.proofs.list.OrderList.insert_after.Goals as goal
 
-pub returns-then-self-clause-distinct : goal.returns-then-self-clause-distinct
-returns-then-self-clause-distinct c = subst (λ o. IsDistinct nat_eq o.elements) c.self.view_is (kept_distinct c.self.inside c.self.invariant)
+pub returns-then-is_full-clause-distinct : goal.returns-then-is_full-clause-distinct
+returns-then-is_full-clause-distinct c = subst (λ o. IsDistinct nat_eq o.elements) c.self.view_is (kept_distinct c.self.inside c.self.invariant)
 
-pub returns-then-self-clause-few : goal.returns-then-self-clause-few
-returns-then-self-clause-few c = subst (λ o. length o.elements ≤ o.room) c.self.view_is (omega (arith, kept_length c.self.inside))
+pub label_after-label-requires-clause-few : goal.label_after-label-requires-clause-few
+label_after-label-requires-clause-few c =
+    let below = kept_below c.self.inside c.args.self.now c.self.view_is c.self.invariant c.if-is_full.ensures.1 in
+    omega (arith, below)
 
-pub returns-then-self-clause-full : goal.returns-then-self-clause-full
-returns-then-self-clause-full c =
-    let full : length c.args.self.now.elements ≡ c.args.self.now.room = subst (λ o. length o.elements ≡ o.room) c.self.view_is (omega (arith, kept_length c.self.inside)) in
-    (λ _. full, λ _. refl)
+pub overflow_add-self : goal.overflow_add-self
+overflow_add-self c =
+    let below = kept_below c.self.inside c.args.self.now c.self.view_is c.self.invariant c.if-is_full.ensures.1 in
+    record { fits = omega (arith, below) }
 
 -- the elements that the new one is placed among
 has_place : (c : goal.After-label_after-arg-1) → Contains (path (elements_of c.self.inside.ring c.self.inside.count)) c.unwrap_or-at.result
@@ -47,16 +49,21 @@ link_after-requires-clause-at c =
 is_inserted : (c : goal.After-self-2-1) → HasInserted c.self.inside (record { ring = c.link_after.new.self; room = c.self.inside.room; count = c.self.inside.count + 1; free = c.next-self-inside.result }) c.args.at
 is_inserted c =
     let old = c.self.inside in
+    let below = kept_below c.self.inside c.args.self.now c.self.view_is c.self.invariant c.if-is_full.ensures.1 in
+    let room : old.count ≢ old.room = omega (arith, below) in
     let has : ForSome c.args.at (Contains (elements_of old.ring old.count)) = subst (λ o. ForSome c.args.at (Contains o.elements)) (sym c.self.view_is) c.requires in
     inserted old (record { ring = c.link_after.new.self; room = old.room; count = old.count + 1; free = c.next-self-inside.result }) c.label_after-label.new.self c.args.at c.unwrap_or-at.result c.label_after-label.result
-    c.unwrap_or-at.ensures c.self.invariant c.if-self.false has c.label_after-label.ensures.next c.label_after-label.ensures.ring c.label_after-label.ensures.above c.label_after-label.ensures.below
+    c.unwrap_or-at.ensures c.self.invariant room has c.label_after-label.ensures.next c.label_after-label.ensures.ring c.label_after-label.ensures.above c.label_after-label.ensures.below
     c.link_after.ensures.next c.link_after.ensures.previous c.link_after.ensures.labels refl refl c.next-self-inside.ensures.value
 
 pub invariant_of-self : goal.invariant_of-self
 invariant_of-self c = (is_inserted c).kept
 
 pub returns-clause-new : goal.returns-clause-new
-returns-clause-new c = subst (λ o. Contains o.elements c.self.inside.free → ⊥) c.self.view_is (kept_new c.self.inside c.self.invariant c.if-self.false)
+returns-clause-new c =
+    let below = kept_below c.self.inside c.args.self.now c.self.view_is c.self.invariant c.if-is_full.ensures.1 in
+    let room : c.self.inside.count ≢ c.self.inside.room = omega (arith, below) in
+    subst (λ o. Contains o.elements c.self.inside.free → ⊥) c.self.view_is (kept_new c.self.inside c.self.invariant room)
 
 pub returns-clause-placed : goal.returns-clause-placed
 returns-clause-placed c = (is_inserted c).elements ∙ ap (λ o. placed_after c.args.at c.self.inside.free o.elements) c.self.view_is
@@ -75,7 +82,4 @@ returns-clause-few c =
     omega (arith, new, (is_inserted c).kept.few)
 
 pub returns-clause-full : goal.returns-clause-full
-returns-clause-full c =
-    let not_full : length c.args.self.now.elements ≡ c.args.self.now.room → ⊥ =
-    subst (λ o. length o.elements ≡ o.room → ⊥) c.self.view_is (λ e. c.if-self.false (omega (arith, e, kept_length c.self.inside))) in
-    (λ e. absurd cc, λ e. absurd (not_full e))
+returns-clause-full c = (λ e. absurd cc, c.if-is_full.ensures.1)
