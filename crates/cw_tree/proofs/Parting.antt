@@ -39,10 +39,10 @@ module _ (t : List Node) (r : IsRooted t) where
       elim (cases_eq m (parent_of t x)) [
         | inl e ↦ sym e
         | inr ne ↦
-        (let z = branch t r (parent_of t x) m (omega arith) ne over in
-        let first : z.child ≡ x = children_apart t r z.child x a ha z.some some z.parent (ancestor_trans t r z.child m a ha z.over w.left) s.over_first in
-        let second : z.child ≡ y = children_apart t r z.child y b hb z.some (omega arith) (z.parent ∙ o.same) (ancestor_trans t r z.child m b hb z.over w.right) s.over_second in
-        absurd (omega (arith, first, second)))
+            (let z = branch t r (parent_of t x) m (omega arith) ne over in
+            let first : z.child ≡ x = children_apart t r z.child x a ha z.some some z.parent (ancestor_trans t r z.child m a ha z.over w.left) s.over_first in
+            let second : z.child ≡ y = children_apart t r z.child y b hb z.some (omega arith) (z.parent ∙ o.same) (ancestor_trans t r z.child m b hb z.over w.right) s.over_second in
+            absurd (omega (arith, first, second)))
       ]
 
   module _ (a b : ℕ) (ha : a < length t) (hb : b < length t) (ab : is_ancestor t a b ≡ false) (ba : is_ancestor t b a ≡ false) where
