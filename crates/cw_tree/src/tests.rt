@@ -26,7 +26,12 @@ fn a_refused_access_has_no_victim_in_one_block(rt: HostRuntime) -> Result<(), Fa
     );
     assert!(rt; tree.conflict_plain(write, tried));
     assert_eq!(rt; tree.victim_plain(write, tried), None);
+    let deeper = tree.add(inner, Kind::Fork, 5)?;
+    tree.add(deeper, Kind::Strand, 0)?;
+    let far = tree.add(deeper, Kind::Strand, 0)?;
+    assert_eq!(rt; tree.name(0)?.as_str(), "0");
     assert_eq!(rt; tree.name(right)?.as_str(), "0.1r");
+    assert_eq!(rt; tree.name(far)?.as_str(), "0.1l.1r");
     Ok(())
 }
 
