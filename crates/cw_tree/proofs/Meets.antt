@@ -1,5 +1,5 @@
 -- The least common ancestor of two nodes: how two walks come to it, and what it is.
-use Rattle.std.proofs.Common.{◌≡◌, ◌≢◌, ℕ, ◌<◌, List, ◌∷◌, length, ap, sym, ◌∙◌, arith, Bool, true, false, cond, Option, Some, subst, inl, inr}
+use Rattle.std.proofs.Common.{◌≡◌, ◌≢◌, ℕ, ◌<◌, List, ◌∷◌, length, ap, sym, ◌∙◌, arith, Bool, true, false, cond, Some, subst, inl, inr}
 use Rattle.std.specs.Prelude.{◌⊎◌, unwrap_or}
 use Rattle.std.specs.List.{find}
 use Rattle.std.proofs.lemmas.Bool.{cases_Bool}

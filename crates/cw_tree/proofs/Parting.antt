@@ -1,5 +1,5 @@
 -- Two nodes part at their least common ancestor, in series or in parallel.
-use Rattle.std.proofs.Common.{◌≡◌, ◌≢◌, ℕ, ◌+◌, ◌<◌, ◌≤◌, List, length, refl, ap, sym, ◌∙◌, arith, Bool, true, false, inl, inr, subst}
+use Rattle.std.proofs.Common.{◌≡◌, ◌≢◌, ℕ, ◌+◌, ◌<◌, ◌≤◌, List, length, ap, sym, ◌∙◌, arith, Bool, true, false, inl, inr, subst}
 use Rattle.std.specs.Prelude.{◌⊎◌, ◌&&◌, not}
 use Rattle.std.proofs.lemmas.Bool.{and_from, and_right, not_from_false, false_from_ne_true, cases_Bool, cases_eq, cases_lt}
 use Rattle.cw_tree.specs.declared.node.Node.{Node}

@@ -1,18 +1,14 @@
 -- The outermost pending block above one node that is not above another, as a walk finds it.
 use Rattle.std.proofs.Common.{◌≡◌, ◌≢◌, ℕ, zero, suc, ◌<◌, ◌≤◌, List, ◌∷◌, length, refl, ap, sym, ◌∙◌, arith, Bool, true, false, cond, Option, Some, None, inl, inr, subst}
-use Rattle.std.specs.Prelude.{◌⊎◌, ◌&&◌, not}
+use Rattle.std.specs.Prelude.{◌⊎◌, not}
 use Rattle.std.specs.Option.{option_or}
 use Rattle.std.proofs.lemmas.Bool.{and_from, and_right, not_from_true, not_from_false, false_from_ne_true}
 use Rattle.cw_tree.specs.declared.node.Node.{Node}
 use Rattle.cw_tree.specs.Nodes.{parent_of, is_pending}
-use Rattle.cw_tree.specs.Walks.{IsRooted, above, is_ancestor, is_above, outermost, lca, victim}
+use Rattle.cw_tree.specs.Walks.{IsRooted, above, is_ancestor, is_above, outermost, lca, victim, may_fall}
 use Rattle.cw_tree.proofs.Climbs.{above_step, by_parent}
 use Rattle.cw_tree.proofs.Ancestors.{ancestor_above, above_ancestor, ancestor_self, ancestor_step, ancestor_up, ancestor_trans, ancestor_le, ancestor_past, above_parent}
 use Rattle.cw_tree.proofs.Meets.{lca_is_meet}
-
--- m is pending and not above u
-abbrev pub may_fall : List Node → ℕ → ℕ → Bool
-may_fall t u m = is_pending t m && not (is_above t m u)
 
 -- n is on the way up from v to the least common ancestor of u and v
 pub record OnWay (t : List Node) (u v n : ℕ) : Type 0 where

@@ -95,6 +95,10 @@ tried_again =
     plain 0 Strand 0 ∷ aborted 0 1 3 ∷ plain 1 Fork 2 ∷ plain 2 Strand 0 ∷ plain 2 Strand 0 ∷ committed 0 4 6 ∷ plain 5 Fork 5 ∷ plain 6 Strand 0
     ∷ plain 6 Strand 0 ∷ plain 0 Fork 7 ∷ plain 9 Strand 0 ∷ plain 9 Strand 0 ∷ plain 11 Fork 8 ∷ plain 12 Strand 0 ∷ plain 12 Strand 0 ∷ []
 
+-- a strand in a strand and two in a block, which no run makes
+abbrev pub crooked : List Node
+crooked = plain 0 Strand 0 ∷ plain 0 Fork 1 ∷ pending 0 2 ∷ plain 2 Strand 0 ∷ plain 2 Strand 0 ∷ plain 4 Strand 0 ∷ []
+
 -- the nodes of the two strands in the order in which they were made
 abbrev pub interleaved : List Node
 interleaved =
@@ -138,6 +142,8 @@ Names =
     × (name_of tried_again 8 ≡ right 1 ∷ [])
     × (name_of tried_again 13 ≡ right 2 ∷ left 1 ∷ [])
     × (name_of inside 6 ≡ right 1 ∷ [])
+    × (name_of crooked 3 ≡ left 2 ∷ [])
+    × (name_of crooked 5 ≡ right 2 ∷ left 1 ∷ [])
 
 abbrev pub Texts : Type 0
 Texts = (name_text [] ≡ codes "0") × (name_text (left 1 ∷ right 12 ∷ []) ≡ codes "0.1l.12r")

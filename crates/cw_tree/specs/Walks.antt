@@ -64,6 +64,10 @@ abbrev pub outermost : (ℕ → Bool) → List ℕ → Option ℕ
 outermost p [] = None
 outermost p (n ∷ ns) = option_or (outermost p ns) (if p n then Some n else None)
 
+-- m is a pending block, and not above u
+abbrev pub may_fall : List Node → ℕ → ℕ → Bool
+may_fall t u m = is_pending t m && not (is_above t m u)
+
 -- the outermost pending block above v that is not above u
 abbrev pub victim : List Node → ℕ → ℕ → Option ℕ
-victim t u v = outermost (λ m. is_pending t m && not (is_above t m u)) (above t v)
+victim t u v = outermost (may_fall t u) (above t v)

@@ -1,7 +1,9 @@
-//! The computation tree of a run: what a node is, who stands above whom, which block is still pending, and who conflicts with whom.
+//! The computation tree of a run: what a node is, who stands above whom, which block is still pending, who conflicts with whom, and
+//! what strands are called.
 //! Stands on `cw_base` and `cw_code`.
-//! Contracts cite `specs/Walks.antt` (what stands above a node) and `specs/Names.antt` (names of strands). The other files of
-//! `specs/` hold what the layers above say of a tree, its accesses and its conflicts.
+//! Contracts cite `specs/Nodes.antt` (nodes), `specs/Walks.antt` (what stands above a node), `specs/Names.antt` (names of strands) and
+//! `specs/ForkCounts.antt` (how forks are counted). `Series`, `Attempts`, `Accesses`, `Shape`, `Journals` and `Refusals` there hold what
+//! the layers above say of a tree, its accesses and its conflicts; `Laws`, `Rows` and `WorkedRun` try them.
 #![tactic(auto)]
 
 ghost use Rattle.cw_tree.specs.Laws.{SeriesOrParallel};

@@ -1,5 +1,6 @@
 use super::*;
 use cw_base::OutOfMemory;
+use std::alloc::Global;
 use std::test::Fail;
 
 // A strand that begins a block and forks in it; the left strand begins another and writes, and the right one is refused.
@@ -25,7 +26,12 @@ fn a_refused_access_has_no_victim_in_one_block(rt: HostRuntime) -> Result<(), Fa
     );
     assert!(rt; tree.conflict_plain(write, tried));
     assert_eq!(rt; tree.victim_plain(write, tried), None);
+    let deeper = tree.add(inner, Kind::Fork, 5)?;
+    tree.add(deeper, Kind::Strand, 0)?;
+    let far = tree.add(deeper, Kind::Strand, 0)?;
+    assert_eq!(rt; tree.name(0)?.as_str(), "0");
     assert_eq!(rt; tree.name(right)?.as_str(), "0.1r");
+    assert_eq!(rt; tree.name(far)?.as_str(), "0.1l.1r");
     Ok(())
 }
 
@@ -50,19 +56,9 @@ fn the_outermost_block_of_the_asker_is_the_victim(rt: HostRuntime) -> Result<(),
     Ok(())
 }
 
-// The name of a node, where it is a strand.
-fn name_at(tree: &Tree, n: u32) -> Result<Option<String>, OutOfMemory> {
-    if (n as usize) < tree.nodes().len() && tree.is_strand(n) {
-        Ok(Some(tree.name(n)?))
-    } else {
-        Ok(None)
-    }
-}
-
 // A block with a fork is rolled back; its next attempt forks, is committed, and the strand forks once more.
-#[test]
-fn forks_that_were_rolled_back_are_not_counted(rt: HostRuntime) -> Result<(), Fail> {
-    let mut tree = Tree::new(rt.alloc())?;
+fn tried_again(alloc: Global) -> Result<Tree, OutOfMemory> {
+    let mut tree = Tree::new(alloc)?;
     tree.add(0, Kind::Block, 1)?;
     tree.add(1, Kind::Fork, 2)?;
     tree.add(2, Kind::Strand, 0)?;
@@ -78,6 +74,21 @@ fn forks_that_were_rolled_back_are_not_counted(rt: HostRuntime) -> Result<(), Fa
     tree.add(10, Kind::Fork, 8)?;
     tree.add(11, Kind::Strand, 0)?;
     tree.add(11, Kind::Strand, 0)?;
+    Ok(tree)
+}
+
+// The name of a node, where it is a strand.
+fn name_at(tree: &Tree, n: u32) -> Result<Option<String>, OutOfMemory> {
+    if (n as usize) < tree.nodes().len() && tree.is_strand(n) {
+        Ok(Some(tree.name(n)?))
+    } else {
+        Ok(None)
+    }
+}
+
+#[test]
+fn forks_that_were_rolled_back_are_not_counted(rt: HostRuntime) -> Result<(), Fail> {
+    let tree = tried_again(rt.alloc())?;
     let rows = [
         (0, "0"),
         (3, "0.1l"),
@@ -92,6 +103,26 @@ fn forks_that_were_rolled_back_are_not_counted(rt: HostRuntime) -> Result<(), Fa
         assert_eq!(rt; name_at(&tree, strand)?.ok_or("no strand")?.as_str(), name);
     }
     assert!(rt; name_at(&tree, 11)?.is_none() && name_at(&tree, 14)?.is_none());
+    Ok(())
+}
+
+#[test]
+fn forks_have_numbers_and_strands_have_sides(rt: HostRuntime) -> Result<(), Fail> {
+    let tree = tried_again(rt.alloc())?;
+    let numbers = [1, 1, 1, 1, 1, 1, 1, 1, 1, 2, 1, 1, 1, 1];
+    assert_eq!(rt; tree.fork_numbers()?.as_slice(), numbers.as_slice());
+    let right = tree.right_strands()?;
+    assert_eq!(rt; right.iter().filter(|side| **side).count(), 3);
+    assert_eq!(rt; tree.nodes().len(), 14);
+    let second = Turn {
+        fork: 2,
+        right: false,
+    };
+    let first = Turn {
+        fork: 1,
+        right: true,
+    };
+    assert_eq!(rt; tree.turns(13)?.as_slice(), [second, first].as_slice());
     Ok(())
 }
 
