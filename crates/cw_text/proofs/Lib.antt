@@ -1,3 +1,4 @@
+pub mod Blocks
 pub mod Digits
 pub mod Fronts
 pub mod Levels

@@ -1,58 +1,31 @@
 -- The tokens of a program are read as that program.
-use Rattle.std.proofs.Common.{◌≡◌, ℕ, zero, suc, ◌+◌, ◌≤◌, List, [], ◌∷◌, ◌++◌, refl, sym, ◌∙◌, ap, arith, ℤ, pos, negsuc, Ok, append-nil, append_assoc, codes, lit≤}
+use Rattle.std.proofs.Common.{◌≡◌, ℕ, zero, suc, ◌<◌, ◌≤◌, List, [], ◌∷◌, ◌++◌, refl, sym, ◌∙◌, ap, arith, ℤ, pos, negsuc, Ok, append-nil, append_assoc, codes, lit≤, lit<}
 use Rattle.std.proofs.lemmas.List.Elements.{All-head, All-tail}
 use Rattle.cw_text.specs.declared.mark.Mark.TheVariants as m
 use Rattle.cw_text.specs.Lexemes.{Lexemes, end_on, comes, mark, name as a_name}
-use Rattle.cw_text.specs.Syntax.{Term, Statement, set_new, assign, out, Block, empty, first, with_statement, Declaration, cell, func}
-use Rattle.cw_text.specs.Grammar.{Symbol, Values, a_term, a_word, a_block, an_init, declared, act, push, block, cell_done, closing, exactly, expr, func_done, items, let_done, assign_done, out_done, pending, program_in, program_of, read, stmts, word, word_at}
-use Rattle.cw_text.specs.Printed.{before, sign, block_tokens, term_tokens, statement_tokens, statements_tokens, declaration_tokens, tokens, printed, IsReadableTerm, IsReadableStatement, IsReadableBlock, IsReadableDeclaration, IsReadable}
+use Rattle.cw_text.specs.Syntax.{Term, Statement, set_new, assign, out, atomic, spawn, sync, Block, empty, first, with_statement, Declaration, cell, func}
+use Rattle.cw_text.specs.Grammar.{Symbol, Values, a_term, a_word, a_block, an_init, declared, act, push, block, cell_done, closing, exactly, expr, func_done, items, let_done, assign_done, out_done, atomic_done, spawn_done, sync_done, pending, program_in, program_of, read, stmts, word, word_at}
+use Rattle.cw_text.specs.Printed.{before, sign, in_braces, term_tokens, statement_tokens, statements_tokens, declaration_tokens, tokens, printed, IsReadableTerm, IsReadableStatement, IsReadableBlock, IsReadableDeclaration, IsReadable}
 use Rattle.cw_text.proofs.PrintedTerms.{before-append, term_read}
 use Rattle.cw_text.proofs.Steps.{read-act, read-expr, taken_open}
 
 -- an expression with a semicolon behind it
-value_read : (e : Term) (k : List Symbol) (vs : Values) (xs : Lexemes) → IsReadableTerm (pending k) e →
+value_read : (e : Term) (k : List Symbol) (vs : Values) (xs : Lexemes) → pending k ≤ 200 → IsReadableTerm (pending k) e →
     read (expr ∷ exactly m.Semicolon ∷ k) vs (before (term_tokens 0 e ++ sign m.Semicolon) xs) ≡ read k (a_term e ∷ vs) xs
-value_read e k vs xs h =
+value_read e k vs xs low h =
     let over = comes (mark m.Semicolon) 1 xs in
     let whole = term_read 0 e over (omega arith) h.formed h.low (refl, refl, refl) in
     ap (read (expr ∷ exactly m.Semicolon ∷ k) vs) (before-append (term_tokens 0 e) (sign m.Semicolon) xs)
     ∙ read-expr (exactly m.Semicolon ∷ k) vs (before (term_tokens 0 e) over)
     ∙ whole.reading (exactly m.Semicolon ∷ k) vs (omega (arith, h.shallow))
-    ∙ taken_open k (a_term e ∷ vs) 1 over (omega (arith, h.shallow))
-
-around_low : (n : ℕ) (e : Term) → IsReadableTerm n e → n ≤ 200
-around_low n e h = omega (arith, h.shallow)
+    ∙ taken_open k (a_term e ∷ vs) 1 over low
 
 -- a value that is put into a name: `= e ;`
-put_read : (e : Term) (k : List Symbol) (vs : Values) (xs : Lexemes) → IsReadableTerm (pending k) e →
+put_read : (e : Term) (k : List Symbol) (vs : Values) (xs : Lexemes) → pending k ≤ 200 → IsReadableTerm (pending k) e →
     read (exactly m.Assign ∷ expr ∷ exactly m.Semicolon ∷ k) vs (comes (mark m.Assign) 1 (before (term_tokens 0 e ++ sign m.Semicolon) xs)) ≡ read k (a_term e ∷ vs) xs
-put_read e k vs xs h =
-    taken_open (expr ∷ exactly m.Semicolon ∷ k) vs 1 (comes (mark m.Assign) 1 (before (term_tokens 0 e ++ sign m.Semicolon) xs)) (around_low (pending k) e h)
-    ∙ value_read e k vs xs h
-
-pub statement_read : (s : Statement) (b : Block) (k : List Symbol) (vs : Values) (xs : Lexemes) → IsReadableStatement (pending k) s →
-    read (stmts ∷ k) (a_block b ∷ vs) (before (statement_tokens s) xs) ≡ read (stmts ∷ k) (a_block (with_statement b s) ∷ vs) xs
-statement_read (set_new w e) b k vs xs h =
-    let value = before (sign m.Assign ++ term_tokens 0 e ++ sign m.Semicolon) xs in
-    let left = exactly m.Assign ∷ expr ∷ exactly m.Semicolon ∷ act let_done ∷ stmts ∷ k in
-    let low = around_low (pending k) e h in
-    taken_open (word ∷ left) (a_block b ∷ vs) 1 (comes (mark m.Let) 1 (comes (a_name w.name) w.line value)) low
-    ∙ taken_open (act (push (a_word w)) ∷ left) (a_block b ∷ vs) w.line (comes (a_name w.name) w.line value) low
-    ∙ read-act (push (a_word w)) left (a_block b ∷ vs) value
-    ∙ put_read e (act let_done ∷ stmts ∷ k) (a_word w ∷ a_block b ∷ vs) xs h
-    ∙ read-act let_done (stmts ∷ k) (a_term e ∷ a_word w ∷ a_block b ∷ vs) xs
-statement_read (assign w e) b k vs xs h =
-    let value = before (sign m.Assign ++ term_tokens 0 e ++ sign m.Semicolon) xs in
-    let left = exactly m.Assign ∷ expr ∷ exactly m.Semicolon ∷ act assign_done ∷ stmts ∷ k in
-    taken_open (act (push (a_word w)) ∷ left) (a_block b ∷ vs) w.line (comes (a_name w.name) w.line value) (around_low (pending k) e h)
-    ∙ read-act (push (a_word w)) left (a_block b ∷ vs) value
-    ∙ put_read e (act assign_done ∷ stmts ∷ k) (a_word w ∷ a_block b ∷ vs) xs h
-    ∙ read-act assign_done (stmts ∷ k) (a_term e ∷ a_word w ∷ a_block b ∷ vs) xs
-statement_read (out e) b k vs xs h =
-    let value = before (term_tokens 0 e ++ sign m.Semicolon) xs in
-    taken_open (expr ∷ exactly m.Semicolon ∷ act out_done ∷ stmts ∷ k) (a_block b ∷ vs) 1 (comes (mark m.Out) 1 value) (around_low (pending k) e h)
-    ∙ value_read e (act out_done ∷ stmts ∷ k) (a_block b ∷ vs) xs h
-    ∙ read-act out_done (stmts ∷ k) (a_term e ∷ a_block b ∷ vs) xs
+put_read e k vs xs low h =
+    taken_open (expr ∷ exactly m.Semicolon ∷ k) vs 1 (comes (mark m.Assign) 1 (before (term_tokens 0 e ++ sign m.Semicolon) xs)) low
+    ∙ value_read e k vs xs low h
 
 -- a block with the statements of another one behind its own
 abbrev joined : Block → Block → Block
@@ -67,27 +40,66 @@ joined_empty : (b : Block) → joined empty b ≡ b
 joined_empty empty = refl
 joined_empty (first s b) = joined_first s empty b ∙ ap (first s) (joined_empty b)
 
-statements_read : (c b : Block) (k : List Symbol) (vs : Values) (xs : Lexemes) → IsReadableBlock (pending k) c →
-    read (stmts ∷ k) (a_block b ∷ vs) (before (statements_tokens c) xs) ≡ read (stmts ∷ k) (a_block (joined b c) ∷ vs) xs
-statements_read empty b k vs xs h = refl
-statements_read (first s c) b k vs xs h =
-    ap (read (stmts ∷ k) (a_block b ∷ vs)) (before-append (statement_tokens s) (statements_tokens c) xs)
-    ∙ statement_read s b k vs (before (statements_tokens c) xs) h.0
-    ∙ statements_read c (with_statement b s) k vs xs h.1
-
--- a block, where one more bracket may be open
-pub block_read : (b : Block) (k : List Symbol) (vs : Values) (xs : Lexemes) → pending k + 1 ≤ 200 → IsReadableBlock (pending k + 1) b →
-    read (block ∷ k) vs (before (block_tokens b) xs) ≡ read k (a_block b ∷ vs) xs
-block_read b k vs xs low h =
+-- a block, whose statements are read where one more bracket is open
+block_read : (b : Block) (k : List Symbol) (vs : Values) (xs : Lexemes) → pending k < 200 →
+    ((ys : Lexemes) → read (stmts ∷ closing m.BraceClose ∷ k) (a_block empty ∷ vs) (before (statements_tokens b) ys) ≡ read (stmts ∷ closing m.BraceClose ∷ k) (a_block (joined empty b) ∷ vs) ys) →
+    read (block ∷ k) vs (before (in_braces (statements_tokens b)) xs) ≡ read k (a_block b ∷ vs) xs
+block_read b k vs xs room inside =
     let close = comes (mark m.BraceClose) 1 xs in
-    let inner = before (statements_tokens b) close in
     let left = stmts ∷ closing m.BraceClose ∷ k in
+    let inner = before (statements_tokens b) close in
     ap (λ ys. read (block ∷ k) vs (comes (mark m.BraceOpen) 1 ys)) (before-append (statements_tokens b) (sign m.BraceClose) xs)
-    ∙ taken_open (act (push (a_block empty)) ∷ left) vs 1 (comes (mark m.BraceOpen) 1 inner) low
+    ∙ taken_open (act (push (a_block empty)) ∷ left) vs 1 (comes (mark m.BraceOpen) 1 inner) (omega arith)
     ∙ read-act (push (a_block empty)) left vs inner
-    ∙ statements_read b empty (closing m.BraceClose ∷ k) vs close h
-    ∙ ap (λ c. read (stmts ∷ closing m.BraceClose ∷ k) (a_block c ∷ vs) close) (joined_empty b)
+    ∙ inside close
+    ∙ ap (λ c. read left (a_block c ∷ vs) close) (joined_empty b)
     ∙ taken_open k (a_block b ∷ vs) 1 close (omega arith)
+
+mutual
+  statement_read : (s : Statement) (b : Block) (k : List Symbol) (vs : Values) (xs : Lexemes) → pending k ≤ 200 → IsReadableStatement (pending k) s →
+      read (stmts ∷ k) (a_block b ∷ vs) (before (statement_tokens s) xs) ≡ read (stmts ∷ k) (a_block (with_statement b s) ∷ vs) xs
+  statement_read (set_new w e) b k vs xs low h =
+      let value = before (sign m.Assign ++ term_tokens 0 e ++ sign m.Semicolon) xs in
+      let left = exactly m.Assign ∷ expr ∷ exactly m.Semicolon ∷ act let_done ∷ stmts ∷ k in
+      taken_open (word ∷ left) (a_block b ∷ vs) 1 (comes (mark m.Let) 1 (comes (a_name w.name) w.line value)) low
+      ∙ taken_open (act (push (a_word w)) ∷ left) (a_block b ∷ vs) w.line (comes (a_name w.name) w.line value) low
+      ∙ read-act (push (a_word w)) left (a_block b ∷ vs) value
+      ∙ put_read e (act let_done ∷ stmts ∷ k) (a_word w ∷ a_block b ∷ vs) xs low h
+      ∙ read-act let_done (stmts ∷ k) (a_term e ∷ a_word w ∷ a_block b ∷ vs) xs
+  statement_read (assign w e) b k vs xs low h =
+      let value = before (sign m.Assign ++ term_tokens 0 e ++ sign m.Semicolon) xs in
+      let left = exactly m.Assign ∷ expr ∷ exactly m.Semicolon ∷ act assign_done ∷ stmts ∷ k in
+      taken_open (act (push (a_word w)) ∷ left) (a_block b ∷ vs) w.line (comes (a_name w.name) w.line value) low
+      ∙ read-act (push (a_word w)) left (a_block b ∷ vs) value
+      ∙ put_read e (act assign_done ∷ stmts ∷ k) (a_word w ∷ a_block b ∷ vs) xs low h
+      ∙ read-act assign_done (stmts ∷ k) (a_term e ∷ a_word w ∷ a_block b ∷ vs) xs
+  statement_read (out e) b k vs xs low h =
+      let value = before (term_tokens 0 e ++ sign m.Semicolon) xs in
+      taken_open (expr ∷ exactly m.Semicolon ∷ act out_done ∷ stmts ∷ k) (a_block b ∷ vs) 1 (comes (mark m.Out) 1 value) low
+      ∙ value_read e (act out_done ∷ stmts ∷ k) (a_block b ∷ vs) xs low h
+      ∙ read-act out_done (stmts ∷ k) (a_term e ∷ a_block b ∷ vs) xs
+  statement_read (atomic c) b k vs xs low h =
+      taken_open (block ∷ act atomic_done ∷ stmts ∷ k) (a_block b ∷ vs) 1 (comes (mark m.Atomic) 1 (before (in_braces (statements_tokens c)) xs)) low
+      ∙ block_read c (act atomic_done ∷ stmts ∷ k) (a_block b ∷ vs) xs h.0 (λ ys. statements_read c empty (closing m.BraceClose ∷ act atomic_done ∷ stmts ∷ k) (a_block b ∷ vs) ys (omega arith) h.1)
+      ∙ read-act atomic_done (stmts ∷ k) (a_block c ∷ a_block b ∷ vs) xs
+  statement_read (spawn c) b k vs xs low h =
+      taken_open (block ∷ act spawn_done ∷ stmts ∷ k) (a_block b ∷ vs) 1 (comes (mark m.Spawn) 1 (before (in_braces (statements_tokens c)) xs)) low
+      ∙ block_read c (act spawn_done ∷ stmts ∷ k) (a_block b ∷ vs) xs h.0 (λ ys. statements_read c empty (closing m.BraceClose ∷ act spawn_done ∷ stmts ∷ k) (a_block b ∷ vs) ys (omega arith) h.1)
+      ∙ read-act spawn_done (stmts ∷ k) (a_block c ∷ a_block b ∷ vs) xs
+  statement_read sync b k vs xs low h =
+      let end = comes (mark m.Semicolon) 1 xs in
+      let left = act sync_done ∷ stmts ∷ k in
+      taken_open (exactly m.Semicolon ∷ left) (a_block b ∷ vs) 1 (comes (mark m.Sync) 1 end) low
+      ∙ taken_open left (a_block b ∷ vs) 1 end low
+      ∙ read-act sync_done (stmts ∷ k) (a_block b ∷ vs) xs
+
+  statements_read : (c b : Block) (k : List Symbol) (vs : Values) (xs : Lexemes) → pending k ≤ 200 → IsReadableBlock (pending k) c →
+      read (stmts ∷ k) (a_block b ∷ vs) (before (statements_tokens c) xs) ≡ read (stmts ∷ k) (a_block (joined b c) ∷ vs) xs
+  statements_read empty b k vs xs low h = refl
+  statements_read (first s c) b k vs xs low h =
+      ap (read (stmts ∷ k) (a_block b ∷ vs)) (before-append (statement_tokens s) (statements_tokens c) xs)
+      ∙ statement_read s b k vs (before (statements_tokens c) xs) low h.0
+      ∙ statements_read c (with_statement b s) k vs xs low h.1
 
 cell_read : (n : List ℕ) (l : ℕ) (z : ℤ) (ds : List Declaration) (xs : Lexemes) →
     read (items ∷ []) (declared ds ∷ []) (before (declaration_tokens (cell n l 0 z)) xs) ≡ read (items ∷ []) (declared (ds ++ cell n l 0 z ∷ []) ∷ []) xs
@@ -100,7 +112,7 @@ main_read : (l : ℕ) (b : Block) (ds : List Declaration) (xs : Lexemes) → IsR
     read (items ∷ []) (declared ds ∷ []) (before (declaration_tokens main) xs) ≡ read (items ∷ []) (declared (ds ++ main ∷ []) ∷ []) xs
 main_read l b ds xs h =
     let values = a_word (word_at (codes "main") l) ∷ declared ds ∷ [] in
-    block_read b (act func_done ∷ items ∷ []) values xs (lit≤ tt) h
+    block_read b (act func_done ∷ items ∷ []) values xs (lit< tt) (λ ys. statements_read b empty (closing m.BraceClose ∷ act func_done ∷ items ∷ []) values ys (lit≤ tt) h)
     ∙ read-act func_done (items ∷ []) (a_block b ∷ values) xs
 
 declaration_read : (d : Declaration) (ds : List Declaration) (xs : Lexemes) → IsReadableDeclaration d →

@@ -13,8 +13,8 @@ use Rattle.cw_text.specs.declared.mark.Mark.TheVariants as m
 use Rattle.cw_text.specs.Lexemes.{Token, mark, name as a_name, number as a_number, bad, end}
 use Rattle.std.specs.Str.{bytes_eq}
 use Rattle.std.specs.Cmp.Lexicographic.{same_text}
-use Rattle.cw_text.specs.Syntax.{Term, Statement, set_new, assign, out, cell, func, number, name, unary, binary, Block, empty, with_statement}
-use Rattle.cw_text.specs.Grammar.{Symbol, Values, State, a_term, a_word, a_block, an_init, declared, act, block, cell_init, cell_done, func_done, let_done, assign_done, out_done, closing, comparison, exactly, expr, feed, init, items, lift, lifted, main_word, negated, newest_height, operand, pending, products, read_from, stmts, sums, go_on, infix_by, opened, operand_by, take, refuse, rest_of_expr, same_mark, join, push, product_of, sum_of, comparison_of, with_init, word, word_at}
+use Rattle.cw_text.specs.Syntax.{Term, Statement, set_new, assign, out, atomic, spawn, sync, cell, func, number, name, unary, binary, Block, empty, with_statement}
+use Rattle.cw_text.specs.Grammar.{Symbol, Values, State, a_term, a_word, a_block, an_init, declared, act, block, cell_init, cell_done, func_done, let_done, assign_done, out_done, atomic_done, spawn_done, sync_done, closing, comparison, exactly, expr, feed, init, items, lift, lifted, main_word, negated, newest_height, operand, pending, products, read_from, stmts, sums, go_on, infix_by, opened, operand_by, take, refuse, rest_of_expr, same_mark, join, push, product_of, sum_of, comparison_of, with_init, word, word_at}
 use Rattle.cw_text.specs.Printed.{IsReadableDeclaration, IsReadableStatement, IsReadableBlock, IsReadable}
 use Rattle.cw_text.proofs.Readable.{IsReadableAt, readable_looser, readable_bracketed, readable_unary, readable_binary, product_tightness, sum_tightness, comparison_tightness, readable_with, whole}
 
@@ -53,7 +53,7 @@ Sound (expr ∷ k) vs = Goes 0 (pending k) (Sound k) vs
 Sound (products ∷ k) vs = HasTerm (λ e ws. IsReadableAt 2 (pending k) e × Goes 2 (pending k) (Sound k) ws) vs
 Sound (sums ∷ k) vs = HasTerm (λ e ws. IsReadableAt 1 (pending k) e × Goes 1 (pending k) (Sound k) ws) vs
 Sound (comparison ∷ k) vs = HasTerm (λ e ws. IsReadableAt 1 (pending k) e × Goes 0 (pending k) (Sound k) ws) vs
-Sound (block ∷ k) vs = (b : Block) → IsReadableBlock (pending k + 1) b → Sound k (a_block b ∷ vs)
+Sound (block ∷ k) vs = (b : Block) → pending k < 200 → IsReadableBlock (pending k + 1) b → Sound k (a_block b ∷ vs)
 Sound (stmts ∷ k) vs = HasBlock (λ b ws. IsReadableBlock (pending k) b × ((c : Block) → IsReadableBlock (pending k) c → Sound k (a_block c ∷ ws))) vs
 Sound (items ∷ []) vs = HasDeclared vs
 Sound (items ∷ s ∷ k) vs = ⊥
@@ -163,7 +163,7 @@ step (comparison ∷ k) (a_term e ∷ vs) (mark a) l fits sound =
     (step k (a_term e ∷ vs) (mark a) l tt (sound.1 e (readable_looser 0 1 (lit≤ tt) sound.0)))
 step (comparison ∷ k) (a_term e ∷ vs) t l fits sound = step k (a_term e ∷ vs) t l fits (sound.1 e (readable_looser 0 1 (lit≤ tt) sound.0))
 step (comparison ∷ k) vs t l fits sound = absurd sound
-step (block ∷ k) vs (mark m.BraceOpen) l fits sound = opened_leads (act (push (a_block empty)) ∷ stmts ∷ closing m.BraceClose ∷ k) vs (mark m.BraceOpen) l (λ low. (tt, sound))
+step (block ∷ k) vs (mark m.BraceOpen) l fits sound = opened_leads (act (push (a_block empty)) ∷ stmts ∷ closing m.BraceClose ∷ k) vs (mark m.BraceOpen) l (λ low. (tt, λ b h. sound b (omega arith) h))
 step (block ∷ k) vs t l fits sound = tt
 step (stmts ∷ k) (a_block b ∷ vs) (mark m.Let) l fits sound =
     opened_leads (word ∷ exactly m.Assign ∷ expr ∷ exactly m.Semicolon ∷ act let_done ∷ stmts ∷ k) (a_block b ∷ vs) (mark m.Let) l
@@ -174,6 +174,15 @@ step (stmts ∷ k) (a_block b ∷ vs) (mark m.Out) l fits sound =
 step (stmts ∷ k) (a_block b ∷ vs) (a_name n) l fits sound =
     opened_leads (act (push (a_word (word_at n l))) ∷ exactly m.Assign ∷ expr ∷ exactly m.Semicolon ∷ act assign_done ∷ stmts ∷ k) (a_block b ∷ vs) (a_name n) l
     (λ low e h. more_sound k vs b (assign (word_at n l) e) sound (whole h))
+step (stmts ∷ k) (a_block b ∷ vs) (mark m.Atomic) l fits sound =
+    opened_leads (block ∷ act atomic_done ∷ stmts ∷ k) (a_block b ∷ vs) (mark m.Atomic) l
+    (λ low c room h. more_sound k vs b (atomic c) sound (room, h))
+step (stmts ∷ k) (a_block b ∷ vs) (mark m.Spawn) l fits sound =
+    opened_leads (block ∷ act spawn_done ∷ stmts ∷ k) (a_block b ∷ vs) (mark m.Spawn) l
+    (λ low c room h. more_sound k vs b (spawn c) sound (room, h))
+step (stmts ∷ k) (a_block b ∷ vs) (mark m.Sync) l fits sound =
+    opened_leads (exactly m.Semicolon ∷ act sync_done ∷ stmts ∷ k) (a_block b ∷ vs) (mark m.Sync) l
+    (λ low. more_sound k vs b sync sound tt)
 step (stmts ∷ k) (a_block b ∷ vs) t l fits sound = step k (a_block b ∷ vs) t l fits (sound.1 b sound.0)
 step (stmts ∷ k) vs t l fits sound = absurd sound
 step (items ∷ []) (declared ds ∷ []) (mark m.Cell) l fits sound =
@@ -183,7 +192,7 @@ step (items ∷ []) (declared ds ∷ []) (mark m.Cell) l fits sound =
     (one (pos 0) (lit< tt), one))
 step (items ∷ []) (declared ds ∷ []) (mark m.Fn) l fits sound =
     opened_leads (main_word ∷ exactly m.ParenOpen ∷ closing m.ParenClose ∷ block ∷ act func_done ∷ items ∷ []) (declared ds ∷ []) (mark m.Fn) l
-    (λ low j b h. All-push IsReadableDeclaration ds (func (codes "main") j [] b) sound (refl, refl, h))
+    (λ low j b _ h. All-push IsReadableDeclaration ds (func (codes "main") j [] b) sound (refl, refl, h))
 step (items ∷ []) (declared ds ∷ []) end l fits sound = (refl, sound)
 step (items ∷ []) (declared ds ∷ []) t l fits sound = tt
 step (items ∷ k) vs t l fits sound = absurd sound

@@ -14,7 +14,7 @@ use Rattle.cw_text.specs.declared.fault.TextKind.TheVariants.{Unexpected, TooDee
 use Rattle.cw_text.specs.declared.fault.TextFault.{TextFault}
 use Rattle.cw_text.specs.declared.mark.Mark.{Mark}
 use Rattle.cw_text.specs.declared.mark.Mark.TheVariants as m
-use Rattle.cw_text.specs.Syntax.{Term, number, name, unary, binary, Statement, set_new, assign, out, Block, empty, Declaration, cell, func, with_statement, height}
+use Rattle.cw_text.specs.Syntax.{Term, number, name, unary, binary, Statement, set_new, assign, out, atomic, spawn, sync, Block, empty, Declaration, cell, func, with_statement, height}
 use Rattle.cw_text.specs.Lexemes.{Token, Lexemes, end_on, comes, name as a_name, number as a_number, mark, bad, end, spelling}
 use Rattle.std.specs.Str.{bytes_eq}
 
@@ -84,6 +84,17 @@ assign_done vs = vs
 abbrev pub out_done : Values → Values
 out_done (a_term e ∷ vs) = stated (out e) vs
 out_done vs = vs
+
+abbrev pub atomic_done : Values → Values
+atomic_done (a_block b ∷ vs) = stated (atomic b) vs
+atomic_done vs = vs
+
+abbrev pub spawn_done : Values → Values
+spawn_done (a_block b ∷ vs) = stated (spawn b) vs
+spawn_done vs = vs
+
+abbrev pub sync_done : Values → Values
+sync_done vs = stated sync vs
 
 abbrev pub lift : Op → Values → Values
 lift o (a_term e ∷ vs) = a_term (unary o e) ∷ vs
@@ -185,6 +196,9 @@ after block t l = refuse (why t)
 after stmts (mark m.Let) l = take (word ∷ exactly m.Assign ∷ expr ∷ exactly m.Semicolon ∷ act let_done ∷ stmts ∷ [])
 after stmts (mark m.Out) l = take (expr ∷ exactly m.Semicolon ∷ act out_done ∷ stmts ∷ [])
 after stmts (a_name n) l = take (act (push (a_word (word_at n l))) ∷ exactly m.Assign ∷ expr ∷ exactly m.Semicolon ∷ act assign_done ∷ stmts ∷ [])
+after stmts (mark m.Atomic) l = take (block ∷ act atomic_done ∷ stmts ∷ [])
+after stmts (mark m.Spawn) l = take (block ∷ act spawn_done ∷ stmts ∷ [])
+after stmts (mark m.Sync) l = take (exactly m.Semicolon ∷ act sync_done ∷ stmts ∷ [])
 after stmts t l = skip
 after expr t l = operand_by rest_of_expr t l
 after operand t l = operand_by [] t l

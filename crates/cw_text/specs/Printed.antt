@@ -6,7 +6,7 @@ use Rattle.cw_text.specs.declared.ast.Op.TheVariants as op
 use Rattle.cw_text.specs.declared.ast.Word.{Word}
 use Rattle.cw_text.specs.declared.mark.Mark.{Mark}
 use Rattle.cw_text.specs.declared.mark.Mark.TheVariants as m
-use Rattle.cw_text.specs.Syntax.{Term, number, name, unary, binary, Statement, set_new, assign, out, Block, empty, first, Declaration, cell, func, height}
+use Rattle.cw_text.specs.Syntax.{Term, number, name, unary, binary, Statement, set_new, assign, out, atomic, spawn, sync, Block, empty, first, Declaration, cell, func, height}
 use Rattle.cw_text.specs.Lexemes.{Token, Lexemes, end_on, comes, name as a_name, number as a_number, mark}
 
 -- a token and its line
@@ -76,17 +76,21 @@ term_tokens n (binary o l r) = bracketed (nat_lt (tightness o) n) (term_tokens (
 
 -- ## Statements and items
 
-abbrev pub statement_tokens : Statement → List Placed
-statement_tokens (set_new w e) = sign m.Let ++ word_tokens w ++ sign m.Assign ++ term_tokens 0 e ++ sign m.Semicolon
-statement_tokens (assign w e) = word_tokens w ++ sign m.Assign ++ term_tokens 0 e ++ sign m.Semicolon
-statement_tokens (out e) = sign m.Out ++ term_tokens 0 e ++ sign m.Semicolon
+abbrev pub in_braces : List Placed → List Placed
+in_braces ps = sign m.BraceOpen ++ ps ++ sign m.BraceClose
 
-abbrev pub statements_tokens : Block → List Placed
-statements_tokens empty = []
-statements_tokens (first s b) = statement_tokens s ++ statements_tokens b
+abbrev mutual
+  pub statement_tokens : Statement → List Placed
+  statement_tokens (set_new w e) = sign m.Let ++ word_tokens w ++ sign m.Assign ++ term_tokens 0 e ++ sign m.Semicolon
+  statement_tokens (assign w e) = word_tokens w ++ sign m.Assign ++ term_tokens 0 e ++ sign m.Semicolon
+  statement_tokens (out e) = sign m.Out ++ term_tokens 0 e ++ sign m.Semicolon
+  statement_tokens (atomic b) = sign m.Atomic ++ in_braces (statements_tokens b)
+  statement_tokens (spawn b) = sign m.Spawn ++ in_braces (statements_tokens b)
+  statement_tokens sync = sign m.Sync ++ sign m.Semicolon
 
-abbrev pub block_tokens : Block → List Placed
-block_tokens b = sign m.BraceOpen ++ statements_tokens b ++ sign m.BraceClose
+  pub statements_tokens : Block → List Placed
+  statements_tokens empty = []
+  statements_tokens (first s b) = statement_tokens s ++ statements_tokens b
 
 -- a plain cell has no size
 abbrev pub size_tokens : ℕ → List Placed
@@ -103,7 +107,7 @@ params_tokens ps = sign m.ParenOpen ++ join_by word_tokens (sign m.Comma) ps ++ 
 
 abbrev pub declaration_tokens : Declaration → List Placed
 declaration_tokens (cell n l len z) = sign m.Cell ++ named n l ++ size_tokens len ++ init_tokens z ++ sign m.Semicolon
-declaration_tokens (func n l ps b) = sign m.Fn ++ named n l ++ params_tokens ps ++ block_tokens b
+declaration_tokens (func n l ps b) = sign m.Fn ++ named n l ++ params_tokens ps ++ in_braces (statements_tokens b)
 
 abbrev pub tokens : List Declaration → List Placed
 tokens ds = flat_map declaration_tokens ds
@@ -135,14 +139,19 @@ pub record IsReadableTerm (around : ℕ) (e : Term) : Type 0 where
   pub low : height e ≤ 200
   pub shallow : most_open 0 e + around ≤ 200
 
-abbrev pub IsReadableStatement : (around : ℕ) → Statement → Type 0
-IsReadableStatement n (set_new w e) = IsReadableTerm n e
-IsReadableStatement n (assign w e) = IsReadableTerm n e
-IsReadableStatement n (out e) = IsReadableTerm n e
+-- a statement, and the statements of a block, inside so many brackets
+abbrev mutual
+  pub IsReadableStatement : (around : ℕ) → Statement → Type 0
+  IsReadableStatement n (set_new w e) = IsReadableTerm n e
+  IsReadableStatement n (assign w e) = IsReadableTerm n e
+  IsReadableStatement n (out e) = IsReadableTerm n e
+  IsReadableStatement n (atomic b) = (n < 200) × IsReadableBlock (n + 1) b
+  IsReadableStatement n (spawn b) = (n < 200) × IsReadableBlock (n + 1) b
+  IsReadableStatement n sync = Unit {0}
 
-abbrev pub IsReadableBlock : (around : ℕ) → Block → Type 0
-IsReadableBlock n empty = Unit {0}
-IsReadableBlock n (first s b) = IsReadableStatement n s × IsReadableBlock n b
+  pub IsReadableBlock : (around : ℕ) → Block → Type 0
+  IsReadableBlock n empty = Unit {0}
+  IsReadableBlock n (first s b) = IsReadableStatement n s × IsReadableBlock n b
 
 -- So far a cell is plain, and the only function is main, without parameters.
 abbrev pub IsReadableDeclaration : Declaration → Type 0

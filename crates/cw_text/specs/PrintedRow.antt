@@ -1,6 +1,6 @@
 -- A worked tree, and the text that it is printed as: brackets stand where the tree needs them, and nowhere else.
 use Rattle.std.specs.Prelude.{◌≡◌, List, [], ◌∷◌, codes, pos, negsuc}
-use Rattle.cw_text.specs.Syntax.{Term, name, number, unary, binary, set_new, assign, out, empty, first, Declaration, cell, func}
+use Rattle.cw_text.specs.Syntax.{Term, name, number, unary, binary, set_new, assign, out, atomic, spawn, sync, empty, first, Declaration, cell, func}
 use Rattle.cw_text.specs.Lexemes.{keywords, lexemes}
 use Rattle.cw_text.specs.Printed.{printed}
 use Rattle.cw_text.specs.Rows.{w}
@@ -35,10 +35,11 @@ tree =
     (first (out (binary op.Mul product (unary op.Not less)))
     (first (out (unary op.Neg (unary op.Neg (unary op.Not difference))))
     (first (out (binary op.Add (unary op.Neg product) (unary op.Neg (number (pos 0)))))
-    empty)))))))))
+    (first (atomic (first (spawn (first (out a) empty)) (first sync empty)))
+    empty))))))))))
     ∷ []
 
 abbrev pub Worked : Type 0
 Worked =
-    lexemes keywords (codes "cell a ; cell b = - 3 ; fn main ( ) { let x = ( a < b ) == ( a < b ) ; a = a - b <= a * b ; out ( a < b ) + ( a - b ) - ( a < b ) ; out a - b - a * b + ( a * b + 7 ) ; out ( a < b ) * ( a * b ) * ( a < b ) ; out ( a - b ) * - a * ( a - b ) ; out a * b * ! ( a < b ) ; out - - ! ( a - b ) ; out - ( a * b ) + - 0 ; }")
+    lexemes keywords (codes "cell a ; cell b = - 3 ; fn main ( ) { let x = ( a < b ) == ( a < b ) ; a = a - b <= a * b ; out ( a < b ) + ( a - b ) - ( a < b ) ; out a - b - a * b + ( a * b + 7 ) ; out ( a < b ) * ( a * b ) * ( a < b ) ; out ( a - b ) * - a * ( a - b ) ; out a * b * ! ( a < b ) ; out - - ! ( a - b ) ; out - ( a * b ) + - 0 ; atomic { spawn { out a ; } sync ; } }")
     ≡ printed tree

@@ -1,7 +1,7 @@
 -- Worked texts: what they read as, or their first fault.
-use Rattle.std.specs.Prelude.{Result, ◌++◌, pos, negsuc, replicate, ℕ, ◌≡◌, List, [], ◌∷◌, codes, Ok, Err}
+use Rattle.std.specs.Prelude.{Result, ◌++◌, pos, negsuc, replicate, ℕ, zero, suc, ◌≡◌, List, [], ◌∷◌, codes, Ok, Err}
 use Rattle.std.specs.List.{flat_map}
-use Rattle.cw_text.specs.Syntax.{Declaration, func, cell, empty, first, set_new, assign, out, binary, name, number, unary}
+use Rattle.cw_text.specs.Syntax.{Declaration, func, cell, Block, empty, first, set_new, assign, out, atomic, spawn, sync, binary, name, number, unary}
 use Rattle.cw_text.specs.Lexemes.{end_on, comes, name as a_name, number as a_number, mark, bad, lexemes, keywords}
 use Rattle.cw_text.specs.Grammar.{program_of}
 use Rattle.cw_text.specs.declared.fault.TextKind.{TextKind}
@@ -30,6 +30,7 @@ Programs =
     (read (codes "fn main() {}") ≡ Ok (func (codes "main") 1 [] empty ∷ []))
     × (read [] ≡ Ok [])
     × (read (codes "cell c = -3; fn main() { let x = c + 1 * 2; c = x; out -c < (3 - c) - 1; }") ≡ Ok (cell (codes "c") 1 0 (negsuc 2) ∷ func (codes "main") 1 [] (first (set_new (w (codes "x")) (binary op.Add (name (w (codes "c"))) (binary op.Mul (number (pos 1)) (number (pos 2))))) (first (assign (w (codes "c")) (name (w (codes "x")))) (first (out (binary op.Lt (unary op.Neg (name (w (codes "c")))) (binary op.Sub (binary op.Sub (number (pos 3)) (name (w (codes "c")))) (number (pos 1))))) empty))) ∷ []))
+    × (read (codes "fn main() { atomic { spawn { atomic { } } sync; } }") ≡ Ok (func (codes "main") 1 [] (first (atomic (first (spawn (first (atomic empty) empty)) (first sync empty))) empty) ∷ []))
 
 -- n ones, with signs between them
 abbrev pub ones : ℕ → List ℕ
@@ -42,11 +43,21 @@ Heights =
     × (read (codes "fn main() { out 1\n+\n" ++ (ones 199 ++ codes ";@")) ≡ refused TooDeep 3)
     × (read (codes "fn main() { out\n" ++ (ones 199 ++ codes "\n== 1;")) ≡ refused TooDeep 3)
 
--- The brace of main is one of the 200 that may be open.
+-- so many atomic blocks, each in the one before, and the text that they begin with
+abbrev pub nested : ℕ → Block
+nested zero = empty
+nested (suc n) = first (atomic (nested n)) empty
+
+abbrev pub nested_begin : ℕ → List ℕ
+nested_begin n = flat_map {X = ℕ} (λ x. codes "atomic{") (replicate n 32)
+
+-- The brace of main is one of the 200 that may be open, and so is that of each block.
 abbrev pub Brackets : Type 0
 Brackets =
     (read (codes "fn main() { out " ++ (replicate 200 40 ++ (codes "1" ++ (replicate 200 41 ++ codes "; }")))) ≡ refused TooDeep 1)
     × (read (codes "fn main() { out " ++ (replicate 199 40 ++ (codes "1" ++ (replicate 199 41 ++ codes "; }")))) ≡ Ok (func (codes "main") 1 [] (first (out (number (pos 1))) empty) ∷ []))
+    × (read (codes "fn main() {" ++ (nested_begin 199 ++ codes "atomic\n{")) ≡ refused TooDeep 2)
+    × (read (codes "fn main() {" ++ (nested_begin 199 ++ replicate 200 125)) ≡ Ok (func (codes "main") 1 [] (nested 199) ∷ []))
 
 abbrev pub Refusals : Type 0
 Refusals =
@@ -57,3 +68,8 @@ Refusals =
     × (read (codes "fn main() {") ≡ refused Unexpected 1)
     × (read (codes "fn f() {}") ≡ refused Unexpected 1)
     × (read (codes "fn main() { main(); }") ≡ refused Unexpected 1)
+    × (read (codes "fn main() { sync\n}") ≡ refused Unexpected 2)
+    × (read (codes "fn main() { atomic\nout 1; }") ≡ refused Unexpected 2)
+    × (read (codes "fn main() { spawn\n; }") ≡ refused Unexpected 2)
+    × (read (codes "fn main() { out\natomic; }") ≡ refused Unexpected 2)
+    × (read (codes "fn main() {\nif }") ≡ refused Unexpected 2)

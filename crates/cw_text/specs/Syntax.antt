@@ -4,7 +4,7 @@ use Rattle.cw_text.specs.declared.ast.Op.{Op}
 use Rattle.cw_text.specs.declared.ast.Word.{Word}
 use Rattle.cw_text.specs.declared.ast.Expr.{Expr}
 use Rattle.cw_text.specs.declared.ast.Expr.TheVariants.{Number, Name, Unary', Binary'}
-use Rattle.cw_text.specs.declared.ast.Stmt.{Stmt}
+use Rattle.cw_text.specs.declared.ast.Stmt.{Stmt, Row_of-Stmt, end_of-Stmt, more_of-Stmt}
 use Rattle.cw_text.specs.declared.ast.Stmt.TheVariants as stmt
 use Rattle.cw_text.specs.declared.ast.Item.{Item}
 use Rattle.cw_text.specs.declared.ast.Item.TheVariants.{Cell, Func}
@@ -22,6 +22,9 @@ mutual
     set_new : Word → Term → Statement
     assign : Word → Term → Statement
     out : Term → Statement
+    atomic : Block → Statement
+    spawn : Block → Statement
+    sync : Statement
 
   pub data Block : Type 0 where
     empty : Block
@@ -50,10 +53,19 @@ term_of (Name w) = name w
 term_of (Unary' op p e) = unary op (term_of e)
 term_of (Binary' op p l q r) = binary op (term_of l) (term_of r)
 
-abbrev pub statement_of : Stmt → Statement
-statement_of (stmt.Let w e) = set_new w (term_of e)
-statement_of (stmt.Assign w e) = assign w (term_of e)
-statement_of (stmt.Out e) = out (term_of e)
+abbrev mutual
+  pub statement_of : Stmt → Statement
+  statement_of (stmt.Let w e) = set_new w (term_of e)
+  statement_of (stmt.Assign w e) = assign w (term_of e)
+  statement_of (stmt.Out e) = out (term_of e)
+  statement_of (stmt.Atomic' s b) = atomic (inner_of b)
+  statement_of (stmt.Spawn' s b) = spawn (inner_of b)
+  statement_of stmt.Sync = sync
+
+  -- the statements within a statement
+  pub inner_of : {m : _} → Row_of-Stmt m → Block
+  inner_of end_of-Stmt = empty
+  inner_of (more_of-Stmt s b) = first (statement_of s) (inner_of b)
 
 abbrev pub block_of : List Stmt → Block
 block_of [] = empty

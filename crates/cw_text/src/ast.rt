@@ -36,6 +36,12 @@ pub enum Stmt {
     Let { name: Word, value: Expr },
     Assign { name: Word, value: Expr },
     Out(Expr),
+    /// An atomic block.
+    Atomic(Vec<Stmt>),
+    /// Work that a strand of its own does, beside what comes after it.
+    Spawn(Vec<Stmt>),
+    /// Waits for the work that was spawned in the innermost block that waits at its end.
+    Sync,
 }
 
 #[derive(Drop)]

@@ -1,4 +1,5 @@
 //! Texts of programs: the syntax tree, and the reader that gives it.
+//! A program is cells and `main`, with the statements `let`, assignment, `out`, `atomic`, `spawn` and `sync`.
 //! Stands on `cw_base`.
 //! Contracts cite `specs/Text.antt`, which says what a whole text reads as, over `specs/Lexemes.antt` (tokens),
 //! `specs/Grammar.antt` (which tokens are a program, and the first fault of those that are none) and `specs/Syntax.antt`

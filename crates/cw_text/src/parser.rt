@@ -14,8 +14,8 @@ use std::alloc::Global;
 pub(crate) const DEEPEST: u32 = 200;
 
 /// What reads a program: the place in its text, and how many brackets and operators of one operand are open there.
-/// Only those lead to a call within a call, so their number bounds the stack: operators between operands, statements
-/// and items are read by loops. After an `Err` it is not used again.
+/// Only those lead to a call within a call, so their number bounds the stack: operators between operands, the statements
+/// of one block and items are read by loops. After an `Err` it is not used again.
 #[derive(Drop)]
 pub(crate) struct Parser<'a> {
     pub alloc: Global,

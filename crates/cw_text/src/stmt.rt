@@ -1,6 +1,6 @@
 ghost use Rattle.std.specs.Prelude.{◌≡◌, ◌≤◌, ◌<◌, ◌∷◌, [], List, OnOk, IfNone, IfOk, OnSome};
 ghost use Rattle.cw_text.specs.Cursor.{count_of, rest_of};
-ghost use Rattle.cw_text.specs.Grammar.{Symbol, Values, a_block, a_term, a_word, act, assign_done, block, exactly, expr, let_done, out_done, pending, push, read, stated, stmts, word, word_at};
+ghost use Rattle.cw_text.specs.Grammar.{Symbol, Values, a_block, a_term, a_word, act, assign_done, atomic_done, block, exactly, expr, let_done, out_done, pending, push, read, spawn_done, stated, stmts, sync_done, word, word_at};
 ghost use Rattle.cw_text.specs.Parser.{GoesOn, Parses, ahead, statement_read};
 ghost use Rattle.cw_text.specs.Syntax.{block_of, statement_of, term_of};
 ghost use Rattle.cw_text.specs.declared.mark.Mark.TheVariants as Mark;
@@ -12,6 +12,7 @@ use crate::{Expr, Mark, Stmt, TextRefusal};
 
 impl<'a> Parser<'a> {
     /// Statements in braces.
+    #[cycle(statement)]
     #[tactic(auto, using(crate::proofs::Steps::steps))]
     pub(crate) fn block(&mut self) -> Result<Vec<Stmt>, TextRefusal>
         requires { self.old.depth ≤ 200 }
@@ -34,6 +35,7 @@ impl<'a> Parser<'a> {
     }
 
     /// The next statement, if one begins here.
+    #[cycle(statement)]
     #[tactic(auto, using(crate::proofs::Steps::steps))]
     fn statement(&mut self) -> Result<Option<Stmt>, TextRefusal>
         requires { self.old.depth ≤ 200 }
@@ -47,6 +49,9 @@ impl<'a> Parser<'a> {
         match self.cursor.token {
             Token::Mark(Mark::Let) => Ok(Some(self.let_statement()?)),
             Token::Mark(Mark::Out) => Ok(Some(self.out_statement()?)),
+            Token::Mark(Mark::Atomic) => Ok(Some(self.atomic_statement()?)),
+            Token::Mark(Mark::Spawn) => Ok(Some(self.spawn_statement()?)),
+            Token::Mark(Mark::Sync) => Ok(Some(self.sync_statement()?)),
             Token::Name(letters) => Ok(Some(self.assignment(letters)?)),
             _ => Ok(None),
         }
@@ -79,6 +84,49 @@ impl<'a> Parser<'a> {
         let value = self.expr()?;
         self.expect(Mark::Semicolon)?;
         Ok(Stmt::Out(value.expr))
+    }
+
+    /// An atomic block, whose keyword is next.
+    #[cycle(statement)]
+    #[tactic(auto, using(crate::proofs::Blocks::inner_is_block, crate::proofs::Steps::steps))]
+    fn atomic_statement(&mut self) -> Result<Stmt, TextRefusal>
+        requires { self.old.depth ≤ 200 }
+        ensures same { OnOk result (self.new.depth ≡ self.old.depth) }
+        ensures shorter { OnOk result (count_of (ahead self.new) < count_of (rest_of (ahead self.old))) }
+        ensures read { Parses result self.old.depth (block ∷ act atomic_done ∷ [])
+            (λ s. stated (statement_of s)) (rest_of (ahead self.old)) (ahead self.new) }
+    {
+        self.cursor.advance();
+        let body = self.block()?;
+        Ok(Stmt::Atomic(body))
+    }
+
+    /// A block for a strand of its own, whose keyword is next.
+    #[cycle(statement)]
+    #[tactic(auto, using(crate::proofs::Blocks::inner_is_block, crate::proofs::Steps::steps))]
+    fn spawn_statement(&mut self) -> Result<Stmt, TextRefusal>
+        requires { self.old.depth ≤ 200 }
+        ensures same { OnOk result (self.new.depth ≡ self.old.depth) }
+        ensures shorter { OnOk result (count_of (ahead self.new) < count_of (rest_of (ahead self.old))) }
+        ensures read { Parses result self.old.depth (block ∷ act spawn_done ∷ [])
+            (λ s. stated (statement_of s)) (rest_of (ahead self.old)) (ahead self.new) }
+    {
+        self.cursor.advance();
+        let body = self.block()?;
+        Ok(Stmt::Spawn(body))
+    }
+
+    /// A wait for what was spawned, whose keyword is next.
+    fn sync_statement(&mut self) -> Result<Stmt, TextRefusal>
+        requires { self.old.depth ≤ 200 }
+        ensures same { OnOk result (self.new.depth ≡ self.old.depth) }
+        ensures shorter { OnOk result (count_of (ahead self.new) < count_of (rest_of (ahead self.old))) }
+        ensures read { Parses result self.old.depth (exactly Mark.Semicolon ∷ act sync_done ∷ [])
+            (λ s. stated (statement_of s)) (rest_of (ahead self.old)) (ahead self.new) }
+    {
+        self.cursor.advance();
+        self.expect(Mark::Semicolon)?;
+        Ok(Stmt::Sync)
     }
 
     /// An assignment, whose name is next.

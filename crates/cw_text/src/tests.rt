@@ -33,6 +33,19 @@ fn sum_of_ones(alloc: Global, count: u32) -> Result<String, AllocError> {
     output_of(alloc, text.as_str())
 }
 
+// So many atomic blocks, each in the one before.
+fn nested_blocks(alloc: Global, count: u32) -> Result<String, AllocError> {
+    let mut text = String::from_str(alloc, "fn main() {")?;
+    for _ in 0..count {
+        text.push_str("atomic{")?;
+    }
+    for _ in 0..count {
+        text.push('}')?;
+    }
+    text.push('}')?;
+    Ok(text)
+}
+
 // What is wrong with a text, and on which line.
 fn fault_of(alloc: Global, text: &str) -> Option<(TextKind, u32)> {
     match read_program(alloc, text.as_bytes()) {
@@ -54,6 +67,10 @@ fn faults_have_their_lines(rt: HostRuntime) {
         ("fn main() {\n out 1 +; }", TextKind::Unexpected, 2),
         ("fn main() {", TextKind::Unexpected, 1),
         ("cell\n\nfn", TextKind::Unexpected, 3),
+        ("fn main() { sync\n}", TextKind::Unexpected, 2),
+        ("fn main() { atomic\nout 1; }", TextKind::Unexpected, 2),
+        ("fn main() { spawn\n; }", TextKind::Unexpected, 2),
+        ("fn main() { out\natomic; }", TextKind::Unexpected, 2),
     ];
     for (text, kind, line) in rows {
         assert_eq!(rt; fault_of(rt.alloc(), text), Some((kind, line)), "{text}");
@@ -65,6 +82,7 @@ fn depth_is_limited(rt: HostRuntime) -> Result<(), Fail> {
     let alloc = rt.alloc();
     assert!(rt; read_program(alloc, in_brackets(alloc, 199)?.as_bytes()).is_ok());
     assert!(rt; read_program(alloc, sum_of_ones(alloc, 200)?.as_bytes()).is_ok());
+    assert!(rt; read_program(alloc, nested_blocks(alloc, 199)?.as_bytes()).is_ok());
     let too_deep = Some((TextKind::TooDeep, 1));
     assert_eq!(rt;
         fault_of(alloc, in_brackets(alloc, 200)?.as_str()),
@@ -72,6 +90,10 @@ fn depth_is_limited(rt: HostRuntime) -> Result<(), Fail> {
     );
     assert_eq!(rt;
         fault_of(alloc, sum_of_ones(alloc, 201)?.as_str()),
+        too_deep
+    );
+    assert_eq!(rt;
+        fault_of(alloc, nested_blocks(alloc, 200)?.as_str()),
         too_deep
     );
     Ok(())
@@ -120,5 +142,22 @@ fn a_program_is_read(rt: HostRuntime) -> Result<(), Fail> {
     assert_eq!(rt; of.name.as_str(), "c");
     assert!(rt; matches!(&**left, Expr::Name(_)));
     assert!(rt; matches!(&**right, Expr::Number(2)));
+    Ok(())
+}
+
+#[test]
+fn blocks_are_read(rt: HostRuntime) -> Result<(), Fail> {
+    let text = b"fn main() { atomic { spawn { atomic { } } sync; } }";
+    let ast = read_program(rt.alloc(), text)?;
+    let [Item::Func { body, .. }] = ast.items.as_slice() else {
+        return Err(TextRefusal::OutOfMemory)?;
+    };
+    let [Stmt::Atomic(outer)] = body.as_slice() else {
+        return Err(TextRefusal::OutOfMemory)?;
+    };
+    let [Stmt::Spawn(work), Stmt::Sync] = outer.as_slice() else {
+        return Err(TextRefusal::OutOfMemory)?;
+    };
+    assert!(rt; matches!(work.as_slice(), [Stmt::Atomic(inner)] if inner.is_empty()));
     Ok(())
 }

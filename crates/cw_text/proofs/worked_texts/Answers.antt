@@ -5,4 +5,4 @@ pub returns-clause-heights : goal.returns-clause-heights
 returns-clause-heights c = (refl, refl, refl)
 
 pub returns-clause-brackets : goal.returns-clause-brackets
-returns-clause-brackets c = (refl, refl)
+returns-clause-brackets c = (refl, refl, refl, refl)
