@@ -1,4 +1,7 @@
+pub mod Forking
 pub mod LocalWork
+pub mod NestedStrands
+pub mod NestedTasks
 pub mod ProvidedStrands
 pub mod ProvidedTasks
 pub mod Settling

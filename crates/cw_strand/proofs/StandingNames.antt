@@ -1,8 +1,8 @@
--- Each name that the naming rules let a program use stands for a local or a cell, from the start on.
-use Rattle.std.proofs.Common.{◌≡◌, ℕ, ◌+◌, List, [], ◌∷◌, Bool, true, false, cond, Option, Some, None, ℤ}
+-- Each name that the naming rules let a program use stands for a local or a cell, whatever locals there are.
+use Rattle.std.proofs.Common.{◌≡◌, ℕ, ◌+◌, ◌-◌, List, [], ◌∷◌, length, drop, map, Bool, true, false, cond, Option, Some, None, ℤ, refl, ap}
+use Rattle.std.proofs.lemmas.List.{length-map, drop-map}
 use Rattle.std.specs.Str.{bytes_eq}
 use Rattle.cw_text.specs.Syntax.{Declaration, cell, func}
-use Rattle.cw_code.specs.declared.CellInfo.{CellInfo}
 use Rattle.cw_strand.specs.Names.{Thing, a_local, a_cell, a_function, Scope, find, used, elements, globals, cells_from, cells_of}
 use Rattle.cw_strand.specs.Meaning.{Locals, local_of, with_local, element_of}
 
@@ -11,11 +11,7 @@ abbrev pub IsFound : Option ℤ → Option ℕ → Type 0
 IsFound None None = ⊥
 IsFound v c = Unit {0}
 
--- each name that may be used in this scope stands for one of the locals or cells
-pub record Covers (cells : List CellInfo) (ls : Locals) (g : Scope) : Type 0 where
-  pub stands : (n : List ℕ) (line : ℕ) → used (find n g) line ≡ None → IsFound (local_of ls n) (element_of cells n)
-
--- ## At the start
+-- ## The names of the program
 
 cell_found : (b : Bool) (base : ℕ) (t : Option Thing) (c : Option ℕ) (line : ℕ) → (used t line ≡ None → IsFound None c) → used (cond b (Some a_cell) t) line ≡ None → IsFound None (cond b (Some base) c)
 cell_found true base t c line later h = tt
@@ -30,35 +26,33 @@ globals_found k [] n line h = absurd cc
 globals_found k (cell x l len i ∷ ds) n line h = cell_found (bytes_eq n x) k _ _ line (globals_found (k + elements len) ds n line) h
 globals_found k (func x l ps b ∷ ds) n line h = function_found (bytes_eq n x) _ _ line (globals_found k ds n line) h
 
-pub covers_globals : (ds : List Declaration) → Covers (cells_of ds) [] (globals ds)
-covers_globals ds = record { stands = globals_found 0 ds }
+-- ## The names of locals
 
--- ## After a local is bound
+-- those of the locals, the newest first
+abbrev pub names_of : Locals → List (List ℕ)
+names_of ls = map (λ (x : List ℕ × ℤ). x.0) ls
+
+-- what is visible where the locals have these names
+abbrev pub with_names : List (List ℕ) → Scope → Scope
+with_names [] g = g
+with_names (n ∷ ns) g = (n, a_local) ∷ with_names ns g
 
 local_found : (b : Bool) (v : ℤ) (t : Option Thing) (o : Option ℤ) (c : Option ℕ) (line : ℕ) → (used t line ≡ None → IsFound o c) → used (cond b (Some a_local) t) line ≡ None → IsFound (cond b (Some v) o) c
 local_found true v t o c line later h = tt
 local_found false v t o c line later h = later h
 
-pub covers_bound : (cells : List CellInfo) (ls : Locals) (g : Scope) (n : List ℕ) (v : ℤ) → Covers cells ls g → Covers cells ((n, v) ∷ ls) ((n, a_local) ∷ g)
-covers_bound cells ls g n v h = record { stands = λ m line. local_found (bytes_eq m n) v _ _ _ line (h.stands m line) }
+pub name_found : (ds : List Declaration) (ls : Locals) (n : List ℕ) (line : ℕ) → used (find n (with_names (names_of ls) (globals ds))) line ≡ None → IsFound (local_of ls n) (element_of (cells_of ds) n)
+name_found ds [] n line h = globals_found 0 ds n line h
+name_found ds (x ∷ ls) n line h = local_found (bytes_eq n x.0) x.1 _ _ _ line (name_found ds ls n line) h
 
--- ## After a local is set
+first_kept : (b : Bool) (x : List ℕ × ℤ) (v : ℤ) (ls ks : Locals) → names_of ks ≡ names_of ls → names_of (cond b ((x.0, v) ∷ ls) (x ∷ ks)) ≡ x.0 ∷ names_of ls
+first_kept true x v ls ks h = refl
+first_kept false x v ls ks h = ap (λ (ns : List (List ℕ)). x.0 ∷ ns) h
 
-same_found : (b : Bool) (v w : ℤ) (o : Option ℤ) (c : Option ℕ) → IsFound (cond b (Some v) o) c → IsFound (cond b (Some w) o) c
-same_found true v w o c h = tt
-same_found false v w o c h = h
+-- a local that is set keeps its name
+pub names_kept : (ls : Locals) (n : List ℕ) (v : ℤ) → names_of (with_local ls n v) ≡ names_of ls
+names_kept [] n v = refl
+names_kept (x ∷ ls) n v = first_kept (bytes_eq n x.0) x v ls (with_local ls n v) (names_kept ls n v)
 
-other_found : (b : Bool) (v : ℤ) (o p : Option ℤ) (c : Option ℕ) → (IsFound o c → IsFound p c) → IsFound (cond b (Some v) o) c → IsFound (cond b (Some v) p) c
-other_found true v o p c later h = tt
-other_found false v o p c later h = later h
-
-first_found : (b : Bool) (x : List ℕ × ℤ) (xs : Locals) (n : List ℕ) (v : ℤ) (m : List ℕ) (c : Option ℕ) → (IsFound (local_of xs m) c → IsFound (local_of (with_local xs n v) m) c) → IsFound (local_of (x ∷ xs) m) c → IsFound (local_of (cond b ((x.0, v) ∷ xs) (x ∷ with_local xs n v)) m) c
-first_found true x xs n v m c later h = same_found (bytes_eq m x.0) x.1 v _ c h
-first_found false x xs n v m c later h = other_found (bytes_eq m x.0) x.1 _ _ c later h
-
-still_found : (ls : Locals) (n : List ℕ) (v : ℤ) (m : List ℕ) (c : Option ℕ) → IsFound (local_of ls m) c → IsFound (local_of (with_local ls n v) m) c
-still_found [] n v m c h = h
-still_found (x ∷ xs) n v m c h = first_found (bytes_eq n x.0) x xs n v m c (still_found xs n v m c) h
-
-pub covers_set : (cells : List CellInfo) (ls : Locals) (g : Scope) (n : List ℕ) (v : ℤ) → Covers cells ls g → Covers cells (with_local ls n v) g
-covers_set cells ls g n v h = record { stands = λ m line is. still_found ls n v m _ (h.stands m line is) }
+pub names_dropped : (ls : Locals) (n : ℕ) → drop (length (names_of ls) - n) (names_of ls) ≡ names_of (drop (length ls - n) ls)
+names_dropped ls n = rw (length-map ls) (drop-map _ (length ls - n) ls)

@@ -5,7 +5,7 @@ use Rattle.std.specs.Prelude.{ℕ, zero, suc, ◌+◌, List, [], ◌∷◌, repl
 use Rattle.std.specs.List.{flat_map}
 use Rattle.cw_text.specs.declared.ast.Word.{Word}
 use Rattle.std.specs.Str.{bytes_eq}
-use Rattle.cw_text.specs.Syntax.{Term, number, name, unary, binary, Statement, set_new, assign, out, Block, empty, first, Declaration, cell, func}
+use Rattle.cw_text.specs.Syntax.{Term, number, name, unary, binary, Statement, set_new, assign, out, atomic, spawn, sync, Block, empty, first, Declaration, cell, func}
 use Rattle.cw_code.specs.declared.CellInfo.{CellInfo}
 use Rattle.cw_strand.specs.declared.naming.NameKind.{NameKind}
 use Rattle.cw_strand.specs.declared.naming.NameKind.TheVariants as kind
@@ -62,14 +62,19 @@ abbrev pub scope_after : Statement → Scope → Scope
 scope_after (set_new w e) g = (w.name, a_local) ∷ g
 scope_after s g = g
 
-abbrev pub in_statement : Scope → Statement → Fault
-in_statement g (set_new w e) = declared_new (find w.name g) w.line then in_term g e
-in_statement g (assign w e) = used (find w.name g) w.line then in_term g e
-in_statement g (out e) = in_term g e
+abbrev mutual
+  pub in_statement : Scope → Statement → Fault
+  in_statement g (set_new w e) = declared_new (find w.name g) w.line then in_term g e
+  in_statement g (assign w e) = used (find w.name g) w.line then in_term g e
+  in_statement g (out e) = in_term g e
+  in_statement g (atomic b) = in_block g b
+  in_statement g (spawn b) = in_block g b
+  in_statement g sync = None
 
-abbrev pub in_block : Scope → Block → Fault
-in_block g empty = None
-in_block g (first s b) = in_statement g s then in_block (scope_after s g) b
+  -- what is declared in a block is visible to its end
+  pub in_block : Scope → Block → Fault
+  in_block g empty = None
+  in_block g (first s b) = in_statement g s then in_block (scope_after s g) b
 
 abbrev pub in_params : Scope → List Word → Fault
 in_params g [] = None

@@ -1,18 +1,17 @@
 -- Worked programs.
-use Rattle.std.specs.Prelude.{ℕ, zero, suc, ◌≡◌, List, [], ◌∷◌, codes, Result, Ok, Err, Option, Some, None, ℤ, pos, unwrap_or}
+use Rattle.std.specs.Prelude.{ℕ, zero, suc, ◌≡◌, List, [], ◌∷◌, codes, Result, Ok, Err, None, ℤ, pos, unwrap_or}
 use Rattle.cw_text.specs.declared.fault.TextFault.{TextFault}
 use Rattle.cw_text.specs.Syntax.{Declaration, name, empty}
 use Rattle.cw_text.specs.Rows.{read}
 use Rattle.cw_code.specs.declared.FaultKind.TheVariants.{Overflow}
 use Rattle.cw_strand.specs.declared.naming.NameKind.TheVariants.{Unknown, Twice, NoMain, NotALocal}
 use Rattle.cw_strand.specs.declared.want.Want.{Want}
-use Rattle.cw_strand.specs.declared.want.Want.TheVariants.{Load, Store, Out, Done, Fault}
+use Rattle.cw_strand.specs.declared.want.Want.TheVariants.{Load, Store, Out, Begin, End, Fork, Sync, Done, Fault}
 use Rattle.cw_strand.specs.declared.want.Given.{Given}
 use Rattle.cw_strand.specs.declared.want.Given.TheVariants.{Nothing, Value}
 use Rattle.cw_strand.specs.Names as names
 use Rattle.cw_strand.specs.Strands.{Strands}
-use Rattle.cw_strand.specs.Meaning.{State, Task, value, perform, show, finish, strands, body_at}
-use Rattle.cw_strand.specs.Laws.{after_answers}
+use Rattle.cw_strand.specs.Meaning.{State, Task, value, perform, show, meet, finish, strands, body_at}
 
 abbrev pub tree : List ℕ → List Declaration
 tree text = given (read text) where
@@ -32,36 +31,66 @@ Faults =
     × (faulty (codes "fn main() { out c; let c = 1; } cell c;") ≡ names.fault Twice 1)
     × (faulty (codes "fn main() { let x = x; }") ≡ names.fault Unknown 1)
     × (faulty (codes "fn main() { let x = 1; x = x; out x; }") ≡ None)
+    × (faulty (codes "fn main() { atomic { let x = 1; }\n out x; }") ≡ names.fault Unknown 2)
+    × (faulty (codes "fn main() { atomic { let x = 1; } let x = 2; spawn { let y = x; } let y = x; }") ≡ None)
+    × (faulty (codes "fn main() { let x = 1; spawn {\n let x = 2; } }") ≡ names.fault Twice 2)
+    × (faulty (codes "fn main() { spawn { atomic {\n out x; } } let x = 2; }") ≡ names.fault Unknown 2)
 
--- what is left of the values once a want is answered, and the answer
-abbrev pub reply : Want → List ℤ → Option (Given × List ℤ)
-reply (Load c) [] = None
-reply (Load c) (v ∷ vs) = Some (Value v, vs)
-reply Done vs = None
-reply (Fault k) vs = None
-reply w vs = Some (Nothing, vs)
+-- The strand of a fork that is not at work: the right one, before it begins, or the left one, at its end.
+pub data Other (A : Type 0) : Type 0 where
+  to_come : A → Other A
+  ended : A → Other A
 
-abbrev pub on_some : Option (Given × List ℤ) → (Given → List ℤ → List Want) → List Want
-on_some None go = []
-on_some (Some x) go = go x.0 x.1
+module _ {A : Type 0} (s : Strands A) (go : List ℤ → List (Other A) → A → List Want) where
+  -- after an end the right strand goes on, and after that one's the strand that forked
+  abbrev pub after_end : List ℤ → List (Other A) → A → List Want
+  after_end vs [] a = []
+  after_end vs (to_come right ∷ others) a = go vs (ended a ∷ others) right
+  after_end vs (ended left ∷ others) a = go vs others (s.joined a left)
 
--- what a strand wants, where its loads are answered with these values
-abbrev pub asked : {A : Type 0} → Strands A → ℕ → List ℤ → A → List Want
-asked s zero vs a = []
-asked s (suc n) vs a = s.want a ∷ on_some (reply (s.want a) vs) (λ g us. asked s n us (s.answer a g))
+  -- after a want, with the values that are left for loads
+  abbrev pub after_want : Want → List ℤ → List (Other A) → A → List Want
+  after_want (Load c) [] others a = []
+  after_want (Load c) (v ∷ vs) others a = go vs others (s.answer a (Value v))
+  after_want Fork vs others a = go vs (to_come (s.right a) ∷ others) (s.left a)
+  after_want Sync vs others a = after_end vs others a
+  after_want Done vs others a = after_end vs others a
+  after_want (Fault k) vs others a = []
+  after_want w vs others a = go vs others (s.answer a Nothing)
+
+-- What the strands want, each left one up to its end before its right one, where loads are answered with these values.
+abbrev pub asked : {A : Type 0} → Strands A → ℕ → List ℤ → List (Other A) → A → List Want
+asked s zero vs others a = []
+asked s (suc n) vs others a = s.want a ∷ after_want s (λ us more b. asked s n us more b) (s.want a) vs others a
 
 -- the strands of the text's program
 abbrev pub strands_of_text : List ℕ → Strands State
 strands_of_text text = let ds = tree text in strands (names.cells_of ds) (body_at ds (unwrap_or (names.main_of ds) 0))
 
 abbrev pub trace : List ℕ → List ℤ → List Want
-trace text vs = let s = strands_of_text text in asked s 20 vs s.start
+trace text vs = let s = strands_of_text text in asked s 20 vs [] s.start
 
 abbrev pub Traces : Type 0
 Traces =
     (trace (codes "cell c; fn main() { c = c + 1; out c; }") (pos 0 ∷ pos 1 ∷ []) ≡ Load 0 ∷ Store 0 (pos 1) ∷ Load 0 ∷ Out (pos 1) ∷ Done ∷ [])
     × (trace (codes "cell a; cell b; fn main() { let x = a - b; x = x * x; b = !x; out x >= 4; }") (pos 1 ∷ pos 3 ∷ []) ≡ Load 0 ∷ Load 1 ∷ Store 1 (pos 0) ∷ Out (pos 1) ∷ Done ∷ [])
     × (trace (codes "fn main() { out 9223372036854775807 + 1; }") [] ≡ Fault Overflow ∷ [])
+
+-- After a fork come the wants of its left strand up to the end, those of its right one up to its sync, and then those of the
+-- strand that forked.
+abbrev pub Forks : Type 0
+Forks =
+    (trace (codes "cell c; fn main() { atomic { spawn { c = c + 1; } c = c + 1; } }") (pos 0 ∷ pos 1 ∷ []) ≡ Begin ∷ Fork ∷ Load 0 ∷ Store 0 (pos 1) ∷ Done ∷ Load 0 ∷ Store 0 (pos 2) ∷ Sync ∷ End ∷ Done ∷ [])
+    × (trace (codes "fn main() { spawn { } spawn { sync; } sync; out 1; }") [] ≡ Fork ∷ Done ∷ Fork ∷ Done ∷ Sync ∷ Sync ∷ Out (pos 1) ∷ Done ∷ [])
+    × (trace (codes "fn main() { spawn { spawn { out 1; } out 2; } out 3; }") [] ≡ Fork ∷ Fork ∷ Out (pos 1) ∷ Done ∷ Out (pos 2) ∷ Sync ∷ Done ∷ Out (pos 3) ∷ Sync ∷ Done ∷ [])
+    × (trace (codes "fn main() { spawn { } atomic { atomic { spawn { } } sync; out 1; } }") [] ≡ Fork ∷ Done ∷ Begin ∷ Begin ∷ Fork ∷ Done ∷ Sync ∷ End ∷ Out (pos 1) ∷ End ∷ Sync ∷ Done ∷ [])
+    × (trace (codes "fn main() { let x = 1; spawn { x = 2; let y = 3; out y; } sync; out x; }") [] ≡ Fork ∷ Out (pos 3) ∷ Done ∷ Sync ∷ Out (pos 1) ∷ Done ∷ [])
+    × (trace (codes "fn main() { let x = 1; atomic { let y = 2; x = y; } let y = 3; out x; out y; }") [] ≡ Begin ∷ End ∷ Out (pos 2) ∷ Out (pos 3) ∷ Done ∷ [])
+
+-- what a strand has become once it got these answers, the newest first
+abbrev pub after_answers : {A : Type 0} → Strands A → List Given → A
+after_answers s [] = s.start
+after_answers s (g ∷ gs) = s.answer (after_answers s gs) g
 
 -- what a strand stands at and what it has still to do, once it got these answers, the newest first
 abbrev pub standing : List ℕ → List Given → Want × List Task
@@ -71,4 +100,4 @@ standing text given = let s = strands_of_text text in let a = after_answers s gi
 abbrev pub Endings : Type 0
 Endings =
     (standing (codes "cell c; fn main() { let x = c; out x * x; }") (Nothing ∷ Value (pos 3) ∷ []) ≡ (Done, finish ∷ []))
-    × (standing (codes "fn main() { out x; }") [] ≡ (Done, value (name (record { name = codes "x"; line = 1 })) ∷ show ∷ perform empty ∷ finish ∷ []))
+    × (standing (codes "fn main() { out x; }") [] ≡ (Done, value (name (record { name = codes "x"; line = 1 })) ∷ show ∷ perform empty ∷ meet ∷ finish ∷ []))
