@@ -9,7 +9,7 @@ use Rattle.cw_tree.specs.ForkCounts.{one_if}
 abbrev pub count : (ℕ → Bool) → ℕ → ℕ
 count p k = count_by p (below k)
 
-count_step : (p : ℕ → Bool) (k : ℕ) → count p (suc k) ≡ count p k + one_if (p k)
+pub count_step : (p : ℕ → Bool) (k : ℕ) → count p (suc k) ≡ count p k + one_if (p k)
 count_step p k = sum_by_push (λ n. one_if (p n)) (below k) k
 
 pub count_same : (p q : ℕ → Bool) (k : ℕ) → ((n : ℕ) → n < k → p n ≡ q n) → count p k ≡ count q k
@@ -69,3 +69,15 @@ pub count_less : (p : ℕ → Bool) (k : ℕ) → p 0 ≡ false → 0 < k → co
 count_less p zero e h = absurd (omega arith)
 count_less p (suc zero) e h = let none : one_if (p 0) ≡ 0 = ap one_if e in omega (arith, none, count_step p 0)
 count_less p (suc (suc k)) e h = omega (arith, count_less p (suc k) e (omega arith), count_step p (suc k), at_most_one (p (suc k)))
+
+-- no number from k on passes
+pub count_past : (p : ℕ → Bool) (k j : ℕ) → k ≤ j → ((n : ℕ) → k ≤ n → n < j → p n ≡ false) → count p j ≡ count p k
+count_past p k zero le h = let e : zero ≡ k = omega arith in ap (count p) e
+count_past p k (suc j) le h =
+    by_case (cases_eq k (suc j)) (λ l. count_past p k j l (λ n a b. h n a (omega arith))) where
+      by_case : (k ≡ suc j) ⊎ (k ≡ suc j → ⊥) → (k ≤ j → count p j ≡ count p k) → count p (suc j) ≡ count p k
+      by_case (inl e) more = ap (count p) (sym e)
+      by_case (inr ne) more =
+          let rest : count p j ≡ count p k = more (omega arith) in
+          let here : one_if (p j) ≡ 0 = ap one_if (h j (omega arith) (omega arith)) in
+          omega (arith, rest, here, count_step p j)

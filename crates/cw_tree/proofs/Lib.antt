@@ -17,3 +17,16 @@ pub mod Turns
 pub mod Checks
 pub mod KeptRuns
 pub mod Parting
+pub mod Members
+pub mod Kept
+pub mod Growing
+pub mod Closing
+pub mod Agreeing
+pub mod Naming
+pub mod KeptNames
+pub mod StrandForks
+pub mod Keys
+pub mod LiveAccesses
+pub mod Entries
+pub mod CellJournals
+pub mod NewStrands

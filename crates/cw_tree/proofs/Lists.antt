@@ -33,7 +33,7 @@ length_below : (k : ℕ) → length (below k) ≡ k
 length_below zero = refl
 length_below (suc k) = length-append (below k) (k ∷ []) ∙ omega (arith, length_below k)
 
-at_or_before : (n k : ℕ) → n < suc k → (n < k) ⊎ (k ≡ n)
+pub at_or_before : (n k : ℕ) → n < suc k → (n < k) ⊎ (k ≡ n)
 at_or_before n k h = grind arith
 
 get_below : (k n d : ℕ) → n < k → get_or (below k) n d ≡ n

@@ -22,7 +22,7 @@ fork_kind_stays Fork b e = refl
 fork_kind_stays _ b e = absurd (cc e)
 
 -- a fork is no block that was rolled back
-fork_stays : (t : List Node) (n : ℕ) → is_fork t n ≡ true → is_aborted t n ≡ false
+pub fork_stays : (t : List Node) (n : ℕ) → is_fork t n ≡ true → is_aborted t n ≡ false
 fork_stays t n =
     by_node (slice_get t n) where
       by_node : (o : Option Node) → passes (λ x. is_fork_kind x.kind) o ≡ true → passes (λ x. is_block_kind x.kind && is_aborted_state x.state) o ≡ false
@@ -52,7 +52,7 @@ of_counts t n g e =
       attempts = λ x h q. elim (or_cases (not (is_aborted t x)) (is_above t x n) (all_in (is_past t n) x (above t g) a.1 (above_in t x g h))) [ inl z ↦ absurd (cc (not-true (is_aborted t x) z, q)) | inr z ↦ z ];
     }
 
-counts_of : (t : List Node) (n g : ℕ) → Counts t n g → counts t n g ≡ true
+pub counts_of : (t : List Node) (n g : ℕ) → Counts t n g → counts t n g ≡ true
 counts_of t n g s =
     and_from (is_fork t g && nat_eq (strand_of t g) (strand_of t n) && is_before t g n) (list_all (is_past t n) (above t g))
     (and_from (is_fork t g && nat_eq (strand_of t g) (strand_of t n)) (is_before t g n) (and_from (is_fork t g) (nat_eq (strand_of t g) (strand_of t n)) s.fork (eq-eqb (strand_of t g) (strand_of t n) s.strand)) s.before)

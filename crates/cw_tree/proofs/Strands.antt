@@ -10,6 +10,13 @@ use Rattle.cw_tree.specs.Series.{strand_of}
 use Rattle.cw_tree.proofs.Climbs.{path_step, by_parent}
 use Rattle.cw_tree.proofs.Ancestors.{ancestor_self, ancestor_root, ancestor_step, ancestor_up, ancestor_le}
 
+strand_or_root : (b : Bool) → unwrap_or (cond b (Some zero) None) zero ≡ zero
+strand_or_root true = refl
+strand_or_root false = refl
+
+pub strand_of_root : (t : List Node) → strand_of t 0 ≡ 0
+strand_of_root t = strand_or_root (is_strand t 0)
+
 module _ (t : List Node) (r : IsRooted t) where
   step : (n : ℕ) → 0 < n → n < length t → strand_of t n ≡ unwrap_or (cond (is_strand t n) (Some n) (find (is_strand t) (path t (parent_of t n)))) 0
   step n p h = ap (λ ns. unwrap_or (find (is_strand t) ns) 0) (path_step t r n p h)
@@ -21,13 +28,9 @@ module _ (t : List Node) (r : IsRooted t) where
   pub strand_of_other : (n : ℕ) → 0 < n → n < length t → is_strand t n ≡ false → strand_of t n ≡ strand_of t (parent_of t n)
   strand_of_other n p h e = step n p h ∙ ap (λ b. unwrap_or (cond b (Some n) (find (is_strand t) (path t (parent_of t n)))) 0) e
 
-  first : (b : Bool) → unwrap_or (cond b (Some zero) None) zero ≡ zero
-  first true = refl
-  first false = refl
-
   pub strand_of_le : (n : ℕ) → n < length t → strand_of t n ≤ n
   strand_of_le =
-      by_parent t r (λ n. strand_of t n ≤ n) (omega (arith, first (is_strand t 0)))
+      by_parent t r (λ n. strand_of t n ≤ n) (omega (arith, strand_of_root t))
       (λ n p h more. by_kind n p h more (cases_Bool (is_strand t n))) where
         by_kind : (n : ℕ) → 0 < n → n < length t → strand_of t (parent_of t n) ≤ parent_of t n → (is_strand t n ≡ true) ⊎ (is_strand t n ≡ false) → strand_of t n ≤ n
         by_kind n p h more (inl e) = omega (arith, strand_of_strand n p h e)
@@ -48,7 +51,7 @@ module _ (t : List Node) (r : IsRooted t) where
   pub strand_over : (n : ℕ) → n < length t → is_ancestor t (strand_of t n) n ≡ true
   strand_over =
       by_parent t r (λ n. is_ancestor t (strand_of t n) n ≡ true)
-      (let P : ℕ → Type 0 = λ s. is_ancestor t s 0 ≡ true in subst P (sym (first (is_strand t 0))) refl)
+      (let P : ℕ → Type 0 = λ s. is_ancestor t s 0 ≡ true in subst P (sym (strand_of_root t)) refl)
       (λ n p h more. by_kind n p h more (cases_Bool (is_strand t n))) where
         by_kind : (n : ℕ) → 0 < n → n < length t → is_ancestor t (strand_of t (parent_of t n)) (parent_of t n) ≡ true → (is_strand t n ≡ true) ⊎ (is_strand t n ≡ false) → is_ancestor t (strand_of t n) n ≡ true
         by_kind n p h more (inl e) = let P : ℕ → Type 0 = λ s. is_ancestor t s n ≡ true in subst P (sym (strand_of_strand n p h e)) (ancestor_self t n)

@@ -20,17 +20,17 @@ turn_at t forks sides fe se n q k side hn hq up kr sr =
     ap (λ x. (let y : Turn = record { fork = x; right = side } in y)) fork ∙ ap (λ x. (let y : Turn = record { fork = fork_number t (parent_of t n); right = x } in y)) right
 
 module _ (t : List Node) (r : IsRooted t) (n : ℕ) (p : 0 < n) (hn : n < length t) where
-  step : strands_on t n ≡ cond (nat_lt 0 n && is_strand t n) (n ∷ strands_on t (parent_of t n)) (strands_on t (parent_of t n))
-  step = ap (filter (λ m. nat_lt 0 m && is_strand t m)) (path_step t r n p hn)
+  pub strands_step : strands_on t n ≡ cond (nat_lt 0 n && is_strand t n) (n ∷ strands_on t (parent_of t n)) (strands_on t (parent_of t n))
+  strands_step = ap (filter (λ m. nat_lt 0 m && is_strand t m)) (path_step t r n p hn)
 
   pub turns_strand : (q : ℕ) (x : Turn) (xs : List Turn) → q ≡ parent_of t n → is_strand t n ≡ true → x ≡ turn t n → (xs ++ x ∷ []) ++ map (turn t) (strands_on t q) ≡ xs ++ map (turn t) (strands_on t n)
   turns_strand q x xs up e same =
       append_assoc xs (x ∷ []) (map (turn t) (strands_on t q))
       ∙ ap (λ y. xs ++ y ∷ map (turn t) (strands_on t q)) same
       ∙ ap (λ m. xs ++ turn t n ∷ map (turn t) (strands_on t m)) up
-      ∙ ap (λ ns. xs ++ map (turn t) ns) (sym (step ∙ ap (λ b. cond b (n ∷ strands_on t (parent_of t n)) (strands_on t (parent_of t n))) (and_from (nat_lt 0 n) (is_strand t n) (lt-ltb 0 n p) e)))
+      ∙ ap (λ ns. xs ++ map (turn t) ns) (sym (strands_step ∙ ap (λ b. cond b (n ∷ strands_on t (parent_of t n)) (strands_on t (parent_of t n))) (and_from (nat_lt 0 n) (is_strand t n) (lt-ltb 0 n p) e)))
 
   pub turns_other : (q : ℕ) (xs : List Turn) → q ≡ parent_of t n → is_strand t n ≡ false → xs ++ map (turn t) (strands_on t q) ≡ xs ++ map (turn t) (strands_on t n)
   turns_other q xs up e =
       ap (λ m. xs ++ map (turn t) (strands_on t m)) up
-      ∙ ap (λ ns. xs ++ map (turn t) ns) (sym (step ∙ ap (λ b. cond b (n ∷ strands_on t (parent_of t n)) (strands_on t (parent_of t n))) (and_right (nat_lt 0 n) (is_strand t n) e)))
+      ∙ ap (λ ns. xs ++ map (turn t) ns) (sym (strands_step ∙ ap (λ b. cond b (n ∷ strands_on t (parent_of t n)) (strands_on t (parent_of t n))) (and_right (nat_lt 0 n) (is_strand t n) e)))
