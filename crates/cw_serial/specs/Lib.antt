@@ -1,8 +1,15 @@
 pub mod Items
+pub mod Named
+pub mod Threads
+pub mod Spots
+pub mod Loads
+pub mod Held
 pub mod Machine
+pub mod DepthFirst
+pub mod InMemory
+pub mod Orders
 pub mod Programs
-pub mod Records
 pub mod Rows
 pub mod Scopes
 pub mod Standing
-pub mod OneMemory
+pub mod Visible

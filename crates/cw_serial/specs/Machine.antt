@@ -1,67 +1,134 @@
--- The machine with one memory, driven by picks. It does one want of a strand at each pick, and knows nothing of what else
--- a strand is. So far it has the strand of main alone.
-use Rattle.std.specs.Prelude.{ℕ, ℤ, suc, ◌==◌, ◌&&◌, Bool, true, false, not, pos, List, [], ◌∷◌, ◌++◌, slice_get, slice_set, Option, Some, None, unwrap_or, if◌then◌else◌}
+-- The machine with one memory, driven by picks. It does one want of a strand at each pick. While a block is begun, only strands inside
+-- the innermost begun one may be picked: so each block is done without a break.
+use Rattle.std.specs.Prelude.{ℕ, ℤ, zero, suc, ◌==◌, ◌&&◌, Bool, true, false, not, pos, List, [], ◌∷◌, ◌++◌, drop, slice_get, slice_set, nat_lt, Option, Some, None, is_some, unwrap_or, if◌then◌else◌}
 use Rattle.cw_strand.specs.declared.want.Want.{Want}
-use Rattle.cw_strand.specs.declared.want.Want.TheVariants.{Load, Store, Out, Done, Fault}
+use Rattle.cw_strand.specs.declared.want.Want.TheVariants.{Load, Store, Out, Begin, End, Sync, Done, Fault}
 use Rattle.cw_strand.specs.declared.want.Given.TheVariants.{Nothing, Value}
 use Rattle.cw_strand.specs.Strands.{Strands}
 use Rattle.cw_tree.specs.declared.picks.Name.{Name}
+use Rattle.cw_tree.specs.declared.picks.Turn.{Turn}
 use Rattle.cw_tree.specs.declared.picks.Picks.{Picks}
-use Rattle.cw_serial.specs.declared.record.SerialEnd.{SerialEnd}
-use Rattle.cw_serial.specs.declared.record.SerialEnd.TheVariants as last
+use Rattle.cw_serial.specs.declared.ends.SerialEnd.{SerialEnd}
+use Rattle.cw_serial.specs.declared.ends.SerialEnd.TheVariants as last
+use Rattle.cw_serial.specs.Threads.{Threads, at, put, goes_on, ended}
 
 pub record Machine (A : Type 0) : Type 0 where
   pub memory : List ℤ
   pub outputs : List ℤ
-  pub strand : A
+  pub strands : Threads A
+  -- the begun blocks, the innermost first, each by the name of the strand that began it
+  pub begun : List (List Turn)
 
 -- what the memory holds at an element, and 0 where there is none
 abbrev pub value_at : List ℤ → ℕ → ℤ
 value_at memory c = unwrap_or (slice_get memory c) (pos 0)
 
-abbrev pub is_root : Name → Bool
-is_root n = (n.parent == 0) && ((n.fork == 0) && not n.right)
+abbrev pub same_side : Bool → Bool → Bool
+same_side true b = b
+same_side false b = not b
 
-abbrev pub is_root_entry : Option Name → Bool
-is_root_entry None = false
-is_root_entry (Some n) = is_root n
+abbrev pub same_turn : Turn → Turn → Bool
+same_turn x y = (x.fork == y.fork) && same_side x.right y.right
 
--- whether a number names the root among these names: it is number 0, and stands there as the root
-abbrev pub names_root : List Name → ℕ → Bool
-names_root names n = (n == 0) && is_root_entry (slice_get names n)
+-- the strand of the second name is that of the first, or was started beneath it
+abbrev pub is_beneath : List Turn → List Turn → Bool
+is_beneath [] p = true
+is_beneath (x ∷ q) [] = false
+is_beneath (x ∷ q) (y ∷ p) = same_turn x y && is_beneath q p
+
+abbrev pub may_pick : (begun : List (List Turn)) → List Turn → Bool
+may_pick [] p = true
+may_pick (b ∷ bs) p = is_beneath b p
+
+-- ## Picks
 
 module _ {A : Type 0} (s : Strands A) where
-  -- the strand does what it stands at; where that is nothing, it cannot be picked
-  abbrev pub does : Machine A → Want → Option (Machine A)
-  does m (Load c) = Some (record m { strand = s.answer m.strand (Value (value_at m.memory c)) })
-  does m (Store c v) = Some (record m { memory = slice_set m.memory c v; strand = s.answer m.strand Nothing })
-  does m (Out v) = Some (record m { outputs = m.outputs ++ v ∷ []; strand = s.answer m.strand Nothing })
-  does m Done = None
-  does m (Fault k) = None
+  -- the strand of that name does what it stands at; where that is nothing, it cannot be picked
+  abbrev pub does : Machine A → List Turn → A → Want → Option (Machine A)
+  does m p a (Load c) = Some (record m { strands = put s m.strands p (s.answer a (Value (value_at m.memory c))) })
+  does m p a (Store c v) = Some (record m { memory = slice_set m.memory c v; strands = put s m.strands p (s.answer a Nothing) })
+  does m p a (Out v) = Some (record m { outputs = m.outputs ++ v ∷ []; strands = put s m.strands p (s.answer a Nothing) })
+  does m p a Begin = Some (record m { begun = p ∷ m.begun; strands = put s m.strands p (s.answer a Nothing) })
+  does m p a End = Some (record m { begun = drop 1 m.begun; strands = put s m.strands p (s.answer a Nothing) })
+  does m p a w = None
 
-  abbrev pub pick : Machine A → Option (Machine A)
-  pick m = does m (s.want m.strand)
+  abbrev pub pick_at : Machine A → List Turn → Option A → Option (Machine A)
+  pick_at m p None = None
+  pick_at m p (Some a) = if may_pick m.begun p then does m p a (s.want a) else None
+
+  abbrev pub pick : Machine A → List Turn → Option (Machine A)
+  pick m p = pick_at m p (at s m.strands p)
 
   -- before the first pick
   abbrev pub begun : List ℤ → Machine A
-  begun memory = record { memory = memory; outputs = []; strand = s.start }
+  begun memory = record { memory = memory; outputs = []; strands = goes_on s 0 s.start; begun = [] }
 
-  -- What the machine shows of itself where the picks are used up, so many of them, and the last strand is, or is not,
-  -- the root.
-  abbrev pub shown : Machine A → Want → Bool → ℕ → ℕ → SerialEnd
-  shown m Done root name place = last.Finished m.memory m.outputs
-  shown m w false name place = last.Stuck place
-  shown m (Fault k) true name place = last.Fault name k
-  shown m w true name place = last.At name
+  abbrev pub has_ended : Machine A → Bool
+  has_ended m = is_some (ended s m.strands)
+
+-- ## Names
+
+abbrev pub parent_in : Option Name → ℕ
+parent_in None = 0
+parent_in (Some x) = x.parent
+
+abbrev pub is_root : Name → Bool
+is_root n = (n.parent == 0) && ((n.fork == 0) && not n.right)
+
+abbrev pub root_turns : Option Name → Option (List Turn)
+root_turns None = None
+root_turns (Some n) = if is_root n then Some [] else None
+
+-- the name of a strand that was started by one of this name, whose number has to be smaller
+abbrev pub with_turn : ℕ → Option Name → Option (List Turn) → Option (List Turn)
+with_turn n None p = None
+with_turn n (Some x) None = None
+with_turn n (Some x) (Some p) = if nat_lt x.parent n then Some (p ++ record { fork = x.fork; right = x.right } ∷ []) else None
+
+-- the name that number n stands for, if the root is reached within k steps; the root is number 0, and stands there as the root
+abbrev pub turns_in : List Name → ℕ → ℕ → Option (List Turn)
+turns_in names k zero = root_turns (slice_get names 0)
+turns_in names zero (suc n) = None
+turns_in names (suc k) (suc n) = with_turn (suc n) (slice_get names (suc n)) (turns_in names k (parent_in (slice_get names (suc n))))
+
+-- the name that a number stands for, or none
+abbrev pub turns : List Name → ℕ → Option (List Turn)
+turns names n = turns_in names n n
+
+-- ## The end
+
+module _ {A : Type 0} (s : Strands A) where
+  abbrev pub pick_named : Machine A → Option (List Turn) → Option (Machine A)
+  pick_named m None = None
+  pick_named m (Some p) = pick s m p
+
+  abbrev pub stands_at : ℕ → Want → Option SerialEnd
+  stands_at name (Fault k) = Some (last.Fault name k)
+  stands_at name Sync = None
+  stands_at name Done = None
+  stands_at name w = Some (last.At name)
+
+  -- where the strand of that name stands, if it stands
+  abbrev pub end_of_strand : ℕ → Option A → Option SerialEnd
+  end_of_strand name None = None
+  end_of_strand name (Some a) = stands_at name (s.want a)
+
+  abbrev pub end_of_named : Machine A → ℕ → Option (List Turn) → Option SerialEnd
+  end_of_named m name None = None
+  end_of_named m name (Some p) = end_of_strand name (at s m.strands p)
+
+  -- What the machine shows of itself where the picks are used up, so many of them, and the last of these names is that number.
+  abbrev pub shown : Machine A → List Name → (name place : ℕ) → SerialEnd
+  shown m names name place = if has_ended s m then last.Finished m.memory m.outputs else unwrap_or (end_of_named m name (turns names name)) (last.Stuck place)
 
   -- the end under the picks from one place on
   abbrev pub play : Machine A → List Name → List ℕ → (name place : ℕ) → SerialEnd
-  play m names [] name place = shown m (s.want m.strand) (names_root names name) name place
-  play m names (n ∷ ns) name place = goes_on (if names_root names n then pick m else None) (λ t. play t names ns name (suc place)) where
-    goes_on : Option (Machine A) → (Machine A → SerialEnd) → SerialEnd
-    goes_on None go = last.Stuck place
-    goes_on (Some t) go = go t
+  play m names [] name place = shown m names name place
+  play m names (n ∷ ns) name place = then_play (pick_named m (turns names n)) (λ t. play t names ns name (suc place)) where
+    then_play : Option (Machine A) → (Machine A → SerialEnd) → SerialEnd
+    then_play None go = last.Stuck place
+    then_play (Some t) go = go t
 
   -- the end of the machine under picks
   abbrev pub serial_end : List ℤ → Picks → SerialEnd
-  serial_end memory picks = play (begun memory) picks.names picks.list picks.last 0
+  serial_end memory picks = play (begun s memory) picks.names picks.list picks.last 0

@@ -9,8 +9,8 @@ use Rattle.cw_serial.specs.declared.program.Program.{Program}
 use Rattle.cw_serial.specs.declared.program.NameRefusal.{NameRefusal}
 use Rattle.cw_serial.specs.declared.program.NameRefusal.TheVariants as refusal
 use Rattle.cw_tree.specs.declared.picks.Picks.{Picks}
-use Rattle.cw_serial.specs.declared.record.SerialEnd.{SerialEnd}
-use Rattle.cw_serial.specs.Machine.{serial_end}
+use Rattle.cw_serial.specs.declared.ends.SerialEnd.{SerialEnd}
+use Rattle.cw_serial.specs.Machine.{Machine, begun, serial_end}
 
 -- The program is this tree, in which no name is at fault, with its cells and its main.
 pub record IsProgramOf (ds : List Declaration) (p : Program) : Type 0 where
@@ -28,6 +28,10 @@ Checks ast (Err refusal.OutOfMemory) = Unit {0}
 -- the strands of a program
 abbrev pub strands_of : Program → Strands State
 strands_of p = strands p.cells (body_at (tree_of p.ast) p.main)
+
+-- its machine before the first pick
+abbrev pub machine_of : Program → Machine State
+machine_of p = begun (strands_of p) (first_memory p.cells)
 
 -- the end of its machine under picks
 abbrev pub end_under : Program → Picks → SerialEnd

@@ -5,7 +5,8 @@ ghost use Rattle.cw_text.specs.Syntax.{term_of, statement_of, block_of, declarat
 ghost use Rattle.cw_strand.specs.Names.{find, used, in_term, in_statement, scope_after, in_block, in_params, with_params, ◌then◌, in_functions, main_of, without_main};
 ghost use Rattle.cw_serial.specs.Programs.{Checks};
 ghost use Rattle.cw_serial.specs.Items.{is_main};
-ghost use Rattle.cw_serial.specs.Scopes.{IsSame, Finds};
+ghost use Rattle.cw_serial.specs.Scopes.{Finds};
+ghost use Rattle.cw_serial.specs.Visible.{Keeps, visible_in};
 
 use crate::items::{Declared, declared_new};
 use crate::scope::{Scope, Thing};
@@ -18,7 +19,7 @@ use std::alloc::Global;
 
 /// The fault of a name that is read or assigned.
 fn used(visible: &Visible<'_>, word: &Word) -> Result<(), NameFault>
-    ensures { result_err result ≡ used (find word.now.name visible.now) word.now.line }
+    ensures { result_err result ≡ used (find word.now.name (visible_in visible.now)) word.now.line }
 {
     let kind = match visible.find(&word.name) {
         Some(Thing::Local | Thing::Cell) => return Ok(()),
@@ -33,7 +34,7 @@ fn used(visible: &Visible<'_>, word: &Word) -> Result<(), NameFault>
 
 /// The first fault in an expression.
 fn in_term(visible: &Visible<'_>, term: &Expr) -> Result<(), NameFault>
-    ensures { result_err result ≡ in_term visible.now (term_of term.now) }
+    ensures { result_err result ≡ in_term (visible_in visible.now) (term_of term.now) }
 {
     match term {
         Expr::Number(_) => Ok(()),
@@ -47,67 +48,72 @@ fn in_term(visible: &Visible<'_>, term: &Expr) -> Result<(), NameFault>
 }
 
 /// The first fault in a statement. What the statement declares is visible afterwards.
-fn in_statement(
-    visible: &mut Visible<'_>,
-    alloc: Global,
-    statement: &Stmt,
-) -> Result<(), NameRefusal>
-    ensures exact { Finds result (in_statement visible.old (statement_of statement.now)) }
-    ensures visible { OnOk result (IsSame visible.new (scope_after (statement_of statement.now) visible.old)) }
+#[cycle(walk)]
+fn in_statement<'a>(visible: &mut Visible<'a>, statement: &'a Stmt) -> Result<(), NameRefusal>
+    ensures exact { Finds result (in_statement (visible_in visible.old) (statement_of statement.now)) }
+    ensures visible { OnOk result (visible_in visible.new ≡ scope_after (statement_of statement.now) (visible_in visible.old)) }
+    ensures outer { OnOk result (Keeps visible.old visible.new) }
 {
     match statement {
         Stmt::Let { name, value } => {
             declared_new(visible.find(&name.name), name.line)?;
             in_term(visible, value)?;
-            visible.add_local(alloc, &name.name)?;
+            visible.add_local(&name.name)?;
         }
         Stmt::Assign { name, value } => {
             used(visible, name)?;
             in_term(visible, value)?;
         }
         Stmt::Out(value) => in_term(visible, value)?,
+        Stmt::Atomic(body) => in_block(visible, body.as_slice())?,
+        Stmt::Spawn(body) => in_block(visible, body.as_slice())?,
+        Stmt::Sync => {}
     }
     Ok(())
 }
 
-/// The first fault in the statements of a function.
-fn in_block(visible: &mut Visible<'_>, alloc: Global, body: &[Stmt]) -> Result<(), NameRefusal>
-    ensures { Finds result (in_block visible.old (block_of body.now)) }
+/// The first fault in the statements of a block. What they declare is visible to the block's end.
+#[cycle(walk)]
+fn in_block<'a>(visible: &mut Visible<'a>, body: &'a [Stmt]) -> Result<(), NameRefusal>
+    ensures exact { Finds result (in_block (visible_in visible.old) (block_of body.now)) }
+    ensures outer { OnOk result (visible.new ≡ visible.old) }
 {
+    let outer = visible.locals();
     for statement in body {
-        in_statement(visible, alloc, statement)?;
+        in_statement(visible, statement)?;
     }
+    visible.forget(outer)?;
     Ok(())
 }
 
 /// The first fault in the parameters of a function, which are visible afterwards.
-fn in_params(visible: &mut Visible<'_>, alloc: Global, params: &[Word]) -> Result<(), NameRefusal>
-    ensures exact { Finds result (in_params visible.old params.now) }
-    ensures visible { OnOk result (IsSame visible.new (with_params visible.old params.now)) }
+fn in_params<'a>(visible: &mut Visible<'a>, params: &'a [Word]) -> Result<(), NameRefusal>
+    ensures exact { Finds result (in_params (visible_in visible.old) params.now) }
+    ensures visible { OnOk result (visible_in visible.new ≡ with_params (visible_in visible.old) params.now) }
 {
     for word in params {
         declared_new(visible.find(&word.name), word.line)?;
-        visible.add_local(alloc, &word.name)?;
+        visible.add_local(&word.name)?;
     }
     Ok(())
 }
 
 /// The first fault in a function.
-fn in_function(
-    names: &Scope,
+fn in_function<'a>(
+    names: &'a Scope,
     alloc: Global,
-    params: &[Word],
-    body: &[Stmt],
+    params: &'a [Word],
+    body: &'a [Stmt],
 ) -> Result<(), NameRefusal>
     ensures { Finds result (in_params names.now params.now then in_block (with_params names.now params.now) (block_of body.now)) }
 {
     let mut visible = Visible::new(alloc, names);
-    in_params(&mut visible, alloc, params)?;
-    in_block(&mut visible, alloc, body)
+    in_params(&mut visible, params)?;
+    in_block(&mut visible, body)
 }
 
 /// The first fault in the functions among the items, of which these are the names.
-fn in_functions(names: &Scope, alloc: Global, items: &[Item]) -> Result<(), NameRefusal>
+fn in_functions<'a>(names: &'a Scope, alloc: Global, items: &'a [Item]) -> Result<(), NameRefusal>
     ensures { Finds result (in_functions names.now (map declaration_of items.now)) }
 {
     for item in items {

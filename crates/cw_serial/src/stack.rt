@@ -1,4 +1,4 @@
-ghost use Rattle.std.specs.Prelude.{◌≡◌, [], ◌∷◌, MatchOption, OnOk};
+ghost use Rattle.std.specs.Prelude.{◌≡◌, [], ◌∷◌, length, drop, MatchOption, IfOk, OnOk, OnErr};
 
 use cw_base::OutOfMemory;
 use std::alloc::Global;
@@ -27,8 +27,15 @@ impl<T: Drop> Stack<T> {
         }
     }
 
+    pub fn len(&self) -> usize
+        ensures { result ≡ length self.now }
+    {
+        self.items.len()
+    }
+
     pub fn push(&mut self, item: T) -> Result<(), OutOfMemory>
-        ensures { OnOk result (self.new ≡ item ∷ self.old) }
+        ensures ok { OnOk result (self.new ≡ item ∷ self.old) }
+        ensures err { OnErr result (self.new ≡ self.old) }
     {
         self.items.push(item)?;
         Ok(())
@@ -39,5 +46,27 @@ impl<T: Drop> Stack<T> {
             ((self.old ≡ []) × (self.new ≡ [])) (λ x. self.old ≡ x ∷ self.new) }
     {
         self.items.pop()
+    }
+
+    /// The newest element.
+    pub fn newest(&self) -> Option<T>
+    where
+        T: Copy,
+        ensures { MatchOption result (self.now ≡ []) (λ x. self.now ≡ x ∷ drop 1 self.now) }
+    {
+        self.items.last().copied()
+    }
+
+    /// The same elements once more.
+    pub fn copy(&self) -> Result<Stack<T>, OutOfMemory>
+    where
+        T: Copy,
+        ensures { IfOk result (λ s. s ≡ self.now) }
+    {
+        let mut items = Vec::new(*self.items.allocator());
+        for item in &self.items {
+            items.push(*item)?;
+        }
+        Ok(Stack { items })
     }
 }

@@ -13,60 +13,76 @@ const LIMITS: Limits = Limits {
     moves: 1,
 };
 
-const ROOT: Name = Name {
-    parent: 0,
-    fork: 0,
-    right: false,
-};
+const fn name(parent: u32, fork: u32, right: bool) -> Name {
+    Name {
+        parent,
+        fork,
+        right,
+    }
+}
+
+// One block, in which each of two strands adds one to a cell.
+const BOTH: &str = "cell c; fn main() { atomic { spawn { c = c + 1; } c = c + 1; } }";
 
 fn program(alloc: Global, text: &str) -> Result<Program, Fail> {
     Ok(checked(alloc, read_program(alloc, text.as_bytes())?)?)
 }
 
-fn shown(alloc: Global, end: &SerialEnd) -> Result<String, Fail> {
-    Ok(match end {
-        SerialEnd::Finished { memory, outputs } => {
-            let memory = memory.as_slice();
-            let outputs = outputs.as_slice();
-            format!(in alloc; "finished {memory:?} {outputs:?}")?
-        }
-        SerialEnd::Fault { name, kind } => format!(in alloc; "fault {name} {kind:?}")?,
-        SerialEnd::At { name } => format!(in alloc; "at {name}")?,
-        SerialEnd::Stuck { place } => format!(in alloc; "stuck {place}")?,
-    })
-}
-
 #[test]
 fn picks_lead_to_ends(rt: HostRuntime) -> Result<(), Fail> {
     let alloc = rt.alloc();
-    let counts = "cell c; fn main() { c = c + 1; out c; }";
-    let overflows = "cell c; fn main() { c = 7; out 9223372036854775807 + 1; }";
-    let table: [(&str, &[u32], u32, &str); 7] = [
-        (counts, &[0, 0, 0, 0], 0, "finished [1] [1]"),
-        (counts, &[0, 0], 0, "at 0"),
-        (counts, &[0, 0], 1, "stuck 2"),
-        (counts, &[0, 1, 0], 0, "stuck 1"),
-        (counts, &[0, 0, 0, 0, 0], 0, "stuck 4"),
-        (overflows, &[0], 0, "fault 0 Overflow"),
-        (overflows, &[0, 0], 0, "stuck 1"),
+    let table: [(&[u32], &str); 3] = [
+        (&[0, 1, 2, 1, 2, 0], "Finished [1]"),
+        (&[0, 1, 1, 2, 2, 0], "Finished [2]"),
+        (&[0, 1, 0], "Stuck 2"),
     ];
-    for (text, list, last, wanted) in table {
+    for (list, wanted) in table {
         let mut names = Seq::new(alloc);
-        names.push(ROOT)?;
+        names.push(name(0, 0, false))?;
+        names.push(name(0, 1, false))?;
+        names.push(name(0, 1, true))?;
         let list = Seq::from_vec(list.to_vec(alloc)?);
-        let picks = Picks { names, list, last };
-        let end = serial(alloc, &program(alloc, text)?, &[], LIMITS, &picks)?;
-        assert_eq!(rt; shown(alloc, &end)?.as_str(), wanted);
+        let picks = Picks {
+            names,
+            list,
+            last: 0,
+        };
+        let end = serial(alloc, &program(alloc, BOTH)?, &[], LIMITS, &picks)?;
+        let shown = match &end {
+            SerialEnd::Finished { memory, .. } => {
+                let memory = memory.as_slice();
+                format!(in alloc; "Finished {memory:?}")?
+            }
+            SerialEnd::Stuck { place } => format!(in alloc; "Stuck {place}")?,
+            _ => String::new(alloc),
+        };
+        assert_eq!(rt; shown.as_str(), wanted);
     }
     Ok(())
 }
 
 #[test]
-fn one_worker_picks_each_want(rt: HostRuntime) -> Result<(), Fail> {
+fn an_update_is_lost_step_by_step(rt: HostRuntime) -> Result<(), Fail> {
     let alloc = rt.alloc();
-    let text = "cell c; fn main() { let x = c; c = x * 2; out c; }";
-    let record = depth_first(alloc, program(alloc, text)?, Seq::new(alloc), LIMITS)?;
-    assert_eq!(rt; record.order.names.as_slice(), [ROOT].as_slice());
-    assert_eq!(rt; record.order.list.as_slice(), [0, 0, 0, 0].as_slice());
+    let program = program(alloc, BOTH)?;
+    let mut machine = Machine::new(alloc, &program, &[], LIMITS)?;
+    let table: [(u32, &str); 6] = [
+        (0, "None Some(Load(0)) Some(Load(0)) "),
+        (1, "None Some(Store(0, 1)) Some(Load(0)) "),
+        (2, "None Some(Store(0, 1)) Some(Store(0, 1)) "),
+        (1, "None None Some(Store(0, 1)) "),
+        (2, "Some(End) None None "),
+        (0, "None None None "),
+    ];
+    for (strand, wanted) in table {
+        assert!(rt; machine.pick(&program, strand)?);
+        let mut standing = String::new(alloc);
+        for number in 0..3 {
+            let want = machine.at(number);
+            standing.push_str(format!(in alloc; "{want:?} ")?.as_str())?;
+        }
+        assert_eq!(rt; standing.as_str(), wanted);
+    }
+    assert_eq!(rt; machine.memory(), [1].as_slice());
     Ok(())
 }

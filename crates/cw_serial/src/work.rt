@@ -1,9 +1,10 @@
-ghost use Rattle.std.specs.Prelude.{◌≡◌, List, IfOk, OnOk};
+ghost use Rattle.std.specs.Prelude.{◌≡◌, [], ◌∷◌, List, IfOk, OnOk};
 ghost use Rattle.cw_code.specs.declared.CellInfo.{CellInfo};
-ghost use Rattle.cw_text.specs.Syntax.{term_of, block_of};
-ghost use Rattle.cw_strand.specs.Meaning.{value, lift, join, perform, bind, store_in, show, read, result as outcome_of, local_of, element_of, in_place};
+ghost use Rattle.cw_text.specs.Syntax.{atomic, spawn, term_of, statement_of, block_of};
+ghost use Rattle.cw_strand.specs.Meaning.{value, lift, join, perform, bind, store_in, show, forget, meet, commit, finish, begun, read, result as outcome_of, local_of, element_of, in_place};
 
-use crate::names::Names;
+use crate::elements::Elements;
+use crate::locals::Locals;
 use crate::operators::{one, two};
 use crate::stack::Stack;
 use cw_base::OutOfMemory;
@@ -25,6 +26,12 @@ pub enum Task<'a> {
     Bind(&'a str),
     StoreIn(&'a str),
     Show,
+    /// The end of a block that had so many locals before it.
+    Forget(usize),
+    /// Waits for what was spawned in the innermost scope.
+    Meet,
+    /// The end of an atomic block.
+    Commit,
     Finish,
 }
 
@@ -33,6 +40,10 @@ pub enum Task<'a> {
 pub enum Outcome {
     On,
     Wants(Want),
+    /// What is left is what the right strand does.
+    Forks,
+    /// What is left is what the strand does that forked.
+    Syncs,
     Ends,
     Fails(FaultKind),
 }
@@ -42,11 +53,44 @@ pub enum Outcome {
 pub struct Work<'a> {
     pub todo: Stack<Task<'a>>,
     pub values: Stack<i64>,
-    pub locals: Names<'a, i64>,
+    pub locals: Locals<'a, i64>,
+    /// For each scope that waits at its end, how many forks it has to wait for.
+    pub scopes: Stack<u32>,
+    /// What the left strand of the newest fork does.
+    pub beside: &'a [Stmt],
 }
 
 impl<'a> Work<'a> {
-    ghost use Rattle.cw_serial.specs.Standing.{ForCells, ForLocals, Steps, Does, Comes, Leads, state_of, task_of};
+    ghost use Rattle.cw_serial.specs.Standing.{ForCells, Steps, Does, Comes, came_to, state_of, task_of, tasks_of};
+
+    /// What a strand has to do that does a block, with these locals.
+    pub fn new(
+        alloc: Global,
+        body: &'a [Stmt],
+        locals: Locals<'a, i64>,
+        beside: &'a [Stmt],
+    ) -> Result<Work<'a>, OutOfMemory>
+        ensures { IfOk result (λ w. state_of w ≡ record {
+          todo = perform (block_of body.now) ∷ meet ∷ finish ∷ [];
+          values = [];
+          locals = locals.entry;
+          scopes = 0 ∷ [];
+          beside = block_of beside.now;
+        }) }
+    {
+        let mut work = Work {
+            todo: Stack::new(alloc),
+            values: Stack::new(alloc),
+            locals,
+            scopes: Stack::new(alloc),
+            beside,
+        };
+        work.todo.push(Task::Finish)?;
+        work.todo.push(Task::Meet)?;
+        work.todo.push(Task::Perform(body))?;
+        work.scopes.push(0)?;
+        Ok(work)
+    }
 
     /// The newest operand, where there is one, is this.
     pub fn replace(&mut self, value: i64) -> Result<(), OutOfMemory>
@@ -59,13 +103,15 @@ impl<'a> Work<'a> {
     }
 
     /// Does all that it does by itself, and the step at which it stands then.
-    pub fn run(&mut self, elements: &Names<'_, u32>) -> Result<Want, OutOfMemory>
+    pub fn run(&mut self, elements: &Elements<'_>) -> Result<Want, OutOfMemory>
         ensures { IfOk result (λ w. Comes elements.now self.old w self.new) }
     {
         'steps: loop {
             match self.step(elements)? {
                 Outcome::On => {}
                 Outcome::Wants(want) => return Ok(want),
+                Outcome::Forks => return Ok(Want::Fork),
+                Outcome::Syncs => return Ok(Want::Sync),
                 Outcome::Ends => return Ok(Want::Done),
                 Outcome::Fails(kind) => return Ok(Want::Fault(kind)),
             }
@@ -73,7 +119,7 @@ impl<'a> Work<'a> {
     }
 
     /// Does the nearest task.
-    fn step(&mut self, elements: &Names<'_, u32>) -> Result<Outcome, OutOfMemory>
+    fn step(&mut self, elements: &Elements<'_>) -> Result<Outcome, OutOfMemory>
         ensures { IfOk result (λ o. Steps elements.now self.old o self.new) }
     {
         let Some(task) = self.todo.pop() else {
@@ -83,7 +129,7 @@ impl<'a> Work<'a> {
     }
 
     /// Does a task that was the nearest.
-    fn act(&mut self, task: Task<'a>, elements: &Names<'_, u32>) -> Result<Outcome, OutOfMemory>
+    fn act(&mut self, task: Task<'a>, elements: &Elements<'_>) -> Result<Outcome, OutOfMemory>
         ensures { IfOk result (λ o. ForCells elements.now (λ cells.
             Does cells self.old (task_of task.entry) o self.new)) }
     {
@@ -95,12 +141,15 @@ impl<'a> Work<'a> {
             Task::Bind(name) => self.bind(name),
             Task::StoreIn(name) => self.store_in(name, elements),
             Task::Show => Ok(self.show()),
+            Task::Forget(count) => self.forget(count),
+            Task::Meet => self.meet(),
+            Task::Commit => Ok(self.commit()),
             Task::Finish => Ok(Outcome::Ends),
         }
     }
 
     /// The value of an expression, or what gives it.
-    fn value(&mut self, of: &'a Expr, elements: &Names<'_, u32>) -> Result<Outcome, OutOfMemory>
+    fn value(&mut self, of: &'a Expr, elements: &Elements<'_>) -> Result<Outcome, OutOfMemory>
         ensures { IfOk result (λ o. ForCells elements.now (λ cells.
             Does cells self.old (value (term_of of.now)) o self.new)) }
     {
@@ -121,11 +170,11 @@ impl<'a> Work<'a> {
     }
 
     /// A name gives its value.
-    fn read(&mut self, name: &str, elements: &Names<'_, u32>) -> Result<Outcome, OutOfMemory>
-        ensures { IfOk result (λ o. ForCells elements.now (λ cells. ForLocals self.old.locals (λ ls.
-            Leads (read (local_of ls name.now) (element_of cells name.now) (state_of self.old ls)) o self.new))) }
+    fn read(&mut self, name: &str, elements: &Elements<'_>) -> Result<Outcome, OutOfMemory>
+        ensures { IfOk result (λ o. ForCells elements.now (λ cells. came_to o self.new
+            ≡ read (local_of self.old.locals name.now) (element_of cells name.now) (state_of self.old))) }
     {
-        if let Some(value) = self.locals.get(name) {
+        if let Some(value) = self.locals.value(name) {
             self.values.push(value)?;
             return Ok(Outcome::On);
         }
@@ -161,8 +210,7 @@ impl<'a> Work<'a> {
 
     /// What an operator gives is a value, or a fault.
     fn give(&mut self, given: Result<i64, FaultKind>) -> Result<Outcome, OutOfMemory>
-        ensures { IfOk result (λ o. ForLocals self.old.locals (λ ls.
-            Leads (outcome_of given self.old.values (state_of self.old ls)) o self.new)) }
+        ensures { IfOk result (λ o. came_to o self.new ≡ outcome_of given self.old.values (state_of self.old)) }
     {
         match given {
             Ok(value) => {
@@ -181,7 +229,15 @@ impl<'a> Work<'a> {
             return Ok(Outcome::On);
         };
         self.todo.push(Task::Perform(rest))?;
-        match first {
+        self.begin(first)
+    }
+
+    /// A statement, before what is to be done.
+    fn begin(&mut self, statement: &'a Stmt) -> Result<Outcome, OutOfMemory>
+        ensures { IfOk result (λ o. came_to o self.new
+            ≡ begun (statement_of statement.now) (tasks_of self.old) (state_of self.old)) }
+    {
+        match statement {
             Stmt::Let { name, value } => {
                 self.todo.push(Task::Bind(name.name.as_str()))?;
                 self.todo.push(Task::Value(value))?;
@@ -194,8 +250,35 @@ impl<'a> Work<'a> {
                 self.todo.push(Task::Show)?;
                 self.todo.push(Task::Value(value))?;
             }
+            Stmt::Atomic(body) => return self.atomic(body.as_slice()),
+            Stmt::Spawn(body) => return self.spawn(body.as_slice()),
+            Stmt::Sync => self.todo.push(Task::Meet)?,
         }
         Ok(Outcome::On)
+    }
+
+    /// An atomic block, before what is to be done.
+    fn atomic(&mut self, body: &'a [Stmt]) -> Result<Outcome, OutOfMemory>
+        ensures { IfOk result (λ o. came_to o self.new
+            ≡ begun (atomic (block_of body.now)) (tasks_of self.old) (state_of self.old)) }
+    {
+        self.todo.push(Task::Commit)?;
+        self.todo.push(Task::Meet)?;
+        self.todo.push(Task::Forget(self.locals.count()))?;
+        self.todo.push(Task::Perform(body))?;
+        self.scopes.push(0)?;
+        Ok(Outcome::Wants(Want::Begin))
+    }
+
+    /// A block is done beside what is to be done here.
+    fn spawn(&mut self, body: &'a [Stmt]) -> Result<Outcome, OutOfMemory>
+        ensures { IfOk result (λ o. came_to o self.new
+            ≡ begun (spawn (block_of body.now)) (tasks_of self.old) (state_of self.old)) }
+    {
+        self.beside = body;
+        let forks = self.scopes.pop().unwrap_or(0);
+        self.scopes.push(forks.checked_add(1).ok_or(OutOfMemory)?)?;
+        Ok(Outcome::Forks)
     }
 
     /// A new local.
@@ -205,20 +288,20 @@ impl<'a> Work<'a> {
         let Some(first) = self.values.pop() else {
             return Ok(Outcome::Ends);
         };
-        self.locals.set(name, first)?;
+        self.locals.bind(name, first)?;
         Ok(Outcome::On)
     }
 
     /// A name gets a value.
-    fn store_in(&mut self, name: &'a str, elements: &Names<'_, u32>) -> Result<Outcome, OutOfMemory>
+    fn store_in(&mut self, name: &'a str, elements: &Elements<'_>) -> Result<Outcome, OutOfMemory>
         ensures { IfOk result (λ o. ForCells elements.now (λ cells.
             Does cells self.old (store_in name.now) o self.new)) }
     {
         let Some(value) = self.values.pop() else {
             return Ok(Outcome::Ends);
         };
-        if self.locals.get(name).is_some() {
-            self.locals.set(name, value)?;
+        if self.locals.value(name).is_some() {
+            self.locals.assign(name, value)?;
             return Ok(Outcome::On);
         }
         let Some(element) = elements.get(name) else {
@@ -235,5 +318,37 @@ impl<'a> Work<'a> {
             None => Outcome::Ends,
             Some(value) => Outcome::Wants(Want::Out(value)),
         }
+    }
+
+    /// The locals of a block are gone.
+    fn forget(&mut self, count: usize) -> Result<Outcome, OutOfMemory>
+        ensures { IfOk result (λ o. (cells : List CellInfo) → Does cells self.old (forget count) o self.new) }
+    {
+        self.locals.forget(count)?;
+        Ok(Outcome::On)
+    }
+
+    /// The innermost scope goes on, or waits for its newest fork.
+    fn meet(&mut self) -> Result<Outcome, OutOfMemory>
+        ensures { IfOk result (λ o. (cells : List CellInfo) → Does cells self.old meet o self.new) }
+    {
+        let Some(forks) = self.scopes.pop() else {
+            return Ok(Outcome::On);
+        };
+        if forks == 0 {
+            self.scopes.push(0)?;
+            return Ok(Outcome::On);
+        }
+        self.scopes.push(forks - 1)?;
+        self.todo.push(Task::Meet)?;
+        Ok(Outcome::Syncs)
+    }
+
+    /// An atomic block ends.
+    fn commit(&mut self) -> Outcome
+        ensures { (cells : List CellInfo) → Does cells self.old commit result self.new }
+    {
+        self.scopes.pop();
+        Outcome::Wants(Want::End)
     }
 }

@@ -1,10 +1,10 @@
 use Rattle.std.proofs.Common.{◌≡◌, drop}
 use Rattle.cw_strand.specs.Names.{in_params, with_params}
-use Rattle.cw_serial.specs.Scopes.{IsSame}
+use Rattle.cw_serial.specs.Visible.{visible_in}
 use Rattle.cw_serial.proofs.checking.in_params.Given as goal
 
 abbrev pub invariant-loop-word : goal.invariant-loop-word
 invariant-loop-word l = record {
-  faults : in_params l.initial.visible l.params ≡ in_params l.visible (drop l.word-index l.params);
-  visible : IsSame (with_params l.visible (drop l.word-index l.params)) (with_params l.initial.visible l.params);
+  faults : in_params (visible_in l.initial.visible) l.params ≡ in_params (visible_in l.visible) (drop l.word-index l.params);
+  visible : with_params (visible_in l.visible) (drop l.word-index l.params) ≡ with_params (visible_in l.initial.visible) l.params;
 }

@@ -17,3 +17,12 @@ returns-in-Bind c = without_cells c.bind.result c.args.elements.now c.args.self.
 
 pub returns-in-Show : goal.returns-in-Show
 returns-in-Show c = λ cells elements. rw c.in-Show.is (c.show.ensures cells)
+
+pub returns-in-Forget : goal.returns-in-Forget
+returns-in-Forget c = without_cells c.forget.result c.args.elements.now c.args.self.now _ _ _ (ap task_of c.in-Forget.is) c.forget.ensures
+
+pub returns-in-Meet : goal.returns-in-Meet
+returns-in-Meet c = without_cells c.meet.result c.args.elements.now c.args.self.now _ _ _ (ap task_of c.in-Meet.is) c.meet.ensures
+
+pub returns-in-Commit : goal.returns-in-Commit
+returns-in-Commit c = λ cells elements. rw c.in-Commit.is (c.commit.ensures cells)

@@ -7,4 +7,4 @@ pub returns : goal.returns
 returns c =
     let right : SFits w64 c.in-Some.y = search rules in
     let left : SFits w64 c.in-Some-pop.x = search rules in
-    joins c.args.op c.args.self.now.todo _ _ c.args.self.now.locals _ c.give.result c.in-Some-pop.x c.in-Some.y (rw c.in-Some-pop.ensures at c.in-Some.ensures) (rw (c.two.ensures, to_z-of_z w64 c.in-Some.y right, to_z-of_z w64 c.in-Some-pop.x left) at c.give.ensures)
+    joins c.args.op c.args.self.now _ _ c.give.result c.in-Some-pop.x c.in-Some.y (rw c.in-Some-pop.ensures at c.in-Some.ensures) (rw (c.two.ensures, to_z-of_z w64 c.in-Some.y right, to_z-of_z w64 c.in-Some-pop.x left) at c.give.ensures)

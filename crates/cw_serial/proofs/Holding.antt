@@ -1,0 +1,156 @@
+-- The strands in memory are those of a tree.
+use Rattle.std.proofs.Common.{◌≡◌, ℕ, suc, ◌-◌, ◌<◌, refl, ap, sym, ◌∙◌, arith, subst, Bool, true, false, ◌⊎◌, inl, inr, Option, Some, None, List, [], ◌∷◌, ◌++◌, length, append-nil, append_assoc}
+use Rattle.std.specs.List.{slice_get}
+use Rattle.std.proofs.lemmas.Bool.{cases_eq}
+use Rattle.cw_code.specs.declared.CellInfo.{CellInfo}
+use Rattle.cw_strand.specs.declared.want.Want.{Want}
+use Rattle.cw_strand.specs.declared.want.Want.TheVariants.{Load, Store, Out, Begin, End, Fork, Sync, Done, Fault}
+use Rattle.cw_strand.specs.Meaning.{State, step, wanted}
+use Rattle.cw_tree.specs.declared.picks.Turn.{Turn}
+use Rattle.cw_serial.specs.declared.work.Work.{Work}
+use Rattle.cw_serial.specs.declared.strand.Strand.{Strand}
+use Rattle.cw_serial.specs.declared.threads.Place.{Place}
+use Rattle.cw_serial.specs.declared.threads.Place.TheVariants.{Stands, Waits, Gone}
+use Rattle.cw_serial.specs.declared.threads.Sides.{Sides}
+use Rattle.cw_serial.specs.declared.threads.Thread.{Thread}
+use Rattle.cw_serial.specs.declared.threads.Threads.{Threads as Table}
+use Rattle.cw_serial.specs.Threads.{Threads, stands, waits}
+use Rattle.cw_serial.specs.Machine.{turns}
+use Rattle.cw_serial.specs.Spots.{turn_to, Spot, standing, waiting, spot}
+use Rattle.cw_serial.specs.Standing.{IsStrand, rests_at}
+use Rattle.cw_serial.specs.Held.{IsPlace, Holds}
+use Rattle.cw_serial.proofs.Sides.{turn_is}
+use Rattle.cw_serial.proofs.Numbers.{get_some}
+use Rattle.cw_serial.proofs.Numbered.{turns_within, turns_of_left, turns_of_right}
+use Rattle.cw_serial.proofs.Replaced.{Beside, spot_side, spot_left, spot_right}
+
+-- ## Names beneath names
+
+beside_other : (x y : Turn) (p q : List Turn) → (x ≡ y → ⊥) → Beside (x ∷ p) (y ∷ q)
+beside_other x y p q ne r e = ne cc
+
+beneath_more : (x y : Turn) (p q : List Turn) → x ≡ y → ((r : List Turn) × (q ≡ p ++ r)) ⊎ Beside p q → ((r : List Turn) × (y ∷ q ≡ (x ∷ p) ++ r)) ⊎ Beside (x ∷ p) (y ∷ q)
+beneath_more x y p q e (inl (r, same)) = inl (r, ap (λ z. z ∷ q) (sym e) ∙ ap (λ z. x ∷ z) same)
+beneath_more x y p q e (inr beside) = inr (λ r f. beside r cc)
+
+same_turns : (x y : Turn) → (x ≡ y) ⊎ (x ≡ y → ⊥)
+same_turns x y = by (cases_eq x.fork y.fork) x.right y.right refl refl where
+  by : (x.fork ≡ y.fork) ⊎ (x.fork ≡ y.fork → ⊥) → (b c : Bool) → x.right ≡ b → y.right ≡ c → (x ≡ y) ⊎ (x ≡ y → ⊥)
+  by (inr ne) b c e f = inr (λ same. ne (ap (λ (z : Turn). z.fork) same))
+  by (inl fork) true true e f = inl (turn_is x y.fork true fork e ∙ sym (turn_is y y.fork true refl f))
+  by (inl fork) false false e f = inl (turn_is x y.fork false fork e ∙ sym (turn_is y y.fork false refl f))
+  by (inl fork) true false e f = inr (λ same. let g : true ≡ false = sym e ∙ (ap (λ (z : Turn). z.right) same ∙ f) in cc)
+  by (inl fork) false true e f = inr (λ same. let g : false ≡ true = sym e ∙ (ap (λ (z : Turn). z.right) same ∙ f) in cc)
+
+-- a name leads on from another one, or beside it
+pub beneath : (p q : List Turn) → ((r : List Turn) × (q ≡ p ++ r)) ⊎ Beside p q
+beneath [] q = inl (q, refl)
+beneath (x ∷ p) [] = inr (λ r e. cc)
+beneath (x ∷ p) (y ∷ q) = by (same_turns x y) (beneath p q) where
+  by : (x ≡ y) ⊎ (x ≡ y → ⊥) → ((r : List Turn) × (q ≡ p ++ r)) ⊎ Beside p q → ((r : List Turn) × (y ∷ q ≡ (x ∷ p) ++ r)) ⊎ Beside (x ∷ p) (y ∷ q)
+  by (inl e) more = beneath_more x y p q e more
+  by (inr ne) more = inr (beside_other x y p q ne)
+
+-- ## Wants
+
+wanted_at : (w : Want) (work : Work) → wanted (rests_at w work) ≡ w
+wanted_at Fork work = refl
+wanted_at Sync work = refl
+wanted_at Done work = refl
+wanted_at Begin work = refl
+wanted_at End work = refl
+wanted_at (Load c) work = refl
+wanted_at (Store c v) work = refl
+wanted_at (Out v) work = refl
+wanted_at (Fault k) work = refl
+
+-- a strand in memory wants what its state wants
+pub same_want : (cells : List CellInfo) (st : Strand) (a : State) → IsStrand cells st a → wanted (step cells a) ≡ st.want
+same_want cells st a h = ap wanted h ∙ wanted_at st.want st.work
+
+-- ## Places
+
+module _ (cells : List CellInfo) where
+  pub record AtStand (place : Place) (forks : ℕ) (k : ℕ) (a : State) : Type 0 where
+    pub strand : Strand
+    pub stands : place ≡ Stands strand
+    pub many : forks ≡ k
+    pub state : IsStrand cells strand a
+
+  pub at_stand : (place : Place) (forks k : ℕ) (a : State) → IsPlace cells place forks (Some (standing k a)) → AtStand place forks k a
+  at_stand (Stands st) forks k a h = record { strand = st; stands = refl; many = h.0; state = h.1 }
+  at_stand Waits forks k a h = absurd h
+  at_stand Gone forks k a h = absurd h
+
+  pub at_wait : (place : Place) (forks k : ℕ) → IsPlace cells place forks (Some (waiting k)) → (place ≡ Waits) × (forks ≡ k) × (0 < k)
+  at_wait Waits forks k h = (refl, h.0, h.1)
+  at_wait (Stands st) forks k h = absurd h
+  at_wait Gone forks k h = absurd h
+
+  pub record FromStand (st : Strand) (forks : ℕ) (o : Option (Spot State)) : Type 0 where
+    pub state : State
+    pub there : o ≡ Some (standing forks state)
+    pub is : IsStrand cells st state
+
+  pub from_stand : (st : Strand) (forks : ℕ) (o : Option (Spot State)) → IsPlace cells (Stands st) forks o → FromStand st forks o
+  from_stand st forks None h = absurd h
+  from_stand st forks (Some (waiting k)) h = absurd h
+  from_stand st forks (Some (standing k a)) h = record { state = a; there = ap (λ m. Some (standing m a)) (sym h.0); is = h.1 }
+
+  pub from_wait : (forks : ℕ) (o : Option (Spot State)) → IsPlace cells Waits forks o → (o ≡ Some (waiting forks)) × (0 < forks)
+  from_wait forks None h = absurd h
+  from_wait forks (Some (standing k a)) h = absurd h
+  from_wait forks (Some (waiting k)) h = (ap (λ m. Some (waiting m)) (sym h.0), let many : forks ≡ k = h.0 in let some : 0 < k = h.1 in omega arith)
+
+  module _ (table : Table) (tree : Threads State) (holds : Holds cells table tree) where
+    pub thread_named : (i : ℕ) (p : List Turn) → turns table.names.items i ≡ Some p → (th : Thread) × (slice_get table.threads.items i ≡ Some th)
+    thread_named i p up = get_some table.threads.items i (let same = holds.numbered.same in let within = turns_within table.names.items table.threads.items holds.numbered i p up in omega arith)
+
+    -- a strand that waits, with the strands of its fork
+    pub record WaitsFor (i : ℕ) (q : List Turn) (k : ℕ) : Type 0 where
+      pub thread : Thread
+      pub sides : Sides
+      pub here : slice_get table.threads.items i ≡ Some thread
+      pub place : thread.place ≡ Waits
+      pub newest : slice_get thread.forks.items (length thread.forks.items - 1) ≡ Some sides
+      pub left : turns table.names.items sides.left ≡ Some (q ++ turn_to k false ∷ [])
+      pub right : turns table.names.items sides.right ≡ Some (q ++ turn_to k true ∷ [])
+
+    pub waits_for : (i : ℕ) (q : List Turn) (k : ℕ) → turns table.names.items i ≡ Some q → spot tree q ≡ Some (waiting k) → WaitsFor i q k
+    waits_for i q k up h =
+        let (th, here) = thread_named i q up in
+        let (place, many, some) = at_wait th.place (length th.forks.items) k (subst (IsPlace cells th.place (length th.forks.items)) h (holds.places i q th up here)) in
+        let (x, newest) = get_some th.forks.items (length th.forks.items - 1) (omega arith) in
+        let number : suc (length th.forks.items - 1) ≡ k = omega arith in
+        record {
+          thread = th;
+          sides = x;
+          here = here;
+          place = place;
+          newest = newest;
+          left = turns_of_left table.names.items table.threads.items holds.numbered i (length th.forks.items - 1) th x q here newest up ∙ ap (λ m. Some (q ++ turn_to m false ∷ [])) number;
+          right = turns_of_right table.names.items table.threads.items holds.numbered i (length th.forks.items - 1) th x q here newest up ∙ ap (λ m. Some (q ++ turn_to m true ∷ [])) number;
+        }
+
+    step_down : (q r : List Turn) (x y : Turn) → x ≡ y → (q ++ y ∷ []) ++ r ≡ q ++ x ∷ r
+    step_down q r x y e = append_assoc q (y ∷ []) r ∙ ap (λ z. q ++ z ∷ r) (sym e)
+
+    -- each strand of the tree has a number
+    listed_below : (u : Threads State) (q r : List Turn) (i : ℕ) (v : Spot State) → turns table.names.items i ≡ Some q → ((z : List Turn) → spot tree (q ++ z) ≡ spot u z) → spot u r ≡ Some v → (j : ℕ) × (turns table.names.items j ≡ Some (q ++ r))
+    listed_below u q [] i v up same h = (i, up ∙ ap (λ z. Some z) (sym (append-nil q)))
+    listed_below (stands k a) q (x ∷ r) i v up same h = absurd cc
+    listed_below (waits k l m) q (x ∷ r) i v up same h =
+        let here : spot tree q ≡ Some (waiting k) = ap (spot tree) (sym (append-nil q)) ∙ same [] in
+        let w = waits_for i q k up here in
+        spot_side k l m x r ((j : ℕ) × (turns table.names.items j ≡ Some (q ++ x ∷ r))) v h
+        (λ e f.
+        let y = turn_to k false in
+        let (j, found) = listed_below l (q ++ y ∷ []) r w.sides.left v w.left (λ z. ap (spot tree) (append_assoc q (y ∷ []) z) ∙ (same (y ∷ z) ∙ spot_left k l m z)) f in
+        (j, found ∙ ap (λ z. Some z) (step_down q r x y e)))
+        (λ e f.
+        let y = turn_to k true in
+        let (j, found) = listed_below m (q ++ y ∷ []) r w.sides.right v w.right (λ z. ap (spot tree) (append_assoc q (y ∷ []) z) ∙ (same (y ∷ z) ∙ spot_right k l m z)) f in
+        (j, found ∙ ap (λ z. Some z) (step_down q r x y e)))
+
+    pub listed : (p : List Turn) (v : Spot State) → spot tree p ≡ Some v → (j : ℕ) × (turns table.names.items j ≡ Some p)
+    listed p v h = listed_below tree [] p 0 v (rw holds.numbered.first refl) (λ z. refl) h

@@ -1,0 +1,78 @@
+-- What is known of the strands that an order names.
+use Rattle.std.specs.Prelude.{◌≡◌, ◌<◌, ℕ, zero, suc, List, [], ◌∷◌, nat_lt, slice_get, Option, Some, None, if◌then◌else◌}
+use Rattle.cw_strand.specs.declared.want.Want.{Want}
+use Rattle.cw_strand.specs.declared.want.Want.TheVariants.{Fault}
+use Rattle.cw_strand.specs.Meaning.{State}
+use Rattle.cw_tree.specs.declared.picks.Name.{Name}
+use Rattle.cw_tree.specs.declared.picks.Turn.{Turn}
+use Rattle.cw_serial.specs.declared.program.Program.{Program}
+use Rattle.cw_serial.specs.declared.machine.Machine.{Machine as Code}
+use Rattle.cw_serial.specs.declared.ends.SerialEnd.{SerialEnd}
+use Rattle.cw_serial.specs.declared.ends.SerialEnd.TheVariants as last
+use Rattle.cw_serial.specs.Threads.{at}
+use Rattle.cw_serial.specs.Machine.{Machine, turns, is_root}
+use Rattle.cw_serial.specs.Programs.{strands_of}
+use Rattle.cw_serial.specs.InMemory.{IsMachine}
+
+-- name n of an order is that of strand i
+pub record SameStrand (order names : List Name) (n i : ℕ) : Type 0 where
+  pub path : List Turn
+  pub here : turns order n ≡ Some path
+  pub there : turns names i ≡ Some path
+
+-- each number that is known is that of the strand of that name
+abbrev pub AreKnown : (order : List Name) → (numbers : List (Option ℕ)) → (names : List Name) → Type 0
+AreKnown order numbers names = (n i : ℕ) → slice_get numbers n ≡ Some (Some i) → SameStrand order names n i
+
+abbrev pub known_of : Option (Option ℕ) → Option ℕ
+known_of None = None
+known_of (Some o) = o
+
+abbrev pub root_number : Option Name → Option ℕ
+root_number None = None
+root_number (Some x) = if is_root x then Some 0 else None
+
+-- the number of a name's strand, as far as it is known
+abbrev pub known_at : List Name → List (Option ℕ) → ℕ → Option ℕ
+known_at order numbers zero = root_number (slice_get order 0)
+known_at order numbers (suc n) = known_of (slice_get numbers (suc n))
+
+abbrev pub parent_number : Option Name → ℕ → Option ℕ
+parent_number None n = None
+parent_number (Some x) n = if nat_lt x.parent n then Some x.parent else None
+
+-- from name `from` these names lead down to name n, each from the one before
+abbrev pub LeadDown : List Name → (from : ℕ) → List ℕ → (n : ℕ) → Type 0
+LeadDown order from [] n = from ≡ n
+LeadDown order from (a ∷ rest) n = (x : Name) × (slice_get order a ≡ Some x) × (x.parent ≡ from) × (from < a) × LeadDown order a rest n
+
+-- a name leads up to one whose strand is known; or it is none
+abbrev pub LeadsUp : List Name → List (Option ℕ) → ℕ → Option ℕ → List ℕ → Type 0
+LeadsUp order numbers n None todo = (q : List Turn) → turns order n ≡ Some q → ⊥
+LeadsUp order numbers n (Some i) todo = (from : ℕ) × (known_at order numbers from ≡ Some i) × LeadDown order from todo n
+
+-- no strand of that name stands in the machine
+abbrev pub StandsNowhere : List Name → ℕ → Code → Type 0
+StandsNowhere order n code = (p : Program) (m : Machine State) (q : List Turn) → IsMachine p code m → turns order n ≡ Some q → at (strands_of p) m.strands q ≡ None
+
+-- what is found of a name: the number of its strand, or that none stands
+abbrev pub Finds : List Name → ℕ → Code → Option ℕ → Type 0
+Finds order n code None = StandsNowhere order n code
+Finds order n code (Some i) = SameStrand order code.strands.names.items n i
+
+-- the strand of that number, where there is one, is that of the name; or none of the name stands
+abbrev pub IsNamed : Program → Machine State → Code → Option ℕ → Option (List Turn) → Type 0
+IsNamed p m code None None = Unit {0}
+IsNamed p m code None (Some q) = at (strands_of p) m.strands q ≡ None
+IsNamed p m code (Some i) (Some q) = turns code.strands.names.items i ≡ Some q
+IsNamed p m code (Some i) None = ⊥
+
+abbrev pub at_named : Program → Machine State → Option (List Turn) → Option State
+at_named p m None = None
+at_named p m (Some q) = at (strands_of p) m.strands q
+
+-- how a run ends whose last strand wants this
+abbrev pub end_from : Option Want → (name place : ℕ) → SerialEnd
+end_from None name place = last.Stuck place
+end_from (Some (Fault k)) name place = last.Fault name k
+end_from (Some w) name place = last.At name

@@ -1,0 +1,145 @@
+ghost use Rattle.std.specs.Prelude.{◌≡◌, [], Some, IfOk, slice_get, slice_set};
+
+use crate::Name;
+use crate::machine::Machine;
+use crate::stack::Stack;
+use cw_base::OutOfMemory;
+use std::alloc::Global;
+
+/// The strands that an order names, by their numbers in the machine, as far as they were asked for.
+#[derive(Drop)]
+pub struct Known<'n> {
+    pub order: &'n [Name],
+    pub numbers: Vec<Option<u32>>,
+}
+
+impl<'n> Known<'n> {
+    ghost use Rattle.std.specs.Prelude.{List, ℕ};
+    ghost use Rattle.cw_tree.specs.declared.picks.Name.{Name as Named};
+    ghost use Rattle.cw_serial.specs.Held.{IsNumbered};
+    ghost use Rattle.cw_serial.specs.Orders.{AreKnown, SameStrand, known_at, parent_number, root_number, LeadsUp, LeadDown, Finds};
+
+    /// Nothing is known yet.
+    pub fn new(alloc: Global, order: &'n [Name]) -> Result<Known<'n>, OutOfMemory>
+        ensures order { IfOk result (λ k. k.order.now ≡ order.now) }
+        ensures known { IfOk result (λ k. (names : List Named) → AreKnown order.now k.numbers.items names) }
+    {
+        let mut numbers = Vec::new(alloc);
+        for _name in order {
+            numbers.push(None)?;
+        }
+        Ok(Known { order, numbers })
+    }
+
+    /// The number of a name's strand, if that was started.
+    pub fn number(
+        &mut self,
+        alloc: Global,
+        machine: &Machine<'_>,
+        name: u32,
+    ) -> Result<Option<u32>, OutOfMemory>
+        ensures order { IfOk result (λ found. self.new.order.now ≡ self.old.order.now) }
+        ensures found { IfOk result (λ found.
+            IsNumbered machine.now.strands.names.items machine.now.strands.threads.items →
+            AreKnown self.old.order.now self.old.numbers.items machine.now.strands.names.items →
+            Finds self.old.order.now name machine.now found
+            × AreKnown self.old.order.now self.new.numbers.items machine.now.strands.names.items) }
+    {
+        let mut todo = Stack::new(alloc);
+        let Some(number) = self.climb(name, &mut todo)? else {
+            return Ok(None);
+        };
+        Ok(self.descend(machine, number, todo))
+    }
+
+    /// The number of the nearest strand above a name that is known, with the names from there down to it.
+    fn climb(&self, name: u32, todo: &mut Stack<u32>) -> Result<Option<u32>, OutOfMemory>
+        requires { todo.old ≡ [] }
+        ensures { IfOk result (λ found. LeadsUp self.now.order.now self.now.numbers.items name found todo.new) }
+    {
+        let mut at = name;
+        'up: loop {
+            if let Some(number) = self.known(at) {
+                return Ok(Some(number));
+            }
+            let Some(parent) = self.parent(at) else {
+                return Ok(None);
+            };
+            todo.push(at)?;
+            at = parent;
+        }
+    }
+
+    /// The number of the strand to which these names lead down, if that was started.
+    fn descend(&mut self, machine: &Machine<'_>, number: u32, mut todo: Stack<u32>) -> Option<u32>
+        ensures order { self.new.order.now ≡ self.old.order.now }
+        ensures found { IsNumbered machine.now.strands.names.items machine.now.strands.threads.items →
+            (from n : ℕ) → LeadDown self.old.order.now from todo n →
+            SameStrand self.old.order.now machine.now.strands.names.items from number →
+            AreKnown self.old.order.now self.old.numbers.items machine.now.strands.names.items →
+            Finds self.old.order.now n machine.now result
+            × AreKnown self.old.order.now self.new.numbers.items machine.now.strands.names.items }
+    {
+        let mut above = number;
+        while let Some(at) = todo.pop() {
+            let Some(name) = self.name(at) else {
+                return None;
+            };
+            let Some(started) = machine.started(Name {
+                parent: above,
+                ..name
+            }) else {
+                return None;
+            };
+            self.note(at, started);
+            above = started;
+        }
+        Some(above)
+    }
+
+    /// The number of a name's strand is known from now on.
+    fn note(&mut self, name: u32, number: u32)
+        ensures order { self.new.order ≡ self.old.order }
+        ensures numbers { self.new.numbers.items ≡ slice_set self.old.numbers.items name (Some number) }
+    {
+        if let Some(known) = self.numbers.get_mut(name as usize) {
+            *known = Some(number);
+        }
+    }
+
+    /// The number of a name's strand, where it is known.
+    fn known(&self, name: u32) -> Option<u32>
+        ensures { result ≡ known_at self.now.order.now self.now.numbers.items name }
+    {
+        if name == 0 {
+            return self.root();
+        }
+        *self.numbers.get(name as usize)?
+    }
+
+    /// The number of the root, where the order begins with it.
+    fn root(&self) -> Option<u32>
+        ensures { result ≡ root_number (slice_get self.now.order.now 0) }
+    {
+        let first = self.order.get(0)?;
+        if first.parent == 0 && first.fork == 0 && !first.right {
+            Some(0)
+        } else {
+            None
+        }
+    }
+
+    fn name(&self, name: u32) -> Option<Name>
+        ensures { result ≡ slice_get self.now.order.now name }
+    {
+        self.order.get(name as usize).copied()
+    }
+
+    /// The parent of a name, whose number has to be smaller.
+    fn parent(&self, name: u32) -> Option<u32>
+        ensures { result ≡ parent_number (slice_get self.now.order.now name) name }
+    {
+        let parent = self.order.get(name as usize)?.parent;
+        if parent < name { Some(parent) } else { None }
+    }
+}
