@@ -1,0 +1,141 @@
+-- What a coherent record is: what the record of any run is, also where strands ran at the same time, were refused and rolled back.
+--
+-- Tree, stamps, journals and refusals are as they have to be; and the tree is what the strands of the program did. For that each node has
+-- the state of its strand before it and the one after it, and a strand or block also the state that was reached in it.
+use Rattle.std.specs.Prelude.{◌≡◌, ℕ, ℤ, ◌<◌, ◌&&◌, ◌||◌, not, IsTrue, List, [], ◌∷◌, map, length, slice_get, Option, Some, None, if◌then◌else◌}
+use Rattle.std.specs.List.{flat_map}
+use Rattle.cw_strand.specs.declared.want.Want.{Want}
+use Rattle.cw_strand.specs.declared.want.Want.TheVariants as want
+use Rattle.cw_strand.specs.declared.want.Given.TheVariants.{Nothing, Value}
+use Rattle.cw_strand.specs.Strands.{Strands, is_over}
+use Rattle.cw_tree.specs.declared.node.Node.{Node}
+use Rattle.cw_tree.specs.declared.node.Kind.{Kind}
+use Rattle.cw_tree.specs.declared.node.Kind.TheVariants.{Strand, Fork, Block, Read, Write, Out, Tried}
+use Rattle.cw_tree.specs.declared.node.BlockState.{BlockState}
+use Rattle.cw_tree.specs.declared.node.BlockState.TheVariants.{Committed}
+use Rattle.cw_tree.specs.declared.access.Entry.{Entry}
+use Rattle.cw_tree.specs.declared.conflict.Conflict.{Conflict}
+use Rattle.cw_tree.specs.declared.closed.Halt.{Halt}
+use Rattle.cw_tree.specs.declared.closed.Halt.TheVariants as halt
+use Rattle.cw_tree.specs.Nodes.{parent_of, is_strand, is_fork, is_block, is_committed}
+use Rattle.cw_tree.specs.Series.{children, has_later, place}
+use Rattle.cw_tree.specs.Shape.{IsTree, AreStamps, PendingLast, NonePending}
+use Rattle.cw_tree.specs.Accesses.{is_live, live_accesses, written, cell_value}
+use Rattle.cw_tree.specs.Journals.{AreJournals, FitsCells, JournalsEnded}
+use Rattle.cw_tree.specs.Refusals.{AreRefusals, RollsBack, MayHalt}
+use Rattle.cw_record.specs.declared.record_end.RecordEnd.{RecordEnd}
+use Rattle.cw_record.specs.declared.record_end.RecordEnd.TheVariants.{Finished, Fault, Budget, Moves}
+use Rattle.cw_record.specs.declared.items.Item.{Item}
+use Rattle.cw_record.specs.Items.{items}
+use Rattle.cw_record.specs.Order.{node_of}
+use Rattle.cw_record.specs.Walked.{last_child}
+
+-- ## The strands
+
+-- from one state to another by these nodes, one after another
+abbrev pub InSeries : {A : Type 0} → (before after : ℕ → A) → A → List ℕ → A → Type 0
+InSeries before after a [] b = a ≡ b
+InSeries before after a (c ∷ cs) b = (before c ≡ a) × InSeries before after (after c) cs b
+
+module _ {A : Type 0} (s : Strands A) (t : List Node) (before after reached : ℕ → A) where
+  -- the state at the start of a strand, or in a block that was just begun
+  abbrev pub entered : ℕ → A
+  entered n = if is_block t n then s.answer (before n) Nothing else before n
+
+  -- the two strands of a fork, and what they become once both have ended
+  abbrev pub IsForkOf : ℕ → List ℕ → Type 0
+  IsForkOf f (l ∷ r ∷ []) = (before l ≡ s.left (before f)) × (before r ≡ s.right (before f)) × (after f ≡ s.joined (reached r) (reached l))
+  IsForkOf f cs = ⊥
+
+  abbrev pub IsAccessOf : ℕ → Want → Type 0
+  IsAccessOf c (want.Load d) = d ≡ c
+  IsAccessOf c (want.Store d v) = d ≡ c
+  IsAccessOf c w = ⊥
+
+  -- A committed block comes to its end; any other one leaves its strand where it was.
+  abbrev pub Closes : ℕ → BlockState → Type 0
+  Closes b Committed = (s.want (reached b) ≡ want.End) × (after b ≡ s.answer (reached b) Nothing)
+  Closes b state = after b ≡ before b
+
+  -- A node is what its strand wants before it, and after it that is answered. A refused access leaves its strand where it was.
+  abbrev pub Fits : ℕ → Kind → BlockState → Type 0
+  Fits n Strand state = Unit {0}
+  Fits n Fork state = (s.want (before n) ≡ want.Fork) × IsForkOf n (children t n)
+  Fits n Block state = (s.want (before n) ≡ want.Begin) × Closes n state
+  Fits n (Read c v) state = (s.want (before n) ≡ want.Load c) × (after n ≡ s.answer (before n) (Value v))
+  Fits n (Write c v) state = (s.want (before n) ≡ want.Store c v) × (after n ≡ s.answer (before n) Nothing)
+  Fits n (Out v) state = (s.want (before n) ≡ want.Out v) × (after n ≡ s.answer (before n) Nothing)
+  Fits n (Tried c) state = IsAccessOf c (s.want (before n)) × (after n ≡ before n)
+
+  -- Strand x has come to its end: it is over, and where a fork is the last in it, both strands of that have come to theirs.
+  pub data HasEnded : ℕ → Type 0 where
+    alone : {x : ℕ} → IsTrue (is_over (s.want (reached x))) → ((f : ℕ) → last_child t x ≡ Some f → IsTrue (not (is_fork t f))) → HasEnded x
+    joined : {x f l r : ℕ} → IsTrue (is_over (s.want (reached x))) → last_child t x ≡ Some f → IsTrue (is_fork t f) → children t f ≡ l ∷ r ∷ [] → HasEnded l → HasEnded r → HasEnded x
+
+  abbrev pub BothEnded : ℕ → Type 0
+  BothEnded f = (l r : ℕ) × (children t f ≡ l ∷ r ∷ []) × HasEnded l × HasEnded r
+
+  -- a strand can go on behind all that stands right in n
+  abbrev pub IsSettled : ℕ → Type 0
+  IsSettled n = (f : ℕ) → last_child t n ≡ Some f → IsTrue (is_fork t f) → BothEnded f
+
+  -- All nodes, aborted attempts included, are what the strands of a program did.
+  pub record Follows : Type 0 where
+    pub start : before 0 ≡ s.start
+    pub series : (n : ℕ) → n < length t → IsTrue (is_strand t n || is_block t n) → InSeries before after (entered n) (children t n) (reached n)
+    pub fits : (n : ℕ) (x : Node) → slice_get t n ≡ Some x → Fits n x.kind x.state
+    -- behind a fork its strand goes on, or ends its block, only once both strands have ended
+    pub joined : (f : ℕ) → f < length t → IsTrue (is_fork t f && (has_later t f || is_committed t (parent_of t f))) → BothEnded f
+
+  -- The strand of a fault stands at it. A finished run has no live strand that has not ended. Where a budget is spent the strand stands at
+  -- what was refused, as it fits; where the moves are, anywhere.
+  abbrev pub StandsAt : RecordEnd → Type 0
+  StandsAt (Finished memory outputs) = NonePending t × ((x : ℕ) → x < length t → IsTrue (is_strand t x && is_live t x) → HasEnded x)
+  StandsAt (Fault x kind) = (s.want (reached (place t x)) ≡ want.Fault kind) × IsSettled (place t x)
+  StandsAt (Budget x) = Unit {0}
+  StandsAt Moves = Unit {0}
+
+-- ## What a finished run leaves
+
+-- what each cell holds after its live accesses
+pub record IsMemory (t : List Node) (first memory : List ℤ) : Type 0 where
+  pub len : length memory ≡ length first
+  pub each : (c : ℕ) (v : ℤ) → slice_get first c ≡ Some v → slice_get memory c ≡ Some (cell_value v (map (written t) (live_accesses t c)))
+
+abbrev pub shown_kind : Kind → List ℤ
+shown_kind (Out v) = v ∷ []
+shown_kind k = []
+
+abbrev pub shown_node : Option Node → List ℤ
+shown_node None = []
+shown_node (Some x) = shown_kind x.kind
+
+-- the outputs among these items; the begin and the end of a block are none
+abbrev pub shown : List Node → List Item → List ℤ
+shown t = flat_map (λ i. shown_node (slice_get t (node_of i)))
+
+abbrev pub Leaves : List Node → List Conflict → ℕ → (first : List ℤ) → RecordEnd → Type 0
+Leaves t cs budget first (Finished memory outputs) = IsMemory t first memory × (outputs ≡ shown t (items t cs budget (Finished memory outputs)))
+Leaves t cs budget first e = Unit {0}
+
+-- ## Records
+
+abbrev pub halt_of : RecordEnd → Option Halt
+halt_of (Finished memory outputs) = None
+halt_of (Fault x kind) = Some (halt.Fault x kind)
+halt_of (Budget x) = Some (halt.Budget x)
+halt_of Moves = None
+
+-- what a record keeps, of a run of these strands over a memory with these first values, in which a strand may have that many attempts
+pub record IsCoherent {A : Type 0} (s : Strands A) (first : List ℤ) (budget : ℕ) (t : List Node) (kept : List (List Entry)) (cs : List Conflict) (e : RecordEnd) : Type 0 where
+  pub tree : IsTree t
+  pub stamps : AreStamps t
+  pub pending_last : PendingLast t
+  pub cells : FitsCells t (length first)
+  pub journals : AreJournals t first kept
+  pub ended : JournalsEnded t (length first)
+  pub refusals : AreRefusals t cs
+  pub rolls_back : RollsBack t cs
+  pub stopped : MayHalt t cs budget (halt_of e)
+  pub leaves : Leaves t cs budget first e
+  pub strands : (before after reached : ℕ → A) × Follows s t before after reached × StandsAt s t before after reached e

@@ -1,0 +1,84 @@
+-- What stands in the order of a record, one thing after another.
+--
+-- At the root and in each block its members are listed: the accesses and outputs right in it by their stamps, the committed blocks right
+-- in it by the stamps of their ends. A block stands there as its begin, its members and its end. What was rolled back is left out. Where
+-- the run did not finish, the pending blocks above the place of its end are there too: each is the last at its level, and has no end.
+use Rattle.std.specs.Prelude.{ℕ, zero, suc, ◌==◌, ◌&&◌, ◌||◌, Bool, true, false, List, [], ◌∷◌, ◌++◌, length, filter, find, Option, Some, None, if◌then◌else◌}
+use Rattle.std.specs.List.{flat_map}
+use Rattle.std.specs.Option.{option_map_or}
+use Rattle.cw_tree.specs.declared.node.Node.{Node}
+use Rattle.cw_tree.specs.declared.node.Kind.{Kind}
+use Rattle.cw_tree.specs.declared.node.Kind.TheVariants.{Read, Write, Out}
+use Rattle.cw_tree.specs.declared.conflict.Conflict.{Conflict}
+use Rattle.cw_tree.specs.Nodes.{parent_of, stamp_of, end_of, is_node, is_block, is_pending, is_committed, all_nodes}
+use Rattle.cw_tree.specs.Walks.{path, xparent}
+use Rattle.cw_tree.specs.Series.{place}
+use Rattle.cw_tree.specs.Accesses.{by_key}
+use Rattle.cw_tree.specs.Refusals.{telling, refused}
+use Rattle.cw_record.specs.declared.record_end.RecordEnd.{RecordEnd}
+use Rattle.cw_record.specs.declared.record_end.RecordEnd.TheVariants.{Finished, Fault, Budget, Moves}
+use Rattle.cw_record.specs.declared.items.Item.{Item}
+use Rattle.cw_record.specs.declared.items.Item.TheVariants.{Begins, Does, Ends}
+
+abbrev pub is_act_kind : Kind → Bool
+is_act_kind (Read c v) = true
+is_act_kind (Write c v) = true
+is_act_kind (Out v) = true
+is_act_kind _ = false
+
+-- node n is an access that was made, or an output
+abbrev pub is_act : List Node → ℕ → Bool
+is_act = is_node (λ x. is_act_kind x.kind)
+
+abbrev pub same_block : Option ℕ → Option ℕ → Bool
+same_block None None = true
+same_block (Some a) (Some b) = a == b
+same_block _ _ = false
+
+-- node n is right in block b, or at the root where that is none
+abbrev pub is_right_in : List Node → Option ℕ → ℕ → Bool
+is_right_in t b n = same_block (xparent t n) b
+
+-- where a member stands: a block by the stamp of its end, an access or output by its own
+abbrev pub key : List Node → ℕ → ℕ
+key t n = if is_block t n then end_of t n else stamp_of t n
+
+-- the accesses, outputs and committed blocks right in a block, or at the root
+abbrev pub members : List Node → Option ℕ → List ℕ
+members t b = filter (λ n. (is_act t n || is_committed t n) && is_right_in t b n) (all_nodes t)
+
+-- the pending block right in a block, or at the root, on the way to place p
+abbrev pub open_member : List Node → ℕ → Option ℕ → Option ℕ
+open_member t p b = find (λ n. is_pending t n && is_right_in t b n) (path t p)
+
+-- a member, where these are the items in it
+abbrev pub as_items : Bool → ℕ → List Item → List Item
+as_items true n inner = Begins n ∷ inner ++ Ends n ∷ []
+as_items false n inner = Does n ∷ []
+
+-- a pending block that comes last, if there is one
+abbrev pub last_open : Option ℕ → List Item → List Item
+last_open None inner = []
+last_open (Some n) inner = Begins n ∷ inner
+
+-- the items in a block, or at the root, to k levels
+abbrev pub items_in : List Node → ℕ → ℕ → Option ℕ → List Item
+items_in t p zero b = []
+items_in t p (suc k) b =
+    flat_map (λ n. as_items (is_block t n) n (items_in t p k (Some n))) (by_key (key t) (members t b))
+    ++ last_open (open_member t p b) (items_in t p k (open_member t p b))
+
+-- the place of what a conflict refused: an access itself, or where the block stands
+abbrev pub place_of_refused : List Node → Conflict → ℕ
+place_of_refused t c = if c.victim == 0 then c.asker else parent_of t (refused t c)
+
+-- Where a run came to its end: the pending blocks above this place, and it where it is one, are in the order.
+abbrev pub place_of_end : List Node → List Conflict → ℕ → RecordEnd → ℕ
+place_of_end t cs budget (Finished memory outputs) = 0
+place_of_end t cs budget (Fault s kind) = place t s
+place_of_end t cs budget (Budget s) = option_map_or (place_of_refused t) (telling t cs budget s) 0
+place_of_end t cs budget Moves = 0
+
+-- the items of a run
+abbrev pub items : List Node → List Conflict → ℕ → RecordEnd → List Item
+items t cs budget e = items_in t (place_of_end t cs budget e) (length t) None

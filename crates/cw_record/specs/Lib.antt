@@ -1,0 +1,11 @@
+pub mod Items
+pub mod Levels
+pub mod Listed
+pub mod Order
+pub mod Drawn
+pub mod Walked
+pub mod Replay
+pub mod Worked
+pub mod Records
+pub mod Coherent
+pub mod WorkedRecord

@@ -1,0 +1,54 @@
+-- The names of a run's strands, each once, as an order lists them.
+use Rattle.std.specs.Prelude.{ℕ, suc, ◌==◌, ◌&&◌, Bool, true, false, not, List, [], ◌∷◌, map, filter, if◌then◌else◌}
+use Rattle.std.specs.List.{list_any}
+use Rattle.cw_tree.specs.declared.node.Node.{Node}
+use Rattle.cw_tree.specs.declared.picks.Name.{Name}
+use Rattle.cw_tree.specs.declared.picks.Turn.{Turn}
+use Rattle.cw_tree.specs.Nodes.{is_strand}
+use Rattle.cw_tree.specs.Series.{depth_first}
+use Rattle.cw_tree.specs.Names.{name_of}
+
+abbrev pub same_side : Bool → Bool → Bool
+same_side true b = b
+same_side false b = not b
+
+abbrev pub same_name : List Turn → List Turn → Bool
+same_name [] [] = true
+same_name (x ∷ p) (y ∷ q) = (x.fork == y.fork) && same_side x.right y.right && same_name p q
+same_name _ _ = false
+
+-- each name where it comes first, and none that was seen before
+abbrev pub once : (seen : List (List Turn)) → List (List Turn) → List (List Turn)
+once seen [] = []
+once seen (p ∷ ps) = if list_any (same_name p) seen then once seen ps else p ∷ once (p ∷ seen) ps
+
+-- The names of all strands, in the order in which a depth-first walk comes to them first. The strands of an attempt that was rolled
+-- back have the names of those of the next attempt.
+abbrev pub names : List Node → List (List Turn)
+names t = once [] (map (name_of t) (filter (is_strand t) (depth_first t)))
+
+abbrev pub index_of : List (List Turn) → List Turn → ℕ
+index_of [] p = 0
+index_of (q ∷ qs) p = if same_name q p then 0 else suc (index_of qs p)
+
+abbrev pub without_last : List Turn → List Turn
+without_last [] = []
+without_last (x ∷ []) = []
+without_last (x ∷ y ∷ p) = x ∷ without_last (y ∷ p)
+
+abbrev pub last_turn : List Turn → Turn
+last_turn [] = record { fork = 0; right = false }
+last_turn (x ∷ []) = x
+last_turn (x ∷ y ∷ p) = last_turn (y ∷ p)
+
+-- a name, by the number of the strand that forked
+abbrev pub listed_name : List (List Turn) → List Turn → Name
+listed_name ps p = let x = last_turn p in record { parent = index_of ps (without_last p); fork = x.fork; right = x.right }
+
+-- all of them
+abbrev pub listed_names : List Node → List Name
+listed_names t = let ps = names t in map (listed_name ps) ps
+
+-- the number of strand s among them
+abbrev pub number_of : List Node → ℕ → ℕ
+number_of t s = index_of (names t) (name_of t s)

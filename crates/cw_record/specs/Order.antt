@@ -1,0 +1,34 @@
+-- The order of a record: what one memory has to do, one thing after another, to come to the same end.
+use Rattle.std.specs.Prelude.{ℕ, List, map}
+use Rattle.cw_tree.specs.declared.node.Node.{Node}
+use Rattle.cw_tree.specs.declared.conflict.Conflict.{Conflict}
+use Rattle.cw_tree.specs.declared.picks.Picks.{Picks}
+use Rattle.cw_tree.specs.Series.{strand_of}
+use Rattle.cw_record.specs.declared.record_end.RecordEnd.{RecordEnd}
+use Rattle.cw_record.specs.declared.record_end.RecordEnd.TheVariants.{Fault, Budget}
+use Rattle.cw_record.specs.declared.items.Item.{Item}
+use Rattle.cw_record.specs.declared.items.Item.TheVariants.{Begins, Does, Ends}
+use Rattle.cw_record.specs.Items.{items}
+use Rattle.cw_record.specs.Listed.{listed_names, number_of}
+
+abbrev pub node_of : Item → ℕ
+node_of (Begins n) = n
+node_of (Does n) = n
+node_of (Ends n) = n
+
+-- the strand that an end names, or the root's
+abbrev pub ending_strand : RecordEnd → ℕ
+ending_strand (Fault s kind) = s
+ending_strand (Budget s) = s
+ending_strand _ = 0
+
+-- the pick of an item: the number of the strand that did it
+abbrev pub pick_of : List Node → Item → ℕ
+pick_of t i = number_of t (strand_of t (node_of i))
+
+abbrev pub order_of : List Node → List Conflict → ℕ → RecordEnd → Picks
+order_of t cs budget e = record {
+  names = listed_names t;
+  list = map (pick_of t) (items t cs budget e);
+  last = number_of t (ending_strand e);
+}

@@ -1,0 +1,76 @@
+-- What a record holds, and what is true of the run of one worker.
+use Rattle.std.specs.Prelude.{◌≡◌, ℕ, suc, ◌<◌, List, [], map, length, true, Some, IsTrue}
+use Rattle.cw_strand.specs.declared.want.Want.TheVariants.{Fault as AFault}
+use Rattle.cw_strand.specs.Names.{first_memory}
+use Rattle.cw_strand.specs.Meaning.{State}
+use Rattle.cw_tree.specs.declared.node.Node.{Node}
+use Rattle.cw_tree.specs.declared.access.Entry.{Entry}
+use Rattle.cw_tree.specs.Nodes.{parent_of, is_strand, is_block, is_pending, is_committed}
+use Rattle.cw_tree.specs.Walks.{IsRooted, is_ancestor}
+use Rattle.cw_tree.specs.Names.{name_of}
+use Rattle.cw_tree.specs.Journals.{AreJournals}
+use Rattle.cw_serial.specs.declared.program.Program.{Program}
+use Rattle.cw_serial.specs.Machine.{Machine, has_ended}
+use Rattle.cw_serial.specs.Threads.{at}
+use Rattle.cw_serial.specs.DepthFirst.{leftmost, GoesDepthFirst}
+use Rattle.cw_serial.specs.Programs.{strands_of, machine_of}
+use Rattle.cw_record.specs.declared.record_end.RecordEnd.{RecordEnd}
+use Rattle.cw_record.specs.declared.record_end.RecordEnd.TheVariants.{Finished, Fault, Budget, Moves}
+use Rattle.cw_record.specs.declared.record.Record.{Record}
+use Rattle.cw_record.specs.declared.items.Item.{Item}
+use Rattle.cw_record.specs.Items.{items, place_of_end}
+use Rattle.cw_record.specs.Order.{ending_strand}
+use Rattle.cw_record.specs.Replay.{doer, DoesAll, Replays}
+
+-- One memory, in the order of the record, does what the record says, and comes to its end.
+abbrev pub Holds : Record → Type 0
+Holds r = Replays (strands_of r.program) (first_memory r.program.cells) r.limits.aborts r.tree r.conflicts r.order r.end
+
+-- a run of one worker ends by itself, or at a fault
+abbrev pub HasEnded : RecordEnd → Type 0
+HasEnded (Finished memory outputs) = Unit {0}
+HasEnded (Fault strand kind) = Unit {0}
+HasEnded (Budget strand) = ⊥
+HasEnded Moves = ⊥
+
+-- Nothing is left to do in main, or the leftmost strand, of this name, stands at a fault.
+abbrev pub StopsAt : Program → List Node → RecordEnd → Machine State → Type 0
+StopsAt p t (Finished memory outputs) m = (has_ended (strands_of p) m ≡ true) × (m.memory ≡ memory) × (m.outputs ≡ outputs)
+StopsAt p t (Fault x kind) m =
+    (leftmost (strands_of p) m.strands ≡ Some (name_of t x))
+    × ((a : State) × (at (strands_of p) m.strands (name_of t x) ≡ Some a) × ((strands_of p).want a ≡ AFault kind))
+StopsAt p t e m = ⊥
+
+-- The order of these items is the depth-first one: the leftmost strand is picked, until there is none, or it stands at a fault.
+pub record GoesThrough (p : Program) (t : List Node) (is : List Item) (e : RecordEnd) : Type 0 where
+  pub machine : Machine State
+  pub picks : GoesDepthFirst (strands_of p) (machine_of p) (map (doer t) is) machine
+  pub stops : StopsAt p t e machine
+
+abbrev pub IsDepthFirst : Record → Type 0
+IsDepthFirst r = GoesThrough r.program r.tree (items r.tree r.conflicts r.limits.aborts r.end) r.end
+
+-- Numbers are depth first: each node hangs from the one before it, or from a node above that one.
+abbrev pub IsNumberedDepthFirst : List Node → Type 0
+IsNumberedDepthFirst t = (n : ℕ) → suc n < length t → IsTrue (is_ancestor t (parent_of t (suc n)) n)
+
+-- the blocks around place q, and one that is there, are pending, and all others are committed
+pub record BlocksAround (t : List Node) (q : ℕ) : Type 0 where
+  pub pending : (b : ℕ) → IsTrue (is_block t b) → IsTrue (is_ancestor t b q) → IsTrue (is_pending t b)
+  pub committed : (b : ℕ) → IsTrue (is_block t b) → (IsTrue (is_ancestor t b q) → ⊥) → IsTrue (is_committed t b)
+
+-- All blocks are committed, but for those around the place of a fault, which are pending.
+abbrev pub BlocksEnded : List Node → RecordEnd → Type 0
+BlocksEnded t e = BlocksAround t (place_of_end t [] 0 e)
+
+-- What one worker leaves: its tree, its journals and its end, whatever the budget.
+pub record IsRun (p : Program) (t : List Node) (kept : List (List Entry)) (e : RecordEnd) : Type 0 where
+  pub ended : HasEnded e
+  pub rooted : IsRooted t
+  pub root : IsTrue (is_strand t 0)
+  pub numbered : IsNumberedDepthFirst t
+  pub blocks : BlocksEnded t e
+  pub strand : IsTrue (is_strand t (ending_strand e))
+  pub order : (budget : ℕ) → GoesThrough p t (items t [] budget e) e
+  pub acts : (budget : ℕ) → DoesAll (strands_of p) t (machine_of p) (items t [] budget e)
+  pub journals : AreJournals t (first_memory p.cells) kept

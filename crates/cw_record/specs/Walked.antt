@@ -1,0 +1,43 @@
+-- What the passes over a tree find: the last child of a node, the child before one, and the first node with a name.
+use Rattle.std.specs.Prelude.{◌≡◌, ℕ, suc, ◌<◌, ◌==◌, ◌&&◌, Bool, nat_lt, List, [], ◌∷◌, length, map, Option, Some, None, option_map, if◌then◌else◌, slice_index_or, All, IsTrue}
+use Rattle.std.specs.declared.cmp.Ordering.{Ordering}
+use Rattle.std.specs.Ordering.{ordering_then, nat_cmp, bool_cmp}
+use Rattle.cw_tree.specs.declared.node.Node.{Node}
+use Rattle.cw_tree.specs.declared.picks.Turn.{Turn}
+use Rattle.cw_tree.specs.Nodes.{parent_of, last_below, all_nodes, is_strand}
+use Rattle.cw_tree.specs.Names.{name_of}
+use Rattle.cw_record.specs.Listed.{same_name, index_of, names}
+
+-- m is a child of n
+abbrev pub is_child : List Node → ℕ → ℕ → Bool
+is_child t n m = nat_lt 0 m && (parent_of t m == n)
+
+abbrev pub last_child : List Node → ℕ → Option ℕ
+last_child t n = last_below (is_child t n) (length t)
+
+-- the last child of c's parent before c
+abbrev pub child_before : List Node → ℕ → Option ℕ
+child_before t c = last_below (is_child t (parent_of t c)) c
+
+-- the first node with the name of n
+abbrev pub first_named : List Node → ℕ → ℕ
+first_named t n = index_of (map (name_of t) (all_nodes t)) (name_of t n)
+
+-- where a name stands first, if it does
+abbrev pub place_in : List (List Turn) → List Turn → Option ℕ
+place_in [] p = None
+place_in (q ∷ qs) p = if same_name q p then Some 0 else option_map suc (place_in qs p)
+
+-- a name by the first node with the name that it goes on from, and its last turn
+abbrev pub Step : Type 0
+Step = ℕ × ℕ × Bool
+
+abbrev pub step_cmp : Step → Step → Ordering
+step_cmp a b = ordering_then (ordering_then (nat_cmp a.0 b.0) (nat_cmp a.1 b.1)) (bool_cmp a.2 b.2)
+
+-- strands with all names, each once, and for each node that is the first with its name the place of that name among them
+pub record AreFirsts (t : List Node) (strands : List ℕ) (places : List (Option ℕ)) : Type 0 where
+  pub listed : map (name_of t) strands ≡ names t
+  pub there : All (λ s. IsTrue (is_strand t s)) strands
+  pub len : length places ≡ length t
+  pub at : (n : ℕ) → n < length t → slice_index_or places (first_named t n) None ≡ place_in (names t) (name_of t n)

@@ -1,0 +1,68 @@
+ghost use Rattle.std.specs.Prelude.{◌≡◌, ◌<◌, All, IfOk, IsTrue, length, map};
+ghost use Rattle.cw_tree.specs.Nodes.{all_nodes, is_strand};
+ghost use Rattle.cw_tree.specs.Series.{strand_of};
+ghost use Rattle.cw_record.specs.Listed.{number_of};
+ghost use Rattle.cw_record.specs.Order.{ending_strand, node_of, order_of, pick_of};
+
+use crate::RecordEnd;
+use crate::items::{Item, items};
+use crate::listed::Listed;
+use cw_base::{OutOfMemory, Seq};
+use cw_tree::{Conflict, Picks, Tree};
+use std::alloc::Global;
+
+/// The order of a run, whose budget is `aborts` attempts: at the root and in each block its accesses and outputs by their stamps, its
+/// committed blocks by the stamps of their ends, each as its begin, what is in it, and its end; at the place where an unfinished run
+/// ended, the pending blocks last. Each is a pick of the strand that did it. Strands have the same name as in an attempt that was
+/// rolled back. Nodes with equal stamps stand by their numbers.
+pub fn order_of(
+    alloc: Global,
+    tree: &Tree,
+    conflicts: &[Conflict],
+    aborts: u32,
+    end: &RecordEnd,
+) -> Result<Picks, OutOfMemory>
+    requires { IsTrue (is_strand tree.now (ending_strand end.now)) }
+    ensures { IfOk result (λ p. p ≡ order_of tree.now conflicts.now aborts end.now) }
+{
+    // each node but the root has a smaller parent
+    let _ = tree.nodes();
+    let listed = Listed::of_tree(alloc, tree)?;
+    let items = items(alloc, tree, conflicts, aborts, end)?;
+    let list = picks(alloc, tree, &listed, items.as_slice())?;
+    let last = listed.numbers[ending_strand(end) as usize];
+    Ok(Picks {
+        names: Seq::from_vec(listed.names),
+        list,
+        last,
+    })
+}
+
+/// The strand that an end names, or the root.
+fn ending_strand(end: &RecordEnd) -> u32
+    ensures { result ≡ ending_strand end.now }
+{
+    match end {
+        RecordEnd::Fault { strand, .. } | RecordEnd::Budget { strand } => *strand,
+        RecordEnd::Finished { .. } | RecordEnd::Moves => 0,
+    }
+}
+
+/// The pick of each item.
+fn picks(
+    alloc: Global,
+    tree: &Tree,
+    listed: &Listed,
+    items: &[Item],
+) -> Result<Seq<u32>, OutOfMemory>
+    requires numbers { listed.now.numbers.items
+        ≡ map (λ n. number_of tree.now (strand_of tree.now n)) (all_nodes tree.now) }
+    requires there { All (λ i. node_of i < length tree.now) items.now }
+    ensures { IfOk result (λ list. list ≡ map (pick_of tree.now) items.now) }
+{
+    let mut list = Seq::new(alloc);
+    for item in items {
+        list.push(listed.numbers[item.node() as usize])?;
+    }
+    Ok(list)
+}

@@ -1,0 +1,152 @@
+ghost use Rattle.std.specs.Prelude.{◌≡◌, ◌<◌, IfOk, IfSome, length, map};
+ghost use Rattle.std.specs.Option.{option_map_or};
+ghost use Rattle.cw_tree.specs.Nodes.{all_nodes, below, block_with_stamp};
+ghost use Rattle.cw_tree.specs.Series.{strand_of, place, last_of};
+ghost use Rattle.cw_tree.specs.Refusals.{tells, telling};
+ghost use Rattle.cw_record.specs.Items.{place_of_refused, place_of_end};
+
+use crate::RecordEnd;
+use cw_base::OutOfMemory;
+use cw_tree::{Conflict, Tree};
+use std::alloc::Global;
+
+/// Where a run came to its end.
+pub(crate) fn place_of_end(
+    alloc: Global,
+    tree: &Tree,
+    conflicts: &[Conflict],
+    aborts: u32,
+    end: &RecordEnd,
+) -> Result<u32, OutOfMemory>
+    requires { 0 < length tree.now }
+    ensures { IfOk result (λ p. p ≡ place_of_end tree.now conflicts.now aborts end.now) }
+{
+    match end {
+        RecordEnd::Fault { strand, .. } => {
+            let strands = strands(alloc, tree)?;
+            Ok(place(tree, strands.as_slice(), *strand))
+        }
+        RecordEnd::Budget { strand } => {
+            let strands = strands(alloc, tree)?;
+            Ok(place_of_budget(tree, strands.as_slice(), conflicts, aborts, *strand))
+        }
+        _ => Ok(0),
+    }
+}
+
+// For each node the strand in which it stands.
+fn strands(alloc: Global, tree: &Tree) -> Result<Vec<u32>, OutOfMemory>
+    ensures { IfOk result (λ ss. ss.items ≡ map (strand_of tree.now) (all_nodes tree.now)) }
+{
+    let count = tree.nodes().len();
+    let mut strands = Vec::with_capacity(alloc, count)?;
+    for n in 0..count as u32 {
+        let strand = strand(tree, strands.as_slice(), n);
+        strands.push(strand)?;
+    }
+    Ok(strands)
+}
+
+// The strand of one node, from those of the nodes before it.
+fn strand(tree: &Tree, before: &[u32], n: u32) -> u32
+    requires there { n < length tree.now }
+    requires before { before.now ≡ map (strand_of tree.now) (below n) }
+    ensures { result ≡ strand_of tree.now n }
+{
+    if n == 0 || tree.is_strand(n) {
+        n
+    } else {
+        before[tree.parent(n) as usize]
+    }
+}
+
+// Where the next node of a strand would go.
+fn place(tree: &Tree, strands: &[u32], strand: u32) -> u32
+    requires { strands.now ≡ map (strand_of tree.now) (all_nodes tree.now) }
+    ensures { result ≡ place tree.now strand }
+{
+    let mut n = tree.nodes().len() as u32;
+    while n > 0 {
+        n -= 1;
+        if tree.is_pending(n) && strands[n as usize] == strand {
+            return n;
+        }
+    }
+    strand
+}
+
+// The last node that a strand made.
+fn last_of(tree: &Tree, strands: &[u32], strand: u32) -> u32
+    requires { strands.now ≡ map (strand_of tree.now) (all_nodes tree.now) }
+    ensures { result ≡ last_of tree.now strand }
+{
+    let mut n = tree.nodes().len() as u32;
+    while n > 0 {
+        n -= 1;
+        if strands[n as usize] == strand {
+            return n;
+        }
+    }
+    strand
+}
+
+// Where a strand spent its budget: the place of what the first conflict that tells so refused, or the root.
+fn place_of_budget(
+    tree: &Tree,
+    strands: &[u32],
+    conflicts: &[Conflict],
+    budget: u32,
+    strand: u32,
+) -> u32
+    requires there { 0 < length tree.now }
+    requires strands { strands.now ≡ map (strand_of tree.now) (all_nodes tree.now) }
+    ensures { result
+        ≡ option_map_or (place_of_refused tree.now) (telling tree.now conflicts.now budget strand) 0 }
+{
+    let last = last_of(tree, strands, strand);
+    for conflict in conflicts {
+        if conflict.attempt == budget && names_strand(tree, strands, last, strand, conflict) {
+            return place_of_refused(tree, conflict);
+        }
+    }
+    0
+}
+
+// Whether a conflict of the right attempt tells that a strand, with this last node, has spent its budget.
+fn names_strand(tree: &Tree, strands: &[u32], last: u32, strand: u32, conflict: &Conflict) -> bool
+    requires strands { strands.now ≡ map (strand_of tree.now) (all_nodes tree.now) }
+    requires last { last ≡ last_of tree.now strand }
+    ensures { result ≡ tells tree.now conflict.now.attempt strand conflict.now }
+{
+    if conflict.victim == 0 {
+        return last == conflict.asker;
+    }
+    match block_with_stamp(tree, conflict.victim) {
+        Some(block) => strands[block as usize] == strand,
+        None => false,
+    }
+}
+
+// The place of what a conflict refused.
+fn place_of_refused(tree: &Tree, conflict: &Conflict) -> u32
+    requires { 0 < length tree.now }
+    ensures { result ≡ place_of_refused tree.now conflict.now }
+{
+    if conflict.victim == 0 {
+        return conflict.asker;
+    }
+    tree.parent(block_with_stamp(tree, conflict.victim).unwrap_or(0))
+}
+
+// The block that was begun at a stamp.
+fn block_with_stamp(tree: &Tree, stamp: u64) -> Option<u32>
+    ensures result { result ≡ block_with_stamp tree.now stamp }
+    ensures there { IfSome result (λ b. b < length tree.now) }
+{
+    for n in 0..tree.nodes().len() as u32 {
+        if tree.is_block(n) && tree.node(n).stamp == stamp {
+            return Some(n);
+        }
+    }
+    None
+}

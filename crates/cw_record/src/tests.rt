@@ -1,0 +1,3 @@
+mod items;
+mod listed;
+mod order;
