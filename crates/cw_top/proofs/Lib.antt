@@ -1,2 +1,3 @@
+mod Parameters
 pub mod Pieces
 pub mod Statuses

@@ -1,6 +1,6 @@
 -- Bytes that come from a source one piece after another.
 use Rattle.std.proofs.Common.{◌≡◌, ℕ, List, [], ◌∷◌, ◌++◌, length, Option, Some, None, ap, ◌∙◌, sym, append_assoc, arith}
-use Rattle.std.proofs.Common.{◌<◌, ◌≤◌, ◌+◌, ◌-◌, ◌⊎◌, inl, inr, length-append, subst}
+use Rattle.std.proofs.Common.{◌≤◌, ◌-◌, inl, inr, length-append, subst}
 use Rattle.cw_io.specs.Outside.{Takes, IsDry, RunsDry, Rose}
 use Rattle.cw_top.specs.declared.outcome.Note.{Note}
 use Rattle.cw_top.specs.declared.outcome.Note.TheVariants as note

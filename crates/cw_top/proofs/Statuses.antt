@@ -1,13 +1,13 @@
 -- What the statuses say, from the causes of the notes.
-use Rattle.std.proofs.Common.{◌≡◌, ◌≢◌, ◌⊎◌, inl, inr, Bool, true, false, List, ℕ, Option, Some, None, IsSomeAnd, IfSome, refl, sym, ◌∙◌, ap, ◌↔◌}
-use Rattle.cw_serial.specs.declared.record.Record.{Record}
-use Rattle.cw_serial.specs.declared.record.RecordEnd.{RecordEnd}
-use Rattle.cw_serial.specs.declared.record.RecordEnd.TheVariants.{Finished, Fault, Budget, Moves}
-use Rattle.cw_serial.specs.Records.{HasEnded}
+use Rattle.std.proofs.Common.{◌≡◌, ◌≢◌, ◌⊎◌, inl, inr, Bool, true, false, List, ℕ, Option, Some, None, IsSomeAnd, IfSome, ◌↔◌}
+use Rattle.cw_record.specs.declared.record.Record.{Record}
+use Rattle.cw_record.specs.declared.record_end.RecordEnd.{RecordEnd}
+use Rattle.cw_record.specs.declared.record_end.RecordEnd.TheVariants.{Finished, Fault, Budget, Moves}
+use Rattle.cw_record.specs.Records.{HasEnded}
 use Rattle.cw_top.specs.declared.outcome.Note.{Note}
 use Rattle.cw_top.specs.declared.outcome.Note.TheVariants as note
 use Rattle.cw_top.specs.Refusals.{refusal}
-use Rattle.cw_top.specs.Outcome.{HasCause, IsStatus, IsRunOf, IsRefusedFor, status_of_end, status_of_refusal, status_of_run}
+use Rattle.cw_top.specs.Outcome.{HasCause, IsStatus, IsRunOf, IsRefusedFor, status_of_end}
 
 -- a status that no end has
 no_end : (e : RecordEnd) (status : ℕ) → status ≡ status_of_end e → (status ≢ 2) × (status ≢ 3) × (status ≢ 4) × (status ≢ 5)

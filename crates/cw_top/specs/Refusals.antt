@@ -1,11 +1,10 @@
 -- Why a source is refused: its text's first fault, or else its program's first naming fault.
-use Rattle.std.specs.Prelude.{◌≡◌, ℕ, List, Option, Some, None, Result, Ok, Err, IfSome}
+use Rattle.std.specs.Prelude.{◌≡◌, ℕ, List, Option, Some, None, Result, Ok, Err}
 use Rattle.cw_text.specs.declared.fault.TextFault.{TextFault}
 use Rattle.cw_text.specs.Syntax.{Declaration, tree_of}
 use Rattle.cw_text.specs.Text.{program}
 use Rattle.cw_strand.specs.Names.{naming_fault, Fault}
 use Rattle.cw_serial.specs.declared.program.Program.{Program}
-use Rattle.cw_serial.specs.Programs.{IsProgramOf}
 use Rattle.cw_top.specs.declared.outcome.Note.{Note}
 use Rattle.cw_top.specs.declared.outcome.Note.TheVariants.{Text, Name}
 

@@ -1,5 +1,5 @@
 -- Worked words.
-use Rattle.std.specs.Prelude.{◌≡◌, true, false, List, [], ◌∷◌, codes}
+use Rattle.std.specs.Prelude.{◌≡◌, true, false, [], ◌∷◌, codes}
 use Rattle.cw_top.specs.Words.{is_command}
 
 abbrev pub Commands : Type 0

@@ -1,5 +1,5 @@
 -- What is written: the text of a run, and that of a note. Every line ends with a newline.
-use Rattle.std.specs.Prelude.{ℕ, zero, suc, ◌+◌, ℤ, pos, List, [], ◌∷◌, ◌++◌, codes}
+use Rattle.std.specs.Prelude.{ℕ, zero, suc, ◌+◌, ℤ, List, [], ◌∷◌, ◌++◌, codes}
 use Rattle.std.specs.List.{flat_map, range_with_len}
 use Rattle.std.specs.Fmt.{decimal, signed_decimal}
 use Rattle.cw_text.specs.declared.fault.TextKind.{TextKind}
@@ -9,10 +9,12 @@ use Rattle.cw_strand.specs.declared.naming.NameKind.TheVariants as naming
 use Rattle.cw_code.specs.declared.FaultKind.{FaultKind}
 use Rattle.cw_code.specs.declared.FaultKind.TheVariants as fault
 use Rattle.cw_code.specs.declared.CellInfo.{CellInfo}
-use Rattle.cw_serial.specs.declared.record.RecordEnd.{RecordEnd}
-use Rattle.cw_serial.specs.declared.record.RecordEnd.TheVariants.{Finished, Fault, Budget, Moves}
-use Rattle.cw_serial.specs.declared.record.Record.{Record}
+use Rattle.cw_record.specs.declared.record_end.RecordEnd.{RecordEnd}
+use Rattle.cw_record.specs.declared.record_end.RecordEnd.TheVariants.{Finished, Fault, Budget, Moves}
+use Rattle.cw_record.specs.declared.record.Record.{Record}
 use Rattle.cw_serial.specs.Machine.{value_at}
+use Rattle.cw_tree.specs.declared.node.Node.{Node}
+use Rattle.cw_tree.specs.Names.{name_of, name_text}
 use Rattle.cw_top.specs.declared.outcome.Note.{Note}
 use Rattle.cw_top.specs.declared.outcome.Note.TheVariants as note
 
@@ -51,19 +53,19 @@ cell_lines c memory = cell_lines_by c.len c memory
 abbrev pub finished_text : List CellInfo → (memory outputs : List ℤ) → List ℕ
 finished_text cells memory outputs = flat_map output_line outputs ++ flat_map (λ c. cell_lines c memory) cells ++ line (codes "end")
 
--- the root, which is the only strand so far
-abbrev pub root_name : List ℕ
-root_name = codes "0"
+-- the name of a strand of a tree: `0` for the root, `0.1l` and `0.1r` for the two strands of its first fork
+abbrev pub strand_text : List Node → ℕ → List ℕ
+strand_text t strand = name_text (name_of t strand)
 
-abbrev pub end_text : List CellInfo → RecordEnd → List ℕ
-end_text cells (Finished memory outputs) = finished_text cells memory outputs
-end_text cells (Fault strand kind) = line (codes "fault " ++ fault_name kind ++ codes " in " ++ root_name)
-end_text cells (Budget strand) = line (codes "budget spent in " ++ root_name)
-end_text cells Moves = line (codes "moves spent")
+abbrev pub end_text : List CellInfo → List Node → RecordEnd → List ℕ
+end_text cells t (Finished memory outputs) = finished_text cells memory outputs
+end_text cells t (Fault strand kind) = line (codes "fault " ++ fault_name kind ++ codes " in " ++ strand_text t strand)
+end_text cells t (Budget strand) = line (codes "budget spent in " ++ strand_text t strand)
+end_text cells t Moves = line (codes "moves spent")
 
 -- the text of a run
 abbrev pub run_text : Record → List ℕ
-run_text r = end_text r.program.cells r.end
+run_text r = end_text r.program.cells r.tree r.end
 
 -- ## A note
 

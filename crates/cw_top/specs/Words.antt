@@ -1,5 +1,5 @@
 -- Which words are a command. So far there is one, `run`, without options.
-use Rattle.std.specs.Prelude.{Bool, true, false, List, [], ◌∷◌, ℕ, codes, map, string_bytes, String}
+use Rattle.std.specs.Prelude.{Bool, false, List, [], ◌∷◌, ℕ, codes, map, string_bytes, String}
 use Rattle.std.specs.declared.alloc.Global.{Global}
 use Rattle.std.specs.Str.{bytes_eq}
 

@@ -1,4 +1,4 @@
-use cw_serial::Record;
+use cw_record::Record;
 use cw_strand::NameFault;
 use cw_text::TextFault;
 

@@ -1,6 +1,7 @@
-ghost use Rattle.std.specs.Prelude.{◌≡◌, ◌-◌, ◌<◌, ◌≤◌, length, Ok, IfOk, IfErr, IfSome, OnOk};
+ghost use Rattle.std.specs.Prelude.{◌≡◌, ◌-◌, ◌<◌, ◌≤◌, [], length, Ok, IfOk, IfErr, IfSome, OnOk};
 ghost use Rattle.cw_io.specs.Outside.{IsDry, Rose, RunsDry, Takes};
 ghost use Rattle.cw_text.specs.Syntax.{tree_of};
+ghost use Rattle.cw_strand.specs.Laws.{params_at};
 ghost use Rattle.cw_serial.specs.Programs.{IsProgramOf};
 ghost use Rattle.cw_top.specs.Outcome.{GivesOn, IsWhyNotRead, IsWhyRefused, IsWhyStopped, TakesAtMost, most_read};
 ghost use Rattle.cw_top.specs.Refusals.{Spells};
@@ -62,6 +63,7 @@ fn read_all<S: Source>(alloc: Global, source: &mut S) -> Result<Vec<u8>, Note>
 fn program_of(alloc: Global, bytes: &[u8]) -> Result<Program, Note>
     ensures spelled { IfOk result (λ p. Spells bytes.now p) }
     ensures program { IfOk result (λ p. IsProgramOf (tree_of p.ast) p) }
+    ensures params { IfOk result (λ p. params_at (tree_of p.ast) p.main ≡ []) }
     ensures why { IfErr result (λ n. IsWhyRefused n bytes.now) }
 {
     let ast = match read_program(alloc, bytes) {
@@ -84,6 +86,7 @@ pub fn program_from<S: Source>(alloc: Global, source: &mut S) -> Result<Program,
     ensures whole { OnOk result (RunsDry (S.left source.old) (S.left source.new)) }
     ensures spelled { IfOk result (λ p. IfSome (S.left source.old) (λ bytes. Spells bytes p)) }
     ensures program { IfOk result (λ p. IsProgramOf (tree_of p.ast) p) }
+    ensures params { IfOk result (λ p. params_at (tree_of p.ast) p.main ≡ []) }
 {
     let bytes = match read_all(alloc, source) {
         Ok(bytes) => bytes,

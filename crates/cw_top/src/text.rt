@@ -1,14 +1,17 @@
-ghost use Rattle.std.specs.Prelude.{◌≡◌, ◌++◌, codes, IfOk, OnOk, string_bytes};
+ghost use Rattle.std.specs.Prelude.{◌≡◌, ◌++◌, codes, IfOk, IsTrue, OnOk, string_bytes};
 ghost use Rattle.std.specs.List.{flat_map};
+ghost use Rattle.cw_tree.specs.Nodes.{is_strand};
 ghost use Rattle.cw_serial.specs.Machine.{value_at};
-ghost use Rattle.cw_top.specs.Texts.{at_line, cell_lines, element_line, end_text, fault_name, finished_text, line, name_fault_name, note_text as text_of_note, output_line, plain_line, root_name, run_text, text_fault_name};
+ghost use Rattle.cw_record.specs.Order.{ending_strand};
+ghost use Rattle.cw_top.specs.Texts.{at_line, cell_lines, element_line, end_text, fault_name, finished_text, line, name_fault_name, note_text as text_of_note, output_line, plain_line, run_text, strand_text, text_fault_name};
 
 use crate::Note;
 use cw_base::OutOfMemory;
 use cw_code::{CellInfo, FaultKind};
-use cw_serial::{Record, RecordEnd};
+use cw_record::{Record, RecordEnd};
 use cw_strand::NameKind;
 use cw_text::TextKind;
+use cw_tree::Tree;
 use std::alloc::Global;
 use std::fmt::Write;
 
@@ -162,30 +165,54 @@ fn finished_text(
     Ok(text)
 }
 
-fn fault_text(alloc: Global, kind: FaultKind) -> Result<String, OutOfMemory>
-    ensures { IfOk result (λ text. string_bytes text ≡ line (codes "fault " ++ fault_name kind ++ codes " in " ++ root_name)) }
+fn fault_text(
+    alloc: Global,
+    tree: &Tree,
+    strand: u32,
+    kind: FaultKind,
+) -> Result<String, OutOfMemory>
+    requires { IsTrue (is_strand tree.now strand) }
+    ensures { IfOk result (λ text. string_bytes text ≡ line (codes "fault " ++ fault_name kind ++ codes " in " ++ strand_text tree.now strand)) }
 {
+    let name = tree.name(strand)?;
     let kind = fault_name(kind);
-    Ok(format!(in alloc; "fault {kind} in 0\n")?)
+    Ok(format!(in alloc; "fault {kind} in {name}\n")?)
 }
 
-fn end_text(alloc: Global, cells: &[CellInfo], end: &RecordEnd) -> Result<String, OutOfMemory>
-    ensures { IfOk result (λ text. string_bytes text ≡ end_text cells.now end.now) }
+fn budget_text(alloc: Global, tree: &Tree, strand: u32) -> Result<String, OutOfMemory>
+    requires { IsTrue (is_strand tree.now strand) }
+    ensures { IfOk result (λ text. string_bytes text ≡ line (codes "budget spent in " ++ strand_text tree.now strand)) }
+{
+    let name = tree.name(strand)?;
+    Ok(format!(in alloc; "budget spent in {name}\n")?)
+}
+
+fn end_text(
+    alloc: Global,
+    cells: &[CellInfo],
+    tree: &Tree,
+    end: &RecordEnd,
+) -> Result<String, OutOfMemory>
+    requires { IsTrue (is_strand tree.now (ending_strand end.now)) }
+    ensures { IfOk result (λ text. string_bytes text ≡ end_text cells.now tree.now end.now) }
 {
     match end {
         RecordEnd::Finished { memory, outputs } => {
             finished_text(alloc, cells, memory.as_slice(), outputs.as_slice())
         }
-        RecordEnd::Fault { kind, .. } => fault_text(alloc, *kind),
-        RecordEnd::Budget { .. } => Ok(String::from_str(alloc, "budget spent in 0\n")?),
+        RecordEnd::Fault { strand, kind } => fault_text(alloc, tree, *strand, *kind),
+        RecordEnd::Budget { strand } => budget_text(alloc, tree, *strand),
         RecordEnd::Moves => Ok(String::from_str(alloc, "moves spent\n")?),
     }
 }
 
 /// The text of a run. Of one that finished: a line `out V` for each output, in order, then a line `NAME = V` for each cell, in
-/// the order of declaration (`NAME[I] = V` for each element of an array), then `end`. Of another one: a line that says why.
+/// the order of declaration (`NAME[I] = V` for each element of an array), then `end`. Of another one: a line that says why, and
+/// in which strand.
 pub fn result_text(alloc: Global, kept: &Record) -> Result<Vec<u8>, OutOfMemory>
+    requires { IsTrue (is_strand kept.now.tree (ending_strand kept.now.end)) }
     ensures { IfOk result (λ text. text.items ≡ run_text kept.now) }
 {
-    Ok(end_text(alloc, kept.program.cells.as_slice(), &kept.end)?.into_bytes())
+    let cells = kept.program.cells.as_slice();
+    Ok(end_text(alloc, cells, &kept.tree, &kept.end)?.into_bytes())
 }

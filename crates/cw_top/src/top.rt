@@ -1,5 +1,7 @@
-ghost use Rattle.std.specs.Prelude.{◌≡◌, ◌↔◌, ◌≤◌, ◌⊎◌, true, false, None, IfOk, IfErr, IfSome, IsSomeAnd, OnSome};
+ghost use Rattle.std.specs.Prelude.{◌≡◌, ◌↔◌, ◌≤◌, ◌⊎◌, true, false, None, IfOk, IfErr, IfSome, IsSomeAnd, IsTrue, OnSome};
 ghost use Rattle.cw_io.specs.Outside.{Keeps, Rose, RunsDry};
+ghost use Rattle.cw_tree.specs.Nodes.{is_strand};
+ghost use Rattle.cw_record.specs.Order.{ending_strand};
 ghost use Rattle.cw_top.specs.Outcome.{HasCause, IsOfRefusal, IsOfWriting, IsRefusedFor, IsRunOf, IsStatus, IsWhyNotRead, TakesAtMost, Writes, default_limits, most_read, status_of_refusal, status_of_run};
 ghost use Rattle.cw_top.specs.Refusals.{refusal};
 ghost use Rattle.cw_top.specs.Words.{are_command};
@@ -7,8 +9,9 @@ ghost use Rattle.cw_top.specs.Words.{are_command};
 use crate::reading::program_from;
 use crate::{Note, Reply, result_text};
 use cw_base::Seq;
+use cw_code::Limits;
 use cw_io::{Failed, Gate, Sink, Source, write_all};
-use cw_serial::{Limits, Record, RecordEnd, depth_first};
+use cw_record::{Record, RecordEnd, depth_first};
 use std::alloc::Global;
 use std::sync::Wait;
 use std::thread::Threads;
@@ -95,6 +98,7 @@ fn refused(note: Note) -> Reply
 
 // Writes the text of a run.
 fn written<K: Sink>(alloc: Global, run: Record, sink: &mut K) -> Reply
+    requires { IsTrue (is_strand run.tree (ending_strand run.end)) }
     ensures later { K.faults sink.old ≤ K.faults sink.new }
     ensures status { IsStatus result.kept result.status result.note }
     ensures kept { IfSome result.kept (λ r. r ≡ run) }

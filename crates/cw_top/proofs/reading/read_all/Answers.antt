@@ -1,6 +1,6 @@
 use Rattle.cw_top.specs.Outcome.{most_read}
 use Rattle.cw_top.proofs.Pieces.{Takes-gives, TakesAtMost-append}
-use Rattle.std.proofs.Common.{◌≤◌, arith}
+use Rattle.std.proofs.Common.{arith}
 use Rattle.cw_top.proofs.reading.read_all.Goals as goal
 
 pub pieces-preserved : goal.pieces-preserved

@@ -1,4 +1,4 @@
-use Rattle.std.proofs.Common.{◌≡◌, ◌-◌, ◌≤◌, length}
+use Rattle.std.proofs.Common.{◌-◌, ◌≤◌, length}
 use Rattle.cw_io.specs.Outside.{Takes}
 use Rattle.cw_top.specs.Outcome.{most_read}
 use Rattle.cw_top.proofs.reading.read_all.Given as goal

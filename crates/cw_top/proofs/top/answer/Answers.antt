@@ -1,4 +1,4 @@
-use Rattle.std.proofs.Common.{◌≡◌, Bool, true, false, List, ℕ, Option, refl, sym}
+use Rattle.std.proofs.Common.{◌≡◌, Bool, true, List, ℕ, Option, sym}
 use Rattle.cw_top.specs.declared.outcome.Note.{Note}
 use Rattle.cw_top.specs.declared.outcome.Note.TheVariants as note
 use Rattle.cw_top.specs.Outcome.{HasCause, IsOfWriting}
