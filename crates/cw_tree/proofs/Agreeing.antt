@@ -52,7 +52,7 @@ module _ (t u : List Node) (k : ℕ) (a : Agree t u k) (r : IsRooted t) where
       ap (λ ns. unwrap_or (find (is_strand u) ns) 0) (a.paths n h)
       ∙ ap (λ o. unwrap_or o 0) (find_path_same t r (is_strand u) (is_strand t) n (omega arith) (λ m le. a.strands m (omega arith)))
 
-  before_to : (n m : ℕ) → n < k → m < k → is_before t n m ≡ true → is_before u n m ≡ true
+  pub before_to : (n m : ℕ) → n < k → m < k → is_before t n m ≡ true → is_before u n m ≡ true
   before_to n m hn hm e =
       let there = a.there in
       let s = of_before t n m e in

@@ -1,17 +1,18 @@
 -- What stands above a node, and what of it is a block that is still pending.
 -- A node is its own ancestor. What stands above it begins with its parent.
-use Rattle.std.specs.Prelude.{ℕ, zero, suc, ◌<◌, ◌^◌, ◌==◌, ◌&&◌, Bool, false, not, List, [], ◌∷◌, length, drop, Option, Some, None, find, unwrap_or, if◌then◌else◌}
+use Rattle.std.specs.Prelude.{ℕ, zero, suc, ◌<◌, ◌^◌, ◌==◌, ◌&&◌, Bool, false, not, IsTrue, List, [], ◌∷◌, length, drop, Option, Some, None, find, unwrap_or, if◌then◌else◌}
 use Rattle.std.specs.List.{list_any}
 use Rattle.std.specs.Option.{option_or}
 use Rattle.cw_tree.specs.declared.node.Node.{Node}
-use Rattle.cw_tree.specs.Nodes.{parent_of, is_pending, is_block}
+use Rattle.cw_tree.specs.Nodes.{parent_of, is_strand, is_pending, is_block}
 
 -- each node but the first has a parent with a smaller number
 abbrev pub IsRooted : List Node → Type 0
 IsRooted t = (n : ℕ) → 0 < n → n < length t → parent_of t n < n
 
--- what is true of every tree
+-- what is true of every tree: it was numbered from its root, a strand, on
 pub record IsNumbered (t : List Node) : Type 0 where
+  pub root : IsTrue (is_strand t 0)
   pub rooted : IsRooted t
   -- at most 2 ^ 32 - 1 nodes
   pub few : length t < 2 ^ 32
