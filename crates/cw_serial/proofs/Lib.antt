@@ -6,7 +6,6 @@ pub mod NameSteps
 pub mod SameNames
 pub mod Declarations
 pub mod KnownNames
-pub mod Blocks
 pub mod DoneTasks
 pub mod Wants
 pub mod SettledWork

@@ -1,7 +1,8 @@
 -- A pick in memory is a pick of the machine.
-use Rattle.std.proofs.Common.{◌≡◌, ◌++◌, ℕ, refl, ap, sym, ◌∙◌, subst, Bool, true, false, Some, None, List, [], ◌∷◌, drop}
+use Rattle.std.proofs.Common.{◌≡◌, ◌≤◌, ◌++◌, ℕ, arith, length, refl, ap, sym, ◌∙◌, subst, Bool, true, false, Some, None, List, [], ◌∷◌, drop}
 use Rattle.std.specs.Bool.{if◌then◌else◌}
 use Rattle.std.specs.List.{slice_set}
+use Rattle.std.proofs.lemmas.Option.{slice_get_past}
 use Rattle.cw_strand.specs.declared.want.Want.{Want}
 use Rattle.cw_strand.specs.declared.want.Want.TheVariants.{Load, Store, Out, Begin, End, Fork, Sync, Done, Fault}
 use Rattle.cw_strand.specs.declared.want.Given.{Given}
@@ -17,7 +18,7 @@ use Rattle.cw_serial.specs.Machine.{Machine, value_at, turns, may_pick, does, pi
 use Rattle.cw_serial.specs.Programs.{strands_of}
 use Rattle.cw_serial.specs.Spots.{standing, IsSettled}
 use Rattle.cw_serial.specs.Standing.{HasElements}
-use Rattle.cw_serial.specs.Held.{Holds, IsFront, Answers, ComesTo, want_at}
+use Rattle.cw_serial.specs.Held.{Holds, IsFront, Answers, ComesTo, strand_of, want_of, want_at}
 use Rattle.cw_serial.specs.InMemory.{AreNamed, IsMachine, CannotMeet, Meets, Picks}
 use Rattle.cw_serial.proofs.Numbers.{turns_more}
 use Rattle.cw_serial.proofs.Replaced.{at_is, at_spot}
@@ -192,3 +193,7 @@ module _ (p : Program) (old : Code) (m : Machine State) (is : IsMachine p old m)
   -- where no strand stands, none is picked
   pub none_stands : want_at old.strands.threads.items n ≡ None → Picks p m (pick (strands_of p) m q) false old
   none_stands none = subst (λ o. Picks p m o false old) (sym (ap (pick_at (strands_of p) m q) (nobody_at p old.strands m.strands is.strands n q up none))) is
+
+-- a number that no strand has wants nothing
+pub unknown_wants : (p : Program) (code : Code) (m : Machine State) → IsMachine p code m → (i : ℕ) → length code.strands.names.items ≤ i → want_at code.strands.threads.items i ≡ None
+unknown_wants p code m is i past = ap (λ o. want_of (strand_of o)) (slice_get_past code.strands.threads.items i (omega (arith, past, is.strands.numbered.same)))

@@ -12,99 +12,121 @@ use Rattle.cw_serial.specs.declared.ends.SerialEnd.{SerialEnd}
 use Rattle.cw_serial.specs.declared.ends.SerialEnd.TheVariants as last
 use Rattle.cw_serial.specs.declared.machine.Machine.{Machine as Code}
 use Rattle.cw_serial.specs.declared.orders.Known.{Known}
+use Rattle.cw_serial.specs.declared.play.Play.{Play}
 use Rattle.cw_serial.specs.Machine.{Machine, turns, pick, pick_at, pick_named, shown, play}
 use Rattle.cw_serial.specs.Programs.{strands_of, end_under}
-use Rattle.cw_serial.specs.Held.{IsFront}
+use Rattle.cw_serial.specs.Held.{IsNumbered, IsFront}
 use Rattle.cw_serial.specs.InMemory.{IsMachine, Picks}
-use Rattle.cw_serial.specs.Orders.{SameStrand, AreKnown, StandsNowhere, Finds, IsNamed}
+use Rattle.cw_serial.specs.Orders.{AreKnown, Finds, IsNamed, IsPlay, Plays}
 use Rattle.cw_serial.proofs.Numbers.{turns_more}
 
 -- ## One pick
 
-pub known_front : (order : List Name) (numbers : List (Option ℕ)) (names more : List Name) → AreKnown order numbers names → IsFront names more → AreKnown order numbers more
+known_front : (order : List Name) (numbers : List (Option ℕ)) (names more : List Name) → AreKnown order numbers names → IsFront names more → AreKnown order numbers more
 known_front order numbers names more known (rest, e) n i h =
     let same = known n i h in
     record { path = same.path; here = same.here; there = ap (λ v. turns v i) e ∙ turns_more names rest i same.path same.there }
 
-pub nowhere_picks : (p : Program) (code : Code) (m : Machine State) (order : List Name) (n : ℕ) → IsMachine p code m → StandsNowhere order n code → Picks p m (pick_named (strands_of p) m (turns order n)) false code
-nowhere_picks p code m order n is nowhere = by (turns order n) refl where
-  by : (o : Option (List Turn)) → turns order n ≡ o → Picks p m (pick_named (strands_of p) m o) false code
-  by None e = is
-  by (Some q) e = subst (λ o. Picks p m o false code) (sym (ap (pick_at (strands_of p) m q) (nowhere p m q is e))) is
+module _ (p : Program) (names : List Name) (m : Machine State) (n : ℕ) where
+  -- what is found of a name is that of its strand
+  pub finds_named : (code : Code) (found : Option ℕ) → IsMachine p code m → Finds names n code found → IsNamed p m code found (turns names n)
+  finds_named code (Some i) is same = subst (IsNamed p m code (Some i)) (sym same.here) same.there
+  finds_named code None is nowhere = by (turns names n) refl where
+    by : (o : Option (List Turn)) → turns names n ≡ o → IsNamed p m code None o
+    by None e = tt
+    by (Some q) e = nowhere p m q is e
 
-pub started_picks : (p : Program) (code new : Code) (m : Machine State) (order : List Name) (n i : ℕ) (moved : Bool) → (same : SameStrand order code.strands.names.items n i) → Picks p m (pick (strands_of p) m same.path) moved new → Picks p m (pick_named (strands_of p) m (turns order n)) moved new
-started_picks p code new m order n i moved same h = subst (λ o. Picks p m (pick_named (strands_of p) m o) moved new) (sym same.here) h
+  -- What was looked for in a machine that is driven by names: what is known grew, and is so.
+  pub record Looked (old : Play) (now : Known) (found : Option ℕ) : Type 0 where
+    pub finds : Finds names n old.machine found
+    pub order : now.order.now ≡ names
+    pub known : AreKnown names now.numbers.items old.machine.strands.names.items
 
--- what is found of a name is that of its strand
-pub finds_named : (p : Program) (code : Code) (m : Machine State) (order : List Name) (n : ℕ) (found : Option ℕ) → IsMachine p code m → Finds order n code found → IsNamed p m code found (turns order n)
-finds_named p code m order n (Some i) is same = subst (IsNamed p m code (Some i)) (sym same.here) same.there
-finds_named p code m order n None is nowhere = by (turns order n) refl where
-  by : (o : Option (List Turn)) → turns order n ≡ o → IsNamed p m code None o
-  by None e = tt
-  by (Some q) e = nowhere p m q is e
+  pub looked : (old : Play) (now : Known) (found : Option ℕ) → IsPlay p names old m → now.order.now ≡ old.known.order.now
+      → (IsNumbered old.machine.strands.names.items old.machine.strands.threads.items → AreKnown old.known.order.now old.known.numbers.items old.machine.strands.names.items
+      → Finds old.known.order.now n old.machine found × AreKnown old.known.order.now now.numbers.items old.machine.strands.names.items)
+      → Looked old now found
+  looked old now found is same finds =
+      let known = subst (λ ns. AreKnown ns old.known.numbers.items old.machine.strands.names.items) (sym is.order) is.known in
+      let (f, k) = finds is.machine.strands.numbered known in
+      record {
+        finds = subst (λ ns. Finds ns n old.machine found) is.order f;
+        order = same ∙ is.order;
+        known = subst (λ ns. AreKnown ns now.numbers.items old.machine.strands.names.items) is.order k;
+      }
+
+  -- the same machine, of which more is known
+  pub looks : (old new : Play) (found : Option ℕ) → IsPlay p names old m → new.machine ≡ old.machine → Looked old new.known found → IsPlay p names new m
+  looks old new found is same l = record {
+    machine = subst (λ code. IsMachine p code m) (sym same) is.machine;
+    order = l.order;
+    known = subst (λ code. AreKnown names new.known.numbers.items code.strands.names.items) (sym same) l.known;
+  }
+
+  -- a name of which no strand stands cannot be picked
+  pub nowhere_plays : (old new : Play) → IsPlay p names old m → new.machine ≡ old.machine → Looked old new.known None → Plays p names m (pick_named (strands_of p) m (turns names n)) false new
+  nowhere_plays old new is same l = by (turns names n) refl where
+    by : (o : Option (List Turn)) → turns names n ≡ o → Plays p names m (pick_named (strands_of p) m o) false new
+    by None e = looks old new None is same l
+    by (Some q) e = subst (λ o. Plays p names m o false new) (sym (ap (pick_at (strands_of p) m q) (l.finds p m q is.machine e))) (looks old new None is same l)
+
+  -- the strand of a name is picked
+  pub started_plays : (old new : Play) (i : ℕ) (moved : Bool) → Looked old new.known (Some i)
+      → ((q : List Turn) → turns old.machine.strands.names.items i ≡ Some q → Picks p m (pick (strands_of p) m q) moved new.machine) → IsFront old.machine.strands.names.items new.machine.strands.names.items
+      → Plays p names m (pick_named (strands_of p) m (turns names n)) moved new
+  started_plays old new i moved l picks front =
+      subst (λ o. Plays p names m (pick_named (strands_of p) m o) moved new) (sym l.finds.here) (by (pick (strands_of p) m l.finds.path) moved (picks l.finds.path l.finds.there)) where
+        more : AreKnown names new.known.numbers.items new.machine.strands.names.items
+        more = known_front names new.known.numbers.items old.machine.strands.names.items new.machine.strands.names.items l.known front
+
+        by : (o : Option (Machine State)) (b : Bool) → Picks p m o b new.machine → Plays p names m o b new
+        by (Some t) true h = record { machine = h; order = l.order; known = more }
+        by None false h = record { machine = h; order = l.order; known = more }
+        by (Some t) false h = absurd h
+        by None true h = absurd h
 
 -- ## All of them
 
-drop-from_slice_get : {X : Type 0} (xs : List X) (i : ℕ) (x : X) → slice_get xs i ≡ Some x → drop i xs ≡ x ∷ drop (suc i) xs
-drop-from_slice_get [] i x h = absurd cc
-drop-from_slice_get (y ∷ ys) zero x h = cc
-drop-from_slice_get (y ∷ ys) (suc i) x h = drop-from_slice_get ys i x h
+pub drop_at : {X : Type 0} (xs : List X) (i : ℕ) (x : X) → slice_get xs i ≡ Some x → drop i xs ≡ x ∷ drop (suc i) xs
+drop_at [] i x h = absurd cc
+drop_at (y ∷ ys) zero x h = cc
+drop_at (y ∷ ys) (suc i) x h = drop_at ys i x h
 
 -- One pick of a play that comes to this end.
 module _ {A : Type 0} (s : Strands A) (names : List Name) (list : List ℕ) (name : ℕ) (e : SerialEnd) where
   played_on : (place n : ℕ) (m t : Machine A) → slice_get list place ≡ Some n → pick_named s m (turns names n) ≡ Some t → e ≡ play s m names (drop place list) name place → e ≡ play s t names (drop (place + 1) list) name (place + 1)
-  played_on place n m t there is same = rw add-one (rw (drop-from_slice_get list place n there, is) at same)
+  played_on place n m t there is same = rw add-one (rw (drop_at list place n there, is) at same)
 
   played_stuck : (place n : ℕ) (m : Machine A) → slice_get list place ≡ Some n → pick_named s m (turns names n) ≡ None → e ≡ play s m names (drop place list) name place → last.Stuck place ≡ e
-  played_stuck place n m there is same = sym (rw (drop-from_slice_get list place n there, is) at same)
+  played_stuck place n m there is same = sym (rw (drop_at list place n there, is) at same)
 
   played_all : (place : ℕ) (m : Machine A) → length list ≤ place → e ≡ play s m names (drop place list) name place → shown s m names name place ≡ e
   played_all place m past same = sym (rw (drop_of_length-le list past) at same)
 
 module _ (p : Program) (picks : Order) where
-  -- the rest of the picks, from this machine on, leads to the end
-  abbrev Leaves : Machine State → ℕ → Type 0
-  Leaves m place = end_under p picks ≡ play (strands_of p) m picks.names (drop place picks.list) picks.last place
-
   -- So many picks were made, and those that are left lead to the end.
-  pub record Plays (code : Code) (known : Known) (place : ℕ) : Type 0 where
+  pub record Played (code : Play) (place : ℕ) : Type 0 where
     pub machine : Machine State
-    pub is : IsMachine p code machine
-    pub order : known.order.now ≡ picks.names
-    pub numbers : AreKnown picks.names known.numbers.items code.strands.names.items
-    pub leaves : Leaves machine place
-
-  -- what is known of the names so far
-  pub plays_known : (code : Code) (known : Known) (place : ℕ) → (plays : Plays code known place) → AreKnown known.order.now known.numbers.items code.strands.names.items
-  plays_known code known place plays = subst (λ v. AreKnown v known.numbers.items code.strands.names.items) (sym plays.order) plays.numbers
+    pub is : IsPlay p picks.names code machine
+    pub leaves : end_under p picks ≡ play (strands_of p) machine picks.names (drop place picks.list) picks.last place
 
   -- a pick, by its name
-  abbrev pub Picked : Code → Known → ℕ → Bool → Code → Known → Type 0
-  Picked old known n moved new now = (q : Program) (m : Machine State) → IsMachine q old m → AreKnown known.order.now known.numbers.items old.strands.names.items
-      → Picks q m (pick_named (strands_of q) m (turns known.order.now n)) moved new × AreKnown known.order.now now.numbers.items new.strands.names.items
+  abbrev pub Picked : Play → ℕ → Bool → Play → Type 0
+  Picked old n moved new = (q : Program) (names : List Name) (m : Machine State) → IsPlay q names old m → Plays q names m (pick_named (strands_of q) m (turns names n)) moved new
 
-  module _ (old new : Code) (known now : Known) (place n : ℕ) (there : slice_get picks.list place ≡ Some n) (plays : Plays old known place) where
-    goes_on : (o : Option (Machine State)) → pick_named (strands_of p) plays.machine (turns picks.names n) ≡ o → Picks p plays.machine o true new → now.order.now ≡ known.order.now → AreKnown picks.names now.numbers.items new.strands.names.items → Plays new now (place + 1)
-    goes_on None is h order numbers = absurd h
-    goes_on (Some t) is h order numbers = record { machine = t; is = h; order = order ∙ plays.order; numbers = numbers; leaves = played_on (strands_of p) picks.names picks.list picks.last (end_under p picks) place n plays.machine t there is plays.leaves }
+  module _ (old new : Play) (place n : ℕ) (there : slice_get picks.list place ≡ Some n) (played : Played old place) where
+    pub plays_on : Picked old n true new → Played new (place + 1)
+    plays_on picked = by (pick_named (strands_of p) played.machine (turns picks.names n)) refl (picked p picks.names played.machine played.is) where
+      by : (o : Option (Machine State)) → pick_named (strands_of p) played.machine (turns picks.names n) ≡ o → Plays p picks.names played.machine o true new → Played new (place + 1)
+      by None e h = absurd h
+      by (Some t) e h = record { machine = t; is = h; leaves = played_on (strands_of p) picks.names picks.list picks.last (end_under p picks) place n played.machine t there e played.leaves }
 
-    pub plays_on : Picked old known n true new now → now.order.now ≡ known.order.now → Plays new now (place + 1)
-    plays_on picked order =
-        let (made, numbers) = picked p plays.machine plays.is (plays_known old known place plays) in
-        goes_on (pick_named (strands_of p) plays.machine (turns picks.names n)) refl (subst (λ v. Picks p plays.machine (pick_named (strands_of p) plays.machine (turns v n)) true new) plays.order made) order (subst (λ v. AreKnown v now.numbers.items new.strands.names.items) plays.order numbers)
-
-    is_stuck : (o : Option (Machine State)) → pick_named (strands_of p) plays.machine (turns picks.names n) ≡ o → Picks p plays.machine o false new → last.Stuck place ≡ end_under p picks
-    is_stuck (Some t) is h = absurd h
-    is_stuck None is h = played_stuck (strands_of p) picks.names picks.list picks.last (end_under p picks) place n plays.machine there is plays.leaves
-
-    pub stuck_at : Picked old known n false new now → last.Stuck place ≡ end_under p picks
-    stuck_at picked =
-        let (made, numbers) = picked p plays.machine plays.is (plays_known old known place plays) in
-        is_stuck (pick_named (strands_of p) plays.machine (turns picks.names n)) refl (subst (λ v. Picks p plays.machine (pick_named (strands_of p) plays.machine (turns v n)) false new) plays.order made)
+    pub stuck_at : Picked old n false new → last.Stuck place ≡ end_under p picks
+    stuck_at picked = by (pick_named (strands_of p) played.machine (turns picks.names n)) refl (picked p picks.names played.machine played.is) where
+      by : (o : Option (Machine State)) → pick_named (strands_of p) played.machine (turns picks.names n) ≡ o → Plays p picks.names played.machine o false new → last.Stuck place ≡ end_under p picks
+      by (Some t) e h = absurd h
+      by None e h = played_stuck (strands_of p) picks.names picks.list picks.last (end_under p picks) place n played.machine there e played.leaves
 
   -- what the machine shows of itself once all picks are made
-  pub shown_at : (code : Code) (known : Known) (place : ℕ) (e : SerialEnd) → length picks.list ≤ place → (plays : Plays code known place) → e ≡ shown (strands_of p) plays.machine picks.names picks.last place → e ≡ end_under p picks
-  shown_at code known place e past plays shows = shows ∙ played_all (strands_of p) picks.names picks.list picks.last (end_under p picks) place plays.machine past plays.leaves
-
-  pub last_named : (code : Code) (known : Known) (place : ℕ) (found : Option ℕ) → (plays : Plays code known place) → Finds known.order.now picks.last code found → IsNamed p plays.machine code found (turns picks.names picks.last)
-  last_named code known place found plays finds = finds_named p code plays.machine picks.names picks.last found plays.is (subst (λ v. Finds v picks.last code found) plays.order finds)
+  pub shown_at : (code : Play) (place : ℕ) (e : SerialEnd) → length picks.list ≤ place → (played : Played code place) → e ≡ shown (strands_of p) played.machine picks.names picks.last place → e ≡ end_under p picks
+  shown_at code place e past played shows = shows ∙ played_all (strands_of p) picks.names picks.list picks.last (end_under p picks) place played.machine past played.leaves

@@ -1,5 +1,5 @@
 -- What is known of the strands that an order names.
-use Rattle.std.specs.Prelude.{◌≡◌, ◌<◌, ℕ, zero, suc, List, [], ◌∷◌, nat_lt, slice_get, Option, Some, None, if◌then◌else◌}
+use Rattle.std.specs.Prelude.{◌≡◌, ◌<◌, ℕ, zero, suc, Bool, true, false, List, [], ◌∷◌, nat_lt, slice_get, Option, Some, None, if◌then◌else◌}
 use Rattle.cw_strand.specs.declared.want.Want.{Want}
 use Rattle.cw_strand.specs.declared.want.Want.TheVariants.{Fault}
 use Rattle.cw_strand.specs.Meaning.{State}
@@ -7,6 +7,7 @@ use Rattle.cw_tree.specs.declared.picks.Name.{Name}
 use Rattle.cw_tree.specs.declared.picks.Turn.{Turn}
 use Rattle.cw_serial.specs.declared.program.Program.{Program}
 use Rattle.cw_serial.specs.declared.machine.Machine.{Machine as Code}
+use Rattle.cw_serial.specs.declared.play.Play.{Play}
 use Rattle.cw_serial.specs.declared.ends.SerialEnd.{SerialEnd}
 use Rattle.cw_serial.specs.declared.ends.SerialEnd.TheVariants as last
 use Rattle.cw_serial.specs.Threads.{at}
@@ -70,6 +71,20 @@ IsNamed p m code (Some i) None = ⊥
 abbrev pub at_named : Program → Machine State → Option (List Turn) → Option State
 at_named p m None = None
 at_named p m (Some q) = at (strands_of p) m.strands q
+
+-- ## A machine that is driven by the names of an order
+
+-- The machine of the program is in this state, and what is known of these names is so there.
+pub record IsPlay (p : Program) (names : List Name) (code : Play) (m : Machine State) : Type 0 where
+  pub machine : IsMachine p code.machine m
+  pub order : code.known.order.now ≡ names
+  pub known : AreKnown names code.known.numbers.items code.machine.strands.names.items
+
+-- the pick of a name was made, or cannot be made
+abbrev pub Plays : Program → List Name → Machine State → Option (Machine State) → Bool → Play → Type 0
+Plays p names m (Some t) true new = IsPlay p names new t
+Plays p names m None false new = IsPlay p names new m
+Plays p names m t moved new = ⊥
 
 -- how a run ends whose last strand wants this
 abbrev pub end_from : Option Want → (name place : ℕ) → SerialEnd

@@ -2,9 +2,8 @@
 //! Stands on `cw_text`, `cw_code`, `cw_strand`, `cw_tree`.
 //! Contracts cite `specs/Threads.antt` and `specs/Machine.antt` (the machine, over any strands), `specs/Programs.antt` (what a
 //! checked program is), `specs/Standing.antt` (what the strand in memory stands for), `specs/InMemory.antt` with `specs/Held.antt` and
-//! `specs/Spots.antt` (what the machine in memory stands for). Private ones cite `specs/Scopes.antt`, `specs/Visible.antt` and
-//! `specs/Items.antt` (names and what items declare), `specs/Named.antt` (names in memory), `specs/Loads.antt` (that settling ends) and
-//! `specs/Orders.antt` (the strands that an order names).
+//! `specs/Spots.antt` (what the machine in memory stands for), `specs/Orders.antt` (the strands that an order names). Private ones cite `specs/Scopes.antt`, `specs/Visible.antt` and
+//! `specs/Items.antt` (names and what items declare), `specs/Named.antt` (names in memory) and `specs/Loads.antt` (that settling ends).
 #![tactic(auto)]
 
 ghost use Rattle.cw_serial.specs.Rows.{Ends, StrandEnds};
@@ -34,7 +33,7 @@ pub use cw_tree::{Name, Picks};
 pub use elements::{Elements, first_memory};
 pub use ends::SerialEnd;
 pub use machine::Machine;
-pub use play::serial;
+pub use play::{Play, serial};
 pub use program::{NameRefusal, Program};
 pub use stack::Stack;
 pub use strand::Strand;

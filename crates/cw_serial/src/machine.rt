@@ -1,4 +1,4 @@
-ghost use Rattle.std.specs.Prelude.{◌≡◌, false, Some, IfOk};
+ghost use Rattle.std.specs.Prelude.{◌≡◌, ◌≤◌, false, Some, None, IfOk, length};
 ghost use Rattle.cw_strand.specs.Meaning.{State};
 ghost use Rattle.cw_tree.specs.declared.picks.Turn.{Turn};
 ghost use Rattle.cw_serial.specs.InMemory.{before_end};
@@ -72,9 +72,11 @@ impl<'a> Machine<'a> {
 
     /// What a strand wants. Nothing where it waits for its fork or has come to its end, or where no strand has this number.
     pub fn at(&self, strand: u32) -> Option<Want>
-        ensures { (p : Checked) (m : State_of State) (q : List Turn) → IsMachine p self.now m →
+        ensures wants { (p : Checked) (m : State_of State) (q : List Turn) → IsMachine p self.now m →
             turns self.now.strands.names.items strand ≡ Some q →
             result ≡ want_before_end (strands_of p) (at (strands_of p) m.strands q) }
+        ensures unknown { (p : Checked) (m : State_of State) → IsMachine p self.now m →
+            length self.now.strands.names.items ≤ strand → result ≡ None }
     {
         unless_ended(self.strands.want(strand))
     }
@@ -106,6 +108,8 @@ impl<'a> Machine<'a> {
         ensures picks { IfOk result (λ moved. (p : Checked) (m : State_of State) (q : List Turn) → IsMachine p self.old m →
             turns self.old.strands.names.items strand ≡ Some q →
             Picks p m (pick (strands_of p) m q) moved self.new) }
+        ensures unknown { IfOk result (λ moved. (p : Checked) (m : State_of State) → IsMachine p self.old m →
+            length self.old.strands.names.items ≤ strand → moved ≡ false) }
         ensures stuck { IfOk result (λ moved. moved ≡ false → self.new ≡ self.old) }
         ensures names { IfOk result (λ moved. IsFront self.old.strands.names.items self.new.strands.names.items) }
     {
@@ -124,7 +128,7 @@ impl<'a> Machine<'a> {
     }
 
     /// What it shows of itself where the picks are used up, so many of them, and the last strand is this one, or none.
-    pub fn shown(self, strand: Option<u32>, name: u32, place: u32) -> SerialEnd
+    pub(crate) fn shown(self, strand: Option<u32>, name: u32, place: u32) -> SerialEnd
         ensures { (p : Checked) (m : State_of State) (o : Option (List Turn)) → IsMachine p self.entry m →
             IsNamed p m self.entry strand o →
             result ≡ (if has_ended (strands_of p) m then last.Finished m.memory m.outputs
@@ -140,7 +144,7 @@ impl<'a> Machine<'a> {
     }
 
     /// What a strand wants, where there is one.
-    fn want_of(&self, strand: Option<u32>) -> Option<Want>
+    pub(crate) fn want_of(&self, strand: Option<u32>) -> Option<Want>
         ensures { (p : Checked) (m : State_of State) (o : Option (List Turn)) → IsMachine p self.now m →
             IsNamed p m self.now strand o → result ≡ want_before_end (strands_of p) (at_named p m o) }
     {
@@ -162,7 +166,7 @@ impl<'a> Machine<'a> {
     }
 
     /// The number of a strand, by the fork that started it.
-    pub fn started(&self, name: Name) -> Option<u32>
+    pub(crate) fn started(&self, name: Name) -> Option<u32>
         ensures { result ≡ started_at self.now.strands.threads.items name }
     {
         self.strands.started(name)

@@ -1,16 +1,97 @@
 ghost use Rattle.std.specs.Prelude.{◌≡◌, IfOk};
-ghost use Rattle.cw_strand.specs.Meaning.{State};
-ghost use Rattle.cw_serial.specs.declared.program.Program.{Program as Checked};
-ghost use Rattle.cw_serial.specs.Machine.{Machine as State_of, pick_named, turns};
-ghost use Rattle.cw_serial.specs.Programs.{strands_of, end_under};
-ghost use Rattle.cw_serial.specs.InMemory.{IsMachine, Picks as Made};
-ghost use Rattle.cw_serial.specs.Orders.{AreKnown};
+ghost use Rattle.cw_serial.specs.Programs.{end_under, machine_of};
+ghost use Rattle.cw_serial.specs.Orders.{IsPlay};
 
 use crate::machine::Machine;
 use crate::orders::Known;
-use crate::{Limits, Picks, Program, SerialEnd};
+use crate::{Limits, Name, Picks, Program, SerialEnd};
 use cw_base::OutOfMemory;
+use cw_strand::Want;
 use std::alloc::Global;
+
+/// The machine with one memory, driven by the names of an order: a strand is named by its number there.
+#[derive(Drop)]
+pub struct Play<'a, 'n> {
+    alloc: Global,
+    machine: Machine<'a>,
+    known: Known<'n>,
+}
+
+impl<'a, 'n> Play<'a, 'n> {
+    ghost use Rattle.std.specs.Prelude.{List};
+    ghost use Rattle.cw_strand.specs.Meaning.{State};
+    ghost use Rattle.cw_tree.specs.declared.picks.Name.{Name as Named};
+    ghost use Rattle.cw_serial.specs.declared.program.Program.{Program as Checked};
+    ghost use Rattle.cw_serial.specs.Machine.{Machine as State_of, pick_named, shown, turns};
+    ghost use Rattle.cw_serial.specs.InMemory.{want_before_end};
+    ghost use Rattle.cw_serial.specs.Orders.{at_named, Plays};
+    ghost use Rattle.cw_serial.specs.Programs.{strands_of};
+
+    /// The machine before the first pick. Words and limits have no meaning in the language so far.
+    pub fn new(
+        alloc: Global,
+        program: &'a Program,
+        words: &[i64],
+        limits: Limits,
+        names: &'n [Name],
+    ) -> Result<Play<'a, 'n>, OutOfMemory>
+        ensures { IfOk result (λ play. IsPlay program.now names.now play (machine_of program.now)) }
+    {
+        let machine = Machine::new(alloc, program, words, limits)?;
+        let known = Known::new(alloc, names)?;
+        Ok(Play {
+            alloc,
+            machine,
+            known,
+        })
+    }
+
+    /// What the memory holds.
+    pub fn memory(&self) -> &[i64]
+        ensures { (p : Checked) (names : List Named) (m : State_of State) → IsPlay p names self.now m → m.memory ≡ result.now }
+    {
+        self.machine.memory()
+    }
+
+    /// What the strand of a name wants. Nothing where it waits for its fork, has come to its end or was not started, or where the
+    /// number is no name.
+    pub fn at(&mut self, name: u32) -> Result<Option<Want>, OutOfMemory>
+        ensures want { IfOk result (λ want. (p : Checked) (names : List Named) (m : State_of State) → IsPlay p names self.old m →
+            want ≡ want_before_end (strands_of p) (at_named p m (turns names name))) }
+        ensures same { IfOk result (λ want. (p : Checked) (names : List Named) (m : State_of State) → IsPlay p names self.old m →
+            IsPlay p names self.new m) }
+    {
+        let strand = self.known.number(self.alloc, &self.machine, name)?;
+        Ok(self.machine.want_of(strand))
+    }
+
+    /// Makes the pick of the strand of a name, or answers false where it cannot be made, with the machine as it was. The program is
+    /// the one that the machine was made of. After an error the machine can only be dropped.
+    pub fn pick(&mut self, program: &'a Program, name: u32) -> Result<bool, OutOfMemory>
+        ensures { IfOk result (λ moved. (p : Checked) (names : List Named) (m : State_of State) → IsPlay p names self.old m →
+            Plays p names m (pick_named (strands_of p) m (turns names name)) moved self.new) }
+    {
+        let Some(strand) = self.known.number(self.alloc, &self.machine, name)? else {
+            return Ok(false);
+        };
+        let moved = self.machine.pick(program, strand)?;
+        Ok(moved)
+    }
+
+    /// The end where the picks are used up, so many of them, and the last name is this one.
+    pub fn end(self, last: u32, place: u32) -> Result<SerialEnd, OutOfMemory>
+        ensures { IfOk result (λ e. (p : Checked) (names : List Named) (m : State_of State) → IsPlay p names self.entry m →
+            e ≡ shown (strands_of p) m names last place) }
+    {
+        let Play {
+            alloc,
+            machine,
+            mut known,
+        } = self;
+        let strand = known.number(alloc, &machine, last)?;
+        Ok(machine.shown(strand, last, place))
+    }
+}
 
 /// The end of the machine with one memory under these picks, whatever they are. Words and limits have no meaning in the
 /// language so far: `main` has no parameters, and fuel and size are not counted. More than 4,294,967,295 picks or strands, whose
@@ -27,35 +108,13 @@ pub fn serial(
     let Ok(count) = u32::try_from(picks.list.len()) else {
         return Err(OutOfMemory);
     };
-    let mut machine = Machine::new(alloc, program, words, limits)?;
-    let mut known = Known::new(alloc, picks.names.as_slice())?;
+    let mut play = Play::new(alloc, program, words, limits, picks.names.as_slice())?;
     for place in 0..count {
         let name = *picks.list.at(place as usize);
-        if !pick_named(alloc, &mut machine, &mut known, program, name)? {
+        if !play.pick(program, name)? {
             return Ok(SerialEnd::Stuck { place });
         }
     }
-    let strand = known.number(alloc, &machine, picks.last)?;
-    Ok(machine.shown(strand, picks.last, count))
-}
-
-/// Makes the pick of the strand that this name of an order is, and says whether it can be made.
-fn pick_named<'a>(
-    alloc: Global,
-    machine: &mut Machine<'a>,
-    known: &mut Known<'_>,
-    program: &'a Program,
-    name: u32,
-) -> Result<bool, OutOfMemory>
-    ensures order { IfOk result (λ moved. known.new.order.now ≡ known.old.order.now) }
-    ensures picks { IfOk result (λ moved. (p : Checked) (m : State_of State) → IsMachine p machine.old m →
-        AreKnown known.old.order.now known.old.numbers.items machine.old.strands.names.items →
-        Made p m (pick_named (strands_of p) m (turns known.old.order.now name)) moved machine.new
-        × AreKnown known.old.order.now known.new.numbers.items machine.new.strands.names.items) }
-{
-    let Some(strand) = known.number(alloc, machine, name)? else {
-        return Ok(false);
-    };
-    let moved = machine.pick(program, strand)?;
-    Ok(moved)
+    let end = play.end(picks.last, count)?;
+    Ok(end)
 }

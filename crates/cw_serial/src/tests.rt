@@ -66,6 +66,8 @@ fn an_update_is_lost_step_by_step(rt: HostRuntime) -> Result<(), Fail> {
     let alloc = rt.alloc();
     let program = program(alloc, BOTH)?;
     let mut machine = Machine::new(alloc, &program, &[], LIMITS)?;
+    let names = [name(0, 0, false), name(0, 1, false), name(0, 1, true)];
+    assert_eq!(rt; machine.names(), &names[..1]);
     let table: [(u32, &str); 6] = [
         (0, "None Some(Load(0)) Some(Load(0)) "),
         (1, "None Some(Store(0, 1)) Some(Load(0)) "),
@@ -76,6 +78,7 @@ fn an_update_is_lost_step_by_step(rt: HostRuntime) -> Result<(), Fail> {
     ];
     for (strand, wanted) in table {
         assert!(rt; machine.pick(&program, strand)?);
+        assert_eq!(rt; machine.names(), names.as_slice());
         let mut standing = String::new(alloc);
         for number in 0..3 {
             let want = machine.at(number);

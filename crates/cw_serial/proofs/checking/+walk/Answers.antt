@@ -2,7 +2,7 @@ use Rattle.std.proofs.Common.{[], ◌∷◌, ◌∙◌}
 use Rattle.std.proofs.lemmas.Result.{err_from_is_err_and}
 use Rattle.cw_serial.specs.declared.scope.Thing.TheVariants.{Local}
 use Rattle.cw_serial.specs.Visible.{visible_in}
-use Rattle.cw_serial.proofs.Blocks.{inner_is_block}
+use Rattle.cw_text.proofs.Blocks.{inner_is_block}
 use Rattle.cw_serial.proofs.NameSteps.{in_block_next, keeps_more}
 use Rattle.cw_serial.proofs.checking.+walk.Goals as goal
 

@@ -1,5 +1,5 @@
-use Rattle.cw_serial.proofs.Played.{Plays}
+use Rattle.cw_serial.proofs.Played.{Played}
 use Rattle.cw_serial.proofs.play.serial.Given as goal
 
 abbrev pub invariant-loop-place : goal.invariant-loop-place
-invariant-loop-place l = Plays l.program l.picks l.machine l.known l.place
+invariant-loop-place l = Played l.program l.picks l.play l.place

@@ -1,5 +1,5 @@
 use Rattle.std.proofs.Common.{◌∙◌, refl, sym}
-use Rattle.cw_serial.proofs.Picked.{picked, not_inside, not_met, none_stands}
+use Rattle.cw_serial.proofs.Picked.{picked, not_inside, not_met, none_stands, unknown_wants}
 use Rattle.cw_serial.proofs.machine.Machine.pick.Goals as goal
 
 pub returns-in_default-clause-picks : goal.returns-in_default-clause-picks
@@ -16,3 +16,6 @@ returns-in_default-2-clause-picks c = λ p m q is up.
 pub returns-clause-picks : goal.returns-clause-picks
 returns-clause-picks c = λ p m q is up.
     picked p c.args.self.now m is c.args.strand q up c.in-Some.want (sym c.want.ensures ∙ c.in-Some.is) c.in-Some-2.given c.meet.new.self _ c.answer.new.self (sym (c.may_pick.ensures p m q is up) ∙ c.if-not-may_pick.false) (rw c.in-Some-2.is at c.in_ok-given.ensures) c.in_ok-answer.ensures refl refl refl refl c.in_ok-settle.ensures.strands c.in_ok-settle.ensures.names
+
+pub returns-clause-unknown : goal.returns-clause-unknown
+returns-clause-unknown c = λ p m is past. absurd (let e = sym c.in-Some.is ∙ (c.want.ensures ∙ unknown_wants p c.args.self.now m is c.args.strand past) in cc)

@@ -1,4 +1,4 @@
-use Rattle.cw_serial.proofs.Blocks.{inner_is_block}
+use Rattle.cw_text.proofs.Blocks.{inner_is_block}
 use Rattle.cw_serial.proofs.work.Work.begin.Goals as goal
 
 pub returns-in-Atomic : goal.returns-in-Atomic
