@@ -9,6 +9,7 @@ use Rattle.cw_tree.specs.declared.node.Node.{Node}
 use Rattle.cw_tree.specs.declared.node.Kind.TheVariants.{Read, Write, Out, Block}
 use Rattle.cw_tree.specs.declared.access.Entry.{Entry}
 use Rattle.cw_tree.specs.Nodes.{parent_of}
+use Rattle.cw_tree.specs.Shape.{AreStamps}
 use Rattle.cw_tree.proofs.CellJournals.{HasJournals}
 use Rattle.cw_serial.specs.declared.program.Program.{Program}
 use Rattle.cw_serial.specs.declared.elements.Elements.{Elements}
@@ -22,6 +23,7 @@ use Rattle.cw_serial.proofs.Working.{Worker as Working, machine_at, after_act, I
 use Rattle.cw_record.specs.declared.worker.Bend.{Bend as Held}
 use Rattle.cw_record.specs.declared.worker.Worker.{Worker}
 use Rattle.cw_record.specs.Drawn.{tree_after, place_after, journals_after}
+use Rattle.cw_record.specs.Worked.{unstarted}
 use Rattle.cw_record.proofs.Building.{IsBuilt, open_items}
 use Rattle.cw_record.proofs.Descending.{Descends, Crossing}
 use Rattle.cw_record.proofs.GrowingItems.{leaf_built, begin_built, end_built}
@@ -31,6 +33,9 @@ use Rattle.cw_record.proofs.NotedJournals.{noted_read, noted_write}
 use Rattle.cw_record.proofs.Playing.{Plays}
 use Rattle.cw_record.proofs.Running.{HoldsBends, crossings, Runs, runs_name, left_to_do, weights}
 use Rattle.cw_record.proofs.RunSteps.{leaf_played, begin_played, end_played}
+use Rattle.cw_record.proofs.Shaped.{IsShaped, shaped_after}
+use Rattle.cw_record.proofs.Stamped.{stamped_next}
+use Rattle.cw_record.proofs.ClosedStamps.{stamped_closed}
 use Rattle.cw_record.proofs.Weights.{act_weighs_less}
 
 -- a block is ended only where one is begun in the strand
@@ -55,6 +60,7 @@ module _ (p : Program) (closes : (own : List ℕ) (a : State) → Reached (stran
   -- what is drawn of a run
   record Drawn (t : List Node) (at clock : ℕ) (kept : List (List Entry)) (c : List Crossing) (w : Working State) : Type 0 where
     built : IsBuilt t at clock
+    stamps : AreStamps t
     place : Descends t at c w.blocks w.forks
     journals : HasJournals t (first_memory p.cells) w.memory kept
     played : Plays (strands_of p) t (machine_of p) (open_items t at) (machine_at (strands_of p) w)
@@ -91,6 +97,7 @@ module _ (p : Program) (closes : (own : List ℕ) (a : State) → Reached (stran
           let k = Read c (value_at w.memory c) in
           record {
             built = leaf_built t at code.drawing.clock r.built k st refl later;
+            stamps = stamped_next t at code.drawing.clock r.built r.stamps st later k refl;
             place = way_leaf t at code.drawing.clock r.built k st refl (crossings code.bends w.bends) w.blocks w.forks r.place;
             journals = noted_read t at code.drawing.clock r.built (first_memory p.cells) w.memory code.drawing.journals.items r.journals c st later;
             played = same_after (want.Load c) e d (tree_after (want.Load c) w.memory t at st) (place_after (want.Load c) t at) (leaf_played (strands_of p) closes t at code.drawing.clock r.built (machine_of p) w r.work (done (want.Load c) e d) (runs_name p code w r) r.played k st later refl (e, refl));
@@ -101,6 +108,7 @@ module _ (p : Program) (closes : (own : List ℕ) (a : State) → Reached (stran
           let k = Write c v in
           record {
             built = leaf_built t at code.drawing.clock r.built k st refl later;
+            stamps = stamped_next t at code.drawing.clock r.built r.stamps st later k refl;
             place = way_leaf t at code.drawing.clock r.built k st refl (crossings code.bends w.bends) w.blocks w.forks r.place;
             journals = noted_write t at code.drawing.clock r.built (first_memory p.cells) w.memory code.drawing.journals.items r.journals c st later v;
             played = same_after (want.Store c v) e d (tree_after (want.Store c v) w.memory t at st) (place_after (want.Store c v) t at) (leaf_played (strands_of p) closes t at code.drawing.clock r.built (machine_of p) w r.work (done (want.Store c v) e d) (runs_name p code w r) r.played k st later refl e);
@@ -111,6 +119,7 @@ module _ (p : Program) (closes : (own : List ℕ) (a : State) → Reached (stran
           let k = Out v in
           record {
             built = leaf_built t at code.drawing.clock r.built k st refl later;
+            stamps = stamped_next t at code.drawing.clock r.built r.stamps st later k refl;
             place = way_leaf t at code.drawing.clock r.built k st refl (crossings code.bends w.bends) w.blocks w.forks r.place;
             journals = has_beside t at code.drawing.clock r.built (first_memory p.cells) w.memory code.drawing.journals.items r.journals at k st (λ c. refl);
             played = same_after (want.Out v) e d (tree_after (want.Out v) w.memory t at st) (place_after (want.Out v) t at) (leaf_played (strands_of p) closes t at code.drawing.clock r.built (machine_of p) w r.work (done (want.Out v) e d) (runs_name p code w r) r.played k st later refl e);
@@ -120,6 +129,7 @@ module _ (p : Program) (closes : (own : List ℕ) (a : State) → Reached (stran
           let at = code.drawing.place in
           record {
             built = begin_built t at code.drawing.clock r.built st later;
+            stamps = stamped_next t at code.drawing.clock r.built r.stamps st later Block refl;
             place = way_begin t at code.drawing.clock r.built st (crossings code.bends w.bends) w.blocks w.forks r.place;
             journals = has_beside t at code.drawing.clock r.built (first_memory p.cells) w.memory code.drawing.journals.items r.journals at Block st (λ c. refl);
             played = same_after want.Begin e d (tree_after want.Begin w.memory t at st) (place_after want.Begin t at) (begin_played (strands_of p) closes t at code.drawing.clock r.built (machine_of p) w r.work (done want.Begin e d) (runs_name p code w r) r.played st e);
@@ -135,6 +145,7 @@ module _ (p : Program) (closes : (own : List ℕ) (a : State) → Reached (stran
           let Q : ℕ → Type 0 = λ b. Descends (tree_after want.End w.memory t at st) (parent_of t at) cr (blocks_after want.End b) w.forks in
           record {
             built = end_built t at code.drawing.clock r.built st block later;
+            stamps = stamped_closed t at code.drawing.clock r.built r.stamps st later block;
             place = subst Q (sym is) (way_end t at code.drawing.clock r.built st cr n w.forks down);
             journals = has_closed t at code.drawing.clock r.built (first_memory p.cells) w.memory code.drawing.journals.items r.journals at st;
             played = same_after want.End e d (tree_after want.End w.memory t at st) (place_after want.End t at) (end_played (strands_of p) closes t at code.drawing.clock r.built (machine_of p) w r.work (done want.End e d) (runs_name p code w r) r.played st later block e);
@@ -161,6 +172,9 @@ module _ (p : Program) (closes : (own : List ℕ) (a : State) → Reached (stran
       let B : List Held → Type 0 = λ xs. Drawn new.drawing.tree new.drawing.place st new.drawing.journals.items (crossings xs w.bends) u in
       let all : Drawn new.drawing.tree new.drawing.place st new.drawing.journals.items (crossings new.bends w.bends) u =
       subst B (sym acted.bends) (subst J (sym acted.journals) (subst A (sym acted.place) (subst T (sym acted.tree) (subst M (sym r.memory) added)))) in
+      let S : List Node → Type 0 = λ t. IsShaped t (unstarted code.bends) in
+      let SB : List Held → Type 0 = λ xs. IsShaped new.drawing.tree (unstarted xs) in
+      let shape = shaped_after x code.memory.items code.drawing.tree (unstarted code.bends) code.drawing.place st r.shape r.built.there r.built.place in
       let done : is_done_at ((strands_of p).want w.strand) ≡ true = ap is_done_at e ∙ d in
       let R : Want → Type 0 = λ v. Runs p new (after_by v w) in
       subst R (sym e)
@@ -172,6 +186,8 @@ module _ (p : Program) (closes : (own : List ℕ) (a : State) → Reached (stran
         bends = (let P : List Held → Type 0 = λ xs. HoldsBends p.cells xs w.bends in subst P (sym acted.bends) r.bends);
         work = (let P : Want → Type 0 = λ v. IsAtWork (strands_of p) (after_by v w) in subst P e (acts (strands_of p) closes w r.work done));
         built = all.built;
+        shape = subst SB (sym acted.bends) (subst S (sym acted.tree) shape);
+        stamps = all.stamps;
         place = all.place;
         journals = all.journals;
         played = all.played;

@@ -4,14 +4,15 @@ use Rattle.std.specs.Prelude.{All}
 use Rattle.std.specs.List.{filter, flat_map}
 use Rattle.std.proofs.lemmas.Bool.{and_parts, ltb-true, eqb-true, false_from_ne_true}
 use Rattle.std.proofs.lemmas.List.{reverse-append, reverse-reverse}
-use Rattle.std.proofs.lemmas.List.Elements.{filter-append, All-append, All-push, All-filter}
+use Rattle.std.proofs.lemmas.List.Elements.{filter-append, All-append, All-push, All-weaker}
 use Rattle.std.proofs.lemmas.Grind.{flat_map-append}
 use Rattle.std.proofs.Math.ListN.{get_or-append}
 use Rattle.cw_tree.specs.declared.node.Node.{Node}
-use Rattle.cw_tree.specs.Nodes.{parent_of, below, all_nodes, is_strand}
+use Rattle.cw_tree.specs.Nodes.{parent_of, below, is_strand}
 use Rattle.cw_tree.specs.Walks.{IsRooted}
 use Rattle.cw_tree.specs.Series.{children, walk, depth_first}
 use Rattle.cw_record.specs.Walked.{is_child}
+use Rattle.cw_record.proofs.There.{IsChild, children_are}
 
 -- two functions that agree on the numbers that pass a test
 flat_map_step : (f g : ℕ → List ℕ) (p : ℕ → Bool) (k : ℕ) (b : Bool) → p k ≡ b → (p k ≡ true → f k ≡ g k) → flat_map f (filter p (below k)) ≡ flat_map g (filter p (below k)) → flat_map f (filter p (below k) ++ cond b (k ∷ []) []) ≡ flat_map g (filter p (below k) ++ cond b (k ∷ []) [])
@@ -40,10 +41,6 @@ all_reverse P (x ∷ xs) h =
 all_front : (P : ℕ → Type 0) (xs ys : List ℕ) → All P (xs ++ ys) → All P xs
 all_front P xs ys h = λ k d l. subst P (get_or-append xs ys d k l) (h k d (omega (arith, length-append xs ys)))
 
-below_there : (j k : ℕ) → j ≤ k → All (λ m. m < k) (below j)
-below_there zero k h = λ i d l. absurd (omega arith)
-below_there (suc j) k h = All-push (λ m. m < k) (below j) j (below_there j k (omega arith)) (omega arith)
-
 module _ (t : List Node) where
   -- the nodes from n down, to all levels
   abbrev pub whole : ℕ → List ℕ
@@ -66,7 +63,7 @@ module _ (t : List Node) (r : IsRooted t) where
       let low : parent_of t m < m = r m (ltb-true 0 m z.0) h in
       omega arith
 
-  no_children : (n : ℕ) → length t ≤ n → children t n ≡ []
+  pub no_children : (n : ℕ) → length t ≤ n → children t n ≡ []
   no_children n h = none_pass (is_child t n) (length t) (λ m l. false_from_ne_true (is_child t n m) (λ e. let after : n < m = child_after n m l e in omega arith))
 
   -- as many levels as there are numbers from n on are enough
@@ -94,7 +91,7 @@ module _ (t : List Node) (r : IsRooted t) where
       ∙ ap (λ ns. n ∷ flat_map (whole t) ns) (sym (reverse-append rest (reverse (children t n))))
 
   children_there : (n : ℕ) → All (λ m. m < length t) (reverse (children t n))
-  children_there n = all_reverse (λ m. m < length t) (children t n) (All-filter (is_child t n) (λ m. m < length t) (all_nodes t) (below_there (length t) (length t) (omega arith)))
+  children_there n = all_reverse (λ m. m < length t) (children t n) (All-weaker (IsChild t n) (λ m. m < length t) (λ m c. c.there) (children t n) (children_are t n))
 
   -- node n is taken from a stack, and its children are put there
   module _ (found stack rest next : List ℕ) (n : ℕ) (w : Walking t found stack) (taken : stack ≡ rest ++ n ∷ []) (put : next ≡ rest ++ reverse (children t n)) where

@@ -1,5 +1,5 @@
 -- In the order of a run of one worker, one memory comes to the run's end.
-use Rattle.std.proofs.Common.{◌≡◌, ℕ, suc, ◌<◌, ◌≤◌, List, [], ◌∷◌, length, map, refl, ap, sym, ◌∙◌, arith, Bool, true, false, cond, Some, None}
+use Rattle.std.proofs.Common.{◌≡◌, ℕ, suc, List, [], ◌∷◌, map, refl, ap, sym, ◌∙◌, Bool, true, false, cond, Some, None, Option}
 use Rattle.std.specs.Prelude.{All, is_some}
 use Rattle.std.proofs.lemmas.List.Elements.{All-head, All-tail}
 use Rattle.cw_strand.specs.Meaning.{State}
@@ -10,10 +10,7 @@ use Rattle.cw_tree.specs.declared.access.Entry.{Entry}
 use Rattle.cw_tree.specs.declared.picks.Name.{Name}
 use Rattle.cw_tree.specs.declared.picks.Turn.{Turn}
 use Rattle.cw_tree.specs.declared.picks.Picks.{Picks}
-use Rattle.cw_tree.specs.Nodes.{is_strand_kind}
 use Rattle.cw_tree.specs.Names.{name_of}
-use Rattle.cw_tree.specs.Series.{strand_of}
-use Rattle.cw_tree.proofs.Strands.{strand_of_le}
 use Rattle.cw_serial.specs.declared.program.Program.{Program}
 use Rattle.cw_serial.specs.declared.ends.SerialEnd.{SerialEnd}
 use Rattle.cw_serial.specs.declared.ends.SerialEnd.TheVariants as last
@@ -26,13 +23,11 @@ use Rattle.cw_record.specs.declared.record_end.RecordEnd.{RecordEnd}
 use Rattle.cw_record.specs.declared.record_end.RecordEnd.TheVariants.{Finished, Fault, Budget, Moves}
 use Rattle.cw_record.specs.Items.{items}
 use Rattle.cw_record.specs.Listed.{listed_names, number_of}
-use Rattle.cw_record.specs.Order.{node_of, ending_strand, pick_of, order_of}
-use Rattle.cw_record.specs.Replay.{doer, SameEnd, Replays}
-use Rattle.cw_record.specs.Records.{StopsAt, IsRun}
+use Rattle.cw_record.specs.Order.{ending_strand, pick_of, order_of}
+use Rattle.cw_record.specs.Replay.{doer, SameEnd, IsSpent, Replays}
+use Rattle.cw_record.specs.Records.{HasEnded, StopsAt, IsRun}
 use Rattle.cw_record.proofs.ItemsThere.{OfTree, items_there}
-use Rattle.cw_record.proofs.There.{node_there}
-use Rattle.cw_record.proofs.Named.{turns_of_strand}
-use Rattle.cw_record.proofs.StrandIs.{strand_is}
+use Rattle.cw_record.proofs.Named.{strand_turns, item_turns}
 
 module _ {A : Type 0} (s : Strands A) where
   -- where a strand is still to be picked, the root has not ended
@@ -63,15 +58,13 @@ module _ (p : Program) (t : List Node) (kept : List (List Entry)) (e : RecordEnd
   all_named : (is : List Item) → All (OfTree t) is → map (turns (listed_names t)) (map (pick_of t) is) ≡ map Some (map (doer t) is)
   all_named [] h = refl
   all_named (i ∷ is) h =
-      let there : node_of i < length t = All-head (OfTree t) i is h in
-      let low : strand_of t (node_of i) ≤ node_of i = strand_of_le t run.rooted (node_of i) there in
-      let named : turns (listed_names t) (pick_of t i) ≡ Some (doer t i) = turns_of_strand t run.rooted run.root (strand_of t (node_of i)) (omega arith) (strand_is t run.rooted run.root (node_of i) there) in
+      let named = item_turns t run.tree.rooted run.tree.root i (All-head (OfTree t) i is h) in
       ap (λ o. o ∷ map (turns (listed_names t)) (map (pick_of t) is)) named ∙ ap (λ os. Some (doer t i) ∷ os) (all_named is (All-tail (OfTree t) i is h))
 
   strand_named : turns (listed_names t) (number_of t (ending_strand e)) ≡ Some (name_of t (ending_strand e))
-  strand_named = turns_of_strand t run.rooted run.root (ending_strand e) (node_there (λ x. is_strand_kind x.kind) t (ending_strand e) run.strand) run.strand
+  strand_named = strand_turns t run.tree.rooted run.tree.root (ending_strand e) run.strand
 
-  shown_end : (e : RecordEnd) (m : Machine State) (n k : ℕ) → turns (listed_names t) n ≡ Some (name_of t (ending_strand e)) → StopsAt p t e m → (r : SerialEnd) → r ≡ shown (strands_of p) m (listed_names t) n k → (o : Picks) → o.last ≡ n → SameEnd (strands_of p) e o r
+  shown_end : (e : RecordEnd) (m : Machine State) (n k : ℕ) → turns (listed_names t) n ≡ Some (name_of t (ending_strand e)) → StopsAt p t e m → (r : SerialEnd) → r ≡ shown (strands_of p) m (listed_names t) n k → (o : Picks) → o.last ≡ n → SameEnd e o r
   shown_end (Finished memory outputs) m n k named stops r is o same = is ∙ (rw (stops.0) refl ∙ (ap (λ x. last.Finished x m.outputs) stops.1 ∙ ap (λ x. last.Finished memory x) stops.2))
   shown_end (Fault x kind) m n k named stops r is o same =
       let (a, stood, wanted) = stops.1 in
@@ -80,13 +73,22 @@ module _ (p : Program) (t : List Node) (kept : List (List Entry)) (e : RecordEnd
   shown_end (Budget x) m n k named stops r is o same = absurd stops
   shown_end Moves m n k named stops r is o same = absurd stops
 
+  -- no run of one worker spends its budget
+  none_spent : (e : RecordEnd) (m : Option (Machine State)) → HasEnded e → IsSpent (strands_of p) t [] budget e m
+  none_spent (Finished memory outputs) m h = tt
+  none_spent (Fault x kind) m h = tt
+  none_spent (Budget x) m h = absurd h
+  none_spent Moves m h = absurd h
+
   pub replays : Replays (strands_of p) (first_memory p.cells) budget t [] (order_of t [] budget e) e
   replays =
       let through = run.order budget in
       let is = items t [] budget e in
       let (k, played) = plays_through (strands_of p) (listed_names t) (number_of t (ending_strand e)) (machine_of p) through.machine (map (doer t) is) (map (pick_of t) is) (all_named is (items_there t _ _ _)) through.picks 0 in
       record {
+        strand = run.strand;
         order = refl;
         acts = run.acts budget;
         end = shown_end e through.machine (number_of t (ending_strand e)) k strand_named through.stops _ played (order_of t [] budget e) refl;
+        spent = none_spent e _ run.ended;
       }

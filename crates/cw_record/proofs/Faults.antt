@@ -58,7 +58,7 @@ module _ (t : List Node) (p c : ℕ) (b : IsBuilt t p c) where
   g = of_built t p c b
 
   -- a pending block is on the way to the place
-  pending_over : (n : ℕ) → is_pending t n ≡ true → is_ancestor t n p ≡ true
+  pub pending_over : (n : ℕ) → is_pending t n ≡ true → is_ancestor t n p ≡ true
   pending_over n e =
       elim (cases_Bool (is_ancestor t n p)) [
         | inl over ↦ over

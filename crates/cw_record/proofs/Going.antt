@@ -9,6 +9,7 @@ use Rattle.cw_tree.specs.declared.node.Node.{Node}
 use Rattle.cw_tree.specs.declared.node.Kind.TheVariants.{Strand}
 use Rattle.cw_tree.specs.declared.access.Entry.{Entry}
 use Rattle.cw_tree.specs.Nodes.{parent_of}
+use Rattle.cw_tree.specs.Shape.{AreStamps}
 use Rattle.cw_tree.proofs.CellJournals.{HasJournals}
 use Rattle.cw_serial.specs.declared.elements.Elements.{Elements}
 use Rattle.cw_serial.specs.declared.program.Program.{Program}
@@ -24,7 +25,7 @@ use Rattle.cw_record.specs.declared.worker.Bend.{Bend as Held}
 use Rattle.cw_record.specs.declared.worker.Bend.TheVariants.{Left, Right}
 use Rattle.cw_record.specs.declared.worker.Worker.{Worker}
 use Rattle.cw_record.specs.Drawn.{added, forked}
-use Rattle.cw_record.specs.Worked.{Forked}
+use Rattle.cw_record.specs.Worked.{Forked, unstarted}
 use Rattle.cw_record.proofs.Building.{IsBuilt, open_items}
 use Rattle.cw_record.proofs.Descending.{Descends, Crossing}
 use Rattle.cw_record.proofs.Doers.{doers_beside, doers_forked}
@@ -33,6 +34,8 @@ use Rattle.cw_record.proofs.GrowingJournals.{has_beside, has_forked}
 use Rattle.cw_record.proofs.GrowingWays.{way_fork, way_turn, way_join, crossed_there, crossed_parent, crossed_strand, crossed_fork}
 use Rattle.cw_record.proofs.Playing.{SameDoers, Plays, plays_kept}
 use Rattle.cw_record.proofs.Running.{HoldsBends, crossings, Runs, left_to_do, weights}
+use Rattle.cw_record.proofs.Shaped.{IsShaped, shaped_strand, shaped_forked}
+use Rattle.cw_record.proofs.Stamped.{stamped_strand, stamped_forked}
 use Rattle.cw_record.proofs.Weights.{weight, fork_weighs_less, join_weighs_no_more}
 
 -- what stays of a worker in memory
@@ -46,6 +49,8 @@ module _ (p : Program) where
   -- what is drawn of a run, where the strands on the way down are these
   record Drawn (t : List Node) (at clock : ℕ) (kept : List _) (xs : List Held) (w : Working State) : Type 0 where
     built : IsBuilt t at clock
+    shape : IsShaped t (unstarted xs)
+    stamps : AreStamps t
     bends : HoldsBends p.cells xs w.bends
     place : Descends t at (crossings xs w.bends) w.blocks w.forks
     journals : HasJournals t (first_memory p.cells) w.memory kept
@@ -62,6 +67,8 @@ module _ (p : Program) where
     bends = d.bends;
     work = work;
     built = d.built;
+    shape = d.shape;
+    stamps = d.stamps;
     place = d.place;
     journals = d.journals;
     played = d.played;
@@ -84,6 +91,8 @@ module _ (p : Program) where
         let at = code.drawing.place in
         record {
           built = fork_built t at code.drawing.clock r.built st later;
+          shape = shaped_forked t (unstarted code.bends) r.shape at r.built.there r.built.place st;
+          stamps = stamped_forked t at code.drawing.clock r.built r.stamps st later;
           bends = (stands, r.bends);
           place = way_fork t at code.drawing.clock r.built st (crossings code.bends w.bends) w.blocks w.forks r.place;
           journals = has_forked t at code.drawing.clock r.built (first_memory p.cells) w.memory code.drawing.journals.items r.journals st;
@@ -145,8 +154,11 @@ module _ (p : Program) where
           let there : f < length t = crossed_there t at code.drawing.clock h.built cross (crossings rest c) m down in
           let I : ℕ → Type 0 = λ g. IsBuilt (added t g Strand 0) (length t) code.drawing.clock in
           let O : ℕ → Type 0 = λ g. open_items (added t g Strand 0) (length t) ≡ open_items t at in
+          let F : List Held → Type 0 = λ xs. IsShaped t (unstarted xs) in
           let d : Drawn (added t f Strand 0) (length t) code.drawing.clock code.drawing.journals.items (Right f code.strand ∷ rest) u = record {
             built = subst I up (turn_built t at code.drawing.clock h.built on_strand at_fork);
+            shape = shaped_strand t f (unstarted rest) (subst F was h.shape);
+            stamps = stamped_strand t h.built.rooted h.stamps f there;
             bends = (h.strand, held.1);
             place = way_turn t at code.drawing.clock h.built cross (crossings rest c) m down;
             journals = has_beside t at code.drawing.clock h.built (first_memory p.cells) memory code.drawing.journals.items h.journals f Strand 0 (λ e. refl);
@@ -190,9 +202,12 @@ module _ (p : Program) where
           let at_fork = crossed_fork t at code.drawing.clock h.built cross (crossings rest c) m down in
           let I : ℕ → Type 0 = λ g. IsBuilt t (parent_of t g) code.drawing.clock in
           let O : ℕ → Type 0 = λ g. open_items t (parent_of t g) ≡ open_items t at in
+          let F : List Held → Type 0 = λ xs. IsShaped t (unstarted xs) in
           let synced : code.strand.want ≡ want.Sync = sym (want_is p.cells code.strand a h.strand) ∙ wants_sync (strands_of p) closes memory outputs c k n m b a v o l h.work in
           let d : Drawn t (parent_of t f) code.drawing.clock code.drawing.journals.items rest u = record {
             built = subst I up (join_built t at code.drawing.clock h.built on_strand at_fork);
+            shape = subst F was h.shape;
+            stamps = h.stamps;
             bends = held.1;
             place = way_join t at code.drawing.clock h.built cross (crossings rest c) m down;
             journals = h.journals;

@@ -12,8 +12,9 @@ use Rattle.cw_tree.specs.declared.node.Node.{Node}
 use Rattle.cw_tree.specs.declared.node.Kind.TheVariants.{Strand}
 use Rattle.cw_tree.specs.declared.access.Entry.{Entry}
 use Rattle.cw_tree.specs.Nodes.{is_aborted, fresh_node}
-use Rattle.cw_tree.specs.Series.{strand_of}
+use Rattle.cw_tree.specs.Series.{strand_of, place as place_in}
 use Rattle.cw_tree.specs.Names.{name_of}
+use Rattle.cw_tree.specs.Shape.{AreStamps}
 use Rattle.cw_tree.proofs.CellJournals.{HasJournals, journals_begin}
 use Rattle.cw_tree.proofs.Strands.{strand_of_le}
 use Rattle.cw_serial.specs.declared.program.Program.{Program}
@@ -38,13 +39,17 @@ use Rattle.cw_record.proofs.Descending.{Descends}
 use Rattle.cw_record.proofs.Faults.{fault_items}
 use Rattle.cw_record.proofs.GrowingItems.{built_root, root_items}
 use Rattle.cw_record.proofs.GrowingJournals.{same_more, has_unless}
-use Rattle.cw_record.proofs.GrowingWays.{descends_root, way_root, crossings_there}
+use Rattle.cw_record.proofs.GrowingWays.{descends_root, way_root}
 use Rattle.cw_record.proofs.NoneAborted.{not_aborted}
+use Rattle.cw_record.proofs.NoneRefused.{none_refused}
 use Rattle.cw_record.proofs.OpenBlocks.{blocks_built, blocks_at_fault}
+use Rattle.cw_record.proofs.PendingLast.{last_built, last_behind}
 use Rattle.cw_record.proofs.Playing.{SameDoers, Plays, plays_kept, does_all, goes_depth_first}
+use Rattle.cw_record.proofs.Shaped.{IsShaped, shaped_root, tree_of_shape, to_come_there, shaped_strands}
+use Rattle.cw_record.proofs.Stamped.{stamped_root, stamped_behind}
 use Rattle.cw_record.proofs.StrandIs.{strand_is}
-use Rattle.cw_record.proofs.Running.{HoldsBends, crossings, unstarted_there, Runs, runs_name}
-use Rattle.cw_record.proofs.Unstarted.{with_strands, unstarted_rooted, unstarted_name, unstarted_items, unstarted_node, unstarted_strand, unstarted_strand_of}
+use Rattle.cw_record.proofs.Running.{HoldsBends, crossings, Runs, runs_name}
+use Rattle.cw_record.proofs.Unstarted.{with_strands, unstarted_name, unstarted_items, unstarted_node, unstarted_strand, unstarted_strand_of}
 use Rattle.cw_record.proofs.Waiting.{one_unstarted}
 
 -- ## The beginning
@@ -66,6 +71,8 @@ module _ (p : Program) where
       let B : List Node → Type 0 = λ t. IsBuilt t 0 0 in
       let BP : ℕ → Type 0 = λ at. IsBuilt code.drawing.tree at 0 in
       let BC : ℕ → Type 0 = λ c. IsBuilt code.drawing.tree code.drawing.place c in
+      let S : List Node → Type 0 = λ t. IsShaped t [] in
+      let SX : List Held → Type 0 = λ xs. IsShaped code.drawing.tree (unstarted xs) in
       let D : List Node → Type 0 = λ t. Descends t 0 [] 0 0 in
       let DP : ℕ → Type 0 = λ at. Descends code.drawing.tree at [] 0 0 in
       let DX : List Held → Type 0 = λ xs. Descends code.drawing.tree code.drawing.place (crossings xs []) 0 0 in
@@ -83,6 +90,8 @@ module _ (p : Program) where
           strand = strand;
           bends = subst X (sym bends) tt;
           work = starts_work (strands_of p) first;
+          shape = subst SX (sym bends) (subst S (sym tree) shaped_root);
+          stamps = subst AreStamps (sym tree) stamped_root;
           built = subst BC (sym clock) (subst BP (sym place) (subst B (sym tree) built_root));
           place = subst DX (sym bends) (subst DP (sym place) (subst D (sym tree) descends_root));
           journals = subst HJ (sym kept) (subst H (sym tree) (journals_begin (fresh_node 0 Strand 0) first (replicate (length first) []) refl (length-replicate (length first) []) (λ c es h. all_empty (length first) c es h)));
@@ -117,12 +126,15 @@ module _ (p : Program) where
         let stands : ended (strands_of p) m.strands ≡ Some a =
         ap (λ c. ended (strands_of p) (Rattle.cw_serial.proofs.Bends.plugged (strands_of p) c (Rattle.cw_serial.specs.Threads.goes_on (strands_of p) forks a))) empty
         ∙ (ap (ended (strands_of p)) (goes_over (strands_of p) forks a o) ∙ ended_stands (strands_of p) forks a o) in
+        let blocks = blocks_built t 0 code.drawing.clock (let B : ℕ → Type 0 = λ at. IsBuilt t at code.drawing.clock in subst B at_root r.built) in
         record {
           ended = tt;
-          rooted = r.built.rooted;
-          root = r.built.root;
+          tree = tree_of_shape t (let S : List Held → Type 0 = λ xs. IsShaped t (unstarted xs) in subst S none r.shape);
           numbered = r.built.numbered;
-          blocks = blocks_built t 0 code.drawing.clock (let B : ℕ → Type 0 = λ at. IsBuilt t at code.drawing.clock in subst B at_root r.built);
+          blocks = blocks;
+          refusals = none_refused t 0 r.shape.untried blocks;
+          stamps = r.stamps;
+          pending_last = last_built t code.drawing.place code.drawing.clock r.built;
           strand = r.built.root;
           order = λ budget. record { machine = m; picks = goes_depth_first (strands_of p) t (machine_of p) m (open_items t 0) played; stops = (ap is_some stands, sym r.memory, sym r.outputs) };
           acts = λ budget. does_all (strands_of p) t (machine_of p) m (open_items t 0) played;
@@ -149,7 +161,7 @@ module _ (p : Program) where
         let place = code.drawing.place in
         let fs = unstarted code.bends in
         let x = strand_of old place in
-        let low = unstarted_there (length old) p.cells code.bends w.bends r.bends (crossings_there old place code.drawing.clock r.built (crossings code.bends w.bends) w.blocks w.forks r.place) in
+        let low = to_come_there old fs r.shape in
         let u = with_strands old fs in
         let there = r.built.there in
         let le : x ≤ place = strand_of_le old r.built.rooted place there in
@@ -165,12 +177,16 @@ module _ (p : Program) where
         let listed = λ (budget : ℕ). unstarted_items old r.built.rooted fs low r.built.root [] budget x kind (omega arith) ∙ fault_items old place code.drawing.clock r.built [] budget kind in
         let played : Plays (strands_of p) u (machine_of p) (open_items old place) m = plays_kept (strands_of p) old u same (machine_of p) m (open_items old place) r.played in
         let played_at = λ (budget : ℕ). (let P : List Item → Type 0 = λ is. Plays (strands_of p) u (machine_of p) is m in subst P (sym (listed budget)) played) in
+        let shape = shaped_strands fs old r.shape in
+        let blocks = blocks_at_fault old place code.drawing.clock r.built fs low in
         let all : IsRun p u code.drawing.journals.items (Fault x kind) = record {
           ended = tt;
-          rooted = unstarted_rooted old r.built.rooted fs low;
-          root = unstarted_strand old fs 0 (omega arith) ∙ r.built.root;
+          tree = tree_of_shape u shape;
           numbered = numbered_at_fault old place code.drawing.clock r.built fs (waiting_over old r.built.rooted r.built.root p.cells code.bends w.bends r.bends place w.blocks w.forks there r.place);
-          blocks = blocks_at_fault old place code.drawing.clock r.built fs low;
+          blocks = blocks;
+          refusals = none_refused u (place_in u x) shape.untried blocks;
+          stamps = stamped_behind old r.built.rooted r.stamps fs low;
+          pending_last = last_behind fs old r.shape (last_built old place code.drawing.clock r.built);
           strand = unstarted_strand old fs x (omega arith) ∙ strand_is old r.built.rooted r.built.root place there;
           order = λ budget. record {
             machine = m;

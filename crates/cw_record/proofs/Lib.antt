@@ -38,6 +38,10 @@ pub mod Weights
 pub mod Playing
 pub mod GrowingWays
 pub mod Unstarted
+pub mod Shaped
+pub mod InSeries
+pub mod Stamped
+pub mod ClosedStamps
 pub mod Running
 pub mod NotedJournals
 pub mod Doers
@@ -55,3 +59,7 @@ pub mod Ending
 pub mod WorkedRecord
 pub mod Behind
 pub mod OpenBlocks
+pub mod NoneRefused
+pub mod PendingLast
+pub mod SameOrders
+pub mod Replayed

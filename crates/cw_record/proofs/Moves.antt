@@ -7,7 +7,7 @@ use Rattle.cw_tree.specs.declared.node.Node.{Node}
 use Rattle.cw_tree.specs.declared.node.Kind.{Kind}
 use Rattle.cw_tree.specs.declared.node.Kind.TheVariants.{Strand}
 use Rattle.cw_tree.specs.declared.node.BlockState.TheVariants.{Committed}
-use Rattle.cw_tree.specs.Nodes.{parent_of, stamp_of, end_of, is_node, number_in, passes, is_strand, is_fork, is_block, is_pending, is_committed, is_strand_kind, is_fork_kind, is_block_kind, is_pending_state, is_committed_state, fresh_node, closed}
+use Rattle.cw_tree.specs.Nodes.{parent_of, stamp_of, end_of, is_node, number_in, is_strand, is_fork, is_block, is_pending, is_committed, is_strand_kind, is_fork_kind, is_block_kind, is_pending_state, is_committed_state, fresh_node, closed}
 use Rattle.cw_tree.specs.Walks.{IsRooted, is_ancestor}
 use Rattle.cw_tree.proofs.Lists.{at_or_before}
 use Rattle.cw_tree.proofs.Ancestors.{ancestor_self, ancestor_root, ancestor_step, ancestor_up, ancestor_le}
@@ -15,7 +15,9 @@ use Rattle.cw_tree.proofs.Growing.{length_more, node_grown, number_grown, ancest
 use Rattle.cw_tree.proofs.Closing.{length_closed, node_closed, node_closed_other, number_closed, number_closed_other, state_closed, end_closed, rooted_closed, ancestor_closed}
 use Rattle.cw_record.proofs.Building.{IsBuilt}
 use Rattle.cw_record.specs.Drawn.{added}
+use Rattle.cw_record.proofs.Lists.{each_more}
 use Rattle.cw_record.proofs.NodeKinds.{strand_alone, new_open}
+use Rattle.cw_record.proofs.There.{node_there}
 
 -- what is true of such a tree wherever the place is, also where it is a fork, an access or an output
 pub record IsGrowing (t : List Node) (p clock : ℕ) : Type 0 where
@@ -65,14 +67,6 @@ to_built t p c g place = record {
   ends = g.ends;
 }
 
--- what passes a test is there
-pub node_there : (p : Node → Bool) (t : List Node) (n : ℕ) → is_node p t n ≡ true → n < length t
-node_there p t n e =
-    elim (cases_lt n (length t)) [
-      | inl h ↦ h
-      | inr h ↦ absurd (let none = ap (passes p) (slice_get_past t n h) in cc)
-    ]
-
 pub root_no_block : (t : List Node) (p c : ℕ) → IsGrowing t p c → is_block t 0 ≡ false
 root_no_block t p c g = (strand_alone t 0 g.root).0
 
@@ -97,19 +91,15 @@ module _ (t : List Node) (p c : ℕ) (g : IsGrowing t p c) (kind : Kind) (stamp 
   len : length u ≡ suc n
   len = length_more t x
 
-  -- what is true of all nodes that were there, and of the new one
-  each : (P : ℕ → Type 0) → ((m : ℕ) → m < n → P m) → P n → (m : ℕ) → m < length u → P m
-  each P old new m h = elim (at_or_before m n (omega (arith, len))) [ inl l ↦ old m l | inr e ↦ subst P e new ]
-
-  -- and of no more
+  -- what is true of all nodes that pass a test and were there, and of the new one where it does
   any : (f : Node → Bool) (P : ℕ → Type 0) → ((m : ℕ) → m < n → is_node f t m ≡ true → P m) → (f x ≡ true → P n) → (m : ℕ) → is_node f u m ≡ true → P m
   any f P old new m e =
-      each (λ m. is_node f u m ≡ true → P m) (λ m h e. old m h (sym (node_grown t (x ∷ []) f m h) ∙ e)) (λ e. new (sym (node_new t x f) ∙ e)) m (node_there f u m e) e
+      each_more t x (λ m. is_node f u m ≡ true → P m) (λ m h e. old m h (sym (node_grown t (x ∷ []) f m h) ∙ e)) (λ e. new (sym (node_new t x f) ∙ e)) m (node_there f u m e) e
 
   number_each : (f : Node → ℕ) → ((m : ℕ) → number_in f (slice_get t m) ≤ c) → f x ≤ d → (m : ℕ) → number_in f (slice_get u m) ≤ d
   number_each f old new m =
       elim (cases_lt m (length u)) [
-        | inl h ↦ each (λ m. number_in f (slice_get u m) ≤ d) (λ k l. let o = old k in omega (arith, number_grown t (x ∷ []) f k l)) (omega (arith, number_new t x f)) m h
+        | inl h ↦ each_more t x (λ m. number_in f (slice_get u m) ≤ d) (λ k l. let o = old k in omega (arith, number_grown t (x ∷ []) f k l)) (omega (arith, number_new t x f)) m h
         | inr h ↦ omega (arith, ap (number_in f) (slice_get_past u m h))
       ]
 
@@ -142,7 +132,7 @@ module _ (t : List Node) (p c : ℕ) (g : IsGrowing t p c) (kind : Kind) (stamp 
 
   last_more : (a m : ℕ) → is_ancestor u a n ≡ true → a ≤ m → m < length u → is_ancestor u a m ≡ true
   last_more a m e le h =
-      each (λ m. a ≤ m → is_ancestor u a m ≡ true)
+      each_more t x (λ m. a ≤ m → is_ancestor u a m ≡ true)
       (λ m h le. over_old a m h ∙ g.last a m (sym (over_less a (omega arith)) ∙ e) le h)
       (λ le. e) m h le
 

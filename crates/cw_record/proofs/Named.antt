@@ -1,23 +1,26 @@
 -- The listed names of a run give each strand its turns.
-use Rattle.std.proofs.Common.{◌≡◌, ℕ, zero, suc, ◌<◌, ◌≤◌, List, [], ◌∷◌, ◌++◌, length, map, refl, ap, sym, ◌∙◌, arith, Bool, true, false, cond, Some, None, inl, inr, subst, get_or, option_map, nat_lt, nat_eq}
+use Rattle.std.proofs.Common.{◌≡◌, ℕ, zero, suc, ◌<◌, ◌≤◌, List, [], ◌∷◌, ◌++◌, length, map, refl, ap, sym, ◌∙◌, arith, Bool, true, false, cond, Some, None, inl, inr, subst, option_map}
 use Rattle.std.specs.Prelude.{slice_get, All}
 use Rattle.std.specs.List.{filter, flat_map}
-use Rattle.std.proofs.lemmas.Bool.{and_parts, eqb-true, ltb-true, lt-ltb}
+use Rattle.std.proofs.lemmas.Bool.{lt-ltb}
 use Rattle.std.proofs.lemmas.List.{length-map, map-append}
-use Rattle.std.proofs.lemmas.List.Elements.{All-head, All-tail, All-filter, filter_passes, filter-append}
+use Rattle.std.proofs.lemmas.List.Elements.{All-head, All-tail, All-weaker, filter-append}
 use Rattle.std.proofs.lemmas.Option.{slice_get-map}
 use Rattle.cw_tree.specs.declared.node.Node.{Node}
 use Rattle.cw_tree.specs.declared.picks.Name.{Name}
 use Rattle.cw_tree.specs.declared.picks.Turn.{Turn}
-use Rattle.cw_tree.specs.Nodes.{parent_of, is_strand, all_nodes}
+use Rattle.cw_tree.specs.Nodes.{is_strand_kind, parent_of, is_strand}
 use Rattle.cw_tree.specs.Walks.{IsRooted}
-use Rattle.cw_tree.specs.Series.{children, walk, depth_first}
+use Rattle.cw_tree.specs.Series.{children, walk, depth_first, strand_of}
 use Rattle.cw_tree.specs.Names.{name_of, turn}
 use Rattle.cw_tree.proofs.Lists.{In}
 use Rattle.cw_serial.specs.Machine.{parent_in, with_turn, turns_in, turns}
+use Rattle.cw_record.specs.declared.items.Item.{Item}
 use Rattle.cw_record.specs.Listed.{once, index_of, without_last, last_turn, names, listed_name, listed_names, number_of}
-use Rattle.cw_record.specs.Walked.{is_child}
-use Rattle.cw_record.proofs.There.{all_below}
+use Rattle.cw_record.specs.Order.{node_of, pick_of}
+use Rattle.cw_record.specs.Replay.{doer}
+use Rattle.cw_record.proofs.There.{IsChild, node_there, children_are}
+use Rattle.cw_record.proofs.StrandIs.{strand_is}
 use Rattle.cw_record.proofs.Names.{name_strand, name_other, without_added, last_added}
 use Rattle.cw_record.proofs.DepthFirst.{whole, walk_step}
 use Rattle.cw_record.proofs.Everywhere.{everywhere}
@@ -82,11 +85,9 @@ module _ (t : List Node) (r : IsRooted t) where
       subst P (sym (names_append (f n) (flat_map f ns))) (each_append (names_on (f n)) (names_on (flat_map f ns)) seen (each n seen (All-head (HasParent seen) n ns h)) (flat_reached f each ns seen (All-tail (HasParent seen) n ns h)))
 
   children_have : (n : ℕ) (seen : List (List Turn)) → IsIn (name_of t n) seen → All (HasParent seen) (children t n)
-  children_have n seen h k d l =
-      let m = get_or (children t n) k d in
-      let z = and_parts (nat_lt 0 m) (nat_eq (parent_of t m) n) (filter_passes (is_child t n) (all_nodes t) k d l) in
+  children_have n seen h =
       let P : ℕ → Type 0 = λ x. IsIn (name_of t x) seen in
-      (ltb-true 0 m z.0, All-filter (is_child t n) (λ x. x < length t) (all_nodes t) (all_below (length t)) k d l, subst P (sym (eqb-true (parent_of t m) n z.1)) h)
+      All-weaker (IsChild t n) (HasParent seen) (λ m c. (c.some, c.there, subst P (sym c.parent) h)) (children t n) (children_are t n)
 
   walk_reached : (k n : ℕ) (seen : List (List Turn)) → HasParent seen n → AreReached seen (walk t k n)
   walk_reached zero n seen h = node_step (is_strand t n) n [] seen refl h (λ more i. tt)
@@ -132,3 +133,10 @@ module _ (t : List Node) (r : IsRooted t) where
 
     pub number_root : number_of t 0 ≡ 0
     number_root = ap (λ ps. index_of ps []) names_are
+
+    -- the same, of any strand of the tree and of the one that did an item
+    pub strand_turns : (s : ℕ) → is_strand t s ≡ true → turns (listed_names t) (number_of t s) ≡ Some (name_of t s)
+    strand_turns s e = turns_of_strand s (node_there (λ x. is_strand_kind x.kind) t s e) e
+
+    pub item_turns : (i : Item) → node_of i < length t → turns (listed_names t) (pick_of t i) ≡ Some (doer t i)
+    item_turns i h = strand_turns (strand_of t (node_of i)) (strand_is t r root (node_of i) h)

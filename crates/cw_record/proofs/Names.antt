@@ -1,6 +1,6 @@
 -- A name goes on from that of the parent, and when two names are the same.
 use Rattle.std.proofs.Common.{◌≡◌, ℕ, zero, ◌<◌, ◌≤◌, List, [], ◌∷◌, ◌++◌, length, map, reverse, refl, ap, sym, ◌∙◌, arith, Bool, true, false, cond, Some, None, inl, inr, subst, nat_eq, eq-eqb}
-use Rattle.std.specs.Prelude.{◌⊎◌, ◌&&◌, unwrap_or}
+use Rattle.std.specs.Prelude.{◌⊎◌, unwrap_or}
 use Rattle.std.proofs.lemmas.Bool.{cases_Bool, and_parts, and_from, eqb-true}
 use Rattle.std.proofs.lemmas.List.{reverse-append}
 use Rattle.cw_tree.specs.declared.node.Node.{Node}
@@ -12,7 +12,8 @@ use Rattle.cw_tree.specs.Names.{name_of, turn, strands_on}
 use Rattle.cw_tree.proofs.Climbs.{by_parent}
 use Rattle.cw_tree.proofs.Strands.{strand_of_strand, strand_of_other}
 use Rattle.cw_tree.proofs.Turns.{turns_strand, turns_other}
-use Rattle.cw_record.specs.Listed.{same_side, same_name, without_last, last_turn}
+use Rattle.cw_serial.specs.Machine.{same_side, same_turn}
+use Rattle.cw_record.specs.Listed.{same_name, without_last, last_turn}
 
 -- ## Two names
 
@@ -34,14 +35,14 @@ name_same [] [] e = refl
 name_same [] (y ∷ q) e = absurd (cc e)
 name_same (x ∷ p) [] e = absurd (cc e)
 name_same (x ∷ p) (y ∷ q) e =
-    let z = and_parts (nat_eq x.fork y.fork && same_side x.right y.right) (same_name p q) e in
+    let z = and_parts (same_turn x y) (same_name p q) e in
     let w = and_parts (nat_eq x.fork y.fork) (same_side x.right y.right) z.0 in
     ap (λ v. v ∷ p) (turn_same x y (eqb-true x.fork y.fork w.0) (side_same x.right y.right w.1)) ∙ ap (λ v. y ∷ v) (name_same p q z.1)
 
 pub name_self : (p : List Turn) → same_name p p ≡ true
 name_self [] = refl
 name_self (x ∷ p) =
-    and_from (nat_eq x.fork x.fork && same_side x.right x.right) (same_name p p) (and_from (nat_eq x.fork x.fork) (same_side x.right x.right) (eq-eqb x.fork x.fork refl) (side_self x.right)) (name_self p)
+    and_from (same_turn x x) (same_name p p) (and_from (nat_eq x.fork x.fork) (same_side x.right x.right) (eq-eqb x.fork x.fork refl) (side_self x.right)) (name_self p)
 
 same_name_from : (p q : List Turn) → p ≡ q → same_name p q ≡ true
 same_name_from p q e = (let P : List Turn → Type 0 = λ r. same_name p r ≡ true in subst P e (name_self p))

@@ -9,6 +9,7 @@ use Rattle.cw_tree.specs.declared.node.BlockState.{BlockState}
 use Rattle.cw_tree.specs.declared.node.BlockState.TheVariants.{Pending, Committed, Aborted}
 use Rattle.cw_tree.specs.Nodes.{is_block, is_pending, is_committed, is_aborted, is_block_kind, is_pending_state, is_committed_state, is_aborted_state, first_state, passes}
 use Rattle.cw_tree.specs.Walks.{is_ancestor}
+use Rattle.cw_record.specs.Records.{BlocksAround}
 use Rattle.cw_record.proofs.Building.{IsBuilt}
 
 one_state : (b : Bool) (s : BlockState) → ((b && is_pending_state s) ≡ true) ⊎ ((b && is_committed_state s) ≡ true) → (b && is_aborted_state s) ≡ false
@@ -33,14 +34,17 @@ aborted_block t n =
       by_node None e = absurd (cc e)
       by_node (Some x) e = (and_parts (is_block_kind x.kind) (is_aborted_state x.state) e).0
 
--- nothing was rolled back
-pub not_aborted : (t : List Node) (p clock : ℕ) → IsBuilt t p clock → (n : ℕ) → is_aborted t n ≡ false
-not_aborted t p clock b n =
+-- nothing was rolled back where each block is pending or committed
+pub none_aborted : (t : List Node) (q : ℕ) → BlocksAround t q → (n : ℕ) → is_aborted t n ≡ false
+none_aborted t q b n =
     false_from_ne_true (is_aborted t n) (λ e.
     let block : is_block t n ≡ true = aborted_block t n e in
     let state : (is_pending t n ≡ true) ⊎ (is_committed t n ≡ true) =
-    elim (cases_Bool (is_ancestor t n p)) [ inl over ↦ inl (b.pending n block over) | inr none ↦ inr (b.committed n block (λ over. absurd (cc (none, over)))) ] in
+    elim (cases_Bool (is_ancestor t n q)) [ inl over ↦ inl (b.pending n block over) | inr none ↦ inr (b.committed n block (λ over. absurd (cc (none, over)))) ] in
     absurd (cc (e, not_aborted_from t n state)))
+
+pub not_aborted : (t : List Node) (p clock : ℕ) → IsBuilt t p clock → (n : ℕ) → is_aborted t n ≡ false
+not_aborted t p clock b = none_aborted t p (record { pending = b.pending; committed = b.committed })
 
 -- a new node was not rolled back
 pub new_stands : (k : Kind) → (is_block_kind k && is_aborted_state (first_state k)) ≡ false

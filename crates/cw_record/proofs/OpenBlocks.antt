@@ -12,7 +12,7 @@ use Rattle.cw_record.specs.Drawn.{added}
 use Rattle.cw_record.specs.Records.{BlocksAround}
 use Rattle.cw_record.proofs.Building.{IsBuilt}
 use Rattle.cw_record.proofs.Faults.{place_is, place_stays}
-use Rattle.cw_record.proofs.Moves.{node_there}
+use Rattle.cw_record.proofs.There.{node_there}
 use Rattle.cw_record.proofs.Unstarted.{with_strands, by_strand}
 
 pub blocks_built : (t : List Node) (p clock : ℕ) → IsBuilt t p clock → BlocksAround t p

@@ -1,7 +1,7 @@
 -- What is before the next node of a tree that one worker builds.
 use Rattle.std.proofs.Common.{◌≡◌, ◌≢◌, ℕ, suc, ◌+◌, ◌<◌, ◌≤◌, List, length, ap, sym, ◌∙◌, arith, true, false, inl, inr, subst, nat_eq}
 use Rattle.std.specs.Prelude.{◌⊎◌, ◌&&◌, ◌||◌}
-use Rattle.std.proofs.lemmas.Bool.{and_parts, and_from, or_cases, or_from, or_left, or_right, cases_Bool, cases_lt, eqb-true, eq-eqb, false_from_ne_true}
+use Rattle.std.proofs.lemmas.Bool.{and_parts, and_from, or_cases, or_left, or_right, cases_Bool, cases_lt, eqb-true, eq-eqb, false_from_ne_true}
 use Rattle.cw_tree.specs.declared.node.Node.{Node}
 use Rattle.cw_tree.specs.Nodes.{parent_of, is_strand, is_fork, is_block}
 use Rattle.cw_tree.specs.Walks.{is_ancestor}
@@ -17,12 +17,8 @@ use Rattle.cw_tree.proofs.Numbers.{of_counts, counts_of}
 use Rattle.cw_tree.proofs.Agreeing.{OneMore, ancestor_same, strand_of_same}
 use Rattle.cw_tree.proofs.StrandForks.{forks_of}
 use Rattle.cw_record.proofs.Building.{IsBuilt}
-use Rattle.cw_record.proofs.NodeKinds.{strand_alone, fork_no_block}
+use Rattle.cw_record.proofs.NodeKinds.{fork_alone}
 use Rattle.cw_record.proofs.NoneAborted.{not_aborted}
-
--- a fork is no strand and no block
-fork_alone : (t : List Node) (n : ℕ) → is_fork t n ≡ true → (is_strand t n || is_block t n) ≡ false
-fork_alone t n fork = or_from (is_strand t n) (is_block t n) (false_from_ne_true (is_strand t n) (λ e. absurd (cc (fork, (strand_alone t n e).1)))) (fork_no_block t n fork)
 
 module _ (t : List Node) (p clock : ℕ) (b : IsBuilt t p clock) (u : List Node) (m : OneMore t u p) where
   abbrev g : ℕ

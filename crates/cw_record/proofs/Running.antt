@@ -1,12 +1,11 @@
 -- One worker in memory goes depth first through a run, and draws its tree.
-use Rattle.std.proofs.Common.{◌≡◌, ℕ, ◌+◌, ◌*◌, ◌<◌, List, [], ◌∷◌, ◌++◌, refl, ap, ◌∙◌, arith}
-use Rattle.std.specs.Prelude.{All}
-use Rattle.std.proofs.lemmas.List.Elements.{All-cons, All-head, All-tail}
+use Rattle.std.proofs.Common.{◌≡◌, ℕ, ◌+◌, ◌*◌, List, [], ◌∷◌, ◌++◌, refl, ap, ◌∙◌}
 use Rattle.cw_code.specs.declared.CellInfo.{CellInfo}
 use Rattle.cw_strand.specs.Meaning.{State}
 use Rattle.cw_strand.specs.Names.{first_memory}
 use Rattle.cw_tree.specs.Series.{strand_of}
 use Rattle.cw_tree.specs.Names.{name_of}
+use Rattle.cw_tree.specs.Shape.{AreStamps}
 use Rattle.cw_tree.proofs.CellJournals.{HasJournals}
 use Rattle.cw_serial.specs.declared.program.Program.{Program}
 use Rattle.cw_serial.specs.Programs.{strands_of, machine_of}
@@ -21,6 +20,7 @@ use Rattle.cw_record.proofs.Building.{IsBuilt, open_items}
 use Rattle.cw_record.proofs.Descending.{Crossing, way_of, Descends}
 use Rattle.cw_record.proofs.GrowingWays.{strand_down}
 use Rattle.cw_record.proofs.Playing.{Plays}
+use Rattle.cw_record.proofs.Shaped.{IsShaped}
 use Rattle.cw_record.proofs.Weights.{weight}
 
 -- the strands that wait on the way down, in memory, are these
@@ -49,18 +49,6 @@ way_is cells (Right f left ∷ xs) (on_right k b n l ∷ c) h = ap (λ p. p ++ t
 way_is cells (Left f right ∷ xs) (on_right k b n l ∷ c) h = absurd h
 way_is cells (Right f left ∷ xs) (on_left k b r ∷ c) h = absurd h
 
--- the forks whose right strands are still to come are on the way
-pub unstarted_there : (n : ℕ) (cells : List CellInfo) (xs : List Held) (c : List (Bend State)) → HoldsBends cells xs c → All (λ x. x.node < n) (crossings xs c) → All (λ f. f < n) (unstarted xs)
-unstarted_there n cells [] [] h all = λ k d l. absurd (omega arith)
-unstarted_there n cells [] (y ∷ c) h all = absurd h
-unstarted_there n cells (Left f right ∷ xs) [] h all = absurd h
-unstarted_there n cells (Right f left ∷ xs) [] h all = absurd h
-unstarted_there n cells (Left f right ∷ xs) (on_left k b r ∷ c) h all =
-    All-cons (λ g. g < n) f (unstarted xs) (All-head (λ x. x.node < n) _ (crossings xs c) all) (unstarted_there n cells xs c h.1 (All-tail (λ x. x.node < n) _ (crossings xs c) all))
-unstarted_there n cells (Right f left ∷ xs) (on_right k b m l ∷ c) h all = unstarted_there n cells xs c h.1 (All-tail (λ x. x.node < n) _ (crossings xs c) all)
-unstarted_there n cells (Left f right ∷ xs) (on_right k b m l ∷ c) h all = absurd h
-unstarted_there n cells (Right f left ∷ xs) (on_left k b r ∷ c) h all = absurd h
-
 -- how much is left of strands that are still to come, and how many forks are on the way
 abbrev pub weights : List Held → ℕ
 weights [] = 0
@@ -79,6 +67,8 @@ pub record Runs (p : Program) (code : Worker) (w : Working State) : Type 0 where
   pub bends : HoldsBends p.cells code.bends w.bends
   pub work : IsAtWork (strands_of p) w
   pub built : IsBuilt code.drawing.tree code.drawing.place code.drawing.clock
+  pub shape : IsShaped code.drawing.tree (unstarted code.bends)
+  pub stamps : AreStamps code.drawing.tree
   pub place : Descends code.drawing.tree code.drawing.place (crossings code.bends w.bends) w.blocks w.forks
   pub journals : HasJournals code.drawing.tree (first_memory p.cells) w.memory code.drawing.journals.items
   pub played : Plays (strands_of p) code.drawing.tree (machine_of p) (open_items code.drawing.tree code.drawing.place) (machine_at (strands_of p) w)

@@ -33,9 +33,6 @@ by_strand P n step (f ∷ fs) t r le low start =
     (by_strand P n step fs (added t f Strand 0) (rooted_more t x r (omega arith)) (omega (arith, length_more t x)) (All-tail (λ f. f < n) f fs low) (step t r le f first start))
 
 module _ (t : List Node) (r : IsRooted t) (fs : List ℕ) (low : All (λ f. f < length t) fs) where
-  pub unstarted_rooted : IsRooted (with_strands t fs)
-  unstarted_rooted = by_strand IsRooted (length t) (λ u ru le f h e. rooted_more u (fresh_node f Strand 0) ru (omega arith)) fs t r (omega arith) low r
-
   pub unstarted_name : (n : ℕ) → n < length t → name_of (with_strands t fs) n ≡ name_of t n
   unstarted_name n h = by_strand (λ u. name_of u n ≡ name_of t n) (length t) (λ u ru le f l e. name_beside u ru f (omega arith) Strand 0 refl n (omega arith) ∙ e) fs t r (omega arith) low refl
 

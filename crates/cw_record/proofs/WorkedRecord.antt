@@ -11,7 +11,7 @@ use Rattle.cw_tree.specs.WorkedRun.{two_blocks}
 use Rattle.cw_tree.proofs.KeptRuns.{holds}
 use Rattle.cw_tree.proofs.Checks.{each_below, implies, implied}
 use Rattle.cw_record.specs.declared.record_end.RecordEnd.TheVariants.{Finished}
-use Rattle.cw_record.specs.Coherent.{InSeries, entered, Fits, HasEnded, alone, joined, Follows, StandsAt, IsMemory}
+use Rattle.cw_record.specs.Coherent.{InSeries, entered, Fits, StrandEnded, alone, joined, Follows, StandsAt, IsMemory}
 use Rattle.cw_record.specs.WorkedRecord.{writers, Coherent}
 
 -- ## The states
@@ -110,7 +110,7 @@ fits = (tt, ((refl, (refl, refl, refl)), (tt, ((refl, (refl, refl)), ((refl, ref
 -- ## The ends
 
 abbrev pub Ended : ℕ → Type 0
-Ended = HasEnded writers two_blocks before after reached
+Ended = StrandEnded writers two_blocks before after reached
 
 some_not_fork : (c f : ℕ) → IsTrue (not (is_fork two_blocks c)) → Some c ≡ Some f → IsTrue (not (is_fork two_blocks f))
 some_not_fork c f h e = let P : ℕ → Type 0 = λ n. IsTrue (not (is_fork two_blocks n)) in subst P (some_same c f e) h

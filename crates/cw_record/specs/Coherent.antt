@@ -4,7 +4,6 @@
 -- the state of its strand before it and the one after it, and a strand or block also the state that was reached in it.
 use Rattle.std.specs.Prelude.{◌≡◌, ℕ, ℤ, ◌<◌, ◌&&◌, ◌||◌, not, IsTrue, List, [], ◌∷◌, map, length, slice_get, Option, Some, None, if◌then◌else◌}
 use Rattle.std.specs.List.{flat_map}
-use Rattle.cw_strand.specs.declared.want.Want.{Want}
 use Rattle.cw_strand.specs.declared.want.Want.TheVariants as want
 use Rattle.cw_strand.specs.declared.want.Given.TheVariants.{Nothing, Value}
 use Rattle.cw_strand.specs.Strands.{Strands, is_over}
@@ -28,6 +27,7 @@ use Rattle.cw_record.specs.declared.record_end.RecordEnd.TheVariants.{Finished, 
 use Rattle.cw_record.specs.declared.items.Item.{Item}
 use Rattle.cw_record.specs.Items.{items}
 use Rattle.cw_record.specs.Order.{node_of}
+use Rattle.cw_record.specs.Replay.{IsAccessOf}
 use Rattle.cw_record.specs.Walked.{last_child}
 
 -- ## The strands
@@ -47,11 +47,6 @@ module _ {A : Type 0} (s : Strands A) (t : List Node) (before after reached : �
   IsForkOf f (l ∷ r ∷ []) = (before l ≡ s.left (before f)) × (before r ≡ s.right (before f)) × (after f ≡ s.joined (reached r) (reached l))
   IsForkOf f cs = ⊥
 
-  abbrev pub IsAccessOf : ℕ → Want → Type 0
-  IsAccessOf c (want.Load d) = d ≡ c
-  IsAccessOf c (want.Store d v) = d ≡ c
-  IsAccessOf c w = ⊥
-
   -- A committed block comes to its end; any other one leaves its strand where it was.
   abbrev pub Closes : ℕ → BlockState → Type 0
   Closes b Committed = (s.want (reached b) ≡ want.End) × (after b ≡ s.answer (reached b) Nothing)
@@ -68,12 +63,12 @@ module _ {A : Type 0} (s : Strands A) (t : List Node) (before after reached : �
   Fits n (Tried c) state = IsAccessOf c (s.want (before n)) × (after n ≡ before n)
 
   -- Strand x has come to its end: it is over, and where a fork is the last in it, both strands of that have come to theirs.
-  pub data HasEnded : ℕ → Type 0 where
-    alone : {x : ℕ} → IsTrue (is_over (s.want (reached x))) → ((f : ℕ) → last_child t x ≡ Some f → IsTrue (not (is_fork t f))) → HasEnded x
-    joined : {x f l r : ℕ} → IsTrue (is_over (s.want (reached x))) → last_child t x ≡ Some f → IsTrue (is_fork t f) → children t f ≡ l ∷ r ∷ [] → HasEnded l → HasEnded r → HasEnded x
+  pub data StrandEnded : ℕ → Type 0 where
+    alone : {x : ℕ} → IsTrue (is_over (s.want (reached x))) → ((f : ℕ) → last_child t x ≡ Some f → IsTrue (not (is_fork t f))) → StrandEnded x
+    joined : {x f l r : ℕ} → IsTrue (is_over (s.want (reached x))) → last_child t x ≡ Some f → IsTrue (is_fork t f) → children t f ≡ l ∷ r ∷ [] → StrandEnded l → StrandEnded r → StrandEnded x
 
   abbrev pub BothEnded : ℕ → Type 0
-  BothEnded f = (l r : ℕ) × (children t f ≡ l ∷ r ∷ []) × HasEnded l × HasEnded r
+  BothEnded f = (l r : ℕ) × (children t f ≡ l ∷ r ∷ []) × StrandEnded l × StrandEnded r
 
   -- a strand can go on behind all that stands right in n
   abbrev pub IsSettled : ℕ → Type 0
@@ -90,7 +85,7 @@ module _ {A : Type 0} (s : Strands A) (t : List Node) (before after reached : �
   -- The strand of a fault stands at it. A finished run has no live strand that has not ended. Where a budget is spent the strand stands at
   -- what was refused, as it fits; where the moves are, anywhere.
   abbrev pub StandsAt : RecordEnd → Type 0
-  StandsAt (Finished memory outputs) = NonePending t × ((x : ℕ) → x < length t → IsTrue (is_strand t x && is_live t x) → HasEnded x)
+  StandsAt (Finished memory outputs) = NonePending t × ((x : ℕ) → x < length t → IsTrue (is_strand t x && is_live t x) → StrandEnded x)
   StandsAt (Fault x kind) = (s.want (reached (place t x)) ≡ want.Fault kind) × IsSettled (place t x)
   StandsAt (Budget x) = Unit {0}
   StandsAt Moves = Unit {0}

@@ -9,3 +9,5 @@ pub mod Worked
 pub mod Records
 pub mod Coherent
 pub mod WorkedRecord
+pub mod Checking
+pub mod Replaying

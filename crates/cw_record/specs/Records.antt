@@ -6,8 +6,10 @@ use Rattle.cw_strand.specs.Meaning.{State}
 use Rattle.cw_tree.specs.declared.node.Node.{Node}
 use Rattle.cw_tree.specs.declared.access.Entry.{Entry}
 use Rattle.cw_tree.specs.Nodes.{parent_of, is_strand, is_block, is_pending, is_committed}
-use Rattle.cw_tree.specs.Walks.{IsRooted, is_ancestor}
+use Rattle.cw_tree.specs.Walks.{is_ancestor}
 use Rattle.cw_tree.specs.Names.{name_of}
+use Rattle.cw_tree.specs.Refusals.{AreRefusals}
+use Rattle.cw_tree.specs.Shape.{IsTree, AreStamps, PendingLast}
 use Rattle.cw_tree.specs.Journals.{AreJournals}
 use Rattle.cw_serial.specs.declared.program.Program.{Program}
 use Rattle.cw_serial.specs.Machine.{Machine, has_ended}
@@ -66,10 +68,12 @@ BlocksEnded t e = BlocksAround t (place_of_end t [] 0 e)
 -- What one worker leaves: its tree, its journals and its end, whatever the budget.
 pub record IsRun (p : Program) (t : List Node) (kept : List (List Entry)) (e : RecordEnd) : Type 0 where
   pub ended : HasEnded e
-  pub rooted : IsRooted t
-  pub root : IsTrue (is_strand t 0)
+  pub tree : IsTree t
   pub numbered : IsNumberedDepthFirst t
   pub blocks : BlocksEnded t e
+  pub stamps : AreStamps t
+  pub pending_last : PendingLast t
+  pub refusals : AreRefusals t []
   pub strand : IsTrue (is_strand t (ending_strand e))
   pub order : (budget : ℕ) → GoesThrough p t (items t [] budget e) e
   pub acts : (budget : ℕ) → DoesAll (strands_of p) t (machine_of p) (items t [] budget e)

@@ -1,5 +1,5 @@
 -- When a record replays: in its order the machine with one memory does what the tree has there, and ends as the record ends.
-use Rattle.std.specs.Prelude.{◌≡◌, ℕ, ℤ, ◌≤◌, List, [], ◌∷◌, length, slice_get, Option, Some, None}
+use Rattle.std.specs.Prelude.{◌≡◌, ℕ, ℤ, ◌≤◌, ◌==◌, Bool, true, false, IsTrue, List, [], ◌∷◌, length, map, slice_get, Option, Some, None, option_and_then}
 use Rattle.cw_strand.specs.declared.want.Want.{Want}
 use Rattle.cw_strand.specs.declared.want.Want.TheVariants as want
 use Rattle.cw_strand.specs.Strands.{Strands}
@@ -9,8 +9,10 @@ use Rattle.cw_tree.specs.declared.node.Kind.TheVariants.{Read, Write, Out}
 use Rattle.cw_tree.specs.declared.picks.Turn.{Turn}
 use Rattle.cw_tree.specs.declared.picks.Picks.{Picks}
 use Rattle.cw_tree.specs.declared.conflict.Conflict.{Conflict}
+use Rattle.cw_tree.specs.Nodes.{is_strand}
 use Rattle.cw_tree.specs.Names.{name_of}
 use Rattle.cw_tree.specs.Series.{strand_of}
+use Rattle.cw_tree.specs.Refusals.{telling}
 use Rattle.cw_serial.specs.declared.ends.SerialEnd.{SerialEnd}
 use Rattle.cw_serial.specs.declared.ends.SerialEnd.TheVariants as last
 use Rattle.cw_serial.specs.Threads.{at}
@@ -20,7 +22,7 @@ use Rattle.cw_record.specs.declared.record_end.RecordEnd.TheVariants.{Finished, 
 use Rattle.cw_record.specs.declared.items.Item.{Item}
 use Rattle.cw_record.specs.declared.items.Item.TheVariants.{Begins, Does, Ends}
 use Rattle.cw_record.specs.Items.{items}
-use Rattle.cw_record.specs.Order.{order_of, node_of}
+use Rattle.cw_record.specs.Order.{order_of, node_of, ending_strand}
 
 -- the name of the strand that did an item
 abbrev pub doer : List Node → Item → List Turn
@@ -43,23 +45,55 @@ IsItem t memory w (Begins b) = w ≡ want.Begin
 IsItem t memory w (Does n) = IsActOf memory w (slice_get t n)
 IsItem t memory w (Ends b) = w ≡ want.End
 
+-- the want is a load or a store of cell c
+abbrev pub IsAccessOf : ℕ → Want → Type 0
+IsAccessOf c (want.Load d) = d ≡ c
+IsAccessOf c (want.Store d v) = d ≡ c
+IsAccessOf c w = ⊥
+
+abbrev pub IsRefusedBy : Conflict → (alone : Bool) → Want → Type 0
+IsRefusedBy c true w = IsAccessOf c.cell w
+IsRefusedBy c false w = w ≡ want.Begin
+
+-- what the conflict refused is wanted again: the victim's begin, or the access itself where there is no victim
+abbrev pub IsRefused : Conflict → Want → Type 0
+IsRefused c = IsRefusedBy c (c.victim == 0)
+
+-- A run's end and the machine's end under the run's order are the same.
+abbrev pub SameEnd : RecordEnd → Picks → SerialEnd → Type 0
+SameEnd (Finished memory outputs) picks e = e ≡ last.Finished memory outputs
+SameEnd (Fault strand kind) picks e = e ≡ last.Fault picks.last kind
+SameEnd (Budget strand) picks e = e ≡ last.At picks.last
+-- no pick was stuck
+SameEnd Moves picks e = (place : ℕ) → e ≡ last.Stuck place → length picks.list ≤ place
+
 module _ {A : Type 0} (s : Strands A) where
   -- at each pick the machine does what the tree has there
   abbrev pub DoesAll : List Node → Machine A → List Item → Type 0
   DoesAll t m [] = Unit {0}
   DoesAll t m (i ∷ is) = (a : A) × (n : Machine A) × (at s m.strands (doer t i) ≡ Some a) × IsItem t m.memory (s.want a) i × (pick s m (doer t i) ≡ Some n) × DoesAll t n is
 
-  -- A run's end and the machine's end under the run's order are the same.
-  abbrev pub SameEnd : RecordEnd → Picks → SerialEnd → Type 0
-  SameEnd (Finished memory outputs) picks e = e ≡ last.Finished memory outputs
-  SameEnd (Fault strand kind) picks e = e ≡ last.Fault picks.last kind
-  SameEnd (Budget strand) picks e = e ≡ last.At picks.last
-  -- no pick was stuck
-  SameEnd Moves picks e = (place : ℕ) → e ≡ last.Stuck place → length picks.list ≤ place
+  -- the machine after picks of strands of these names, where each can be made
+  abbrev pub picked : Machine A → List (List Turn) → Option (Machine A)
+  picked m [] = Some m
+  picked m (p ∷ ps) = option_and_then (λ n. picked n ps) (pick s m p)
+
+  -- the strand of that name stands at what the conflict refused
+  abbrev pub StandsRefused : Option Conflict → Option (Machine A) → List Turn → Type 0
+  StandsRefused (Some c) (Some m) p = (a : A) × (at s m.strands p ≡ Some a) × IsRefused c (s.want a)
+  StandsRefused c m p = ⊥
+
+  -- a strand that spent its budget stands at what the conflict that tells so refused
+  abbrev pub IsSpent : List Node → List Conflict → ℕ → RecordEnd → Option (Machine A) → Type 0
+  IsSpent t cs budget (Budget x) m = StandsRefused (telling t cs budget x) m (name_of t x)
+  IsSpent t cs budget e m = Unit {0}
 
   -- what one memory, with these first values, does in the order of a run, where the budget is that many attempts
   pub record Replays (first : List ℤ) (budget : ℕ) (t : List Node) (cs : List Conflict) (picks : Picks) (e : RecordEnd) : Type 0 where
+    -- the strand that the end names is one of the tree
+    pub strand : IsTrue (is_strand t (ending_strand e))
     -- the order is that of the tree, the conflicts and the end
     pub order : picks ≡ order_of t cs budget e
     pub acts : DoesAll t (begun s first) (items t cs budget e)
     pub end : SameEnd e picks (serial_end s first picks)
+    pub spent : IsSpent t cs budget e (picked (begun s first) (map (doer t) (items t cs budget e)))

@@ -1,13 +1,14 @@
 //! What a run keeps: its tree, its journals, its order and its end; and the run of one worker.
 //! Stands on `cw_base`, `cw_code`, `cw_text`, `cw_strand`, `cw_tree` and `cw_serial`.
 //! Contracts cite `specs/Order.antt` (the order of a record, from `specs/Items.antt` and `specs/Listed.antt`), `specs/Replay.antt` (that
-//! one memory does what a record says) and `specs/Records.antt` (the run of one worker). Private ones cite `specs/Levels.antt` (how
+//! one memory does what a record says), `specs/Checking.antt` (what a check says) and `specs/Records.antt` (the run of one worker). Private ones cite `specs/Levels.antt` (how
 //! items are found), `specs/Walked.antt` (what the passes over a tree find), `specs/Drawn.antt` (what a step adds to the tree) and
 //! `specs/Worked.antt` (what one worker holds).
 #![tactic(auto)]
 
 ghost use Rattle.cw_record.specs.WorkedRecord.{Coherent};
 
+mod checking;
 mod drawing;
 mod items;
 mod levels;
@@ -17,9 +18,11 @@ mod order;
 mod place;
 mod record;
 mod record_end;
+mod replaying;
 mod strands;
 mod worker;
 
+pub use checking::{Checked, check};
 pub use items::Item;
 pub use order::order_of;
 pub use record::{Record, depth_first};

@@ -39,7 +39,7 @@ pub fn order_of(
 }
 
 /// The strand that an end names, or the root.
-fn ending_strand(end: &RecordEnd) -> u32
+pub(crate) fn ending_strand(end: &RecordEnd) -> u32
     ensures { result ≡ ending_strand end.now }
 {
     match end {

@@ -1,4 +1,4 @@
-ghost use Rattle.std.specs.Prelude.{◌≡◌, ◌<◌, IfOk, IfSome, length, map};
+ghost use Rattle.std.specs.Prelude.{◌≡◌, ◌<◌, IfOk, IfSome, length, map, option_map};
 ghost use Rattle.std.specs.Option.{option_map_or};
 ghost use Rattle.cw_tree.specs.Nodes.{all_nodes, below, block_with_stamp};
 ghost use Rattle.cw_tree.specs.Series.{strand_of, place, last_of};
@@ -103,13 +103,44 @@ fn place_of_budget(
     ensures { result
         ≡ option_map_or (place_of_refused tree.now) (telling tree.now conflicts.now budget strand) 0 }
 {
+    match told_by(tree, strands, conflicts, budget, strand) {
+        Some(conflict) => place_of_refused(tree, conflict),
+        None => 0,
+    }
+}
+
+/// The first conflict that tells that a strand has spent its budget.
+pub(crate) fn telling<'c>(
+    alloc: Global,
+    tree: &Tree,
+    conflicts: &'c [Conflict],
+    budget: u32,
+    strand: u32,
+) -> Result<Option<&'c Conflict>, OutOfMemory>
+    ensures { IfOk result (λ found. option_map (λ c. c.now) found ≡ telling tree.now conflicts.now budget strand) }
+{
+    let strands = strands(alloc, tree)?;
+    Ok(told_by(tree, strands.as_slice(), conflicts, budget, strand))
+}
+
+// The same, from the strands of the nodes.
+fn told_by<'c>(
+    tree: &Tree,
+    strands: &[u32],
+    conflicts: &'c [Conflict],
+    budget: u32,
+    strand: u32,
+) -> Option<&'c Conflict>
+    requires { strands.now ≡ map (strand_of tree.now) (all_nodes tree.now) }
+    ensures { option_map (λ c. c.now) result ≡ telling tree.now conflicts.now budget strand }
+{
     let last = last_of(tree, strands, strand);
     for conflict in conflicts {
         if conflict.attempt == budget && names_strand(tree, strands, last, strand, conflict) {
-            return place_of_refused(tree, conflict);
+            return Some(conflict);
         }
     }
-    0
+    None
 }
 
 // Whether a conflict of the right attempt tells that a strand, with this last node, has spent its budget.

@@ -50,13 +50,13 @@ impl Family {
 pub(crate) fn strands(alloc: Global, tree: &Tree) -> Result<Vec<u32>, OutOfMemory>
     ensures { IfOk result (λ found. found.items ≡ filter (is_strand tree.now) (depth_first tree.now)) }
 {
+    // the root is there, and each other node has a smaller parent
+    let _ = tree.nodes();
     let family = Family::of_tree(alloc, tree)?;
     let mut found = Vec::new(alloc);
     // the nodes to come to, the next one last
     let mut stack = Vec::new(alloc);
-    if !tree.nodes().is_empty() {
-        stack.push(0)?;
-    }
+    stack.push(0)?;
     while let Some(n) = stack.pop() {
         family.push_children(tree, n, &mut stack)?;
         if tree.is_strand(n) {

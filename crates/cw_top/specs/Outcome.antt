@@ -1,17 +1,17 @@
 -- What a status says: a part for each thing that the top call promises, each a function of what it is about alone, so
 -- that a further command replaces one part.
-use Rattle.std.specs.Prelude.{◌≡◌, ◌≤◌, ℕ, Bool, true, false, List, [], ◌++◌, length, Option, Some, None, IfSome, IsTrue}
+use Rattle.std.specs.Prelude.{◌≡◌, ◌≤◌, ℕ, Bool, true, false, List, [], ◌++◌, length, Option, Some, None, IfSome}
 use Rattle.cw_io.specs.Outside.{Takes, Appends, AppendsFront}
 use Rattle.cw_code.specs.declared.Limits.{Limits}
 use Rattle.cw_text.specs.Syntax.{tree_of}
 use Rattle.cw_strand.specs.Names.{first_memory}
-use Rattle.cw_tree.specs.Nodes.{is_strand}
+use Rattle.cw_tree.specs.Refusals.{AreRefusals}
+use Rattle.cw_tree.specs.Shape.{IsTree, AreStamps, PendingLast}
 use Rattle.cw_tree.specs.Journals.{AreJournals}
 use Rattle.cw_record.specs.declared.record.Record.{Record}
 use Rattle.cw_record.specs.declared.record_end.RecordEnd.{RecordEnd}
 use Rattle.cw_record.specs.declared.record_end.RecordEnd.TheVariants.{Finished, Fault, Budget, Moves}
 use Rattle.cw_serial.specs.Programs.{IsProgramOf}
-use Rattle.cw_record.specs.Order.{ending_strand}
 use Rattle.cw_record.specs.Records.{BlocksEnded, HasEnded, Holds, IsDepthFirst, IsNumberedDepthFirst}
 use Rattle.cw_top.specs.declared.outcome.Note.{Note}
 use Rattle.cw_top.specs.declared.outcome.Note.TheVariants as note
@@ -83,7 +83,8 @@ IsRefusedFor n left = IfSome left (λ bytes. refusal bytes ≡ Some n)
 
 -- What is kept is the run of one worker: of the program that the whole source spells, without words, with the limits of
 -- the command. Nothing was refused; the strands went depth first; the run ended by itself or at the fault of one of its
--- strands; and one memory does the same in its order. The tree has each access of each element, in its journal.
+-- strands; and one memory does the same in its order. What it did is a computation tree, whose stamps differ and rise along
+-- it, and which has each access of each element, in its journal.
 pub record IsRunOf (left : Option (List ℕ)) (r : Record) : Type 0 where
   pub spelled : IfSome left (λ bytes. Spells bytes r.program)
   pub program : IsProgramOf (tree_of r.program.ast) r.program
@@ -92,11 +93,14 @@ pub record IsRunOf (left : Option (List ℕ)) (r : Record) : Type 0 where
   pub conflicts : r.conflicts ≡ []
   pub order : IsDepthFirst r
   pub ended : HasEnded r.end
-  pub strand : IsTrue (is_strand r.tree (ending_strand r.end))
+  pub tree : IsTree r.tree
   pub replays : Holds r
   pub journals : AreJournals r.tree (first_memory r.program.cells) r.journals
   pub numbered : IsNumberedDepthFirst r.tree
   pub blocks : BlocksEnded r.tree r.end
+  pub stamps : AreStamps r.tree
+  pub pending_last : PendingLast r.tree
+  pub refusals : AreRefusals r.tree r.conflicts
 
 -- ## What was written
 

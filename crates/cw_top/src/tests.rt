@@ -5,6 +5,8 @@ use std::sync::Wait;
 use std::test::Fail;
 use std::thread::Threads;
 
+mod checking;
+
 const COUNTS: &[u8] = b"cell c; fn main() { c = c + 1; out c; }";
 
 fn answer<R: AllocGlobal + Threads + Wait + Sync, S: Source, K: Sink>(

@@ -1,4 +1,4 @@
-use Rattle.std.proofs.Common.{◌∷◌, length, ap, sym, subst, ◌∙◌}
+use Rattle.std.proofs.Common.{◌∷◌, ap, sym, subst, ◌∙◌}
 use Rattle.cw_serial.proofs.Working.{after_fork, after_act}
 use Rattle.cw_serial.specs.Programs.{strands_of}
 use Rattle.cw_record.proofs.Acting.{acts_on, act_leaves_less}
@@ -8,10 +8,10 @@ use Rattle.cw_record.specs.declared.drawing.Drawing.{Drawing}
 use Rattle.cw_record.specs.declared.record_end.RecordEnd.{RecordEnd}
 use Rattle.cw_record.specs.declared.record_end.RecordEnd.TheVariants as ending
 use Rattle.cw_record.specs.Records.{IsRun}
-use Rattle.cw_record.proofs.GrowingWays.{crossings_there}
+use Rattle.cw_record.specs.Worked.{unstarted}
 use Rattle.cw_record.proofs.Leaving.{runs_first}
 use Rattle.cw_record.specs.declared.worker.Bend.TheVariants.{Left, Right}
-use Rattle.cw_record.proofs.Running.{crossings, unstarted_there}
+use Rattle.cw_record.proofs.Shaped.{to_come_there}
 use Rattle.cw_record.proofs.Turning.{first_fork_there, turn_run, join_run, right_syncs, finish_run, fault_answer, end_at_block}
 use Rattle.cw_record.proofs.worker.Worker.run.Goals as goal
 
@@ -111,10 +111,8 @@ wants-smaller-in-Continue-branch-4 c =
 
 pub faulted-requires-clause-forks : goal.faulted-requires-clause-forks
 faulted-requires-clause-forks c =
-    let p = c.args.program.now in
     let (w, r) = c.wants.invariant in
-    let d = c.wants.worker.drawing in
-    unstarted_there (length d.tree) p.cells c.wants.worker.bends w.bends r.bends (crossings_there d.tree d.place d.clock r.built (crossings c.wants.worker.bends w.bends) w.blocks w.forks r.place)
+    to_come_there c.wants.worker.drawing.tree (unstarted c.wants.worker.bends) r.shape
 
 pub returns-in-Fault : goal.returns-in-Fault
 returns-in-Fault c =

@@ -1,7 +1,7 @@
 use Rattle.std.proofs.Common.{◌≡◌, drop}
 use Rattle.std.specs.List.{find}
 use Rattle.cw_tree.specs.Refusals.{tells, telling}
-use Rattle.cw_record.proofs.place.place_of_budget.Given as goal
+use Rattle.cw_record.proofs.place.told_by.Given as goal
 
 -- no conflict so far tells so
 abbrev pub invariant-loop-conflict : goal.invariant-loop-conflict

@@ -1,0 +1,20 @@
+-- Where no access was refused and no block was rolled back, there are no conflicts to tell.
+use Rattle.std.proofs.Common.{◌≡◌, ℕ, ◌<◌, List, [], length, refl, sym, false}
+use Rattle.std.proofs.lemmas.Bool.{and_right, false_from_ne_true}
+use Rattle.std.proofs.lemmas.List.Elements.{All-nil}
+use Rattle.cw_tree.specs.declared.node.Node.{Node}
+use Rattle.cw_tree.specs.Nodes.{is_block, is_tried, is_tried_kind}
+use Rattle.cw_tree.specs.Series.{depth_first}
+use Rattle.cw_tree.specs.Refusals.{IsRecorded, AreRefusals}
+use Rattle.cw_record.specs.Records.{BlocksAround}
+use Rattle.cw_record.proofs.Lists.{filter_none}
+use Rattle.cw_record.proofs.NoneAborted.{none_aborted}
+use Rattle.cw_record.proofs.There.{node_there}
+
+pub none_refused : (t : List Node) (q : ℕ) → ((n : ℕ) → n < length t → is_tried t n ≡ false) → BlocksAround t q → AreRefusals t []
+none_refused t q untried blocks = record {
+  each = sym (filter_none (is_tried t) (depth_first t) (λ n i. false_from_ne_true (is_tried t n) (λ e. absurd (cc (e, untried n (node_there (λ x. is_tried_kind x.kind) t n e))))));
+  recorded = All-nil (IsRecorded t);
+  aborted = λ b h e. absurd (cc (e, none_aborted t q blocks b));
+  committed = λ b h e. and_right (is_block t b) false refl;
+}

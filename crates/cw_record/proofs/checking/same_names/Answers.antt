@@ -1,0 +1,7 @@
+use Rattle.std.proofs.Common.{◌≡◌, sym, subst}
+use Rattle.std.specs.Bool.{Decides}
+use Rattle.cw_record.proofs.SameOrders.{names_decide}
+use Rattle.cw_record.proofs.checking.same_names.Goals as goal
+
+pub returns : goal.returns
+returns c = subst (λ b. Decides b (c.args.a.now ≡ c.args.b.now)) (sym c.eq.ensures) (names_decide c.args.a.now c.args.b.now)

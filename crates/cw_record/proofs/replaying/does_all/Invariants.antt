@@ -1,0 +1,5 @@
+use Rattle.cw_record.proofs.Replayed.{Stands}
+use Rattle.cw_record.proofs.replaying.does_all.Given as goal
+
+abbrev pub invariant-loop-place : goal.invariant-loop-place
+invariant-loop-place l = Stands l.kept l.play l.place

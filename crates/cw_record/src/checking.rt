@@ -1,0 +1,204 @@
+ghost use Rattle.std.specs.Prelude.{◌≡◌, ◌↔◌, pos, IfOk, IsTrue};
+ghost use Rattle.cw_tree.specs.Nodes.{is_strand};
+ghost use Rattle.cw_serial.specs.Machine.{value_at};
+ghost use Rattle.cw_serial.specs.Programs.{end_under};
+ghost use Rattle.cw_record.specs.Order.{ending_strand};
+ghost use Rattle.cw_record.specs.Replay.{SameEnd};
+ghost use Rattle.cw_record.specs.Records.{Holds};
+ghost use Rattle.cw_record.specs.declared.checking.Checked.TheVariants.{Disagree};
+ghost use Rattle.cw_record.specs.Checking.{Checks, difference, first_difference, other_variant, variant};
+
+use crate::order::ending_strand;
+use crate::replaying::does_all;
+use crate::{Record, RecordEnd, order_of};
+use cw_base::OutOfMemory;
+use cw_serial::{SerialEnd, first_memory, serial};
+use cw_tree::{Name, Picks, Tree};
+use std::alloc::Global;
+
+/// What a check of a record says. `cell` is a cell's number where the memories differ there, and then `kept` and `replayed` are its two
+/// values. Else it is the number of cells: then they are the first outputs that differ, or the variants of the two ends, from 0 on in
+/// the order of `RecordEnd`, with 4 as `replayed` where the variant of the replay's end tells nothing.
+#[derive(Clone, Copy, PartialEq, Eq, Debug)]
+pub enum Checked {
+    Agrees,
+    Disagree { cell: u32, kept: i64, replayed: i64 },
+}
+
+/// Replays a record by the machine with one memory. It agrees exactly where the order is that of the record's tree, conflicts and end,
+/// the machine does at each pick what the tree has there, and comes to the same end. More than 4,294,967,295 cells, strands or picks
+/// are answered as want of memory.
+pub fn check(alloc: Global, kept: &Record) -> Result<Checked, OutOfMemory>
+    ensures { IfOk result (λ c. Checks kept.now c) }
+{
+    let program = &kept.program;
+    let first = first_memory(alloc, program.cells.as_slice())?;
+    let Ok(cells) = u32::try_from(first.len()) else {
+        return Err(OutOfMemory);
+    };
+    let end = serial(
+        alloc,
+        program,
+        kept.words.as_slice(),
+        kept.limits,
+        &kept.order,
+    )?;
+    if replays(alloc, kept, &end)? {
+        return Ok(Checked::Agrees);
+    }
+    difference(cells, &kept.end, &end)
+}
+
+/// Whether a record replays, where this is the machine's end under its order.
+fn replays(alloc: Global, kept: &Record, end: &SerialEnd) -> Result<bool, OutOfMemory>
+    requires { end.now ≡ end_under kept.now.program kept.now.order }
+    ensures { IfOk result (λ b. IsTrue b ↔ Holds kept.now) }
+{
+    if !names_strand(&kept.tree, &kept.end) || !is_same_end(&kept.end, &kept.order, end) {
+        return Ok(false);
+    }
+    let order = order_of(
+        alloc,
+        &kept.tree,
+        kept.conflicts.as_slice(),
+        kept.limits.aborts,
+        &kept.end,
+    )?;
+    if !same_picks(&kept.order, &order) {
+        return Ok(false);
+    }
+    let does = does_all(alloc, kept)?;
+    Ok(does)
+}
+
+/// Whether the strand that an end names is one of the tree.
+fn names_strand(tree: &Tree, end: &RecordEnd) -> bool
+    ensures { result ≡ is_strand tree.now (ending_strand end.now) }
+{
+    let strand = ending_strand(end);
+    (strand as usize) < tree.nodes().len() && tree.is_strand(strand)
+}
+
+/// Whether the kept end and the machine's end under these picks are the same.
+fn is_same_end(kept: &RecordEnd, picks: &Picks, end: &SerialEnd) -> bool
+    ensures { IsTrue result ↔ SameEnd kept.now picks.now end.now }
+{
+    match (kept, end) {
+        (
+            RecordEnd::Finished { memory, outputs },
+            SerialEnd::Finished {
+                memory: values,
+                outputs: shown,
+            },
+        ) => {
+            same_values(memory.as_slice(), values.as_slice())
+                && same_values(outputs.as_slice(), shown.as_slice())
+        }
+        (RecordEnd::Fault { kind, .. }, SerialEnd::Fault { name, kind: found }) => {
+            *name == picks.last && kind == found
+        }
+        (RecordEnd::Budget { .. }, SerialEnd::At { name }) => *name == picks.last,
+        (RecordEnd::Moves, SerialEnd::Stuck { place }) => picks.list.len() <= *place as usize,
+        (RecordEnd::Moves, _) => true,
+        _ => false,
+    }
+}
+
+/// Whether two orders are the same.
+fn same_picks(a: &Picks, b: &Picks) -> bool
+    ensures { IsTrue result ↔ (a.now ≡ b.now) }
+{
+    a.last == b.last
+        && same_numbers(a.list.as_slice(), b.list.as_slice())
+        && same_names(a.names.as_slice(), b.names.as_slice())
+}
+
+fn same_values(a: &[i64], b: &[i64]) -> bool
+    ensures { IsTrue result ↔ (a.now ≡ b.now) }
+{
+    a == b
+}
+
+fn same_numbers(a: &[u32], b: &[u32]) -> bool
+    ensures { IsTrue result ↔ (a.now ≡ b.now) }
+{
+    a == b
+}
+
+fn same_names(a: &[Name], b: &[Name]) -> bool
+    ensures { IsTrue result ↔ (a.now ≡ b.now) }
+{
+    a == b
+}
+
+/// The first difference of two ends, where there are so many cells.
+fn difference(cells: u32, kept: &RecordEnd, end: &SerialEnd) -> Result<Checked, OutOfMemory>
+    ensures { IfOk result (λ c. c ≡ difference cells kept.now end.now) }
+{
+    if let (
+        RecordEnd::Finished { memory, outputs },
+        SerialEnd::Finished {
+            memory: values,
+            outputs: shown,
+        },
+    ) = (kept, end)
+    {
+        let memories = first_difference(memory.as_slice(), values.as_slice());
+        if let Some(place) = memories {
+            let Ok(cell) = u32::try_from(place) else {
+                return Err(OutOfMemory);
+            };
+            return Ok(told(cell, place, memory.as_slice(), values.as_slice()));
+        }
+        if let Some(place) = first_difference(outputs.as_slice(), shown.as_slice()) {
+            return Ok(told(cells, place, outputs.as_slice(), shown.as_slice()));
+        }
+    }
+    Ok(Checked::Disagree {
+        cell: cells,
+        kept: variant(kept),
+        replayed: other_variant(kept, end),
+    })
+}
+
+/// The values at a place at which two lists differ, told of a cell.
+fn told(cell: u32, place: usize, kept: &[i64], replayed: &[i64]) -> Checked
+    ensures { result ≡ Disagree cell (value_at kept.now place) (value_at replayed.now place) }
+{
+    Checked::Disagree {
+        cell,
+        kept: kept.get(place).copied().unwrap_or(0),
+        replayed: replayed.get(place).copied().unwrap_or(0),
+    }
+}
+
+/// The first place at which two lists differ, of those that both have.
+fn first_difference(kept: &[i64], replayed: &[i64]) -> Option<usize>
+    ensures { result ≡ first_difference kept.now replayed.now }
+{
+    kept.iter().zip(replayed.iter()).position(|(k, r)| k != r)
+}
+
+/// Which variant an end is.
+fn variant(end: &RecordEnd) -> i64
+    ensures { result ≡ pos (variant end.now) }
+{
+    match end {
+        RecordEnd::Finished { .. } => 0,
+        RecordEnd::Fault { .. } => 1,
+        RecordEnd::Budget { .. } => 2,
+        RecordEnd::Moves => 3,
+    }
+}
+
+/// The variant that a replay came to, where it is another one, or else 4.
+fn other_variant(kept: &RecordEnd, end: &SerialEnd) -> i64
+    ensures { result ≡ pos (other_variant kept.now end.now) }
+{
+    match (kept, end) {
+        (RecordEnd::Fault { .. } | RecordEnd::Budget { .. }, SerialEnd::Finished { .. }) => 0,
+        (RecordEnd::Finished { .. } | RecordEnd::Budget { .. }, SerialEnd::Fault { .. }) => 1,
+        (RecordEnd::Finished { .. } | RecordEnd::Fault { .. }, SerialEnd::At { .. }) => 2,
+        _ => 4,
+    }
+}

@@ -1,0 +1,103 @@
+ghost use Rattle.std.specs.Prelude.{◌≡◌, ◌↔◌, ◌<◌, IfOk, IsSomeAnd, IsTrue, length};
+ghost use Rattle.cw_tree.specs.Nodes.{is_strand};
+ghost use Rattle.cw_record.specs.Order.{ending_strand, node_of, order_of};
+ghost use Rattle.cw_record.specs.Replay.{IsAct, IsItem, IsRefused};
+ghost use Rattle.cw_record.specs.Replaying.{Does, WantsRefused};
+
+use crate::items::{Item, items};
+use crate::place::telling;
+use crate::{Record, RecordEnd};
+use cw_base::{OutOfMemory, Seq};
+use cw_serial::Play;
+use cw_strand::Want;
+use cw_tree::{Conflict, Kind, Tree};
+use std::alloc::Global;
+
+/// Whether the machine does at each pick what the tree has there, and then a strand that spent its budget stands at what was refused.
+pub(crate) fn does_all(alloc: Global, kept: &Record) -> Result<bool, OutOfMemory>
+    requires strand { IsTrue (is_strand kept.now.tree (ending_strand kept.now.end)) }
+    requires order { kept.now.order ≡ order_of kept.now.tree kept.now.conflicts kept.now.limits.aborts kept.now.end }
+    ensures { IfOk result (λ b. IsTrue b ↔ Does kept.now) }
+{
+    let tree = &kept.tree;
+    // the root is a strand, and each other node has a smaller parent
+    let _ = tree.nodes();
+    let budget = kept.limits.aborts;
+    let items = Seq::from_vec(items(alloc, tree, kept.conflicts.as_slice(), budget, &kept.end)?);
+    let names = kept.order.names.as_slice();
+    let mut play = Play::new(
+        alloc,
+        &kept.program,
+        kept.words.as_slice(),
+        kept.limits,
+        names,
+    )?;
+    for place in 0..items.len() {
+        let name = *kept.order.list.at(place);
+        let want = play.at(name)?;
+        if !is_item(tree, play.memory(), want, *items.at(place)) {
+            return Ok(false);
+        }
+        if !play.pick(&kept.program, name)? {
+            return Ok(false);
+        }
+    }
+    let want = play.at(kept.order.last)?;
+    let spent = is_spent(alloc, kept, want)?;
+    Ok(spent)
+}
+
+/// Whether a want is what the tree has at an item, where memory is this.
+fn is_item(tree: &Tree, memory: &[i64], want: Option<Want>, item: Item) -> bool
+    requires { node_of item < length tree.now }
+    ensures { IsTrue result ↔ IsSomeAnd want (λ w. IsItem tree.now memory.now w item) }
+{
+    match item {
+        Item::Begins(_) => want == Some(Want::Begin),
+        Item::Ends(_) => want == Some(Want::End),
+        Item::Does(node) => is_act(memory, want, &tree.node(node).kind),
+    }
+}
+
+/// Whether a want that is answered from this memory is a node of this kind.
+fn is_act(memory: &[i64], want: Option<Want>, kind: &Kind) -> bool
+    ensures { IsTrue result ↔ IsSomeAnd want (λ w. IsAct memory.now w kind.now) }
+{
+    match (want, kind) {
+        (Some(Want::Load(element)), Kind::Read { cell, value }) => {
+            element == *cell && memory.get(element as usize).copied().unwrap_or(0) == *value
+        }
+        (Some(Want::Store(element, stored)), Kind::Write { cell, value }) => {
+            element == *cell && stored == *value
+        }
+        (Some(Want::Out(shown)), Kind::Out { value }) => shown == *value,
+        _ => false,
+    }
+}
+
+/// Whether the last strand, which wants this, stands at what was refused, where it has spent its budget.
+fn is_spent(alloc: Global, kept: &Record, want: Option<Want>) -> Result<bool, OutOfMemory>
+    ensures { IfOk result (λ b. IsTrue b ↔ WantsRefused kept.now kept.now.end want) }
+{
+    let RecordEnd::Budget { strand } = &kept.end else {
+        return Ok(true);
+    };
+    let conflicts = kept.conflicts.as_slice();
+    let told = telling(alloc, &kept.tree, conflicts, kept.limits.aborts, *strand)?;
+    match told {
+        Some(conflict) => Ok(is_refused(conflict, want)),
+        None => Ok(false),
+    }
+}
+
+/// Whether a want is what a conflict refused.
+fn is_refused(conflict: &Conflict, want: Option<Want>) -> bool
+    ensures { IsTrue result ↔ IsSomeAnd want (IsRefused conflict.now) }
+{
+    match want {
+        Some(Want::Begin) => conflict.victim != 0,
+        Some(Want::Load(cell) | Want::Store(cell, _)) => conflict.victim == 0
+            && cell == conflict.cell,
+        _ => false,
+    }
+}
