@@ -1,6 +1,6 @@
 //! A table of worked sources: each source of standard input, with `#` between them, is run by the top call in memory, and what
 //! it answers is printed: the status, the note and the text.
-//! Stands on `cw_top` and `cw_io`.
+//! Stands on `cw_top` and `cw_io`; its tests, of what the worked sources cannot show, on `cw_record` and what is below it too.
 #![tactic(auto)]
 
 use cw_io::{OpenGate, SureSink, SureSource};
@@ -47,3 +47,6 @@ fn main(rt: HostRuntime) -> io::Result<()> {
     }
     Ok(())
 }
+
+#[cfg(test)]
+mod tests;

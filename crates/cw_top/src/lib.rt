@@ -7,8 +7,6 @@
 
 mod outcome;
 mod reading;
-#[cfg(test)]
-mod tests;
 mod text;
 mod top;
 

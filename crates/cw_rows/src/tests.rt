@@ -1,5 +1,5 @@
-use super::*;
 use cw_io::{MemSink, MemSource, OpenGate, Sink, Source, SureSink, SureSource};
+use cw_top::{Note, Reply, cwstm, note_text};
 use std::alloc::Global;
 use std::sync::Wait;
 use std::test::Fail;

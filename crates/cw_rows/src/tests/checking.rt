@@ -1,0 +1,115 @@
+use super::{COUNTS, answer};
+use cw_base::Seq;
+use cw_io::{SureSink, SureSource};
+use cw_record::{Checked, Record, RecordEnd, check};
+use cw_serial::{SerialEnd, serial};
+use cw_tree::{Kind, Tree};
+use std::alloc::Global;
+use std::sync::Wait;
+use std::test::Fail;
+use std::thread::Threads;
+
+// A block in the left strand, and an access beside it in the right one.
+const BESIDE: &[u8] = b"cell c; fn main() { spawn { atomic { c = 1; } } c = 2; }";
+
+fn record<R: AllocGlobal + Threads + Wait + Sync>(rt: &R, text: &[u8]) -> Result<Record, Fail> {
+    let mut source = SureSource::new(text.to_vec(rt.alloc())?, 100);
+    let mut sink = SureSink::with_room(rt.alloc(), 100)?;
+    let reply = answer(rt, &["run"], &mut source, &mut sink)?;
+    Ok(reply.kept.ok_or("no run is kept")?)
+}
+
+// What a check says where the run ended so.
+fn with_end(alloc: Global, mut run: Record, end: RecordEnd) -> Result<Checked, Fail> {
+    run.end = end;
+    Ok(check(alloc, &run)?)
+}
+
+fn finished(alloc: Global, memory: &[i64], outputs: &[i64]) -> Result<RecordEnd, Fail> {
+    Ok(RecordEnd::Finished {
+        memory: Seq::from_vec(memory.to_vec(alloc)?),
+        outputs: Seq::from_vec(outputs.to_vec(alloc)?),
+    })
+}
+
+// What a check says where the picks are these.
+fn with_picks(alloc: Global, mut run: Record, list: &[u32], last: u32) -> Result<Checked, Fail> {
+    run.order.list = Seq::from_vec(list.to_vec(alloc)?);
+    run.order.last = last;
+    Ok(check(alloc, &run)?)
+}
+
+// What a check says where the first of four accesses and outputs read this.
+fn with_first_read(alloc: Global, mut run: Record, value: i64) -> Result<Checked, Fail> {
+    let mut tree = Tree::new(alloc)?;
+    tree.add(0, Kind::Read { cell: 0, value }, 1)?;
+    tree.add(0, Kind::Write { cell: 0, value: 1 }, 2)?;
+    tree.add(0, Kind::Read { cell: 0, value: 1 }, 3)?;
+    tree.add(0, Kind::Out { value: 1 }, 4)?;
+    run.tree = tree;
+    Ok(check(alloc, &run)?)
+}
+
+const fn disagree(cell: u32, kept: i64, replayed: i64) -> Checked {
+    Checked::Disagree {
+        cell,
+        kept,
+        replayed,
+    }
+}
+
+#[test]
+fn another_end_is_told_by_its_first_difference(rt: HostRuntime) -> Result<(), Fail> {
+    let table: [(&[i64], &[i64], Checked); 6] = [
+        (&[1], &[1], Checked::Agrees),
+        (&[5], &[1], disagree(0, 5, 1)),
+        (&[5], &[7], disagree(0, 5, 1)),
+        (&[1], &[7], disagree(1, 7, 1)),
+        (&[1, 5], &[1], disagree(1, 0, 4)),
+        (&[1], &[], disagree(1, 0, 4)),
+    ];
+    for (memory, outputs, wanted) in table {
+        let end = finished(rt.alloc(), memory, outputs)?;
+        let said = with_end(rt.alloc(), record(&rt, COUNTS)?, end)?;
+        assert_eq!(rt; said, wanted);
+    }
+    let spent = RecordEnd::Budget { strand: 0 };
+    let said = with_end(rt.alloc(), record(&rt, COUNTS)?, spent)?;
+    assert_eq!(rt; said, disagree(1, 2, 0));
+    Ok(())
+}
+
+#[test]
+fn another_order_is_refused(rt: HostRuntime) -> Result<(), Fail> {
+    // the run's own, one that leaves the begun block early, one that comes to another end, and one whose last strand is another
+    let table: [(&[u32], u32, Checked); 4] = [
+        (&[1, 1, 1, 2], 0, Checked::Agrees),
+        (&[1, 2, 1, 1], 0, disagree(1, 0, 4)),
+        (&[2, 1, 1, 1], 0, disagree(0, 2, 1)),
+        (&[1, 1, 1, 2], 1, disagree(1, 0, 4)),
+    ];
+    for (list, last, wanted) in table {
+        let said = with_picks(rt.alloc(), record(&rt, BESIDE)?, list, last)?;
+        assert_eq!(rt; said, wanted);
+    }
+    Ok(())
+}
+
+// The pick that leaves the block is the one that is stuck.
+#[test]
+fn a_begun_block_is_not_left_early(rt: HostRuntime) -> Result<(), Fail> {
+    let mut run = record(&rt, BESIDE)?;
+    run.order.list = Seq::from_vec([1, 2, 1, 1].to_vec(rt.alloc())?);
+    let end = serial(rt.alloc(), &run.program, &[], run.limits, &run.order)?;
+    assert!(rt; matches!(end, SerialEnd::Stuck { place: 1 }));
+    Ok(())
+}
+
+#[test]
+fn a_pick_that_does_otherwise_than_the_tree_is_refused(rt: HostRuntime) -> Result<(), Fail> {
+    let same = with_first_read(rt.alloc(), record(&rt, COUNTS)?, 0)?;
+    assert_eq!(rt; same, Checked::Agrees);
+    let other = with_first_read(rt.alloc(), record(&rt, COUNTS)?, 7)?;
+    assert_eq!(rt; other, disagree(1, 0, 4));
+    Ok(())
+}
