@@ -1,14 +1,16 @@
-//! What all crates share: the answer of a call that met want of memory, and the types of lists and texts in public fields.
+//! What all crates share: the answer of a call that met want of memory, the types of lists and texts in public fields, and a stack.
 //! Stands on nothing.
-//! Contracts see a `Seq` as the list of its elements, and a `Text` as the list of its bytes.
+//! Contracts see a `Seq` as the list of its elements, a `Stack` as the same with the newest first, and a `Text` as the list of its bytes.
 #![tactic(auto)]
 
 mod memory;
 mod seq;
+mod stack;
 mod text;
 
 pub use memory::OutOfMemory;
 pub use seq::Seq;
+pub use stack::Stack;
 pub use text::Text;
 
 #[cfg(test)]

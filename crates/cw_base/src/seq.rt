@@ -35,14 +35,6 @@ impl<T> Seq<T> {
         Seq { items }
     }
 
-    /// The vector of the elements. Takes no memory.
-    pub fn into_vec(self) -> Vec<T>
-        ensures { result.items ≡ self }
-    {
-        let Seq { items } = self;
-        items
-    }
-
     pub fn len(&self) -> usize
         ensures { result ≡ length self.now }
     {

@@ -19,13 +19,6 @@ impl Model for Text {
 }
 
 impl Text {
-    /// The text of a string. Takes no memory.
-    pub fn from_string(text: String) -> Text
-        ensures { result ≡ string_bytes text }
-    {
-        Text { text }
-    }
-
     pub fn as_str(&self) -> &str
         ensures { result.now ≡ self.now }
     {

@@ -2,16 +2,17 @@
 --
 -- What is still to come from a source and what a sink holds are told, or are not told (`None`): a file or a
 -- terminal tells nothing. What is said of bytes is said of told ones.
-use Rattle.std.specs.Prelude.{◌≡◌, ◌⊎◌, ℕ, ◌-◌, ◌^◌, ◌<◌, ◌≤◌, List, [], ◌++◌, length, take, Option, IfSome, IsSomeAnd, Result, IsErr}
+use Rattle.std.specs.Prelude.{◌≡◌, ◌⊎◌, ℕ, ◌-◌, ◌^◌, ◌<◌, ◌≤◌, List, [], ◌++◌, length, take, Option, IsSome, IfSome, IsSomeAnd, Result, IsErr, OnOk}
 
 -- A count of faults rose. One that stands at its last value counts as risen.
 abbrev pub Rose : ℕ → ℕ → Type 0
 Rose before after = (before < after) ⊎ (after ≡ 2 ^ 64 - 1)
 
--- Faults never fall, and a failure is told only where they rose.
+-- Faults never fall; a failure is told only where they rose, and with success they are as before.
 pub record HasCause {T E : Type 0} (before after : ℕ) (result : Result T E) : Type 0 where
   pub later : before ≤ after
   pub failed : IsErr result → Rose before after
+  pub kept : OnOk result (after ≡ before)
 
 -- What is to come is what was to come without these bytes, which came first.
 abbrev pub Takes : (old new : Option (List ℕ)) (bytes : List ℕ) → Type 0
@@ -29,10 +30,14 @@ IsDry left = IfSome left (λ xs. xs ≡ [])
 abbrev pub RunsDry : (old new : Option (List ℕ)) → Type 0
 RunsDry old new = IfSome old (λ xs. IsSomeAnd new (λ ys. ys ≡ []))
 
+-- What was told is told still.
+abbrev pub TellsOn : (old new : Option (List ℕ)) → Type 0
+TellsOn old new = IsSome old → IsSome new
+
 -- What is held is what was held, and behind it these bytes.
 abbrev pub Appends : (old new : Option (List ℕ)) (bytes : List ℕ) → Type 0
 Appends old new bytes = IfSome new (λ ys. IsSomeAnd old (λ xs. ys ≡ xs ++ bytes))
 
--- What is held is what was held, and behind it a front of these bytes.
+-- What is held is what was held, and behind it a front of these bytes, but not all of them.
 abbrev pub AppendsFront : (old new : Option (List ℕ)) (bytes : List ℕ) → Type 0
-AppendsFront old new bytes = (n : ℕ) × (n ≤ length bytes) × Appends old new (take n bytes)
+AppendsFront old new bytes = (n : ℕ) × (n < length bytes) × Appends old new (take n bytes)

@@ -1,7 +1,7 @@
-ghost use Rattle.std.specs.Prelude.{◌≡◌, ◌≤◌, [], length, take, Ok, IfOk, IfSome, OnErr};
-ghost use Rattle.cw_io.specs.FaultPlan.{fresh_plan, FollowsPlan};
-ghost use Rattle.cw_io.specs.MemSink.{empty_stock, stock_after, TakesFront};
-ghost use Rattle.cw_io.specs.Outside.{HasCause, Appends};
+ghost use Rattle.std.specs.Prelude.{◌≡◌, ◌↔◌, ◌⊎◌, ◌≤◌, [], length, take, Some, Ok, IsErr, IfOk, OnOk, OnErr};
+ghost use Rattle.cw_io.specs.FaultPlan.{fresh_plan, failed_after, IsListed, FailsWhere};
+ghost use Rattle.cw_io.specs.MemSink.{empty_stock, room_left, IsFullFor, TakesFront};
+ghost use Rattle.cw_io.specs.Outside.{HasCause, Appends, TellsOn};
 
 use crate::fault_plan::FaultPlan;
 use crate::store::Store;
@@ -10,7 +10,7 @@ use cw_base::OutOfMemory;
 use std::alloc::Global;
 use std::marker::Model;
 
-/// A sink in memory that fails in the calls it was told to fail in, and in no others.
+/// A sink in memory that fails in the calls it was told to fail in and once it is full, and in no others.
 #[derive(Drop)]
 pub struct MemSink {
     store: Store,
@@ -30,8 +30,8 @@ impl Model for MemSink {
 }
 
 impl MemSink {
-    /// Takes its memory here, and at most `most` bytes a call. It tells its bytes as long as it took at most `room` in
-    /// all. The calls whose numbers are in `failing` fail, counted from 1, failed ones included.
+    /// Takes its memory here: it has room for so many bytes in all, and takes at most `most` a call. The calls whose
+    /// numbers are in `failing` fail, counted from 1, failed ones included.
     pub fn with_room(
         alloc: Global,
         room: usize,
@@ -50,87 +50,102 @@ impl MemSink {
         })
     }
 
-    /// The bytes that it took, where it tells them.
+    /// The bytes that it took.
     pub fn taken(&self) -> &[u8]
-        ensures { IfSome self.now.stock.written (λ xs. result.now ≡ xs) }
+        ensures { result.now ≡ self.now.stock.written }
     {
         self.store.taken()
     }
 }
 
 impl Sink for MemSink {
-    ghost written = { λ s. s.stock.written };
+    ghost written = { λ s. Some s.stock.written };
 
     ghost faults = { λ s. s.plan.failed };
 
     fn write(&mut self, piece: &[u8]) -> Result<usize, Failed>
-        ensures planned { FollowsPlan self.old.plan self.new.plan result }
-        ensures front { IfOk result (TakesFront self.old self.new piece.now) }
-        ensures same { OnErr result (self.new ≡ record self.old { plan = self.new.plan }) }
+        ensures planned { FailsWhere (IsListed self.old.plan ⊎ IsFullFor self.old.stock piece.now) self.old.plan self.new.plan result }
+        ensures front { IfOk result (TakesFront self.old.most self.old.stock self.new.stock piece.now) }
+        ensures same_most { self.new.most ≡ self.old.most }
+        ensures same { OnErr result (self.new.stock ≡ self.old.stock) }
 
         // As of every sink.
         ensures cause { HasCause self.old.plan.failed self.new.plan.failed result }
         ensures within { IfOk result (λ n. n ≤ length piece.now) }
-        ensures taken { IfOk result (λ n. Appends self.old.stock.written self.new.stock.written (take n piece.now)) }
+        ensures taken { IfOk result (λ n. Appends (Some self.old.stock.written) (Some self.new.stock.written) (take n piece.now)) }
+        ensures told { OnOk result (TellsOn (Some self.old.stock.written) (Some self.new.stock.written)) }
         ensures some { result ≡ Ok 0 → piece.now ≡ [] }
-        ensures err { OnErr result (Appends self.old.stock.written self.new.stock.written []) }
+        ensures err { OnErr result (Appends (Some self.old.stock.written) (Some self.new.stock.written) []) }
     {
-        self.plan.call()?;
-        let count = self.most.min(piece.len());
+        let count = piece.len().min(self.store.room_left());
+        self.plan.call(count == 0 && !piece.is_empty())?;
+        let count = count.min(self.most);
         self.store.take(&piece[..count]);
         Ok(count)
     }
 }
 
-/// A sink in memory that takes every piece whole, and never fails.
+/// A sink in memory that takes as much of a piece as it has room for, and fails only once it is full.
 #[derive(Drop)]
 pub struct SureSink {
     store: Store,
+    failed: u64,
 }
 
 impl Model for SureSink {
-    ghost use Rattle.cw_io.specs.MemSink.{Stock};
+    ghost use Rattle.cw_io.specs.MemSink.{SureStock};
 
-    ghost Value = { Stock };
+    ghost Value = { SureStock };
 
-    ghost view = { λ s. s.store };
+    ghost view = { λ s. record { stock = s.store; failed = s.failed } };
 }
 
 impl SureSink {
-    /// Takes its memory here. It tells its bytes as long as it took at most `room` in all.
+    /// Takes its memory here: it has room for so many bytes in all.
     pub fn with_room(alloc: Global, room: usize) -> Result<SureSink, OutOfMemory>
-        ensures { IfOk result (λ s. s ≡ empty_stock room) }
+        ensures stock { IfOk result (λ s. s.stock ≡ empty_stock room) }
+        ensures none { IfOk result (λ s. s.failed ≡ 0) }
     {
         Ok(SureSink {
             store: Store::with_room(alloc, room)?,
+            failed: 0,
         })
     }
 
-    /// The bytes that it took, where it tells them.
+    /// The bytes that it took.
     pub fn taken(&self) -> &[u8]
-        ensures { IfSome self.now.written (λ xs. result.now ≡ xs) }
+        ensures { result.now ≡ self.now.stock.written }
     {
         self.store.taken()
     }
 }
 
 impl Sink for SureSink {
-    ghost written = { λ s. s.written };
+    ghost written = { λ s. Some s.stock.written };
 
-    ghost faults = { λ _. 0 };
+    ghost faults = { λ s. s.failed };
 
     fn write(&mut self, piece: &[u8]) -> Result<usize, Failed>
-        ensures whole { result ≡ Ok (length piece.now) }
-        ensures stock { self.new ≡ stock_after self.old piece.now }
+        ensures whole { length piece.now ≤ room_left self.old.stock → result ≡ Ok (length piece.now) }
+        ensures full { IsErr result ↔ IsFullFor self.old.stock piece.now }
+        ensures front { IfOk result (TakesFront (length piece.now) self.old.stock self.new.stock piece.now) }
+        ensures same { OnErr result (self.new.stock ≡ self.old.stock) }
+        ensures failed { self.new.failed ≡ failed_after self.old.failed result }
 
         // As of every sink.
-        ensures cause { HasCause 0 0 result }
+        ensures cause { HasCause self.old.failed self.new.failed result }
         ensures within { IfOk result (λ n. n ≤ length piece.now) }
-        ensures taken { IfOk result (λ n. Appends self.old.written self.new.written (take n piece.now)) }
+        ensures taken { IfOk result (λ n. Appends (Some self.old.stock.written) (Some self.new.stock.written) (take n piece.now)) }
+        ensures told { OnOk result (TellsOn (Some self.old.stock.written) (Some self.new.stock.written)) }
         ensures some { result ≡ Ok 0 → piece.now ≡ [] }
-        ensures err { OnErr result (Appends self.old.written self.new.written []) }
+        ensures err { OnErr result (Appends (Some self.old.stock.written) (Some self.new.stock.written) []) }
     {
-        self.store.take(piece);
-        Ok(piece.len())
+        let count = piece.len().min(self.store.room_left());
+        if count == 0 && !piece.is_empty() {
+            self.failed = self.failed.saturating_add(1);
+            return Err(Failed);
+        }
+        self.store.take(&piece[..count]);
+        Ok(count)
     }
 }

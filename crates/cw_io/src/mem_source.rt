@@ -1,5 +1,5 @@
 ghost use Rattle.std.specs.Prelude.{◌≡◌, ◌≢◌, ◌≤◌, [], length, take, Some, Ok, IfOk, OnErr, IsOkAnd};
-ghost use Rattle.cw_io.specs.FaultPlan.{fresh_plan, FollowsPlan};
+ghost use Rattle.cw_io.specs.FaultPlan.{fresh_plan, IsListed, FailsWhere};
 ghost use Rattle.cw_io.specs.MemSource.{GivesNext};
 ghost use Rattle.cw_io.specs.Outside.{HasCause, Takes, Keeps, IsDry};
 
@@ -44,7 +44,7 @@ impl Source for MemSource {
     ghost faults = { λ s. s.plan.failed };
 
     fn read(&mut self, buf: &mut [u8]) -> Result<usize, Failed>
-        ensures planned { FollowsPlan self.old.plan self.new.plan result }
+        ensures planned { FailsWhere (IsListed self.old.plan) self.old.plan self.new.plan result }
         ensures next { IfOk result (GivesNext self.old.supply self.new.supply buf.old buf.new) }
         ensures same { OnErr result (self.new.supply ≡ self.old.supply) }
 
@@ -55,7 +55,7 @@ impl Source for MemSource {
         ensures end { result ≡ Ok 0 → buf.old ≢ [] → IsDry (Some self.old.supply.left) }
         ensures err { OnErr result (Keeps (Some self.old.supply.left) (Some self.new.supply.left)) }
     {
-        self.plan.call()?;
+        self.plan.call(false)?;
         Ok(self.feed.give(buf))
     }
 }

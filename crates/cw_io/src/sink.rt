@@ -1,5 +1,5 @@
 ghost use Rattle.std.specs.Prelude.{◌≡◌, ◌≤◌, ℕ, List, [], length, take, Option, IfOk, OnOk, OnErr, Ok};
-ghost use Rattle.cw_io.specs.Outside.{HasCause, Appends, AppendsFront};
+ghost use Rattle.cw_io.specs.Outside.{HasCause, Appends, AppendsFront, TellsOn};
 
 use crate::Failed;
 
@@ -12,11 +12,12 @@ pub trait Sink {
     ghost faults: { Self → ℕ };
 
     /// Takes a front of the piece, and answers how many bytes. Nothing is taken only of an empty piece: else the write
-    /// failed. After `Failed` nothing was taken.
+    /// failed. After `Failed` nothing was taken. A sink that told goes on telling, but it may fall silent at a failure.
     fn write(&mut self, piece: &[u8]) -> Result<usize, Failed>
         ensures cause { HasCause (faults self.old) (faults self.new) result }
         ensures within { IfOk result (λ n. n ≤ length piece.now) }
         ensures taken { IfOk result (λ n. Appends (written self.old) (written self.new) (take n piece.now)) }
+        ensures told { OnOk result (TellsOn (written self.old) (written self.new)) }
         ensures some { result ≡ Ok 0 → piece.now ≡ [] }
         ensures err { OnErr result (Appends (written self.old) (written self.new) []) };
 }
@@ -26,6 +27,7 @@ pub trait Sink {
 pub fn write_all<K: Sink>(sink: &mut K, text: &[u8]) -> Result<(), Failed>
     ensures cause { HasCause (K.faults sink.old) (K.faults sink.new) result }
     ensures ok { OnOk result (Appends (K.written sink.old) (K.written sink.new) text.now) }
+    ensures told { OnOk result (TellsOn (K.written sink.old) (K.written sink.new)) }
     ensures err { OnErr result (AppendsFront (K.written sink.old) (K.written sink.new) text.now) }
 {
     let mut done = 0;

@@ -1,27 +1,26 @@
-ghost use Rattle.std.specs.Prelude.{◌≡◌, IfOk, IfSome};
-ghost use Rattle.cw_io.specs.MemSink.{empty_stock, stock_after};
+ghost use Rattle.std.specs.Prelude.{◌≡◌, ◌≤◌, length, IfOk};
+ghost use Rattle.cw_io.specs.MemSink.{empty_stock, room_left, stock_after};
 
 use cw_base::OutOfMemory;
 use std::alloc::Global;
 use std::marker::Model;
 
-/// The bytes that a sink in memory took, kept as long as they fit into its room.
+/// The bytes that a sink in memory took.
 #[derive(Drop)]
 pub struct Store {
-    bytes: Option<Vec<u8>>,
+    bytes: Vec<u8>,
     room: usize,
 }
 
 impl Model for Store {
-    ghost use Rattle.std.specs.Prelude.{◌≤◌, IfSome, vec_len, vec_capacity};
-    ghost use Rattle.std.specs.Option.{option_map};
+    ghost use Rattle.std.specs.Prelude.{◌≤◌, vec_len, vec_capacity};
     ghost use Rattle.cw_io.specs.MemSink.{Stock};
 
     ghost Value = { Stock };
 
-    ghost view = { λ s. record { written = option_map (λ v. v.items) s.bytes; room = s.room } };
+    ghost view = { λ s. record { written = s.bytes.items; room = s.room } };
 
-    ghost invariant = { λ s. IfSome s.bytes (λ v. (vec_len v ≤ s.room) × (s.room ≤ vec_capacity v)) };
+    ghost invariant = { λ s. (vec_len s.bytes ≤ s.room) × (s.room ≤ vec_capacity s.bytes) };
 }
 
 impl Store {
@@ -30,30 +29,30 @@ impl Store {
         ensures { IfOk result (λ s. s ≡ empty_stock room) }
     {
         Ok(Store {
-            bytes: Some(Vec::with_capacity(alloc, room)?),
+            bytes: Vec::with_capacity(alloc, room)?,
             room,
         })
     }
 
-    /// Takes the whole piece. What was kept is let go once the room does not hold all that was taken.
-    pub fn take(&mut self, piece: &[u8])
-        ensures { self.new ≡ stock_after self.old piece.now }
+    /// How many bytes it still has room for.
+    pub fn room_left(&self) -> usize
+        ensures { result ≡ room_left self.now }
     {
-        match &mut self.bytes {
-            Some(bytes) if piece.len() <= self.room - bytes.len() => {
-                bytes.extend_from_slice(piece).unwrap();
-            }
-            _ => self.bytes = None,
-        }
+        self.room - self.bytes.len()
     }
 
-    /// The bytes that were taken, or none once they are let go.
-    pub fn taken(&self) -> &[u8]
-        ensures { IfSome self.now.written (λ xs. result.now ≡ xs) }
+    /// Takes the whole piece.
+    pub fn take(&mut self, piece: &[u8])
+        requires { length piece.now ≤ room_left self.old }
+        ensures { self.new ≡ stock_after self.old piece.now }
     {
-        match &self.bytes {
-            Some(bytes) => bytes.as_slice(),
-            None => &[],
-        }
+        self.bytes.extend_from_slice(piece).unwrap();
+    }
+
+    /// The bytes that were taken.
+    pub fn taken(&self) -> &[u8]
+        ensures { result.now ≡ self.now.written }
+    {
+        self.bytes.as_slice()
     }
 }

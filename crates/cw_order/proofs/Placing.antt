@@ -1,5 +1,5 @@
 -- Elements placed, taken out and compared, in lists cut at a number.
-use Rattle.std.proofs.Common.{ℕ, zero, suc, ◌<◌, ◌≡◌, ◌≢◌, ◌↔◌, List, [], ◌∷◌, ◌++◌, length, get_or, cond, not, refl, sym, ap, ◌∙◌, subst, arith, eq-eqb, inl, inr}
+use Rattle.std.proofs.Common.{ℕ, zero, suc, ◌+◌, ◌<◌, ◌≡◌, ◌≢◌, ◌↔◌, List, [], ◌∷◌, ◌++◌, length, get_or, cond, not, refl, sym, ap, ◌∙◌, subst, arith, eq-eqb, inl, inr}
 use Rattle.std.specs.List.{Contains}
 use Rattle.std.proofs.lemmas.Bool.{cases_eq, ne_eqb, cases_lt}
 use Rattle.cw_order.specs.Links.{Lacks, Rise}
@@ -29,8 +29,8 @@ pub record StandsAt (xs : List ℕ) (a k : ℕ) : Type 0 where
 pub stands_at : (xs : List ℕ) (a : ℕ) → Contains xs a → StandsAt xs a (position xs a)
 stands_at [] a (k, within, e) = absurd (omega arith)
 stands_at (x ∷ xs) a c = elim (cases_eq x a) [
-  | inl e ↦ subst (StandsAt (x ∷ xs) a) (sym (ap (λ b. cond b 0 (suc (position xs a))) (eq-eqb x a e))) (record { within = omega arith; there = e })
-  | inr ne ↦ subst (StandsAt (x ∷ xs) a) (sym (ap (λ b. cond b 0 (suc (position xs a))) (ne_eqb x a ne))) (later ne c (λ k within e. stands_at xs a (k, within, e)))
+  | inl e ↦ subst (StandsAt (x ∷ xs) a) (sym (ap (λ b. cond (not b) (1 + position xs a) 0) (eq-eqb x a e))) (record { within = omega arith; there = e })
+  | inr ne ↦ subst (StandsAt (x ∷ xs) a) (sym (ap (λ b. cond (not b) (1 + position xs a) 0) (ne_eqb x a ne) ∙ omega arith)) (later ne c (λ k within e. stands_at xs a (k, within, e)))
 ] where
   later : x ≢ a → Contains (x ∷ xs) a → ((k : ℕ) → k < length xs → get_or xs k a ≡ a → StandsAt xs a (position xs a)) → StandsAt (x ∷ xs) a (suc (position xs a))
   later ne (zero, within, e) more = absurd (ne e)

@@ -1,5 +1,6 @@
 -- What a caller sees of an order list.
-use Rattle.std.specs.Prelude.{ℕ, suc, ◌==◌, Option, Some, None, List, [], ◌∷◌, filter, not, if◌then◌else◌}
+use Rattle.std.specs.Prelude.{ℕ, ◌==◌, Option, Some, None, List, [], ◌∷◌, filter, not, if◌then◌else◌}
+use Rattle.std.specs.List.{position_or_len}
 
 pub record Order : Type 0 where
   -- from the first to the last
@@ -23,5 +24,4 @@ without e xs = filter (λ x. not (x == e)) xs
 
 -- how many elements come before e
 abbrev pub position : List ℕ → ℕ → ℕ
-position [] e = 0
-position (x ∷ xs) e = if x == e then 0 else suc (position xs e)
+position xs e = position_or_len (λ x. x == e) xs

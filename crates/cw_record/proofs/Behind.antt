@@ -1,8 +1,6 @@
 -- Right strands that never started are numbered behind all other nodes, those of the innermost forks first; so numbers stay depth first.
-use Rattle.std.proofs.Common.{◌≡◌, ℕ, zero, suc, ◌<◌, ◌≤◌, List, [], ◌∷◌, length, map, refl, ap, sym, ◌∙◌, subst, arith, true, false, inl, inr, nat_eq, append-nil}
-use Rattle.std.proofs.lemmas.Bool.{or_right, false_from_ne_true}
-use Rattle.cw_code.specs.declared.CellInfo.{CellInfo}
-use Rattle.cw_strand.specs.Meaning.{State}
+use Rattle.std.proofs.Common.{◌≡◌, ℕ, zero, suc, ◌<◌, ◌≤◌, List, [], ◌∷◌, length, map, refl, ap, sym, ◌∙◌, subst, arith, true, inl, inr, nat_eq, append-nil}
+use Rattle.std.proofs.lemmas.Bool.{or_right}
 use Rattle.cw_tree.specs.declared.node.Node.{Node}
 use Rattle.cw_tree.specs.declared.node.Kind.TheVariants.{Strand}
 use Rattle.cw_tree.specs.Nodes.{parent_of, is_strand, fresh_node}
@@ -10,16 +8,17 @@ use Rattle.cw_tree.specs.Walks.{IsRooted, is_ancestor}
 use Rattle.cw_tree.proofs.Lists.{at_or_before}
 use Rattle.cw_tree.proofs.Ancestors.{ancestor_self, ancestor_up, ancestor_le, ancestor_trans}
 use Rattle.cw_tree.proofs.Growing.{length_more, number_grown, number_new, rooted_more, ancestor_grown, ancestor_new}
-use Rattle.cw_serial.proofs.Bends.{Bend, on_left, on_right}
-use Rattle.cw_record.specs.declared.worker.Bend.{Bend as Held}
-use Rattle.cw_record.specs.declared.worker.Bend.TheVariants.{Left, Right}
+use Rattle.cw_serial.specs.Room.Strands.{StrandState}
+use Rattle.cw_serial.proofs.Branches.{Branch, on_left, on_right}
+use Rattle.cw_record.specs.declared.worker.Branch.{Branch as Held}
+use Rattle.cw_record.specs.declared.worker.Branch.TheVariants.{Left, Right}
 use Rattle.cw_record.specs.Drawn.{added}
 use Rattle.cw_record.specs.Records.{IsNumberedDepthFirst}
 use Rattle.cw_record.specs.Worked.{unstarted}
 use Rattle.cw_record.proofs.Building.{IsBuilt}
 use Rattle.cw_record.proofs.Descending.{Crossing, Descends}
-use Rattle.cw_record.proofs.NodeKinds.{strand_alone}
-use Rattle.cw_record.proofs.Running.{HoldsBends, crossings}
+use Rattle.cw_record.proofs.NodeKinds.{block_some, fork_some}
+use Rattle.cw_record.proofs.Running.{HoldsBranches, crossings}
 use Rattle.cw_record.proofs.Unstarted.{with_strands}
 use Rattle.cw_record.proofs.Waiting.{one_unstarted}
 
@@ -37,23 +36,19 @@ module _ (t : List Node) (r : IsRooted t) where
   -- ## The forks on the way
 
   module _ (root : is_strand t 0 ≡ true) where
-    other_some : (n : ℕ) → is_strand t n ≡ false → 0 < n
-    other_some zero e = absurd (cc (e, root))
-    other_some (suc n) e = omega arith
-
     up_over : (n : ℕ) → 0 < n → n < length t → is_ancestor t (parent_of t n) n ≡ true
     up_over n some h = ancestor_up t r (parent_of t n) n some h (ancestor_self t (parent_of t n))
 
     crossed_over : (p : ℕ) (c : List Crossing) (b k : ℕ) → p < length t → Descends t p c b k → Over t p (map (λ x. x.node) c)
     crossed_over p c (suc b) k h d =
-        let some : 0 < p = other_some p (false_from_ne_true (is_strand t p) (λ s. absurd (let no = (strand_alone t p s).0 in let yes = d.0 in cc))) in
+        let some : 0 < p = block_some t root p d.0 in
         let low : parent_of t p < p = r p some h in
         over_lower (parent_of t p) p (map (λ x. x.node) c) h (up_over p some h) (crossed_over (parent_of t p) c b k (omega arith) d.1)
     crossed_over p [] zero k h d = tt
     crossed_over p (x ∷ c) zero k h d =
         let low : parent_of t p < p = r p d.0 h in
         let there : x.node < length t = let up : parent_of t p ≡ x.node = d.2 in omega arith in
-        let some : 0 < x.node = other_some x.node (false_from_ne_true (is_strand t x.node) (λ s. absurd (let no = (strand_alone t x.node s).1 in let yes = d.3 in cc))) in
+        let some : 0 < x.node = fork_some t root x.node d.3 in
         let outer : parent_of t x.node < x.node = r x.node some there in
         let P : ℕ → Type 0 = λ n. is_ancestor t n p ≡ true in (
           subst P d.2 (up_over p d.0 h),
@@ -61,22 +56,18 @@ module _ (t : List Node) (r : IsRooted t) where
         )
 
   -- also those whose right strands are still to come
-  unstarted_over : (cells : List CellInfo) (xs : List Held) (c : List (Bend State)) (p : ℕ) → HoldsBends cells xs c → p < length t → Over t p (map (λ x. x.node) (crossings xs c)) → Over t p (unstarted xs)
-  unstarted_over cells [] [] p h l o = tt
-  unstarted_over cells [] (y ∷ c) p h l o = absurd h
-  unstarted_over cells (Left f right ∷ xs) [] p h l o = absurd h
-  unstarted_over cells (Right f left ∷ xs) [] p h l o = absurd h
-  unstarted_over cells (Left f right ∷ xs) (on_left k b s ∷ c) p h l o =
+  unstarted_over : (xs : List Held) (c : List (Branch StrandState)) (p : ℕ) → HoldsBranches xs c → p < length t → Over t p (map (λ x. x.node) (crossings xs c)) → Over t p (unstarted xs)
+  unstarted_over [] [] p h l o = tt
+  unstarted_over (Left f right ∷ xs) (on_left k b s ∷ c) p h l o =
       let le : f ≤ p = ancestor_le t r f p l o.0 in
-      (o.0, unstarted_over cells xs c f h.1 (omega arith) o.1)
-  unstarted_over cells (Right f left ∷ xs) (on_right k b m s ∷ c) p h l o =
+      (o.0, unstarted_over xs c f h.1 (omega arith) o.1)
+  unstarted_over (Right f left ∷ xs) (on_right k b m s ∷ c) p h l o =
       let le : f ≤ p = ancestor_le t r f p l o.0 in
-      over_lower f p (unstarted xs) l o.0 (unstarted_over cells xs c f h.1 (omega arith) o.1)
-  unstarted_over cells (Left f right ∷ xs) (on_right k b m s ∷ c) p h l o = absurd h
-  unstarted_over cells (Right f left ∷ xs) (on_left k b s ∷ c) p h l o = absurd h
+      over_lower f p (unstarted xs) l o.0 (unstarted_over xs c f h.1 (omega arith) o.1)
+  unstarted_over _ _ p h l o = absurd h
 
-  pub waiting_over : is_strand t 0 ≡ true → (cells : List CellInfo) (xs : List Held) (bends : List (Bend State)) → HoldsBends cells xs bends → (p b k : ℕ) → p < length t → Descends t p (crossings xs bends) b k → Over t p (unstarted xs)
-  waiting_over root cells xs bends h p b k l d = unstarted_over cells xs bends p h l (crossed_over root p (crossings xs bends) b k l d)
+  pub waiting_over : is_strand t 0 ≡ true → (xs : List Held) (branches : List (Branch StrandState)) → HoldsBranches xs branches → (p b k : ℕ) → p < length t → Descends t p (crossings xs branches) b k → Over t p (unstarted xs)
+  waiting_over root xs branches h p b k l d = unstarted_over xs branches p h l (crossed_over root p (crossings xs branches) b k l d)
 
 -- ## The strands behind
 

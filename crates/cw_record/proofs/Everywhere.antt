@@ -1,31 +1,23 @@
 -- The walk from the root comes to each node.
-use Rattle.std.proofs.Common.{◌≡◌, ℕ, zero, suc, ◌<◌, List, [], ◌∷◌, ◌++◌, length, refl, ap, sym, ◌∙◌, arith, Bool, true, false, cond, inl, inr, subst, nat_lt, nat_eq}
+use Rattle.std.proofs.Common.{◌≡◌, ℕ, zero, suc, ◌<◌, List, [], ◌∷◌, length, refl, ap, sym, ◌∙◌, Bool, true, false, cond, inl, inr, subst, nat_lt, nat_eq}
 use Rattle.std.specs.List.{filter, flat_map}
-use Rattle.std.proofs.lemmas.Bool.{and_from, eq-eqb, lt-ltb, cases_eq}
+use Rattle.std.proofs.lemmas.Bool.{and_from, eq-eqb, lt-ltb}
 use Rattle.cw_tree.specs.declared.node.Node.{Node}
-use Rattle.cw_tree.specs.Nodes.{parent_of, below, all_nodes}
+use Rattle.cw_tree.specs.Nodes.{parent_of, all_nodes}
 use Rattle.cw_tree.specs.Walks.{IsRooted}
 use Rattle.cw_tree.specs.Series.{children, walk, depth_first}
 use Rattle.cw_tree.proofs.Climbs.{by_parent}
 use Rattle.cw_tree.proofs.Lists.{In}
+use Rattle.cw_tree.proofs.Members.{append_in, below_in}
 use Rattle.cw_record.specs.Walked.{is_child}
 use Rattle.cw_record.proofs.DepthFirst.{whole, walk_step}
 
 -- ## Members of joined lists
 
-in_left : (n : ℕ) (ns ms : List ℕ) → In n ns → In n (ns ++ ms)
-in_left n [] ms h = absurd h
-in_left n (x ∷ ns) ms (inl e) = inl e
-in_left n (x ∷ ns) ms (inr h) = inr (in_left n ns ms h)
-
-in_right : (n : ℕ) (ns ms : List ℕ) → In n ms → In n (ns ++ ms)
-in_right n [] ms h = h
-in_right n (x ∷ ns) ms h = inr (in_right n ns ms h)
-
 in_flat : (f : ℕ → List ℕ) (n m : ℕ) (ms : List ℕ) → In m ms → In n (f m) → In n (flat_map f ms)
 in_flat f n m [] h g = absurd h
-in_flat f n m (x ∷ ms) (inl e) g = (let P : ℕ → Type 0 = λ k. In n (f k) in in_left n (f x) (flat_map f ms) (subst P e g))
-in_flat f n m (x ∷ ms) (inr h) g = in_right n (f x) (flat_map f ms) (in_flat f n m ms h g)
+in_flat f n m (x ∷ ms) (inl e) g = (let P : ℕ → Type 0 = λ k. In n (f k) in append_in n (f x) (flat_map f ms) (inl (subst P e g)))
+in_flat f n m (x ∷ ms) (inr h) g = append_in n (f x) (flat_map f ms) (inr (in_flat f n m ms h g))
 
 in_passed : (n x : ℕ) (ns : List ℕ) (b : Bool) → n ≡ x → b ≡ true → In n (cond b (x ∷ ns) ns)
 in_passed n x ns true q e = inl q
@@ -40,16 +32,12 @@ in_filter p n [] h e = absurd h
 in_filter p n (x ∷ ns) (inl q) e = in_passed n x (filter p ns) (p x) q (sym (ap p q) ∙ e)
 in_filter p n (x ∷ ns) (inr h) e = in_other n x (filter p ns) (p x) (in_filter p n ns h e)
 
-in_below : (n k : ℕ) → n < k → In n (below k)
-in_below n zero h = absurd (omega arith)
-in_below n (suc k) h = elim (cases_eq n k) [ inl e ↦ in_right n (below k) (k ∷ []) (inl e) | inr ne ↦ in_left n (below k) (k ∷ []) (in_below n k (omega arith)) ]
-
 -- ## The walk
 
 module _ (t : List Node) (r : IsRooted t) where
   in_children : (n : ℕ) → 0 < n → n < length t → In n (children t (parent_of t n))
   in_children n s h =
-      in_filter (is_child t (parent_of t n)) n (all_nodes t) (in_below n (length t) h)
+      in_filter (is_child t (parent_of t n)) n (all_nodes t) (below_in n (length t) h)
       (and_from (nat_lt 0 n) (nat_eq (parent_of t n) (parent_of t n)) (lt-ltb 0 n s) (eq-eqb (parent_of t n) (parent_of t n) refl))
 
   here : (k n : ℕ) → In n (walk t k n)

@@ -1,5 +1,5 @@
 -- Where a run of one worker comes to its end: the place of its strand, and right strands that never started.
-use Rattle.std.proofs.Common.{◌≡◌, ℕ, zero, suc, ◌<◌, ◌≤◌, List, [], ◌∷◌, length, refl, ap, sym, ◌∙◌, arith, ℤ, Bool, true, false, cond, Some, None, inl, inr, nat_eq, subst}
+use Rattle.std.proofs.Common.{◌≡◌, ℕ, zero, suc, ◌<◌, ◌≤◌, List, [], ◌∷◌, length, refl, ap, sym, ◌∙◌, arith, Bool, true, false, cond, Some, None, inl, inr, nat_eq, subst}
 use Rattle.std.specs.Prelude.{◌⊎◌, ◌&&◌, unwrap_or}
 use Rattle.std.proofs.lemmas.Bool.{and_parts, and_from, and_left, or_cases, or_parts, cases_Bool, cases_lt, eq-eqb, eqb-true, false_from_ne_true}
 use Rattle.cw_tree.specs.declared.node.Node.{Node}
@@ -13,7 +13,7 @@ use Rattle.cw_tree.proofs.Ancestors.{ancestor_self, ancestor_le}
 use Rattle.cw_tree.proofs.Strands.{strand_of_strand, strand_of_le}
 use Rattle.cw_tree.proofs.Growing.{length_more, node_grown, node_new, strand_of_grown}
 use Rattle.cw_code.specs.declared.FaultKind.{FaultKind}
-use Rattle.cw_record.specs.declared.record_end.RecordEnd.TheVariants.{Finished, Fault}
+use Rattle.cw_record.specs.declared.record_end.RecordEnd.TheVariants.{Fault}
 use Rattle.cw_record.specs.Items.{is_act, is_act_kind, items_in, items}
 use Rattle.cw_record.proofs.Building.{IsBuilt, open_items}
 use Rattle.cw_record.specs.Drawn.{added}
@@ -98,10 +98,6 @@ module _ (t : List Node) (p c : ℕ) (b : IsBuilt t p c) where
   -- a run that comes to its end by a fault of this strand has the items so far
   pub fault_items : (cs : List Conflict) (budget : ℕ) (kind : FaultKind) → items t cs budget (Fault (strand_of t p) kind) ≡ open_items t p
   fault_items cs budget kind = ap (λ q. items_in t q (length t) None) place_is
-
--- one that finished has the items at the root
-pub finished_items : (t : List Node) (cs : List Conflict) (budget : ℕ) (memory outputs : List ℤ) → items t cs budget (Finished memory outputs) ≡ open_items t 0
-finished_items t cs budget memory outputs = refl
 
 -- ## Nodes that are no members
 

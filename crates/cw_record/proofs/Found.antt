@@ -9,15 +9,17 @@ use Rattle.cw_tree.specs.declared.picks.Turn.{Turn}
 use Rattle.cw_tree.specs.Nodes.{all_nodes}
 use Rattle.cw_tree.specs.Names.{name_of}
 use Rattle.cw_tree.proofs.Lists.{length_map_below, get_map_below}
-use Rattle.cw_record.specs.Listed.{same_name, once, index_of}
+use Rattle.cw_serial.specs.Machine.{same_name}
+use Rattle.cw_serial.proofs.Turns.{name_true, name_itself}
+use Rattle.cw_record.specs.Listed.{once, index_of}
 use Rattle.cw_record.specs.Walked.{first_named, place_in}
-use Rattle.cw_record.proofs.Names.{name_same, name_self, name_sym}
+use Rattle.cw_record.proofs.Names.{name_sym}
 
 -- ## The index of a name
 
 index_first_step : (qs : List (List Turn)) (p q : List Turn) (b : Bool) → same_name q p ≡ b → (n : ℕ) (d : List Turn) → ((m : ℕ) → m < length qs → get_or qs m d ≡ p → index_of qs p ≤ m) → n < suc (length qs) → get_or (q ∷ qs) n d ≡ p → cond b 0 (suc (index_of qs p)) ≤ n
 index_first_step qs p q true s n d more h e = omega arith
-index_first_step qs p q false s zero d more h e = absurd (cc (s, (let P : List Turn → Type 0 = λ x. same_name q x ≡ true in subst P e (name_self q))))
+index_first_step qs p q false s zero d more h e = absurd (cc (s, (let P : List Turn → Type 0 = λ x. same_name q x ≡ true in subst P e (name_itself q))))
 index_first_step qs p q false s (suc n) d more h e = omega (arith, more n (omega arith) e)
 
 -- no later than any place where the name stands
@@ -26,7 +28,7 @@ index_first [] p n d h e = absurd (omega arith)
 index_first (q ∷ qs) p n d h e = index_first_step qs p q (same_name q p) refl n d (λ m l f. index_first qs p m d l f) h e
 
 index_at_step : (qs : List (List Turn)) (p q : List Turn) (b : Bool) → same_name q p ≡ b → (d : List Turn) → (index_of qs p < length qs → get_or qs (index_of qs p) d ≡ p) → cond b 0 (suc (index_of qs p)) < suc (length qs) → get_or (q ∷ qs) (cond b 0 (suc (index_of qs p))) d ≡ p
-index_at_step qs p q true s d more h = name_same q p s
+index_at_step qs p q true s d more h = name_true q p s
 index_at_step qs p q false s d more h = more (omega arith)
 
 -- the name stands there

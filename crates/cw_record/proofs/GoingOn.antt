@@ -5,8 +5,9 @@ use Rattle.std.specs.List.{list_any}
 use Rattle.std.proofs.lemmas.Bool.{or_cases, or_left, or_right}
 use Rattle.std.proofs.lemmas.List.Folds.{list_any-append}
 use Rattle.cw_tree.specs.declared.picks.Turn.{Turn}
-use Rattle.cw_record.specs.Listed.{same_name, once, index_of, without_last, last_turn}
-use Rattle.cw_record.proofs.Names.{name_same, name_self}
+use Rattle.cw_serial.specs.Machine.{same_name}
+use Rattle.cw_serial.proofs.Turns.{name_true, name_itself}
+use Rattle.cw_record.specs.Listed.{once, index_of, without_last, last_turn}
 
 -- ## Names that stand in a list
 
@@ -14,14 +15,14 @@ abbrev pub IsIn : List Turn → List (List Turn) → Type 0
 IsIn p ps = list_any (same_name p) ps ≡ true
 
 pub is_in_head : (p : List Turn) (ps : List (List Turn)) → IsIn p (p ∷ ps)
-is_in_head p ps = or_left (same_name p p) (list_any (same_name p) ps) (name_self p)
+is_in_head p ps = or_left (same_name p p) (list_any (same_name p) ps) (name_itself p)
 
 pub is_in_tail : (p q : List Turn) (ps : List (List Turn)) → IsIn p ps → IsIn p (q ∷ ps)
 is_in_tail p q ps h = or_right (same_name p q) (list_any (same_name p) ps) h
 
 -- the head, or a name in the tail
 is_in_cases : (p q : List Turn) (ps : List (List Turn)) → IsIn p (q ∷ ps) → (p ≡ q) ⊎ IsIn p ps
-is_in_cases p q ps h = elim (or_cases (same_name p q) (list_any (same_name p) ps) h) [ inl e ↦ inl (name_same p q e) | inr g ↦ inr g ]
+is_in_cases p q ps h = elim (or_cases (same_name p q) (list_any (same_name p) ps) h) [ inl e ↦ inl (name_true p q e) | inr g ↦ inr g ]
 
 is_in_same : (p q : List Turn) (ps : List (List Turn)) → p ≡ q → IsIn q ps → IsIn p ps
 is_in_same p q ps e h = (let P : List Turn → Type 0 = λ x. IsIn x ps in subst P (sym e) h)
@@ -109,8 +110,8 @@ is_in_once ps p h = elim (once_has ps [] p h) [ inl none ↦ absurd (cc none) | 
 
 found_step : (b : Bool) (p q : List Turn) (ps : List (List Turn)) (k : ℕ) → same_name q p ≡ b → (p ≡ q) ⊎ ((index_of ps p < k) × (slice_get ps (index_of ps p) ≡ Some p))
     → (cond b 0 (suc (index_of ps p)) < suc k) × (slice_get (q ∷ ps) (cond b 0 (suc (index_of ps p))) ≡ Some p)
-found_step true p q ps k e h = (omega arith, ap Some (name_same q p e))
-found_step false p q ps k e (inl same) = absurd (cc (e, (let P : List Turn → Type 0 = λ x. same_name q x ≡ true in subst P (sym same) (name_self q))))
+found_step true p q ps k e h = (omega arith, ap Some (name_true q p e))
+found_step false p q ps k e (inl same) = absurd (cc (e, (let P : List Turn → Type 0 = λ x. same_name q x ≡ true in subst P (sym same) (name_itself q))))
 found_step false p q ps k e (inr h) = (omega (arith, h.0), h.1)
 
 found_early : (ps qs : List (List Turn)) (p : List Turn) → IsIn p ps → (index_of (ps ++ qs) p < length ps) × (slice_get (ps ++ qs) (index_of (ps ++ qs) p) ≡ Some p)

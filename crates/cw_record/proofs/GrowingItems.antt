@@ -1,7 +1,7 @@
 -- One worker's next step: the tree is still one that a worker builds, and its items are those so far, with the step's own at the end.
 use Rattle.std.proofs.Common.{◌≡◌, ℕ, zero, suc, ◌<◌, ◌≤◌, List, [], ◌∷◌, ◌++◌, length, refl, ap, sym, ◌∙◌, arith, true, false, None, subst}
 use Rattle.std.specs.Prelude.{◌||◌}
-use Rattle.std.proofs.lemmas.Bool.{or_left, or_right, false_from_ne_true}
+use Rattle.std.proofs.lemmas.Bool.{or_left, or_right}
 use Rattle.cw_tree.specs.declared.node.Node.{Node}
 use Rattle.cw_tree.specs.declared.node.Kind.{Kind}
 use Rattle.cw_tree.specs.declared.node.Kind.TheVariants.{Strand, Fork, Block}
@@ -13,8 +13,8 @@ use Rattle.cw_record.specs.declared.items.Item.TheVariants.{Begins, Does, Ends}
 use Rattle.cw_record.specs.Items.{is_act_kind, items_in}
 use Rattle.cw_record.proofs.Building.{IsBuilt, open_items}
 use Rattle.cw_record.specs.Drawn.{added}
-use Rattle.cw_record.proofs.Moves.{IsGrowing, of_built, to_built, not_root, root_no_block, place_kept, growing_root, growing_down, growing_up, growing_closed}
-use Rattle.cw_record.proofs.NodeKinds.{strand_alone, fork_no_block, act_no_block}
+use Rattle.cw_record.proofs.Moves.{IsGrowing, of_built, to_built, root_no_block, place_kept, growing_root, growing_down, growing_up, growing_closed}
+use Rattle.cw_record.proofs.NodeKinds.{strand_alone, fork_no_block, block_some, fork_some, act_no_block}
 use Rattle.cw_record.proofs.Alike.{levels_more}
 use Rattle.cw_record.proofs.NewMembers.{items_down, items_up}
 use Rattle.cw_record.proofs.LastItems.{levels_added, leaf_last, begin_last, end_last}
@@ -57,9 +57,6 @@ module _ (t : List Node) (p c : ℕ) (g : IsGrowing t p c) where
   forked_some zero e = absurd (let no = (strand_alone t 0 g.root).1 in let yes = sym (ap (is_fork t) g.top) ∙ e in cc)
   forked_some (suc n) e = omega arith
 
-  fork_some : (f : ℕ) → is_fork t f ≡ true → 0 < f
-  fork_some f e = not_root t p c g f (false_from_ne_true (is_strand t f) (λ s. absurd (let no = (strand_alone t f s).1 in cc)))
-
 module _ (t : List Node) (p c : ℕ) (b : IsBuilt t p c) where
   g : IsGrowing t p c
   g = of_built t p c b
@@ -86,19 +83,16 @@ module _ (t : List Node) (p c : ℕ) (b : IsBuilt t p c) where
   pub begin_items : (st : ℕ) → open_items (added t p Block st) (length t) ≡ open_items t p ++ Begins (length t) ∷ []
   begin_items st = begin_last t p c g st
 
-  block_some : is_block t p ≡ true → 0 < p
-  block_some block = not_root t p c g p (false_from_ne_true (is_strand t p) (λ s. absurd (let no = (strand_alone t p s).0 in cc)))
-
   pub end_built : (st : ℕ) → is_block t p ≡ true → c < st → IsBuilt (closed t p Committed st) (parent_of t p) st
   end_built st block later =
       let v = closed t p Committed st in
-      let closes = growing_closed t p c g (block_some block) st (omega arith) block in
+      let closes = growing_closed t p c g (block_some t b.root p block) st (omega arith) block in
       let P : ℕ → Type 0 = λ m. (is_strand v m || is_block v m) ≡ true in
       to_built v (parent_of t p) st closes
       (subst P (number_closed t p Committed st (λ y. y.parent) (λ y. refl) p) (closes.blocks p (node_closed t p Committed st (λ y. is_block_kind y.kind) (λ y. refl) p ∙ block)))
 
   pub end_items : (st : ℕ) → is_block t p ≡ true → c < st → open_items (closed t p Committed st) (parent_of t p) ≡ open_items t p ++ Ends p ∷ []
-  end_items st block later = end_last t p c g (block_some block) block st (omega arith)
+  end_items st block later = end_last t p c g (block_some t b.root p block) block st (omega arith)
 
   -- ## Forks
 
@@ -149,9 +143,9 @@ module _ (t : List Node) (p c : ℕ) (b : IsBuilt t p c) where
     -- both have, and it goes on after the fork
     pub join_built : IsBuilt t (parent_of t (parent_of t p)) c
     join_built =
-        to_built t (parent_of t (parent_of t p)) c (growing_up t (parent_of t p) c up (fork_some t p c g (parent_of t p) fork) (fork_no_block t (parent_of t p) fork)) (b.forks (parent_of t p) fork)
+        to_built t (parent_of t (parent_of t p)) c (growing_up t (parent_of t p) c up (fork_some t b.root (parent_of t p) fork) (fork_no_block t (parent_of t p) fork)) (b.forks (parent_of t p) fork)
 
     pub join_items : open_items t (parent_of t (parent_of t p)) ≡ open_items t p
     join_items =
-        items_up t b.rooted (parent_of t p) (fork_some t p c g (parent_of t p) fork) up.there (fork_no_block t (parent_of t p) fork) (length t) None
+        items_up t b.rooted (parent_of t p) (fork_some t b.root (parent_of t p) fork) up.there (fork_no_block t (parent_of t p) fork) (length t) None
         ∙ items_up t b.rooted p some b.there no_block (length t) None

@@ -1,5 +1,5 @@
 -- Live accesses, memory and journals in a tree that one worker builds.
-use Rattle.std.proofs.Common.{◌≡◌, ℕ, ◌<◌, ◌≤◌, ℤ, List, [], ◌∷◌, ◌++◌, length, refl, sym, ◌∙◌, arith, true, false, subst, nat_eq}
+use Rattle.std.proofs.Common.{◌≡◌, ℕ, ◌<◌, ◌≤◌, ℤ, List, [], ◌∷◌, ◌++◌, length, refl, sym, ◌∙◌, arith, true, false, nat_eq}
 use Rattle.std.specs.Prelude.{slice_get, slice_set, Some}
 use Rattle.std.proofs.lemmas.Bool.{ne_eqb}
 use Rattle.cw_tree.specs.declared.node.Node.{Node}
@@ -9,10 +9,10 @@ use Rattle.cw_tree.specs.declared.node.BlockState.TheVariants.{Committed}
 use Rattle.cw_tree.specs.declared.access.Entry.{Entry}
 use Rattle.cw_tree.specs.Nodes.{is_aborted, touches_kind, touches, fresh_node, closed, stamp_of}
 use Rattle.cw_tree.specs.Accesses.{live_accesses}
-use Rattle.cw_tree.proofs.Growing.{get_next, length_more, node_new, number_new}
+use Rattle.cw_tree.proofs.Growing.{get_next, length_more, node_new}
 use Rattle.cw_tree.proofs.Closing.{length_closed}
 use Rattle.cw_tree.proofs.Entries.{Notes}
-use Rattle.cw_tree.proofs.LiveAccesses.{SameAccesses, accesses_grown, accesses_closed, live_same, live_stays, live_more}
+use Rattle.cw_tree.proofs.LiveAccesses.{SameAccesses, accesses_grown, accesses_closed, live_same, live_stays}
 use Rattle.cw_tree.proofs.CellJournals.{HasJournals, journals_stay, journals_read, journals_write}
 use Rattle.cw_record.proofs.Building.{IsBuilt}
 use Rattle.cw_record.specs.Drawn.{added}
@@ -49,18 +49,6 @@ module _ (t : List Node) (p clock : ℕ) (b : IsBuilt t p clock) where
     -- and so does an access of another cell
     pub live_elsewhere : (c d : ℕ) → (d ≡ c → ⊥) → touches_kind d kind ≡ nat_eq c d → live_accesses (added t f kind st) d ≡ live_accesses t d
     live_elsewhere c d ne e = live_beside d (e ∙ ne_eqb c d (λ q. ne (sym q)))
-
-    -- an access is the last of its cell
-    pub live_accessed : clock < st → (c : ℕ) → touches_kind c kind ≡ true → live_accesses (added t f kind st) c ≡ live_accesses t c ++ length t ∷ []
-    live_accessed later c e =
-        live_more t (added t f kind st) same_added c (length_more t (fresh_node f kind st)) (touched_more t (not_aborted t p clock b) f kind st c ∙ e) (λ n h.
-        let P : ℕ → Type 0 = λ k. stamp_of t n ≤ k in
-        subst P (sym (number_new t (fresh_node f kind st) (λ y. y.stamp))) (newest later n h))
-
-  -- ## A fork with its left strand
-
-  pub live_forked : (st c : ℕ) → live_accesses (added (added t p Fork st) (length t) Strand 0) c ≡ live_accesses t c
-  live_forked st c = live_unless (added t p Fork st) (same_added p Fork st).none_too (length t) Strand 0 c refl ∙ live_beside p Fork st c refl
 
   -- ## A closed block
 

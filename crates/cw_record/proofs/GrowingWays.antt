@@ -1,7 +1,6 @@
 -- The way down to the place of one worker, as its tree grows.
 use Rattle.std.proofs.Common.{◌≡◌, ℕ, zero, suc, ◌<◌, ◌≤◌, List, [], ◌∷◌, ◌++◌, length, refl, ap, sym, ◌∙◌, arith, Bool, true, false, subst}
 use Rattle.std.specs.Prelude.{All, IsTrue}
-use Rattle.std.proofs.lemmas.Bool.{false_from_ne_true}
 use Rattle.std.proofs.lemmas.List.Elements.{All-nil, All-cons}
 use Rattle.cw_tree.specs.declared.node.Node.{Node}
 use Rattle.cw_tree.specs.declared.node.Kind.{Kind}
@@ -20,7 +19,7 @@ use Rattle.cw_tree.proofs.StrandForks.{forks_of}
 use Rattle.cw_record.specs.Items.{is_act_kind}
 use Rattle.cw_record.proofs.Building.{IsBuilt}
 use Rattle.cw_record.specs.Drawn.{added, forked}
-use Rattle.cw_record.proofs.NodeKinds.{strand_alone}
+use Rattle.cw_record.proofs.NodeKinds.{block_other, fork_other, other_some}
 use Rattle.cw_record.proofs.GrowingNames.{name_beside, fork_number_beside, forks_beside, forks_new, name_closed, fork_number_closed, forks_closed, name_forked, fork_number_forked, forks_forked_here, forks_forked_elsewhere, fork_number_forked_next, name_left, forks_left, name_right}
 use Rattle.cw_record.proofs.Descending.{Crossing, way_of, Descends}
 
@@ -31,27 +30,17 @@ descends_root = (refl, refl)
 -- ## What stands on a way
 
 module _ (t : List Node) (r : IsRooted t) (root : is_strand t 0 ≡ true) where
-  other_some : (n : ℕ) → is_strand t n ≡ false → 0 < n
-  other_some zero e = absurd (cc (e, root))
-  other_some (suc n) e = omega arith
-
-  block_other : (n : ℕ) → is_block t n ≡ true → is_strand t n ≡ false
-  block_other n e = false_from_ne_true (is_strand t n) (λ s. absurd (let no = (strand_alone t n s).0 in cc))
-
-  fork_other : (n : ℕ) → is_fork t n ≡ true → is_strand t n ≡ false
-  fork_other n e = false_from_ne_true (is_strand t n) (λ s. absurd (let no = (strand_alone t n s).1 in cc))
-
   -- what is no strand stands beneath its parent, in the same strand
   other_low : (n : ℕ) → n < length t → is_strand t n ≡ false → parent_of t n < n
-  other_low n h e = r n (other_some n e) h
+  other_low n h e = r n (other_some t root n e) h
 
   other_strand : (n : ℕ) → n < length t → is_strand t n ≡ false → strand_of t n ≡ strand_of t (parent_of t n)
-  other_strand n h e = strand_of_other t r n (other_some n e) h e
+  other_strand n h e = strand_of_other t r n (other_some t root n e) h e
 
   -- the strand of the place has the name of the way, and made so many forks
   strand_of_way : (p : ℕ) (c : List Crossing) (b k : ℕ) → p < length t → Descends t p c b k → (name_of t (strand_of t p) ≡ way_of c) × (forks_of t (strand_of t p) ≡ k)
   strand_of_way p c (suc b) k h d =
-      let e : is_strand t p ≡ false = block_other p d.0 in
+      let e : is_strand t p ≡ false = block_other t p d.0 in
       let low : parent_of t p < p = other_low p h e in
       let same : strand_of t p ≡ strand_of t (parent_of t p) = other_strand p h e in
       let more = strand_of_way (parent_of t p) c b k (omega arith) d.1 in
@@ -68,11 +57,11 @@ module _ (t : List Node) (r : IsRooted t) (root : is_strand t 0 ≡ true) where
   crossed_low p x c k h d =
       let low : parent_of t p < p = r p d.0 h in
       let under : x.node < p = let up : parent_of t p ≡ x.node = d.2 in omega arith in
-      (other_low x.node (omega arith) (fork_other x.node d.3), under)
+      (other_low x.node (omega arith) (fork_other t x.node d.3), under)
 
   nodes_there : (p : ℕ) (c : List Crossing) (b k : ℕ) → p < length t → Descends t p c b k → All (λ x. x.node < length t) c
   nodes_there p c (suc b) k h d =
-      let low : parent_of t p < p = other_low p h (block_other p d.0) in
+      let low : parent_of t p < p = other_low p h (block_other t p d.0) in
       nodes_there (parent_of t p) c b k (omega arith) d.1
   nodes_there p [] zero k h d = All-nil (λ x. x.node < length t)
   nodes_there p (x ∷ c) zero k h d =
@@ -92,7 +81,7 @@ module _ (t : List Node) (r : IsRooted t) (root : is_strand t 0 ≡ true) (u : L
   -- also where the strand of the place forked
   way_forks : (p : ℕ) (c : List Crossing) (b k j : ℕ) → p < length t → ((n : ℕ) → n < strand_of t p → forks_of u n ≡ forks_of t n) → forks_of u (strand_of t p) ≡ j → Descends t p c b k → Descends u p c b j
   way_forks p c (suc b) k j h out here d =
-      let e : is_strand t p ≡ false = block_other t r root p d.0 in
+      let e : is_strand t p ≡ false = block_other t p d.0 in
       let low : parent_of t p < p = other_low t r root p h e in
       let same : strand_of t p ≡ strand_of t (parent_of t p) = other_strand t r root p h e in
       let P : ℕ → Type 0 = λ n. Descends u n c b j in
@@ -162,7 +151,7 @@ module _ (t : List Node) (p clock : ℕ) (built : IsBuilt t p clock) where
   way_end st c b k d =
       let pending = built.pending p d.0 (ancestor_self t p) in
       let there = built.there in
-      let low : parent_of t p < p = other_low t built.rooted built.root p there (block_other t built.rooted built.root p d.0) in
+      let low : parent_of t p < p = other_low t built.rooted built.root p there (block_other t p d.0) in
       way_kept t built.rooted built.root (closed t p Committed st)
       (record {
         kinds = λ g n h. node_closed t p Committed st (λ x. g x.kind) (λ x. refl) n;
@@ -231,7 +220,7 @@ module _ (t : List Node) (p clock : ℕ) (built : IsBuilt t p clock) where
         let up : parent_of t x.node < length t = omega arith in
         let some : 0 < p = d.0 in
         let outer = strand_of_way t built.rooted built.root (parent_of t x.node) c x.blocks x.turn.fork up d.7 in
-        let same : strand_of t x.node ≡ strand_of t (parent_of t x.node) = other_strand t built.rooted built.root x.node there (fork_other t built.rooted built.root x.node d.3) in
+        let same : strand_of t x.node ≡ strand_of t (parent_of t x.node) = other_strand t built.rooted built.root x.node there (fork_other t x.node d.3) in
         let P : ℕ → Type 0 = λ n. Descends u n c x.blocks x.turn.fork in (
           omega arith,
           node_new t (fresh_node x.node Strand 0) (λ y. is_strand_kind y.kind),

@@ -4,10 +4,8 @@ use Rattle.std.specs.Prelude.{slice_get, option_map, is_some}
 use Rattle.std.proofs.lemmas.List.{length-replicate, length-append}
 use Rattle.cw_code.specs.declared.FaultKind.{FaultKind}
 use Rattle.cw_strand.specs.declared.want.Want.TheVariants as want
-use Rattle.cw_strand.specs.Meaning.{State}
 use Rattle.cw_strand.specs.Names.{first_memory}
-use Rattle.cw_strand.specs.Laws.{Reached, MayWant}
-use Rattle.cw_strand.specs.Strands.{is_over}
+use Rattle.cw_strand.specs.Strands.{Closes, is_over, is_fork}
 use Rattle.cw_tree.specs.declared.node.Node.{Node}
 use Rattle.cw_tree.specs.declared.node.Kind.TheVariants.{Strand}
 use Rattle.cw_tree.specs.declared.access.Entry.{Entry}
@@ -17,22 +15,21 @@ use Rattle.cw_tree.specs.Names.{name_of}
 use Rattle.cw_tree.specs.Shape.{AreStamps}
 use Rattle.cw_tree.proofs.CellJournals.{HasJournals, journals_begin}
 use Rattle.cw_tree.proofs.Strands.{strand_of_le}
-use Rattle.cw_serial.specs.declared.program.Program.{Program}
-use Rattle.cw_serial.specs.Threads.{at, ended}
-use Rattle.cw_serial.specs.Programs.{strands_of, machine_of}
-use Rattle.cw_serial.specs.Standing.{HasElements, IsStrand}
-use Rattle.cw_serial.proofs.Bends.{Bend, way}
+use Rattle.cw_serial.specs.Jobs.{Job}
+use Rattle.cw_serial.specs.StrandTree.{at, ended, goes_on}
+use Rattle.cw_serial.specs.Room.Strands.{StrandState, job_of, state_of, strands_of}
+use Rattle.cw_serial.specs.MachineOf.{machine_of}
+use Rattle.cw_serial.proofs.Branches.{Branch, way, plugged}
 use Rattle.cw_serial.proofs.Deep.{goes_over, ended_stands}
-use Rattle.cw_serial.proofs.Standings.{want_is}
 use Rattle.cw_serial.proofs.Working.{Worker as Working, machine_at, starts_work, none_begun, at_here, leftmost_here}
 use Rattle.cw_record.specs.declared.items.Item.{Item}
 use Rattle.cw_record.specs.declared.record_end.RecordEnd.TheVariants.{Finished, Fault}
-use Rattle.cw_record.specs.declared.worker.Bend.{Bend as Held}
+use Rattle.cw_record.specs.declared.worker.Branch.{Branch as Held}
 use Rattle.cw_record.specs.declared.worker.Worker.{Worker}
 use Rattle.cw_record.specs.Items.{items}
 use Rattle.cw_record.specs.Order.{node_of}
 use Rattle.cw_record.specs.Records.{IsRun}
-use Rattle.cw_record.specs.Worked.{unstarted}
+use Rattle.cw_record.specs.Worked.{law_of, unstarted, want_of}
 use Rattle.cw_record.proofs.Building.{IsBuilt, open_items}
 use Rattle.cw_record.proofs.Behind.{waiting_over, numbered_at_fault}
 use Rattle.cw_record.proofs.Descending.{Descends}
@@ -48,7 +45,7 @@ use Rattle.cw_record.proofs.Playing.{SameDoers, Plays, plays_kept, does_all, goe
 use Rattle.cw_record.proofs.Shaped.{IsShaped, shaped_root, tree_of_shape, to_come_there, shaped_strands}
 use Rattle.cw_record.proofs.Stamped.{stamped_root, stamped_behind}
 use Rattle.cw_record.proofs.StrandIs.{strand_is}
-use Rattle.cw_record.proofs.Running.{HoldsBends, crossings, Runs, runs_name}
+use Rattle.cw_record.proofs.Running.{HoldsBranches, crossings, Runs, runs_name, wants_same}
 use Rattle.cw_record.proofs.Unstarted.{with_strands, unstarted_name, unstarted_items, unstarted_node, unstarted_strand, unstarted_strand_of}
 use Rattle.cw_record.proofs.Waiting.{one_unstarted}
 
@@ -59,14 +56,14 @@ all_empty zero c es h = absurd (cc h)
 all_empty (suc n) zero es h = cc
 all_empty (suc n) (suc c) es h = all_empty n c es h
 
-module _ (p : Program) where
+module _ (job : Job) where
   -- the worker at the first want of main
-  pub runs_first : (code : Worker) → HasElements code.elements p.cells → code.memory.items ≡ first_memory p.cells → code.outputs.items ≡ [] → code.drawing.tree ≡ fresh_node 0 Strand 0 ∷ [] → code.drawing.place ≡ 0 → code.drawing.clock ≡ 0
-      → code.drawing.journals.items ≡ replicate (length code.memory.items) [] → IsStrand p.cells code.strand (strands_of p).start → code.bends ≡ [] → (w : Working State) × Runs p code w
-  runs_first code elements memory outputs tree place clock journals strand bends =
-      let first = first_memory p.cells in
+  pub runs_first : (code : Worker) → job_of code.interpreter ≡ job → code.memory.items ≡ first_memory job.program.cells → code.outputs.items ≡ [] → code.drawing.tree ≡ fresh_node 0 Strand 0 ∷ [] → code.drawing.place ≡ 0 → code.drawing.clock ≡ 0
+      → code.drawing.journals.items ≡ replicate (length code.memory.items) [] → state_of code.strand ≡ (law_of code).start → code.branches ≡ [] → (w : Working StrandState) × Runs job code w
+  runs_first code is memory outputs tree place clock journals strand branches =
+      let first = first_memory job.program.cells in
       let root = fresh_node 0 Strand 0 ∷ [] in
-      let w : Working State = record { memory = first; outputs = []; bends = []; forks = 0; blocks = 0; strand = (strands_of p).start } in
+      let w : Working StrandState = record { memory = first; outputs = []; branches = []; forks = 0; blocks = 0; strand = (strands_of job).start } in
       let kept : code.drawing.journals.items ≡ replicate (length first) [] = journals ∙ ap (λ m. replicate (length m) []) memory in
       let B : List Node → Type 0 = λ t. IsBuilt t 0 0 in
       let BP : ℕ → Type 0 = λ at. IsBuilt code.drawing.tree at 0 in
@@ -78,22 +75,22 @@ module _ (p : Program) where
       let DX : List Held → Type 0 = λ xs. Descends code.drawing.tree code.drawing.place (crossings xs []) 0 0 in
       let H : List Node → Type 0 = λ t. HasJournals t first first (replicate (length first) []) in
       let HJ : List (List Entry) → Type 0 = λ es. HasJournals code.drawing.tree first first es in
-      let I : List Node → Type 0 = λ t. Plays (strands_of p) t (machine_of p) (open_items t 0) (machine_at (strands_of p) w) in
-      let IP : ℕ → Type 0 = λ at. Plays (strands_of p) code.drawing.tree (machine_of p) (open_items code.drawing.tree at) (machine_at (strands_of p) w) in
-      let IE : List Item → Type 0 = λ is. Plays (strands_of p) root (machine_of p) is (machine_at (strands_of p) w) in
-      let X : List Held → Type 0 = λ xs. HoldsBends p.cells xs [] in (
+      let I : List Node → Type 0 = λ t. Plays (strands_of job) t (machine_of job) (open_items t 0) (machine_at (strands_of job) w) in
+      let IP : ℕ → Type 0 = λ at. Plays (strands_of job) code.drawing.tree (machine_of job) (open_items code.drawing.tree at) (machine_at (strands_of job) w) in
+      let IE : List Item → Type 0 = λ is. Plays (strands_of job) root (machine_of job) is (machine_at (strands_of job) w) in
+      let X : List Held → Type 0 = λ xs. HoldsBranches xs [] in (
         w,
         record {
-          elements = elements;
+          job_is = is;
           memory = memory;
           outputs = outputs;
-          strand = strand;
-          bends = subst X (sym bends) tt;
-          work = starts_work (strands_of p) first;
-          shape = subst SX (sym bends) (subst S (sym tree) shaped_root);
+          strand = strand ∙ ap (λ j. (strands_of j).start) is;
+          branches = subst X (sym branches) tt;
+          work = starts_work (strands_of job) first;
+          shape = subst SX (sym branches) (subst S (sym tree) shaped_root);
           stamps = subst AreStamps (sym tree) stamped_root;
           built = subst BC (sym clock) (subst BP (sym place) (subst B (sym tree) built_root));
-          place = subst DX (sym bends) (subst DP (sym place) (subst D (sym tree) descends_root));
+          place = subst DX (sym branches) (subst DP (sym place) (subst D (sym tree) descends_root));
           journals = subst HJ (sym kept) (subst H (sym tree) (journals_begin (fresh_node 0 Strand 0) first (replicate (length first) []) refl (length-replicate (length first) []) (λ c es h. all_empty (length first) c es h)));
           played = subst IP (sym place) (subst I (sym tree) (subst IE (sym root_items) refl));
         },
@@ -101,31 +98,31 @@ module _ (p : Program) where
 
   -- ## The end
 
-  module _ (closes : (own : List ℕ) (a : State) → Reached (strands_of p) own a → MayWant ((strands_of p).want a) own) where
-    no_bends : (xs : List Held) (c : List (Bend State)) → xs ≡ [] → HoldsBends p.cells xs c → c ≡ []
-    no_bends [] [] e h = refl
-    no_bends [] (y ∷ c) e h = absurd h
-    no_bends (x ∷ xs) c e h = absurd (cc e)
+  module _ (closes : Closes (strands_of job)) where
+    no_branches : (xs : List Held) (c : List (Branch StrandState)) → xs ≡ [] → HoldsBranches xs c → c ≡ []
+    no_branches [] [] e h = refl
+    no_branches [] (y ∷ c) e h = absurd h
+    no_branches (x ∷ xs) c e h = absurd (cc e)
 
-    pub finished_run : (code : Worker) (memory outputs : List ℤ) (bends : List (Bend State)) (forks blocks : ℕ) (a : State)
-        → Runs p code (let w : Working State = record { memory = memory; outputs = outputs; bends = bends; forks = forks; blocks = blocks; strand = a } in w)
-        → is_over code.strand.want ≡ true → code.bends ≡ [] → IsRun p code.drawing.tree code.drawing.journals.items (Finished code.memory.items code.outputs.items)
-    finished_run code memory outputs bends forks blocks a r over none =
+    pub finished_run : (code : Worker) (memory outputs : List ℤ) (branches : List (Branch StrandState)) (forks blocks : ℕ) (a : StrandState)
+        → Runs job code (let w : Working StrandState = record { memory = memory; outputs = outputs; branches = branches; forks = forks; blocks = blocks; strand = a } in w)
+        → is_over (want_of code) ≡ true → code.branches ≡ [] → IsRun job code.drawing.tree code.drawing.journals.items (Finished code.memory.items code.outputs.items)
+    finished_run code memory outputs branches forks blocks a r over none =
         let t = code.drawing.tree in
-        let w : Working State = record { memory = memory; outputs = outputs; bends = bends; forks = forks; blocks = blocks; strand = a } in
-        let o : is_over ((strands_of p).want a) ≡ true = ap is_over (want_is p.cells code.strand a r.strand) ∙ over in
-        let empty : bends ≡ [] = no_bends code.bends bends none r.bends in
-        let zeroed : blocks ≡ 0 = none_begun (strands_of p) closes w r.work o in
-        let DB : ℕ → Type 0 = λ b. Descends t code.drawing.place (crossings code.bends bends) b forks in
-        let DX : List Held → Type 0 = λ xs. Descends t code.drawing.place (crossings xs bends) 0 forks in
-        let DC : List (Bend State) → Type 0 = λ c. Descends t code.drawing.place (crossings [] c) 0 forks in
+        let w : Working StrandState = record { memory = memory; outputs = outputs; branches = branches; forks = forks; blocks = blocks; strand = a } in
+        let o : is_over ((strands_of job).want a) ≡ true = ap is_over (sym (wants_same job code w r)) ∙ over in
+        let empty : branches ≡ [] = no_branches code.branches branches none r.branches in
+        let zeroed : blocks ≡ 0 = none_begun (strands_of job) closes w r.work o in
+        let DB : ℕ → Type 0 = λ b. Descends t code.drawing.place (crossings code.branches branches) b forks in
+        let DX : List Held → Type 0 = λ xs. Descends t code.drawing.place (crossings xs branches) 0 forks in
+        let DC : List (Branch StrandState) → Type 0 = λ c. Descends t code.drawing.place (crossings [] c) 0 forks in
         let at_root : code.drawing.place ≡ 0 = way_root t code.drawing.place forks (subst DC empty (subst DX none (subst DB zeroed r.place))) in
-        let IP : ℕ → Type 0 = λ at. Plays (strands_of p) t (machine_of p) (open_items t at) (machine_at (strands_of p) w) in
+        let IP : ℕ → Type 0 = λ at. Plays (strands_of job) t (machine_of job) (open_items t at) (machine_at (strands_of job) w) in
         let played = subst IP at_root r.played in
-        let m = machine_at (strands_of p) w in
-        let stands : ended (strands_of p) m.strands ≡ Some a =
-        ap (λ c. ended (strands_of p) (Rattle.cw_serial.proofs.Bends.plugged (strands_of p) c (Rattle.cw_serial.specs.Threads.goes_on (strands_of p) forks a))) empty
-        ∙ (ap (ended (strands_of p)) (goes_over (strands_of p) forks a o) ∙ ended_stands (strands_of p) forks a o) in
+        let m = machine_at (strands_of job) w in
+        let stands : ended (strands_of job) m.strands ≡ Some a =
+        ap (λ c. ended (strands_of job) (plugged (strands_of job) c (goes_on (strands_of job) forks a))) empty
+        ∙ (ap (ended (strands_of job)) (goes_over (strands_of job) forks a o) ∙ ended_stands (strands_of job) forks a o) in
         let blocks = blocks_built t 0 code.drawing.clock (let B : ℕ → Type 0 = λ at. IsBuilt t at code.drawing.clock in subst B at_root r.built) in
         record {
           ended = tt;
@@ -136,8 +133,8 @@ module _ (p : Program) where
           stamps = r.stamps;
           pending_last = last_built t code.drawing.place code.drawing.clock r.built;
           strand = r.built.root;
-          order = λ budget. record { machine = m; picks = goes_depth_first (strands_of p) t (machine_of p) m (open_items t 0) played; stops = (ap is_some stands, sym r.memory, sym r.outputs) };
-          acts = λ budget. does_all (strands_of p) t (machine_of p) m (open_items t 0) played;
+          order = λ budget. record { machine = m; picks = goes_depth_first (strands_of job) t (machine_of job) m (open_items t 0) played; stops = (ap is_some stands, sym r.memory, sym r.outputs) };
+          acts = λ budget. does_all (strands_of job) t (machine_of job) m (open_items t 0) played;
           journals = r.journals.journals;
         }
 
@@ -154,35 +151,35 @@ module _ (p : Program) where
         let P : List Node → Type 0 = λ v. HasJournals v first memory kept in
         subst P (one_unstarted t f fs) (has_strands u first memory kept fs (same_more t none f Strand 0).none_too (has_unless t none f Strand 0 first memory kept h (λ c. refl)))
 
-    pub fault_run : (code : Worker) (w : Working State) → Runs p code w → (kind : FaultKind) → code.strand.want ≡ want.Fault kind → (t : List Node) → t ≡ with_strands code.drawing.tree (unstarted code.bends)
-        → IsRun p t code.drawing.journals.items (Fault (strand_of code.drawing.tree code.drawing.place) kind)
+    pub fault_run : (code : Worker) (w : Working StrandState) → Runs job code w → (kind : FaultKind) → want_of code ≡ want.Fault kind → (t : List Node) → t ≡ with_strands code.drawing.tree (unstarted code.branches)
+        → IsRun job t code.drawing.journals.items (Fault (strand_of code.drawing.tree code.drawing.place) kind)
     fault_run code w r kind is t grown =
         let old = code.drawing.tree in
         let place = code.drawing.place in
-        let fs = unstarted code.bends in
+        let fs = unstarted code.branches in
         let x = strand_of old place in
         let low = to_come_there old fs r.shape in
         let u = with_strands old fs in
         let there = r.built.there in
         let le : x ≤ place = strand_of_le old r.built.rooted place there in
-        let wanted : (strands_of p).want w.strand ≡ want.Fault kind = want_is p.cells code.strand w.strand r.strand ∙ is in
-        let m = machine_at (strands_of p) w in
+        let wanted : (strands_of job).want w.strand ≡ want.Fault kind = sym (wants_same job code w r) ∙ is in
+        let m = machine_at (strands_of job) w in
         let same : SameDoers old u = record {
           longer = longer old fs;
           doers = λ i h. (let sle : strand_of old (node_of i) ≤ node_of i = strand_of_le old r.built.rooted (node_of i) h in
               ap (name_of u) (unstarted_strand_of old fs r.built.rooted (node_of i) h) ∙ unstarted_name old r.built.rooted fs low (strand_of old (node_of i)) (omega arith));
           kinds = λ n h. ap (option_map (λ y. y.kind)) (unstarted_node old fs n h);
         } in
-        let named : name_of u x ≡ way w.bends = unstarted_name old r.built.rooted fs low x (omega arith) ∙ runs_name p code w r in
+        let named : name_of u x ≡ way w.branches = unstarted_name old r.built.rooted fs low x (omega arith) ∙ runs_name job code w r in
         let listed = λ (budget : ℕ). unstarted_items old r.built.rooted fs low r.built.root [] budget x kind (omega arith) ∙ fault_items old place code.drawing.clock r.built [] budget kind in
-        let played : Plays (strands_of p) u (machine_of p) (open_items old place) m = plays_kept (strands_of p) old u same (machine_of p) m (open_items old place) r.played in
-        let played_at = λ (budget : ℕ). (let P : List Item → Type 0 = λ is. Plays (strands_of p) u (machine_of p) is m in subst P (sym (listed budget)) played) in
+        let played : Plays (strands_of job) u (machine_of job) (open_items old place) m = plays_kept (strands_of job) old u same (machine_of job) m (open_items old place) r.played in
+        let played_at = λ (budget : ℕ). (let P : List Item → Type 0 = λ is. Plays (strands_of job) u (machine_of job) is m in subst P (sym (listed budget)) played) in
         let shape = shaped_strands fs old r.shape in
         let blocks = blocks_at_fault old place code.drawing.clock r.built fs low in
-        let all : IsRun p u code.drawing.journals.items (Fault x kind) = record {
+        let all : IsRun job u code.drawing.journals.items (Fault x kind) = record {
           ended = tt;
           tree = tree_of_shape u shape;
-          numbered = numbered_at_fault old place code.drawing.clock r.built fs (waiting_over old r.built.rooted r.built.root p.cells code.bends w.bends r.bends place w.blocks w.forks there r.place);
+          numbered = numbered_at_fault old place code.drawing.clock r.built fs (waiting_over old r.built.rooted r.built.root code.branches w.branches r.branches place w.blocks w.forks there r.place);
           blocks = blocks;
           refusals = none_refused u (place_in u x) shape.untried blocks;
           stamps = stamped_behind old r.built.rooted r.stamps fs low;
@@ -190,14 +187,14 @@ module _ (p : Program) where
           strand = unstarted_strand old fs x (omega arith) ∙ strand_is old r.built.rooted r.built.root place there;
           order = λ budget. record {
             machine = m;
-            picks = goes_depth_first (strands_of p) u (machine_of p) m (items u [] budget (Fault x kind)) (played_at budget);
+            picks = goes_depth_first (strands_of job) u (machine_of job) m (items u [] budget (Fault x kind)) (played_at budget);
             stops = (
-              leftmost_here (strands_of p) closes w r.work (ap Rattle.cw_strand.specs.Strands.is_fork wanted) (ap is_over wanted) ∙ ap Some (sym named),
-              (w.strand, ap (at (strands_of p) m.strands) named ∙ at_here (strands_of p) closes w (ap Rattle.cw_strand.specs.Strands.is_fork wanted) (ap is_over wanted), wanted),
+              leftmost_here (strands_of job) closes w r.work (ap is_fork wanted) (ap is_over wanted) ∙ ap Some (sym named),
+              (w.strand, ap (at (strands_of job) m.strands) named ∙ at_here (strands_of job) closes w (ap is_fork wanted) (ap is_over wanted), wanted),
             );
           };
-          acts = λ budget. does_all (strands_of p) u (machine_of p) m (items u [] budget (Fault x kind)) (played_at budget);
-          journals = (has_strands old (first_memory p.cells) w.memory code.drawing.journals.items fs (not_aborted old place code.drawing.clock r.built) r.journals).journals;
+          acts = λ budget. does_all (strands_of job) u (machine_of job) m (items u [] budget (Fault x kind)) (played_at budget);
+          journals = (has_strands old (first_memory job.program.cells) w.memory code.drawing.journals.items fs (not_aborted old place code.drawing.clock r.built) r.journals).journals;
         } in
-        let P : List Node → Type 0 = λ v. IsRun p v code.drawing.journals.items (Fault x kind) in
+        let P : List Node → Type 0 = λ v. IsRun job v code.drawing.journals.items (Fault x kind) in
         subst P (sym grown) all

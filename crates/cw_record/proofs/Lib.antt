@@ -34,7 +34,6 @@ pub mod GrowingItems
 pub mod Faults
 pub mod Descending
 pub mod Waiting
-pub mod Weights
 pub mod Playing
 pub mod GrowingWays
 pub mod Unstarted
@@ -56,6 +55,7 @@ pub mod Conditions
 pub mod Turning
 pub mod StrandIs
 pub mod Ending
+pub mod WorkedLaw
 pub mod WorkedRecord
 pub mod Behind
 pub mod OpenBlocks

@@ -17,10 +17,12 @@ use Rattle.cw_tree.specs.Walks.{IsRooted}
 use Rattle.cw_tree.specs.Names.{name_of, turn}
 use Rattle.cw_tree.specs.ForkCounts.{one_if}
 use Rattle.cw_tree.proofs.Lists.{length_map_below, get_map_below}
-use Rattle.cw_record.specs.Listed.{same_name, once, index_of, without_last, last_turn, names, listed_name, listed_names, number_of}
+use Rattle.cw_serial.proofs.Turns.{name_itself}
+use Rattle.cw_serial.specs.Machine.{same_name}
+use Rattle.cw_record.specs.Listed.{once, index_of, without_last, last_turn, names, listed_name, listed_names, number_of}
 use Rattle.cw_record.specs.Walked.{first_named, place_in, AreFirsts}
 use Rattle.cw_record.proofs.There.{node_there}
-use Rattle.cw_record.proofs.Names.{names_differ, name_self, name_strand, name_of_strand, root_strand, without_added, last_added}
+use Rattle.cw_record.proofs.Names.{names_differ, name_strand, name_of_strand, root_strand, without_added, last_added}
 use Rattle.cw_record.proofs.Found.{first_le, first_same, names_same, place_push, place_index, once_push}
 
 -- of the strands of an order i were met; those found have names that no earlier one has, and these names have their places
@@ -105,7 +107,7 @@ module _ (t : List Node) (order : List ℕ) where
               by_case (inl q) =
                   let same : name_of t s ≡ name_of t n = names_same t s n there h (sym first_is ∙ sym q) in
                   let absent : place_in (map (name_of t) found) (name_of t n) ≡ None = ap (place_in (map (name_of t) found)) (sym same) ∙ sym own_is ∙ none_yet in
-                  let hit : same_name (name_of t s) (name_of t n) ≡ true = ap (same_name (name_of t s)) (sym same) ∙ name_self (name_of t s) in
+                  let hit : same_name (name_of t s) (name_of t n) ≡ true = ap (same_name (name_of t s)) (sym same) ∙ name_itself (name_of t s) in
                   ap (λ k. get_or (set places first (Some (length found))) k None) q
                   ∙ get_or-set_same places first (Some (length found)) None first_there
                   ∙ ap Some (sym (length-map found (name_of t)))
@@ -149,6 +151,13 @@ order_strand t order e i h =
 
 pub same_at : (t : List Node) (same : List ℕ) → same ≡ map (first_named t) (all_nodes t) → (n : ℕ) → n < length t → get_or same n 0 ≡ first_named t n
 same_at t same e n h = ap (λ xs. get_or xs n 0) e ∙ get_map_below (first_named t) (length t) n 0 h
+
+-- the first node with the name of a strand that is met
+pub first_met : (t : List Node) (same order : List ℕ) → same ≡ map (first_named t) (all_nodes t) → order ≡ filter (is_strand t) (depth_first t) → (i : ℕ) → i < length order → get_or same (get_or order i 0) 0 < length t
+first_met t same order e is i h =
+    let s = get_or order i 0 in
+    let there : s < length t = strand_there t s (order_strand t order is i h) in
+    omega (arith, same_at t same e s there, first_le t s there)
 
 pub same_length : (t : List Node) (same : List ℕ) → same ≡ map (first_named t) (all_nodes t) → length same ≡ length t
 same_length t same e = ap length e ∙ length_map_below (first_named t) (length t)

@@ -70,11 +70,6 @@ to_built t p c g place = record {
 pub root_no_block : (t : List Node) (p c : ℕ) → IsGrowing t p c → is_block t 0 ≡ false
 root_no_block t p c g = (strand_alone t 0 g.root).0
 
--- a node that is no root: what it has its root has not
-pub not_root : (t : List Node) (p c : ℕ) → IsGrowing t p c → (n : ℕ) → is_strand t n ≡ false → 0 < n
-not_root t p c g zero e = absurd (let root = g.root in cc)
-not_root t p c g (suc n) e = omega arith
-
 -- ## Down
 
 module _ (t : List Node) (p c : ℕ) (g : IsGrowing t p c) (kind : Kind) (stamp d : ℕ) (low : stamp ≤ d) (later : c ≤ d)

@@ -3,7 +3,7 @@ use Rattle.std.proofs.Common.{◌≡◌, ℕ, zero, suc, ◌<◌, ◌≤◌, Lis
 use Rattle.std.specs.Prelude.{slice_get, All}
 use Rattle.std.specs.List.{filter, flat_map}
 use Rattle.std.proofs.lemmas.Bool.{lt-ltb}
-use Rattle.std.proofs.lemmas.List.{length-map, map-append}
+use Rattle.std.proofs.lemmas.List.{map-append}
 use Rattle.std.proofs.lemmas.List.Elements.{All-head, All-tail, All-weaker, filter-append}
 use Rattle.std.proofs.lemmas.Option.{slice_get-map}
 use Rattle.cw_tree.specs.declared.node.Node.{Node}
@@ -107,9 +107,6 @@ module _ (t : List Node) (r : IsRooted t) where
   is_listed : (s : ℕ) → s < length t → is_strand t s ≡ true → IsIn (name_of t s) (names t)
   is_listed s h e = is_in_once (names_on (depth_first t)) (name_of t s) (name_met s (depth_first t) (everywhere t r s h) e)
 
-  pub number_there : (s : ℕ) → s < length t → is_strand t s ≡ true → number_of t s < length (listed_names t)
-  number_there s h e = omega (arith, (is_found (names t) (name_of t s) (is_listed s h e)).0, length-map (names t) (listed_name (names t)))
-
   module _ (root : is_strand t 0 ≡ true) where
     -- the names after the root's
     abbrev rest : List (List Turn)
@@ -130,9 +127,6 @@ module _ (t : List Node) (r : IsRooted t) where
     turns_of_strand s h e =
         let P : List (List Turn) → Type 0 = λ ps. IsIn (name_of t s) ps → turns (map (listed_name ps) ps) (index_of ps (name_of t s)) ≡ Some (name_of t s) in
         (subst P (sym names_are) (turns_found rest rest_on (name_of t s))) (is_listed s h e)
-
-    pub number_root : number_of t 0 ≡ 0
-    number_root = ap (λ ps. index_of ps []) names_are
 
     -- the same, of any strand of the tree and of the one that did an item
     pub strand_turns : (s : ℕ) → is_strand t s ≡ true → turns (listed_names t) (number_of t s) ≡ Some (name_of t s)

@@ -1,7 +1,7 @@
 -- A name goes on from that of the parent, and when two names are the same.
-use Rattle.std.proofs.Common.{◌≡◌, ℕ, zero, ◌<◌, ◌≤◌, List, [], ◌∷◌, ◌++◌, length, map, reverse, refl, ap, sym, ◌∙◌, arith, Bool, true, false, cond, Some, None, inl, inr, subst, nat_eq, eq-eqb}
+use Rattle.std.proofs.Common.{◌≡◌, ℕ, zero, ◌<◌, ◌≤◌, List, [], ◌∷◌, ◌++◌, length, map, reverse, refl, ap, sym, ◌∙◌, arith, Bool, true, false, cond, Some, None, inl, inr, subst}
 use Rattle.std.specs.Prelude.{◌⊎◌, unwrap_or}
-use Rattle.std.proofs.lemmas.Bool.{cases_Bool, and_parts, and_from, eqb-true}
+use Rattle.std.proofs.lemmas.Bool.{cases_Bool}
 use Rattle.std.proofs.lemmas.List.{reverse-append}
 use Rattle.cw_tree.specs.declared.node.Node.{Node}
 use Rattle.cw_tree.specs.declared.picks.Turn.{Turn}
@@ -12,51 +12,25 @@ use Rattle.cw_tree.specs.Names.{name_of, turn, strands_on}
 use Rattle.cw_tree.proofs.Climbs.{by_parent}
 use Rattle.cw_tree.proofs.Strands.{strand_of_strand, strand_of_other}
 use Rattle.cw_tree.proofs.Turns.{turns_strand, turns_other}
-use Rattle.cw_serial.specs.Machine.{same_side, same_turn}
-use Rattle.cw_record.specs.Listed.{same_name, without_last, last_turn}
+use Rattle.cw_serial.specs.Machine.{same_name}
+use Rattle.cw_serial.proofs.Turns.{name_true, name_itself}
+use Rattle.cw_record.specs.Listed.{without_last, last_turn}
 
 -- ## Two names
 
-side_same : (a b : Bool) → same_side a b ≡ true → a ≡ b
-side_same true true e = refl
-side_same true false e = absurd (cc e)
-side_same false true e = absurd (cc e)
-side_same false false e = refl
-
-side_self : (a : Bool) → same_side a a ≡ true
-side_self true = refl
-side_self false = refl
-
-turn_same : (x y : Turn) → x.fork ≡ y.fork → x.right ≡ y.right → x ≡ y
-turn_same x y e f = ap (λ a. let z : Turn = record { fork = a; right = x.right } in z) e ∙ ap (λ a. let z : Turn = record { fork = y.fork; right = a } in z) f
-
-pub name_same : (p q : List Turn) → same_name p q ≡ true → p ≡ q
-name_same [] [] e = refl
-name_same [] (y ∷ q) e = absurd (cc e)
-name_same (x ∷ p) [] e = absurd (cc e)
-name_same (x ∷ p) (y ∷ q) e =
-    let z = and_parts (same_turn x y) (same_name p q) e in
-    let w = and_parts (nat_eq x.fork y.fork) (same_side x.right y.right) z.0 in
-    ap (λ v. v ∷ p) (turn_same x y (eqb-true x.fork y.fork w.0) (side_same x.right y.right w.1)) ∙ ap (λ v. y ∷ v) (name_same p q z.1)
-
-pub name_self : (p : List Turn) → same_name p p ≡ true
-name_self [] = refl
-name_self (x ∷ p) =
-    and_from (same_turn x x) (same_name p p) (and_from (nat_eq x.fork x.fork) (same_side x.right x.right) (eq-eqb x.fork x.fork refl) (side_self x.right)) (name_self p)
-
 same_name_from : (p q : List Turn) → p ≡ q → same_name p q ≡ true
-same_name_from p q e = (let P : List Turn → Type 0 = λ r. same_name p r ≡ true in subst P e (name_self p))
+same_name_from p q e = (let P : List Turn → Type 0 = λ r. same_name p r ≡ true in subst P e (name_itself p))
 
 pub name_sym : (p q : List Turn) → same_name p q ≡ same_name q p
 name_sym p q =
     by_case (cases_Bool (same_name p q)) (cases_Bool (same_name q p)) where
       by_case : (same_name p q ≡ true) ⊎ (same_name p q ≡ false) → (same_name q p ≡ true) ⊎ (same_name q p ≡ false) → same_name p q ≡ same_name q p
-      by_case (inl e) f = e ∙ sym (same_name_from q p (sym (name_same p q e)))
-      by_case (inr e) (inl f) = absurd (cc (e, same_name_from p q (sym (name_same q p f))))
+      by_case (inl e) f = e ∙ sym (same_name_from q p (sym (name_true p q e)))
+      by_case (inr e) (inl f) = absurd (cc (e, same_name_from p q (sym (name_true q p f))))
       by_case (inr e) (inr f) = e ∙ sym f
 
 pub names_differ : (p q : List Turn) → (p ≡ q → ⊥) → same_name p q ≡ false
-names_differ p q ne = elim (cases_Bool (same_name p q)) [ inl e ↦ absurd (ne (name_same p q e)) | inr e ↦ e ]
+names_differ p q ne = elim (cases_Bool (same_name p q)) [ inl e ↦ absurd (ne (name_true p q e)) | inr e ↦ e ]
 
 pub without_added : (p : List Turn) (x : Turn) → without_last (p ++ x ∷ []) ≡ p
 without_added [] x = refl

@@ -1,5 +1,5 @@
 -- Kinds of nodes exclude one another, and what a new node of a kind is.
-use Rattle.std.proofs.Common.{◌≡◌, ℕ, List, refl, true, false, Option, Some, None}
+use Rattle.std.proofs.Common.{◌≡◌, ℕ, zero, suc, ◌<◌, List, refl, arith, true, false, Option, Some, None}
 use Rattle.std.specs.Prelude.{◌&&◌, ◌||◌, slice_get}
 use Rattle.std.proofs.lemmas.Bool.{and_parts, or_from, false_from_ne_true}
 use Rattle.cw_tree.specs.declared.node.Node.{Node}
@@ -24,6 +24,24 @@ strand_alone t n =
       by None e = absurd (cc e)
       by (Some x) e = strand_kind x.kind e
 
+-- so a block or a fork is no strand
+pub block_other : (t : List Node) (n : ℕ) → is_block t n ≡ true → is_strand t n ≡ false
+block_other t n e = false_from_ne_true (is_strand t n) (λ s. absurd (let no = (strand_alone t n s).0 in cc))
+
+pub fork_other : (t : List Node) (n : ℕ) → is_fork t n ≡ true → is_strand t n ≡ false
+fork_other t n e = false_from_ne_true (is_strand t n) (λ s. absurd (let no = (strand_alone t n s).1 in cc))
+
+-- and not the root, where that is a strand
+pub other_some : (t : List Node) → is_strand t 0 ≡ true → (n : ℕ) → is_strand t n ≡ false → 0 < n
+other_some t root zero e = absurd (cc (e, root))
+other_some t root (suc n) e = omega arith
+
+pub block_some : (t : List Node) → is_strand t 0 ≡ true → (n : ℕ) → is_block t n ≡ true → 0 < n
+block_some t root n e = other_some t root n (block_other t n e)
+
+pub fork_some : (t : List Node) → is_strand t 0 ≡ true → (n : ℕ) → is_fork t n ≡ true → 0 < n
+fork_some t root n e = other_some t root n (fork_other t n e)
+
 fork_kind : (k : Kind) → is_fork_kind k ≡ true → is_block_kind k ≡ false
 fork_kind Fork e = refl
 fork_kind _ e = absurd (cc e)
@@ -38,7 +56,7 @@ fork_no_block t n =
 
 -- a fork is no strand and no block
 pub fork_alone : (t : List Node) (n : ℕ) → is_fork t n ≡ true → (is_strand t n || is_block t n) ≡ false
-fork_alone t n fork = or_from (is_strand t n) (is_block t n) (false_from_ne_true (is_strand t n) (λ e. absurd (cc (fork, (strand_alone t n e).1)))) (fork_no_block t n fork)
+fork_alone t n fork = or_from (is_strand t n) (is_block t n) (fork_other t n fork) (fork_no_block t n fork)
 
 -- a pending block is a block
 pub pending_block : (t : List Node) (n : ℕ) → is_pending t n ≡ true → is_block t n ≡ true

@@ -4,13 +4,13 @@ use Rattle.std.specs.Prelude.{slice_get, option_map}
 use Rattle.cw_strand.specs.Strands.{Strands}
 use Rattle.cw_tree.specs.declared.node.Node.{Node}
 use Rattle.cw_tree.specs.declared.node.Kind.{Kind}
-use Rattle.cw_serial.specs.Threads.{at}
+use Rattle.cw_serial.specs.StrandTree.{at}
 use Rattle.cw_serial.specs.Machine.{Machine, pick}
 use Rattle.cw_serial.specs.DepthFirst.{leftmost, GoesDepthFirst, here, picks}
 use Rattle.cw_record.specs.declared.items.Item.{Item}
 use Rattle.cw_record.specs.declared.items.Item.TheVariants.{Begins, Does, Ends}
 use Rattle.cw_record.specs.Order.{node_of}
-use Rattle.cw_record.specs.Replay.{doer, IsActOf, IsItem, DoesAll}
+use Rattle.cw_record.specs.Replay.{doer, IsAct, IsActOf, IsItem, DoesAll}
 
 -- what a node is
 abbrev pub kind_at : List Node → ℕ → Option Kind
@@ -44,7 +44,7 @@ module _ {A : Type 0} (s : Strands A) where
     by (Some x) None e h = absurd (cc e)
     by (Some x) (Some y) e h =
         let same : y.kind ≡ x.kind = cc e in
-        let P : Kind → Type 0 = λ k. Rattle.cw_record.specs.Replay.IsAct memory w k in subst P (sym same) h
+        let P : Kind → Type 0 = λ k. IsAct memory w k in subst P (sym same) h
 
   item_kept : (t u : List Node) (same : SameDoers t u) (memory : List _) (w : _) (i : Item) → node_of i < length t → IsItem t memory w i → IsItem u memory w i
   item_kept t u same memory w (Begins n) there h = h

@@ -1,25 +1,25 @@
 -- The machine in memory replays the items of a record one by one.
 use Rattle.std.proofs.Common.{◌≡◌, ◌↔◌, ◌+◌, ◌<◌, ◌≤◌, ℕ, ℤ, suc, List, [], ◌∷◌, Bool, true, false, Option, Some, None, drop, length, map, refl, sym, ◌∙◌, ap, subst, arith, option_map}
-use Rattle.std.specs.Prelude.{slice_get, All, IsSomeAnd, if◌then◌else◌}
+use Rattle.std.specs.Prelude.{slice_get, IsSomeAnd, option_and_then, if◌then◌else◌}
 use Rattle.std.proofs.Math.ListN.{drop_of_length-le}
 use Rattle.std.proofs.lemmas.Option.{slice_get-map, slice_get_within, get_or_from_slice_get}
 use Rattle.cw_strand.specs.declared.want.Want.{Want}
 use Rattle.cw_strand.specs.declared.want.Want.TheVariants as want
 use Rattle.cw_strand.specs.Strands.{is_over}
-use Rattle.cw_strand.specs.Meaning.{State}
 use Rattle.cw_tree.specs.declared.node.Node.{Node}
 use Rattle.cw_tree.specs.declared.node.Kind.{Kind}
-use Rattle.cw_tree.specs.declared.node.Kind.TheVariants.{Strand, Fork, Block, Read, Write, Out, Tried}
+use Rattle.cw_tree.specs.declared.node.Kind.TheVariants.{Read, Write, Out}
 use Rattle.cw_tree.specs.declared.conflict.Conflict.{Conflict}
 use Rattle.cw_tree.specs.Nodes.{is_strand}
 use Rattle.cw_tree.specs.Walks.{IsNumbered}
 use Rattle.cw_tree.specs.Names.{name_of}
 use Rattle.cw_tree.specs.Refusals.{telling}
 use Rattle.cw_serial.specs.declared.play.Play.{Play}
-use Rattle.cw_serial.specs.declared.program.Program.{Program}
-use Rattle.cw_serial.specs.Threads.{at}
+use Rattle.cw_serial.specs.Jobs.{Job}
+use Rattle.cw_serial.specs.StrandTree.{at}
 use Rattle.cw_serial.specs.Machine.{Machine, pick, pick_named, turns}
-use Rattle.cw_serial.specs.Programs.{strands_of, machine_of}
+use Rattle.cw_serial.specs.Room.Strands.{StrandState, strands_of}
+use Rattle.cw_serial.specs.MachineOf.{machine_of}
 use Rattle.cw_serial.specs.InMemory.{want_before_end}
 use Rattle.cw_serial.specs.Orders.{at_named, IsPlay, Plays}
 use Rattle.cw_serial.proofs.Played.{drop_at}
@@ -31,6 +31,7 @@ use Rattle.cw_record.specs.declared.items.Item.TheVariants.{Begins, Does, Ends}
 use Rattle.cw_record.specs.Items.{items}
 use Rattle.cw_record.specs.Listed.{listed_names}
 use Rattle.cw_record.specs.Order.{node_of, pick_of, order_of, ending_strand}
+use Rattle.cw_record.specs.Records.{job_of}
 use Rattle.cw_record.specs.Replay.{doer, IsAct, IsActOf, IsItem, DoesAll, IsRefusedBy, IsRefused, picked, StandsRefused, IsSpent}
 use Rattle.cw_record.specs.Replaying.{DoesFrom, WantsTold, WantsRefused}
 use Rattle.cw_record.proofs.ItemsThere.{items_there}
@@ -38,33 +39,30 @@ use Rattle.cw_record.proofs.Named.{strand_turns, item_turns}
 
 -- ## What a strand that has not come to its end wants
 
-module _ (p : Program) (P : Want → Type 0) (before : (w : Want) → P w → is_over w ≡ false) where
-  abbrev Wants : Option State → Type 0
-  Wants o = (a : State) × (o ≡ Some a) × P ((strands_of p).want a)
+module _ (job : Job) (P : Want → Type 0) (before : (w : Want) → P w → is_over w ≡ false) where
+  abbrev Wants : Option StrandState → Type 0
+  Wants o = (a : StrandState) × (o ≡ Some a) × P ((strands_of job).want a)
 
-  abbrev Passes : Option State → Bool → Type 0
-  Passes (Some a) b = IsSomeAnd (if b then None else Some ((strands_of p).want a)) P
+  abbrev Passes : Option StrandState → Bool → Type 0
+  Passes (Some a) b = IsSomeAnd (if b then None else Some ((strands_of job).want a)) P
   Passes None b = ⊥
 
-  wants_some : (o : Option State) → IsSomeAnd (want_before_end (strands_of p) o) P → Wants o
+  wants_some : (o : Option StrandState) → IsSomeAnd (want_before_end (strands_of job) o) P → Wants o
   wants_some None h = absurd h
-  wants_some (Some a) h = by (is_over ((strands_of p).want a)) h where
+  wants_some (Some a) h = by (is_over ((strands_of job).want a)) h where
     by : (b : Bool) → Passes (Some a) b → Wants (Some a)
     by true g = absurd g
     by false g = (a, refl, g)
 
-  some_wants : (o : Option State) → Wants o → IsSomeAnd (want_before_end (strands_of p) o) P
-  some_wants o (a, e, h) = subst (λ x. IsSomeAnd (want_before_end (strands_of p) x) P) (sym e) (subst (Passes (Some a)) (sym (before ((strands_of p).want a) h)) h)
+  some_wants : (o : Option StrandState) → Wants o → IsSomeAnd (want_before_end (strands_of job) o) P
+  some_wants o (a, e, h) = subst (λ x. IsSomeAnd (want_before_end (strands_of job) x) P) (sym e) (subst (Passes (Some a)) (sym (before ((strands_of job).want a) h)) h)
 
 -- no strand that has come to its end does an item, or stands at what was refused
 act_before : (memory : List ℤ) (w : Want) (k : Kind) → IsAct memory w k → is_over w ≡ false
 act_before memory w (Read c v) h = ap is_over h.0
 act_before memory w (Write c v) h = ap is_over h
 act_before memory w (Out v) h = ap is_over h
-act_before memory w Strand h = absurd h
-act_before memory w Fork h = absurd h
-act_before memory w Block h = absurd h
-act_before memory w (Tried c) h = absurd h
+act_before memory w _ h = absurd h
 
 act_of_before : (memory : List ℤ) (w : Want) (o : Option Node) → IsActOf memory w o → is_over w ≡ false
 act_of_before memory w None h = absurd h
@@ -79,13 +77,7 @@ refused_before : (c : Conflict) (alone : Bool) (w : Want) → IsRefusedBy c alon
 refused_before c false w h = ap is_over h
 refused_before c true (want.Load d) h = refl
 refused_before c true (want.Store d v) h = refl
-refused_before c true (want.Out v) h = absurd h
-refused_before c true want.Begin h = absurd h
-refused_before c true want.End h = absurd h
-refused_before c true want.Fork h = absurd h
-refused_before c true want.Sync h = absurd h
-refused_before c true want.Done h = absurd h
-refused_before c true (want.Fault k) h = absurd h
+refused_before c true _ h = absurd h
 
 -- ## A record whose order is the right one
 
@@ -95,12 +87,19 @@ module _ (r : Record) where
 
   -- So many items were done, and those that are left are done exactly where all are.
   pub record Stands (play : Play) (place : ℕ) : Type 0 where
-    pub machine : Machine State
-    pub is : IsPlay r.program r.order.names play machine
-    pub same : DoesFrom r (machine_of r.program) all ↔ DoesFrom r machine (drop place all)
+    pub machine : Machine StrandState
+    pub is : IsPlay (job_of r) r.order.names play machine
+    pub same : DoesFrom r (machine_of (job_of r)) all ↔ DoesFrom r machine (drop place all)
 
-  pub stands_first : (play : Play) → IsPlay r.program r.order.names play (machine_of r.program) → Stands play 0
-  stands_first play is = record { machine = machine_of r.program; is = is; same = (λ h. h, λ h. h) }
+  pub stands_first : (play : Play) → IsPlay (job_of r) r.order.names play (machine_of (job_of r)) → Stands play 0
+  stands_first play is = record { machine = machine_of (job_of r); is = is; same = (λ h. h, λ h. h) }
+
+  -- the list in memory has the items of the record
+  pub all_listed : {xs ys : List Item} {cs : List Conflict} → xs ≡ ys → ys ≡ items r.tree cs r.limits.aborts r.end → cs ≡ r.conflicts → xs ≡ all
+  all_listed same is told = same ∙ (is ∙ ap (λ cs. items r.tree cs r.limits.aborts r.end) told)
+
+  pub listed_at : {xs : List Item} (place : ℕ) (i : Item) → xs ≡ all → slice_get xs place ≡ Some i → slice_get all place ≡ Some i
+  listed_at place i listed there = subst (λ is. slice_get is place ≡ Some i) listed there
 
   pub item_there : (place : ℕ) (i : Item) → slice_get all place ≡ Some i → node_of i < length r.tree
   item_there place i h = subst (λ x. node_of x < length r.tree) (get_or_from_slice_get all place i i h) (items_there r.tree _ _ _ place i (slice_get_within all place i h))
@@ -125,30 +124,30 @@ module _ (r : Record) where
       abbrev IsHere : Want → Type 0
       IsHere w = IsItem r.tree stands.machine.memory w i
 
-      abbrev standing : Option State
-      standing = at (strands_of r.program) stands.machine.strands (doer r.tree i)
+      abbrev standing : Option StrandState
+      standing = at (strands_of (job_of r)) stands.machine.strands (doer r.tree i)
 
-      before_item : DoesFrom r (machine_of r.program) all → DoesFrom r stands.machine (i ∷ left)
+      before_item : DoesFrom r (machine_of (job_of r)) all → DoesFrom r stands.machine (i ∷ left)
       before_item h = subst (DoesFrom r stands.machine) rest_is (stands.same.0 h)
 
       -- a strand that wants something else does not do the item
-      pub other_want : (w : Option Want) → w ≡ want_before_end (strands_of r.program) (at_named r.program stands.machine (turns r.order.names name)) → (IsSomeAnd w IsHere → ⊥) → DoesFrom r (machine_of r.program) all → ⊥
+      pub other_want : (w : Option Want) → w ≡ want_before_end (strands_of (job_of r)) (at_named (job_of r) stands.machine (turns r.order.names name)) → (IsSomeAnd w IsHere → ⊥) → DoesFrom r (machine_of (job_of r)) all → ⊥
       other_want w wants none h =
           let ((a, n, stood, item, picks, rest), spent) = before_item h in
-          let named_want : want_before_end (strands_of r.program) standing ≡ w = sym (wants ∙ ap (λ o. want_before_end (strands_of r.program) (at_named r.program stands.machine o)) name_is) in
-          none (subst (λ x. IsSomeAnd x IsHere) named_want (some_wants r.program IsHere (item_before r.tree stands.machine.memory i) standing (a, stood, item)))
+          let named_want : want_before_end (strands_of (job_of r)) standing ≡ w = sym (wants ∙ ap (λ o. want_before_end (strands_of (job_of r)) (at_named (job_of r) stands.machine o)) name_is) in
+          none (subst (λ x. IsSomeAnd x IsHere) named_want (some_wants (job_of r) IsHere (item_before r.tree stands.machine.memory i) standing (a, stood, item)))
 
-      picks_named : (moved : Bool) → Plays r.program r.order.names stands.machine (pick_named (strands_of r.program) stands.machine (turns r.order.names name)) moved new → Plays r.program r.order.names stands.machine (pick (strands_of r.program) stands.machine (doer r.tree i)) moved new
-      picks_named moved h = subst (λ o. Plays r.program r.order.names stands.machine (pick_named (strands_of r.program) stands.machine o) moved new) name_is h
+      picks_named : (moved : Bool) → Plays (job_of r) r.order.names stands.machine (pick_named (strands_of (job_of r)) stands.machine (turns r.order.names name)) moved new → Plays (job_of r) r.order.names stands.machine (pick (strands_of (job_of r)) stands.machine (doer r.tree i)) moved new
+      picks_named moved h = subst (λ o. Plays (job_of r) r.order.names stands.machine (pick_named (strands_of (job_of r)) stands.machine o) moved new) name_is h
 
       -- a strand that cannot be picked does not do it either
-      pub no_pick : Plays r.program r.order.names stands.machine (pick_named (strands_of r.program) stands.machine (turns r.order.names name)) false new → DoesFrom r (machine_of r.program) all → ⊥
+      pub no_pick : Plays (job_of r) r.order.names stands.machine (pick_named (strands_of (job_of r)) stands.machine (turns r.order.names name)) false new → DoesFrom r (machine_of (job_of r)) all → ⊥
       no_pick h all_done =
           let ((a, n, stood, item, picks, rest), spent) = before_item all_done in
-          subst (λ o. Plays r.program r.order.names stands.machine o false new) picks (picks_named false h)
+          subst (λ o. Plays (job_of r) r.order.names stands.machine o false new) picks (picks_named false h)
 
       -- one that wants the item, and is picked, does it
-      goes_on : (o : Option (Machine State)) → pick (strands_of r.program) stands.machine (doer r.tree i) ≡ o → Wants r.program IsHere (item_before r.tree stands.machine.memory i) standing → Plays r.program r.order.names stands.machine o true new → Stands new (place + 1)
+      goes_on : (o : Option (Machine StrandState)) → pick (strands_of (job_of r)) stands.machine (doer r.tree i) ≡ o → Wants (job_of r) IsHere (item_before r.tree stands.machine.memory i) standing → Plays (job_of r) r.order.names stands.machine o true new → Stands new (place + 1)
       goes_on None e wants h = absurd h
       goes_on (Some n) e wants h = record {
         machine = n;
@@ -161,27 +160,27 @@ module _ (r : Record) where
         next : suc place ≡ place + 1
         next = omega arith
 
-        spent_at : Option (Machine State) → Type 0
-        spent_at o = IsSpent (strands_of r.program) r.tree r.conflicts r.limits.aborts r.end (Rattle.std.specs.Prelude.option_and_then (λ m. picked (strands_of r.program) m (map (doer r.tree) left)) o)
+        spent_at : Option (Machine StrandState) → Type 0
+        spent_at o = IsSpent (strands_of (job_of r)) r.tree r.conflicts r.limits.aborts r.end (option_and_then (λ m. picked (strands_of (job_of r)) m (map (doer r.tree) left)) o)
 
         forth : DoesFrom r stands.machine (i ∷ left) → DoesFrom r n left
         forth ((a, m, stood, item, picks, rest), spent) =
             let same : m ≡ n = (let both = sym picks ∙ e in cc) in
-            (subst (λ x. DoesAll (strands_of r.program) r.tree x left) same rest, subst spent_at e spent)
+            (subst (λ x. DoesAll (strands_of (job_of r)) r.tree x left) same rest, subst spent_at e spent)
 
         back : DoesFrom r n left → DoesFrom r stands.machine (i ∷ left)
         back (rest, spent) = ((wants.0, n, wants.1, wants.2, e, rest), subst spent_at (sym e) spent)
 
-      pub does_item : (w : Option Want) → w ≡ want_before_end (strands_of r.program) (at_named r.program stands.machine (turns r.order.names name)) → IsSomeAnd w IsHere
-          → Plays r.program r.order.names stands.machine (pick_named (strands_of r.program) stands.machine (turns r.order.names name)) true new → Stands new (place + 1)
+      pub does_item : (w : Option Want) → w ≡ want_before_end (strands_of (job_of r)) (at_named (job_of r) stands.machine (turns r.order.names name)) → IsSomeAnd w IsHere
+          → Plays (job_of r) r.order.names stands.machine (pick_named (strands_of (job_of r)) stands.machine (turns r.order.names name)) true new → Stands new (place + 1)
       does_item w wants here h =
-          let named_want : w ≡ want_before_end (strands_of r.program) standing = wants ∙ ap (λ o. want_before_end (strands_of r.program) (at_named r.program stands.machine o)) name_is in
-          goes_on (pick (strands_of r.program) stands.machine (doer r.tree i)) refl (wants_some r.program IsHere (item_before r.tree stands.machine.memory i) standing (subst (λ x. IsSomeAnd x IsHere) named_want here)) (picks_named true h)
+          let named_want : w ≡ want_before_end (strands_of (job_of r)) standing = wants ∙ ap (λ o. want_before_end (strands_of (job_of r)) (at_named (job_of r) stands.machine o)) name_is in
+          goes_on (pick (strands_of (job_of r)) stands.machine (doer r.tree i)) refl (wants_some (job_of r) IsHere (item_before r.tree stands.machine.memory i) standing (subst (λ x. IsSomeAnd x IsHere) named_want here)) (picks_named true h)
 
     -- ## The end
 
     pub all_done : (strand : is_strand r.tree (ending_strand r.end) ≡ true) (play : Play) (place : ℕ) → length all ≤ place → (stands : Stands play place) → (w : Option Want)
-        → w ≡ want_before_end (strands_of r.program) (at_named r.program stands.machine (turns r.order.names r.order.last)) → WantsRefused r r.end w ↔ DoesFrom r (machine_of r.program) all
+        → w ≡ want_before_end (strands_of (job_of r)) (at_named (job_of r) stands.machine (turns r.order.names r.order.last)) → WantsRefused r r.end w ↔ DoesFrom r (machine_of (job_of r)) all
     all_done strand play place past stands w wants =
         (λ h. stands.same.1 (subst (DoesFrom r stands.machine) (sym none_left) (tt, spent r.end refl h)), λ h. refused r.end refl (subst (DoesFrom r stands.machine) none_left (stands.same.0 h)).1) where
           none_left : drop place all ≡ []
@@ -190,26 +189,26 @@ module _ (r : Record) where
           last_is : turns r.order.names r.order.last ≡ Some (name_of r.tree (ending_strand r.end))
           last_is = ap (λ o. turns o.names o.last) order ∙ strand_turns r.tree numbered.rooted numbered.root (ending_strand r.end) strand
 
-          want_is : w ≡ want_before_end (strands_of r.program) (at (strands_of r.program) stands.machine.strands (name_of r.tree (ending_strand r.end)))
-          want_is = wants ∙ ap (λ o. want_before_end (strands_of r.program) (at_named r.program stands.machine o)) last_is
+          want_is : w ≡ want_before_end (strands_of (job_of r)) (at (strands_of (job_of r)) stands.machine.strands (name_of r.tree (ending_strand r.end)))
+          want_is = wants ∙ ap (λ o. want_before_end (strands_of (job_of r)) (at_named (job_of r) stands.machine o)) last_is
 
           Spent : RecordEnd → Type 0
-          Spent e = IsSpent (strands_of r.program) r.tree r.conflicts r.limits.aborts e (Some stands.machine)
+          Spent e = IsSpent (strands_of (job_of r)) r.tree r.conflicts r.limits.aborts e (Some stands.machine)
 
           spent : (e : RecordEnd) → r.end ≡ e → WantsRefused r e w → Spent e
           spent (Finished memory outputs) is h = tt
           spent (Fault x kind) is h = tt
           spent Moves is h = tt
           spent (Budget x) is h = by (telling r.tree r.conflicts r.limits.aborts x) h where
-            by : (o : Option Conflict) → WantsTold o w → StandsRefused (strands_of r.program) o (Some stands.machine) (name_of r.tree x)
+            by : (o : Option Conflict) → WantsTold o w → StandsRefused (strands_of (job_of r)) o (Some stands.machine) (name_of r.tree x)
             by None g = absurd g
-            by (Some c) g = wants_some r.program (IsRefused c) (refused_before c _) _ (subst (λ v. IsSomeAnd v (IsRefused c)) (want_is ∙ ap (λ e. want_before_end (strands_of r.program) (at (strands_of r.program) stands.machine.strands (name_of r.tree (ending_strand e)))) is) g)
+            by (Some c) g = wants_some (job_of r) (IsRefused c) (refused_before c _) _ (subst (λ v. IsSomeAnd v (IsRefused c)) (want_is ∙ ap (λ e. want_before_end (strands_of (job_of r)) (at (strands_of (job_of r)) stands.machine.strands (name_of r.tree (ending_strand e)))) is) g)
 
           refused : (e : RecordEnd) → r.end ≡ e → Spent e → WantsRefused r e w
           refused (Finished memory outputs) is h = tt
           refused (Fault x kind) is h = tt
           refused Moves is h = tt
           refused (Budget x) is h = by (telling r.tree r.conflicts r.limits.aborts x) h where
-            by : (o : Option Conflict) → StandsRefused (strands_of r.program) o (Some stands.machine) (name_of r.tree x) → WantsTold o w
+            by : (o : Option Conflict) → StandsRefused (strands_of (job_of r)) o (Some stands.machine) (name_of r.tree x) → WantsTold o w
             by None g = absurd g
-            by (Some c) g = subst (λ v. IsSomeAnd v (IsRefused c)) (sym (want_is ∙ ap (λ e. want_before_end (strands_of r.program) (at (strands_of r.program) stands.machine.strands (name_of r.tree (ending_strand e)))) is)) (some_wants r.program (IsRefused c) (refused_before c _) _ g)
+            by (Some c) g = subst (λ v. IsSomeAnd v (IsRefused c)) (sym (want_is ∙ ap (λ e. want_before_end (strands_of (job_of r)) (at (strands_of (job_of r)) stands.machine.strands (name_of r.tree (ending_strand e)))) is)) (some_wants (job_of r) (IsRefused c) (refused_before c _) _ g)

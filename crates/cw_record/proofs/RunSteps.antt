@@ -1,8 +1,7 @@
 -- What one step of a worker adds to the run so far.
 use Rattle.std.proofs.Common.{◌≡◌, ℕ, ◌<◌, ◌≤◌, List, [], ◌∷◌, ◌++◌, length, refl, ap, sym, ◌∙◌, subst, arith, true, false, cond, Option, Some}
 use Rattle.cw_strand.specs.declared.want.Want.TheVariants as want
-use Rattle.cw_strand.specs.Strands.{Strands}
-use Rattle.cw_strand.specs.Laws.{Reached, MayWant}
+use Rattle.cw_strand.specs.Strands.{Strands, Closes, takes_answer}
 use Rattle.cw_tree.specs.declared.node.Node.{Node}
 use Rattle.cw_tree.specs.declared.node.Kind.{Kind}
 use Rattle.cw_tree.specs.declared.node.Kind.TheVariants.{Strand, Block}
@@ -14,10 +13,10 @@ use Rattle.cw_tree.proofs.Growing.{get_next, length_more, strand_of_new}
 use Rattle.cw_tree.proofs.Closing.{length_closed}
 use Rattle.cw_tree.proofs.Strands.{strand_of_le}
 use Rattle.cw_tree.proofs.Ancestors.{ancestor_self}
-use Rattle.cw_serial.specs.Threads.{at}
+use Rattle.cw_serial.specs.StrandTree.{at}
 use Rattle.cw_serial.specs.Machine.{Machine, pick}
-use Rattle.cw_serial.proofs.Bends.{way}
-use Rattle.cw_serial.proofs.Working.{Worker, machine_at, after_act, IsAtWork, is_done_at, stands_by, at_here, leftmost_here, act_is_pick}
+use Rattle.cw_serial.proofs.Branches.{way}
+use Rattle.cw_serial.proofs.Working.{Worker, machine_at, after_act, IsAtWork, stands_by, at_here, leftmost_here, act_is_pick}
 use Rattle.cw_record.specs.declared.items.Item.{Item}
 use Rattle.cw_record.specs.declared.items.Item.TheVariants.{Begins, Does, Ends}
 use Rattle.cw_record.specs.Items.{is_act_kind}
@@ -34,10 +33,10 @@ act_no_strand : (k : Kind) → is_act_kind k ≡ true → is_strand_kind k ≡ f
 act_no_strand Strand e = absurd (cc e)
 act_no_strand _ e = refl
 
-module _ {A : Type 0} (s : Strands A) (closes : (own : List ℕ) (a : A) → Reached s own a → MayWant (s.want a) own) where
+module _ {A : Type 0} (s : Strands A) (closes : Closes s) where
   -- one item more, at a pick of the strand that is run
-  one_more : (t u : List Node) (m : Machine A) (w : Worker A) (is : List Item) (i : Item) → IsAtWork s w → is_done_at (s.want w.strand) ≡ true → SameDoers t u → Plays s t m is (machine_at s w)
-      → node_of i < length u → doer u i ≡ way w.bends → IsItem u w.memory (s.want w.strand) i → Plays s u m (is ++ i ∷ []) (machine_at s (after_act s w))
+  one_more : (t u : List Node) (m : Machine A) (w : Worker A) (is : List Item) (i : Item) → IsAtWork s w → takes_answer (s.want w.strand) ≡ true → SameDoers t u → Plays s t m is (machine_at s w)
+      → node_of i < length u → doer u i ≡ way w.branches → IsItem u w.memory (s.want w.strand) i → Plays s u m (is ++ i ∷ []) (machine_at s (after_act s w))
   one_more t u m w is i h d same played there name act =
       let (o, f) = stands_by s (s.want w.strand) d in
       plays_more s u m (machine_at s w) (machine_at s (after_act s w)) is i w.strand (plays_kept s t u same m (machine_at s w) is played) there
@@ -46,10 +45,10 @@ module _ {A : Type 0} (s : Strands A) (closes : (own : List ℕ) (a : A) → Rea
       act
       (ap (pick s (machine_at s w)) name ∙ act_is_pick s closes w h d)
 
-  module _ (t : List Node) (p clock : ℕ) (built : IsBuilt t p clock) (m : Machine A) (w : Worker A) (h : IsAtWork s w) (d : is_done_at (s.want w.strand) ≡ true)
-      (named : name_of t (strand_of t p) ≡ way w.bends) (played : Plays s t m (open_items t p) (machine_at s w)) where
+  module _ (t : List Node) (p clock : ℕ) (built : IsBuilt t p clock) (m : Machine A) (w : Worker A) (h : IsAtWork s w) (d : takes_answer (s.want w.strand) ≡ true)
+      (named : name_of t (strand_of t p) ≡ way w.branches) (played : Plays s t m (open_items t p) (machine_at s w)) where
     -- the node is of the strand at the place
-    new_doer : (kind : Kind) (st : ℕ) (i : Item) → node_of i ≡ length t → is_strand_kind kind ≡ false → doer (added t p kind st) i ≡ way w.bends
+    new_doer : (kind : Kind) (st : ℕ) (i : Item) → node_of i ≡ length t → is_strand_kind kind ≡ false → doer (added t p kind st) i ≡ way w.branches
     new_doer kind st i e other =
         let u = added t p kind st in
         ap (λ n. name_of u (strand_of u n)) e

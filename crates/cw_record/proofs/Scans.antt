@@ -1,14 +1,10 @@
 -- Loops over the numbers below a bound.
 use Rattle.std.proofs.Common.{◌≡◌, ℕ, zero, suc, ◌+◌, ◌-◌, ◌<◌, List, [], ◌∷◌, map, ap, sym, ◌∙◌, arith, Bool, true, false, cond, inl, inr, subst, Some, None, add-one, length, get_or}
-use Rattle.std.specs.Prelude.{◌⊎◌}
 use Rattle.std.specs.List.{find}
 use Rattle.std.specs.Option.{option_or}
 use Rattle.std.proofs.lemmas.List.Folds.{find-append}
 use Rattle.cw_tree.specs.Nodes.{below, last_below}
-use Rattle.cw_tree.proofs.Lists.{length_map_below, get_map_below}
-
-at_or_before : (n k : ℕ) → n < suc k → (n < k) ⊎ (k ≡ n)
-at_or_before n k h = grind arith
+use Rattle.cw_tree.proofs.Lists.{at_or_before, length_map_below, get_map_below}
 
 -- ## The first that passes
 

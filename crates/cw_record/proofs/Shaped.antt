@@ -19,7 +19,7 @@ use Rattle.cw_tree.proofs.Growing.{get_append, length_more, node_new, number_new
 use Rattle.cw_tree.proofs.Closing.{length_closed, node_closed, number_closed, same_closed, rooted_closed}
 use Rattle.cw_strand.specs.declared.want.Want.{Want}
 use Rattle.cw_strand.specs.declared.want.Want.TheVariants as want
-use Rattle.cw_serial.specs.Machine.{value_at}
+use Rattle.cw_serial.specs.Wants.{value_at}
 use Rattle.cw_record.specs.Drawn.{added, forked, tree_after}
 use Rattle.cw_record.specs.Walked.{is_child}
 use Rattle.cw_record.proofs.DepthFirst.{no_children}
@@ -247,7 +247,4 @@ shaped_after (want.Store c v) memory t fs p stamp s there place = shaped_beside 
 shaped_after (want.Out v) memory t fs p stamp s there place = shaped_beside t fs s p there place (Out v) stamp refl refl refl
 shaped_after want.Begin memory t fs p stamp s there place = shaped_beside t fs s p there place Block stamp refl refl refl
 shaped_after want.End memory t fs p stamp s there place = shaped_closed t fs s p Committed stamp
-shaped_after want.Fork memory t fs p stamp s there place = s
-shaped_after want.Sync memory t fs p stamp s there place = s
-shaped_after want.Done memory t fs p stamp s there place = s
-shaped_after (want.Fault k) memory t fs p stamp s there place = s
+shaped_after _ memory t fs p stamp s there place = s

@@ -9,7 +9,7 @@ use Rattle.cw_tree.proofs.Ancestors.{ancestor_le, ancestor_trans}
 use Rattle.cw_record.specs.declared.items.Item.{Item}
 use Rattle.cw_record.specs.declared.items.Item.TheVariants.{Begins}
 use Rattle.cw_record.specs.Items.{open_member, as_items, last_open, items_in}
-use Rattle.cw_record.proofs.NodeKinds.{pending_no_member}
+use Rattle.cw_record.proofs.NodeKinds.{block_some, pending_no_member}
 use Rattle.cw_record.proofs.Homes.{number, xparent_is, open_aside, open_here}
 use Rattle.cw_record.proofs.Moves.{IsGrowing, root_no_block}
 use Rattle.cw_record.proofs.Alike.{sorted, IsMember, AreAlike, members_alike, items_alike, levels_more}
@@ -90,10 +90,6 @@ module _ (t : List Node) (p c : ℕ) (g : IsGrowing t p c) (u : List Node) (q : 
         ∙ sym (append_assoc (flat_map before (sorted t b)) (Begins m ∷ items_in t p k (Some m)) tail)
         ∙ ap (λ o. (flat_map before (sorted t b) ++ last_open o (items_in t p k o)) ++ tail) (sym here)
 
-    block_some : (x : ℕ) → is_block t x ≡ true → 0 < x
-    block_some zero f = absurd (let no = root_no_block t p c g in cc)
-    block_some (suc x) f = omega arith
-
     to_root : (j m : ℕ) → m ≤ j → 0 < m → is_pending t m ≡ true → is_ancestor t m p ≡ true → (y : ℕ) → h ≡ Some y → m ≤ y → Lengthens (Some m) → Lengthens None
     to_root zero m le some e over y is high inner = absurd (omega arith)
     to_root (suc j) m le some e over y is high inner =
@@ -111,7 +107,7 @@ module _ (t : List Node) (p c : ℕ) (g : IsGrowing t p c) (u : List Node) (q : 
               let less = z.less in
               let up : is_ancestor t x p ≡ true = ancestor_trans t g.rooted x m p g.there z.over over in
               let P : Option ℕ → Type 0 = λ b. Lengthens b in
-              more x (omega arith) (block_some x z.block) (g.pending x z.block up) up y is (omega arith) (subst P f (climb m some e over other inner))
+              more x (omega arith) (block_some t g.root x z.block) (g.pending x z.block up) up y is (omega arith) (subst P f (climb m some e over other inner))
 
     -- so are they at the root
     pub lengthens_root : Lengthens h → Lengthens None
@@ -122,7 +118,7 @@ module _ (t : List Node) (p c : ℕ) (g : IsGrowing t p c) (u : List Node) (q : 
           by (Some y) e =
               let z = way y e in
               let P : Option ℕ → Type 0 = λ b. Lengthens b in
-              to_root y y (omega arith) (block_some y z.0) (g.pending y z.0 z.1) z.1 y e (omega arith) (subst P e inner)
+              to_root y y (omega arith) (block_some t g.root y z.0) (g.pending y z.0 z.1) z.1 y e (omega arith) (subst P e inner)
 
     -- to as many levels as there are nodes, and to one more
     pub lengthens_all : Lengthens h → items_in u q (length t) None ≡ items_in t p (length t) None ++ tail

@@ -1,73 +1,33 @@
 -- A small record that is coherent: the states of its strands, one by one.
-use Rattle.std.proofs.Common.{◌≡◌, ℕ, ℤ, zero, suc, ◌<◌, List, [], ◌∷◌, map, refl, arith, false, inl, inr, subst, sym, Some, pos, unwrap_or}
-use Rattle.std.specs.Prelude.{◌⊎◌, ◌&&◌, ◌||◌, not, IsTrue, slice_get}
-use Rattle.cw_strand.specs.declared.want.Given.TheVariants.{Nothing}
-use Rattle.cw_strand.specs.Meaning.{State}
+use Rattle.std.proofs.Common.{◌≡◌, ℕ, ℤ, zero, suc, ◌<◌, List, [], ◌∷◌, map, refl, arith, false, inl, inr, subst, Some, pos, unwrap_or}
+use Rattle.std.specs.Prelude.{◌&&◌, ◌||◌, not, IsTrue, slice_get}
+use Rattle.std.proofs.lemmas.Option.{same_Some}
 use Rattle.cw_tree.specs.declared.node.Node.{Node}
 use Rattle.cw_tree.specs.Nodes.{parent_of, is_strand, is_fork, is_block, is_committed}
 use Rattle.cw_tree.specs.Series.{children, has_later}
 use Rattle.cw_tree.specs.Accesses.{is_live, live_accesses, written, cell_value}
 use Rattle.cw_tree.specs.WorkedRun.{two_blocks}
+use Rattle.cw_tree.proofs.Lists.{at_or_before}
 use Rattle.cw_tree.proofs.KeptRuns.{holds}
 use Rattle.cw_tree.proofs.Checks.{each_below, implies, implied}
 use Rattle.cw_record.specs.declared.record_end.RecordEnd.TheVariants.{Finished}
 use Rattle.cw_record.specs.Coherent.{InSeries, entered, Fits, StrandEnded, alone, joined, Follows, StandsAt, IsMemory}
-use Rattle.cw_record.specs.WorkedRecord.{writers, Coherent}
+use Rattle.cw_record.proofs.WorkedLaw.{lawful}
+use Rattle.cw_record.specs.WorkedRecord.{Writer, whole, left, right, both, writers, Coherent}
 
 -- ## The states
 
-abbrev pub goes : State → State
-goes a = writers.answer a Nothing
-
-abbrev pub whole : State
-whole = writers.start
-
--- the left strand: before its block, in it, after its write, and behind it
-abbrev pub left_0 : State
-left_0 = writers.left whole
-
-abbrev pub left_1 : State
-left_1 = goes left_0
-
-abbrev pub left_2 : State
-left_2 = goes left_1
-
-abbrev pub left_3 : State
-left_3 = goes left_2
-
--- the right strand: before its block, in it, in the block within, after its write, and behind each of them
-abbrev pub right_0 : State
-right_0 = writers.right whole
-
-abbrev pub right_1 : State
-right_1 = goes right_0
-
-abbrev pub right_2 : State
-right_2 = goes right_1
-
-abbrev pub right_3 : State
-right_3 = goes right_2
-
-abbrev pub right_4 : State
-right_4 = goes right_3
-
-abbrev pub right_5 : State
-right_5 = goes right_4
-
-abbrev pub both : State
-both = writers.joined right_5 left_3
-
-abbrev pub state_in : List State → ℕ → State
+abbrev pub state_in : List Writer → ℕ → Writer
 state_in xs n = unwrap_or (slice_get xs n) whole
 
-abbrev pub before : ℕ → State
-before = state_in (whole ∷ whole ∷ left_0 ∷ left_0 ∷ left_1 ∷ right_0 ∷ right_0 ∷ right_1 ∷ right_2 ∷ right_0 ∷ right_1 ∷ right_2 ∷ [])
+abbrev pub before : ℕ → Writer
+before = state_in (whole ∷ whole ∷ left 0 ∷ left 0 ∷ left 1 ∷ right 0 ∷ right 0 ∷ right 1 ∷ right 2 ∷ right 0 ∷ right 1 ∷ right 2 ∷ [])
 
-abbrev pub after : ℕ → State
-after = state_in (whole ∷ both ∷ whole ∷ left_3 ∷ left_2 ∷ whole ∷ right_0 ∷ right_1 ∷ right_2 ∷ right_5 ∷ right_4 ∷ right_3 ∷ [])
+abbrev pub after : ℕ → Writer
+after = state_in (whole ∷ both ∷ whole ∷ left 3 ∷ left 2 ∷ whole ∷ right 0 ∷ right 1 ∷ right 2 ∷ right 5 ∷ right 4 ∷ right 3 ∷ [])
 
-abbrev pub reached : ℕ → State
-reached = state_in (both ∷ whole ∷ left_3 ∷ left_2 ∷ whole ∷ right_5 ∷ right_1 ∷ right_2 ∷ whole ∷ right_4 ∷ right_3 ∷ whole ∷ [])
+abbrev pub reached : ℕ → Writer
+reached = state_in (both ∷ whole ∷ left 3 ∷ left 2 ∷ whole ∷ right 5 ∷ right 1 ∷ right 2 ∷ whole ∷ right 4 ∷ right 3 ∷ whole ∷ [])
 
 -- ## Claims on the twelve nodes
 
@@ -75,24 +35,18 @@ abbrev pub AllBelow : (ℕ → Type 0) → ℕ → Type 0
 AllBelow P zero = Unit {0}
 AllBelow P (suc n) = AllBelow P n × P n
 
-lt_or : (f g : ℕ) → f < suc g → (f ≡ g) ⊎ (f < g)
-lt_or f g h = grind arith
-
 each : (P : ℕ → Type 0) (n : ℕ) → AllBelow P n → (m : ℕ) → m < n → P m
 each P zero w m h = absurd (omega arith)
-each P (suc n) w m h = elim (lt_or m n h) [ inl q ↦ subst P (sym q) w.1 | inr l ↦ each P n w.0 m l ]
+each P (suc n) w m h = elim (at_or_before m n h) [ inl l ↦ each P n w.0 m l | inr q ↦ subst P q w.1 ]
 
 -- what holds of each node that a list has holds where a number finds one
 abbrev pub AllFrom : (ℕ → Node → Type 0) → List Node → Type 0
 AllFrom P [] = Unit {0}
 AllFrom P (x ∷ xs) = P zero x × AllFrom (λ n. P (suc n)) xs
 
-some_same : {B : Type 0} (x y : B) → Some x ≡ Some y → x ≡ y
-some_same x y e = cc e
-
 found : (P : ℕ → Node → Type 0) (xs : List Node) → AllFrom P xs → (m : ℕ) (x : Node) → slice_get xs m ≡ Some x → P m x
 found P [] w m x e = absurd (cc e)
-found P (y ∷ xs) w zero x e = let Q : Node → Type 0 = λ z. P zero z in subst Q (some_same y x e) w.0
+found P (y ∷ xs) w zero x e = let Q : Node → Type 0 = λ z. P zero z in subst Q (same_Some y x e) w.0
 found P (y ∷ xs) w (suc m) x e = found (λ n. P (suc n)) xs w.1 m x e
 
 abbrev pub Steady : ℕ → Type 0
@@ -113,7 +67,7 @@ abbrev pub Ended : ℕ → Type 0
 Ended = StrandEnded writers two_blocks before after reached
 
 some_not_fork : (c f : ℕ) → IsTrue (not (is_fork two_blocks c)) → Some c ≡ Some f → IsTrue (not (is_fork two_blocks f))
-some_not_fork c f h e = let P : ℕ → Type 0 = λ n. IsTrue (not (is_fork two_blocks n)) in subst P (some_same c f e) h
+some_not_fork c f h e = let P : ℕ → Type 0 = λ n. IsTrue (not (is_fork two_blocks n)) in subst P (same_Some c f e) h
 
 left_ended : Ended 2
 left_ended = alone {x = 2} refl (λ f e. some_not_fork 3 f refl e)
@@ -153,6 +107,7 @@ one_is_not_two e = absurd (cc e)
 
 pub coherent : Coherent
 coherent = record {
+  lawful = lawful;
   holds = record {
     tree = holds.tree;
     stamps = holds.stamps;

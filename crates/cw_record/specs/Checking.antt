@@ -7,14 +7,14 @@ use Rattle.std.specs.Option.{option_or}
 use Rattle.cw_strand.specs.Names.{first_memory}
 use Rattle.cw_serial.specs.declared.ends.SerialEnd.{SerialEnd}
 use Rattle.cw_serial.specs.declared.ends.SerialEnd.TheVariants as last
-use Rattle.cw_serial.specs.Machine.{value_at}
-use Rattle.cw_serial.specs.Programs.{end_under}
+use Rattle.cw_serial.specs.Wants.{value_at}
+use Rattle.cw_serial.specs.MachineOf.{end_under}
 use Rattle.cw_record.specs.declared.record_end.RecordEnd.{RecordEnd}
 use Rattle.cw_record.specs.declared.record_end.RecordEnd.TheVariants.{Finished, Fault, Budget, Moves}
 use Rattle.cw_record.specs.declared.record.Record.{Record}
 use Rattle.cw_record.specs.declared.checking.Checked.{Checked}
 use Rattle.cw_record.specs.declared.checking.Checked.TheVariants.{Agrees, Disagree}
-use Rattle.cw_record.specs.Records.{Holds}
+use Rattle.cw_record.specs.Records.{IsReplayed, job_of}
 
 -- the first place at which two lists differ, of those that both have
 abbrev pub first_difference : (kept replayed : List ℤ) → Option ℕ
@@ -53,6 +53,6 @@ difference cells kept e = Disagree cells (pos (variant kept)) (pos (other_varian
 
 -- a check's answer on a record
 abbrev pub Checks : Record → Checked → Type 0
-Checks r Agrees = Holds r
+Checks r Agrees = IsReplayed r
 Checks r (Disagree cell kept replayed) =
-    (Holds r → ⊥) × (Disagree cell kept replayed ≡ difference (length (first_memory r.program.cells)) r.end (end_under r.program r.order))
+    (IsReplayed r → ⊥) × (Disagree cell kept replayed ≡ difference (length (first_memory r.program.cells)) r.end (end_under (job_of r) r.order))

@@ -8,7 +8,7 @@ use Rattle.cw_tree.specs.declared.access.Entry.{Entry}
 use Rattle.cw_tree.specs.Nodes.{parent_of, closed, fresh_node}
 use Rattle.cw_strand.specs.declared.want.Want.{Want}
 use Rattle.cw_strand.specs.declared.want.Want.TheVariants as want
-use Rattle.cw_serial.specs.Machine.{value_at}
+use Rattle.cw_serial.specs.Wants.{value_at}
 
 -- one node more, at place p
 abbrev pub added : List Node → ℕ → Kind → ℕ → List Node

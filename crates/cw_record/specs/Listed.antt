@@ -1,5 +1,5 @@
 -- The names of a run's strands, each once, as an order lists them.
-use Rattle.std.specs.Prelude.{ℕ, suc, ◌&&◌, Bool, true, false, List, [], ◌∷◌, map, filter, if◌then◌else◌}
+use Rattle.std.specs.Prelude.{ℕ, suc, false, List, [], ◌∷◌, map, filter, if◌then◌else◌}
 use Rattle.std.specs.List.{list_any}
 use Rattle.cw_tree.specs.declared.node.Node.{Node}
 use Rattle.cw_tree.specs.declared.picks.Name.{Name}
@@ -7,12 +7,7 @@ use Rattle.cw_tree.specs.declared.picks.Turn.{Turn}
 use Rattle.cw_tree.specs.Nodes.{is_strand}
 use Rattle.cw_tree.specs.Series.{depth_first}
 use Rattle.cw_tree.specs.Names.{name_of}
-use Rattle.cw_serial.specs.Machine.{same_turn}
-
-abbrev pub same_name : List Turn → List Turn → Bool
-same_name [] [] = true
-same_name (x ∷ p) (y ∷ q) = same_turn x y && same_name p q
-same_name _ _ = false
+use Rattle.cw_serial.specs.Machine.{same_name}
 
 -- each name where it comes first, and none that was seen before
 abbrev pub once : (seen : List (List Turn)) → List (List Turn) → List (List Turn)

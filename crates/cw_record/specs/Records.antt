@@ -2,7 +2,6 @@
 use Rattle.std.specs.Prelude.{◌≡◌, ℕ, suc, ◌<◌, List, [], map, length, true, Some, IsTrue}
 use Rattle.cw_strand.specs.declared.want.Want.TheVariants.{Fault as AFault}
 use Rattle.cw_strand.specs.Names.{first_memory}
-use Rattle.cw_strand.specs.Meaning.{State}
 use Rattle.cw_tree.specs.declared.node.Node.{Node}
 use Rattle.cw_tree.specs.declared.access.Entry.{Entry}
 use Rattle.cw_tree.specs.Nodes.{parent_of, is_strand, is_block, is_pending, is_committed}
@@ -11,11 +10,12 @@ use Rattle.cw_tree.specs.Names.{name_of}
 use Rattle.cw_tree.specs.Refusals.{AreRefusals}
 use Rattle.cw_tree.specs.Shape.{IsTree, AreStamps, PendingLast}
 use Rattle.cw_tree.specs.Journals.{AreJournals}
-use Rattle.cw_serial.specs.declared.program.Program.{Program}
+use Rattle.cw_serial.specs.Jobs.{Job}
+use Rattle.cw_serial.specs.Room.Strands.{StrandState, strands_of}
 use Rattle.cw_serial.specs.Machine.{Machine, has_ended}
-use Rattle.cw_serial.specs.Threads.{at}
+use Rattle.cw_serial.specs.StrandTree.{at}
 use Rattle.cw_serial.specs.DepthFirst.{leftmost, GoesDepthFirst}
-use Rattle.cw_serial.specs.Programs.{strands_of, machine_of}
+use Rattle.cw_serial.specs.MachineOf.{machine_of}
 use Rattle.cw_record.specs.declared.record_end.RecordEnd.{RecordEnd}
 use Rattle.cw_record.specs.declared.record_end.RecordEnd.TheVariants.{Finished, Fault, Budget, Moves}
 use Rattle.cw_record.specs.declared.record.Record.{Record}
@@ -24,9 +24,13 @@ use Rattle.cw_record.specs.Items.{items, place_of_end}
 use Rattle.cw_record.specs.Order.{ending_strand}
 use Rattle.cw_record.specs.Replay.{doer, DoesAll, Replays}
 
+-- what a record is a run of
+abbrev pub job_of : Record → Job
+job_of r = record { program = r.program; words = r.words; limits = r.limits }
+
 -- One memory, in the order of the record, does what the record says, and comes to its end.
-abbrev pub Holds : Record → Type 0
-Holds r = Replays (strands_of r.program) (first_memory r.program.cells) r.limits.aborts r.tree r.conflicts r.order r.end
+abbrev pub IsReplayed : Record → Type 0
+IsReplayed r = Replays (strands_of (job_of r)) (first_memory r.program.cells) r.limits.aborts r.tree r.conflicts r.order r.end
 
 -- a run of one worker ends by itself, or at a fault
 abbrev pub HasEnded : RecordEnd → Type 0
@@ -36,21 +40,21 @@ HasEnded (Budget strand) = ⊥
 HasEnded Moves = ⊥
 
 -- Nothing is left to do in main, or the leftmost strand, of this name, stands at a fault.
-abbrev pub StopsAt : Program → List Node → RecordEnd → Machine State → Type 0
-StopsAt p t (Finished memory outputs) m = (has_ended (strands_of p) m ≡ true) × (m.memory ≡ memory) × (m.outputs ≡ outputs)
-StopsAt p t (Fault x kind) m =
-    (leftmost (strands_of p) m.strands ≡ Some (name_of t x))
-    × ((a : State) × (at (strands_of p) m.strands (name_of t x) ≡ Some a) × ((strands_of p).want a ≡ AFault kind))
-StopsAt p t e m = ⊥
+abbrev pub StopsAt : Job → List Node → RecordEnd → Machine StrandState → Type 0
+StopsAt job t (Finished memory outputs) m = (has_ended (strands_of job) m ≡ true) × (m.memory ≡ memory) × (m.outputs ≡ outputs)
+StopsAt job t (Fault x kind) m =
+    (leftmost (strands_of job) m.strands ≡ Some (name_of t x))
+    × ((a : StrandState) × (at (strands_of job) m.strands (name_of t x) ≡ Some a) × ((strands_of job).want a ≡ AFault kind))
+StopsAt job t e m = ⊥
 
 -- The order of these items is the depth-first one: the leftmost strand is picked, until there is none, or it stands at a fault.
-pub record GoesThrough (p : Program) (t : List Node) (is : List Item) (e : RecordEnd) : Type 0 where
-  pub machine : Machine State
-  pub picks : GoesDepthFirst (strands_of p) (machine_of p) (map (doer t) is) machine
-  pub stops : StopsAt p t e machine
+pub record GoesThrough (job : Job) (t : List Node) (is : List Item) (e : RecordEnd) : Type 0 where
+  pub machine : Machine StrandState
+  pub picks : GoesDepthFirst (strands_of job) (machine_of job) (map (doer t) is) machine
+  pub stops : StopsAt job t e machine
 
 abbrev pub IsDepthFirst : Record → Type 0
-IsDepthFirst r = GoesThrough r.program r.tree (items r.tree r.conflicts r.limits.aborts r.end) r.end
+IsDepthFirst r = GoesThrough (job_of r) r.tree (items r.tree r.conflicts r.limits.aborts r.end) r.end
 
 -- Numbers are depth first: each node hangs from the one before it, or from a node above that one.
 abbrev pub IsNumberedDepthFirst : List Node → Type 0
@@ -66,7 +70,7 @@ abbrev pub BlocksEnded : List Node → RecordEnd → Type 0
 BlocksEnded t e = BlocksAround t (place_of_end t [] 0 e)
 
 -- What one worker leaves: its tree, its journals and its end, whatever the budget.
-pub record IsRun (p : Program) (t : List Node) (kept : List (List Entry)) (e : RecordEnd) : Type 0 where
+pub record IsRun (job : Job) (t : List Node) (kept : List (List Entry)) (e : RecordEnd) : Type 0 where
   pub ended : HasEnded e
   pub tree : IsTree t
   pub numbered : IsNumberedDepthFirst t
@@ -75,6 +79,6 @@ pub record IsRun (p : Program) (t : List Node) (kept : List (List Entry)) (e : R
   pub pending_last : PendingLast t
   pub refusals : AreRefusals t []
   pub strand : IsTrue (is_strand t (ending_strand e))
-  pub order : (budget : ℕ) → GoesThrough p t (items t [] budget e) e
-  pub acts : (budget : ℕ) → DoesAll (strands_of p) t (machine_of p) (items t [] budget e)
-  pub journals : AreJournals t (first_memory p.cells) kept
+  pub order : (budget : ℕ) → GoesThrough job t (items t [] budget e) e
+  pub acts : (budget : ℕ) → DoesAll (strands_of job) t (machine_of job) (items t [] budget e)
+  pub journals : AreJournals t (first_memory job.program.cells) kept

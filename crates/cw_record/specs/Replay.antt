@@ -15,8 +15,9 @@ use Rattle.cw_tree.specs.Series.{strand_of}
 use Rattle.cw_tree.specs.Refusals.{telling}
 use Rattle.cw_serial.specs.declared.ends.SerialEnd.{SerialEnd}
 use Rattle.cw_serial.specs.declared.ends.SerialEnd.TheVariants as last
-use Rattle.cw_serial.specs.Threads.{at}
-use Rattle.cw_serial.specs.Machine.{Machine, value_at, pick, serial_end, begun}
+use Rattle.cw_serial.specs.StrandTree.{at}
+use Rattle.cw_serial.specs.Machine.{Machine, pick, serial_end, initial}
+use Rattle.cw_serial.specs.Wants.{value_at}
 use Rattle.cw_record.specs.declared.record_end.RecordEnd.{RecordEnd}
 use Rattle.cw_record.specs.declared.record_end.RecordEnd.TheVariants.{Finished, Fault, Budget, Moves}
 use Rattle.cw_record.specs.declared.items.Item.{Item}
@@ -94,6 +95,6 @@ module _ {A : Type 0} (s : Strands A) where
     pub strand : IsTrue (is_strand t (ending_strand e))
     -- the order is that of the tree, the conflicts and the end
     pub order : picks ≡ order_of t cs budget e
-    pub acts : DoesAll t (begun s first) (items t cs budget e)
+    pub acts : DoesAll t (initial s first) (items t cs budget e)
     pub end : SameEnd e picks (serial_end s first picks)
-    pub spent : IsSpent t cs budget e (picked (begun s first) (map (doer t) (items t cs budget e)))
+    pub spent : IsSpent t cs budget e (picked (initial s first) (map (doer t) (items t cs budget e)))

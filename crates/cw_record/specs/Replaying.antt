@@ -1,11 +1,12 @@
 -- What a check finds of a record whose order is the right one, step by step.
 use Rattle.std.specs.Prelude.{List, map, Option, Some, None, IsSomeAnd}
 use Rattle.cw_strand.specs.declared.want.Want.{Want}
-use Rattle.cw_strand.specs.Meaning.{State}
 use Rattle.cw_tree.specs.declared.conflict.Conflict.{Conflict}
 use Rattle.cw_tree.specs.Refusals.{telling}
 use Rattle.cw_serial.specs.Machine.{Machine}
-use Rattle.cw_serial.specs.Programs.{strands_of, machine_of}
+use Rattle.cw_serial.specs.Room.Strands.{StrandState, strands_of}
+use Rattle.cw_serial.specs.MachineOf.{machine_of}
+use Rattle.cw_record.specs.Records.{job_of}
 use Rattle.cw_record.specs.declared.record_end.RecordEnd.{RecordEnd}
 use Rattle.cw_record.specs.declared.record_end.RecordEnd.TheVariants.{Budget}
 use Rattle.cw_record.specs.declared.record.Record.{Record}
@@ -14,13 +15,13 @@ use Rattle.cw_record.specs.Items.{items}
 use Rattle.cw_record.specs.Replay.{doer, DoesAll, IsRefused, picked, IsSpent}
 
 -- from this machine on, the items are done, and then a strand that spent its budget stands at what was refused
-abbrev pub DoesFrom : Record → Machine State → List Item → Type 0
+abbrev pub DoesFrom : Record → Machine StrandState → List Item → Type 0
 DoesFrom r m is =
-    DoesAll (strands_of r.program) r.tree m is
-    × IsSpent (strands_of r.program) r.tree r.conflicts r.limits.aborts r.end (picked (strands_of r.program) m (map (doer r.tree) is))
+    DoesAll (strands_of (job_of r)) r.tree m is
+    × IsSpent (strands_of (job_of r)) r.tree r.conflicts r.limits.aborts r.end (picked (strands_of (job_of r)) m (map (doer r.tree) is))
 
 abbrev pub Does : Record → Type 0
-Does r = DoesFrom r (machine_of r.program) (items r.tree r.conflicts r.limits.aborts r.end)
+Does r = DoesFrom r (machine_of (job_of r)) (items r.tree r.conflicts r.limits.aborts r.end)
 
 abbrev pub WantsTold : Option Conflict → Option Want → Type 0
 WantsTold None w = ⊥

@@ -6,7 +6,8 @@ use Rattle.cw_tree.specs.declared.node.Node.{Node}
 use Rattle.cw_tree.specs.declared.picks.Turn.{Turn}
 use Rattle.cw_tree.specs.Nodes.{parent_of, last_below, all_nodes, is_strand}
 use Rattle.cw_tree.specs.Names.{name_of}
-use Rattle.cw_record.specs.Listed.{same_name, index_of, names}
+use Rattle.cw_serial.specs.Machine.{same_name}
+use Rattle.cw_record.specs.Listed.{index_of, names}
 
 -- m is a child of n
 abbrev pub is_child : List Node → ℕ → ℕ → Bool

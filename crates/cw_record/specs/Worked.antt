@@ -1,16 +1,34 @@
 -- What one worker holds in memory, and what its steps do to it.
 use Rattle.std.specs.Prelude.{◌≡◌, ℕ, List, [], ◌∷◌}
-use Rattle.cw_serial.specs.declared.strand.Strand.{Strand}
-use Rattle.cw_record.specs.declared.worker.Bend.{Bend}
-use Rattle.cw_record.specs.declared.worker.Bend.TheVariants.{Left, Right}
+use Rattle.cw_strand.specs.declared.want.Want.{Want}
+use Rattle.cw_strand.specs.Strands.{Strands}
+use Rattle.cw_serial.specs.Room.Strands.{StrandState, job_of, state_of, strands_of}
+use Rattle.cw_record.specs.declared.worker.Branch.{Branch}
+use Rattle.cw_record.specs.declared.worker.Branch.TheVariants.{Left, Right}
+use Rattle.cw_record.specs.declared.worker.Worker.{Worker}
 
--- One fork more, with this node, whose right strand is as said.
-abbrev pub Forked : (old new : List Bend) → (node : ℕ) → (Strand → Type 0) → Type 0
-Forked old (Left f right ∷ rest) node P = (f ≡ node) × (rest ≡ old) × P right
-Forked old new node P = ⊥
+-- the law of the strands that it runs
+abbrev pub law_of : Worker → Strands StrandState
+law_of w = strands_of (job_of w.interpreter)
+
+-- what the strand that it runs wants
+abbrev pub want_of : Worker → Want
+want_of w = (law_of w).want (state_of w.strand)
+
+-- It goes from strand to strand: what it runs by, memory, outputs and journals stay.
+pub record Keeps (old new : Worker) : Type 0 where
+  pub interpreter : new.interpreter ≡ old.interpreter
+  pub memory : new.memory ≡ old.memory
+  pub outputs : new.outputs ≡ old.outputs
+  pub journals : new.drawing.journals ≡ old.drawing.journals
+
+-- One fork more, with this node, whose right strand, in this state, is to come.
+abbrev pub WaitsOnLeft : (old new : List Branch) → (node : ℕ) → StrandState → Type 0
+WaitsOnLeft old (Left f right ∷ rest) node state = (f ≡ node) × (rest ≡ old) × (state_of right ≡ state)
+WaitsOnLeft old new node state = ⊥
 
 -- the nodes of the forks whose right strands are still to come, the innermost first
-abbrev pub unstarted : List Bend → List ℕ
+abbrev pub unstarted : List Branch → List ℕ
 unstarted [] = []
 unstarted (Left f right ∷ rest) = f ∷ unstarted rest
 unstarted (Right f left ∷ rest) = unstarted rest

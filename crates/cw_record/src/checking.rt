@@ -1,10 +1,10 @@
 ghost use Rattle.std.specs.Prelude.{◌≡◌, ◌↔◌, pos, IfOk, IsTrue};
 ghost use Rattle.cw_tree.specs.Nodes.{is_strand};
-ghost use Rattle.cw_serial.specs.Machine.{value_at};
-ghost use Rattle.cw_serial.specs.Programs.{end_under};
+ghost use Rattle.cw_serial.specs.Wants.{value_at};
+ghost use Rattle.cw_serial.specs.MachineOf.{end_under};
 ghost use Rattle.cw_record.specs.Order.{ending_strand};
 ghost use Rattle.cw_record.specs.Replay.{SameEnd};
-ghost use Rattle.cw_record.specs.Records.{Holds};
+ghost use Rattle.cw_record.specs.Records.{IsReplayed, job_of};
 ghost use Rattle.cw_record.specs.declared.checking.Checked.TheVariants.{Disagree};
 ghost use Rattle.cw_record.specs.Checking.{Checks, difference, first_difference, other_variant, variant};
 
@@ -12,7 +12,7 @@ use crate::order::ending_strand;
 use crate::replaying::does_all;
 use crate::{Record, RecordEnd, order_of};
 use cw_base::OutOfMemory;
-use cw_serial::{SerialEnd, first_memory, serial};
+use cw_serial::{SerialEnd, first_memory, serial, value_at};
 use cw_tree::{Name, Picks, Tree};
 use std::alloc::Global;
 
@@ -51,8 +51,8 @@ pub fn check(alloc: Global, kept: &Record) -> Result<Checked, OutOfMemory>
 
 /// Whether a record replays, where this is the machine's end under its order.
 fn replays(alloc: Global, kept: &Record, end: &SerialEnd) -> Result<bool, OutOfMemory>
-    requires { end.now ≡ end_under kept.now.program kept.now.order }
-    ensures { IfOk result (λ b. IsTrue b ↔ Holds kept.now) }
+    requires { end.now ≡ end_under (job_of kept.now) kept.now.order }
+    ensures { IfOk result (λ b. IsTrue b ↔ IsReplayed kept.now) }
 {
     if !names_strand(&kept.tree, &kept.end) || !is_same_end(&kept.end, &kept.order, end) {
         return Ok(false);
@@ -67,8 +67,7 @@ fn replays(alloc: Global, kept: &Record, end: &SerialEnd) -> Result<bool, OutOfM
     if !same_picks(&kept.order, &order) {
         return Ok(false);
     }
-    let does = does_all(alloc, kept)?;
-    Ok(does)
+    does_all(alloc, kept)
 }
 
 /// Whether the strand that an end names is one of the tree.
@@ -167,8 +166,8 @@ fn told(cell: u32, place: usize, kept: &[i64], replayed: &[i64]) -> Checked
 {
     Checked::Disagree {
         cell,
-        kept: kept.get(place).copied().unwrap_or(0),
-        replayed: replayed.get(place).copied().unwrap_or(0),
+        kept: value_at(kept, place),
+        replayed: value_at(replayed, place),
     }
 }
 

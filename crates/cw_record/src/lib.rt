@@ -1,7 +1,8 @@
 //! What a run keeps: its tree, its journals, its order and its end; and the run of one worker.
 //! Stands on `cw_base`, `cw_code`, `cw_text`, `cw_strand`, `cw_tree` and `cw_serial`.
 //! Contracts cite `specs/Order.antt` (the order of a record, from `specs/Items.antt` and `specs/Listed.antt`), `specs/Replay.antt` (that
-//! one memory does what a record says), `specs/Checking.antt` (what a check says) and `specs/Records.antt` (the run of one worker). Private ones cite `specs/Levels.antt` (how
+//! one memory does what a record says), `specs/Checking.antt` (what a check says), `specs/Records.antt` (the run of one worker), and `specs/WorkedRecord.antt` with
+//! `specs/Coherent.antt` (a record that is coherent). Private ones cite `specs/Levels.antt` (how
 //! items are found), `specs/Walked.antt` (what the passes over a tree find), `specs/Drawn.antt` (what a step adds to the tree) and
 //! `specs/Worked.antt` (what one worker holds).
 #![tactic(auto)]
@@ -32,6 +33,3 @@ pub use record_end::RecordEnd;
 pub fn worked_record()
     ensures coherent { Coherent }
 {}
-
-#[cfg(test)]
-mod tests;

@@ -25,7 +25,7 @@ pub fn order_of(
     requires { IsTrue (is_strand tree.now (ending_strand end.now)) }
     ensures { IfOk result (λ p. p ≡ order_of tree.now conflicts.now aborts end.now) }
 {
-    // each node but the root has a smaller parent
+    // a hint to the prover: each node but the root has a smaller parent
     let _ = tree.nodes();
     let listed = Listed::of_tree(alloc, tree)?;
     let items = items(alloc, tree, conflicts, aborts, end)?;

@@ -6,7 +6,7 @@ ghost use Rattle.cw_tree.specs.Journals.{AreJournals};
 ghost use Rattle.cw_tree.specs.Refusals.{AreRefusals};
 ghost use Rattle.cw_tree.specs.Shape.{IsTree, AreStamps, PendingLast};
 ghost use Rattle.cw_serial.specs.Programs.{IsProgramOf};
-ghost use Rattle.cw_record.specs.Records.{BlocksEnded, HasEnded, Holds, IsDepthFirst, IsNumberedDepthFirst};
+ghost use Rattle.cw_record.specs.Records.{BlocksEnded, HasEnded, IsReplayed, IsDepthFirst, IsNumberedDepthFirst};
 
 use crate::worker::Worker;
 use crate::{RecordEnd, order_of};
@@ -47,7 +47,7 @@ pub fn depth_first(
     ensures ended { IfOk result (λ r. HasEnded r.end) }
     ensures tree { IfOk result (λ r. IsTree r.tree) }
     ensures depth_first { IfOk result (λ r. IsDepthFirst r) }
-    ensures replays { IfOk result (λ r. Holds r) }
+    ensures replays { IfOk result (λ r. IsReplayed r) }
     ensures numbered { IfOk result (λ r. IsNumberedDepthFirst r.tree) }
     ensures blocks { IfOk result (λ r. BlocksEnded r.tree r.end) }
     ensures stamps { IfOk result (λ r. AreStamps r.tree) }
@@ -55,7 +55,7 @@ pub fn depth_first(
     ensures refusals { IfOk result (λ r. AreRefusals r.tree r.conflicts) }
     ensures journals { IfOk result (λ r. AreJournals r.tree (first_memory r.program.cells) r.journals) }
 {
-    let run = Worker::run(alloc, &program)?;
+    let run = Worker::run(alloc, &program, words.as_slice(), limits)?;
     let conflicts = Seq::new(alloc);
     let order = order_of(
         alloc,

@@ -8,7 +8,7 @@ use crate::items::{Item, items};
 use crate::place::telling;
 use crate::{Record, RecordEnd};
 use cw_base::{OutOfMemory, Seq};
-use cw_serial::Play;
+use cw_serial::{Play, value_at};
 use cw_strand::Want;
 use cw_tree::{Conflict, Kind, Tree};
 use std::alloc::Global;
@@ -20,7 +20,7 @@ pub(crate) fn does_all(alloc: Global, kept: &Record) -> Result<bool, OutOfMemory
     ensures { IfOk result (λ b. IsTrue b ↔ Does kept.now) }
 {
     let tree = &kept.tree;
-    // the root is a strand, and each other node has a smaller parent
+    // a hint to the prover: the root is a strand, and each other node has a smaller parent
     let _ = tree.nodes();
     let budget = kept.limits.aborts;
     let items = Seq::from_vec(items(alloc, tree, kept.conflicts.as_slice(), budget, &kept.end)?);
@@ -43,8 +43,7 @@ pub(crate) fn does_all(alloc: Global, kept: &Record) -> Result<bool, OutOfMemory
         }
     }
     let want = play.at(kept.order.last)?;
-    let spent = is_spent(alloc, kept, want)?;
-    Ok(spent)
+    is_spent(alloc, kept, want)
 }
 
 /// Whether a want is what the tree has at an item, where memory is this.
@@ -65,7 +64,7 @@ fn is_act(memory: &[i64], want: Option<Want>, kind: &Kind) -> bool
 {
     match (want, kind) {
         (Some(Want::Load(element)), Kind::Read { cell, value }) => {
-            element == *cell && memory.get(element as usize).copied().unwrap_or(0) == *value
+            element == *cell && value_at(memory, element as usize) == *value
         }
         (Some(Want::Store(element, stored)), Kind::Write { cell, value }) => {
             element == *cell && stored == *value

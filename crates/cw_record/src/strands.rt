@@ -50,7 +50,7 @@ impl Family {
 pub(crate) fn strands(alloc: Global, tree: &Tree) -> Result<Vec<u32>, OutOfMemory>
     ensures { IfOk result (λ found. found.items ≡ filter (is_strand tree.now) (depth_first tree.now)) }
 {
-    // the root is there, and each other node has a smaller parent
+    // a hint to the prover: the root is there, and each other node has a smaller parent
     let _ = tree.nodes();
     let family = Family::of_tree(alloc, tree)?;
     let mut found = Vec::new(alloc);

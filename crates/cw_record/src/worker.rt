@@ -1,34 +1,34 @@
-ghost use Rattle.std.specs.Prelude.{◌≡◌, ◌+◌, ◌<◌, ◌++◌, [], ◌∷◌, All, IfOk, IsTrue, OnOk, length, map, replicate};
+ghost use Rattle.std.specs.Prelude.{◌≡◌, ◌+◌, ◌<◌, ◌++◌, [], ◌∷◌, true, All, IfOk, IsTrue, OnOk, length, map, replicate};
 ghost use Rattle.cw_text.specs.Syntax.{tree_of};
 ghost use Rattle.cw_strand.specs.Laws.{params_at};
-ghost use Rattle.cw_strand.specs.Meaning.{State, answered, left_of, parent_of as forked_by, right_of, step};
 ghost use Rattle.cw_strand.specs.Names.{first_memory};
+ghost use Rattle.cw_strand.specs.Strands.{is_over, takes_answer};
 ghost use Rattle.cw_strand.specs.declared.want.Want.TheVariants as Want;
 ghost use Rattle.cw_tree.specs.Nodes.{fresh_node, is_block, parent_of};
 ghost use Rattle.cw_tree.specs.Series.{strand_of};
 ghost use Rattle.cw_tree.specs.declared.node.Kind.TheVariants.{Strand as AStrand};
-ghost use Rattle.cw_serial.specs.DepthFirst.{answer_to, memory_after, outputs_after};
-ghost use Rattle.cw_serial.specs.Machine.{value_at};
-ghost use Rattle.cw_serial.specs.Programs.{IsProgramOf, strands_of};
-ghost use Rattle.cw_serial.specs.Standing.{ForCells, HasElements, IsOver, IsStrand};
+ghost use Rattle.cw_serial.specs.Jobs.{Job};
+ghost use Rattle.cw_serial.specs.Programs.{IsProgramOf};
+ghost use Rattle.cw_serial.specs.Room.Strands.{job_of, state_of, strands_of};
+ghost use Rattle.cw_serial.specs.Wants.{answer_to, memory_after, outputs_after};
 ghost use Rattle.cw_record.specs.Drawn.{added, forked, journals_after, place_after, tree_after};
 ghost use Rattle.cw_record.specs.Records.{IsRun};
-ghost use Rattle.cw_record.specs.Worked.{Forked, unstarted};
-ghost use Rattle.cw_record.specs.declared.worker.Bend.TheVariants.{Right as OnRight};
+ghost use Rattle.cw_record.specs.Worked.{Keeps, WaitsOnLeft, law_of, unstarted, want_of};
+ghost use Rattle.cw_record.specs.declared.worker.Branch.TheVariants.{Right as OnRight};
 ghost use Rattle.cw_record.specs.declared.record_end.RecordEnd.TheVariants as ending;
 
 use crate::RecordEnd;
 use crate::drawing::Drawing;
-use cw_base::{OutOfMemory, Seq};
-use cw_code::FaultKind;
-use cw_serial::{Elements, Program, Stack, Strand, first_memory};
+use cw_base::{OutOfMemory, Seq, Stack};
+use cw_code::{FaultKind, Limits};
+use cw_serial::{Interpreter, Program, Strand, first_memory, value_at};
 use cw_strand::{Given, Want};
 use cw_tree::Tree;
 use std::alloc::Global;
 
 /// A fork on the way down to the strand that is run, with its node.
 #[derive(Drop)]
-pub(crate) enum Bend<'a> {
+pub(crate) enum Branch<'a> {
     /// The left strand is run, and the right one is still to come.
     Left { fork: u32, right: Strand<'a> },
     /// The right strand is run, and the left one has ended.
@@ -38,12 +38,12 @@ pub(crate) enum Bend<'a> {
 /// One worker: the strand that it runs, at its want, and the forks on the way down to it, the innermost first.
 #[derive(Drop)]
 pub(crate) struct Worker<'a> {
-    pub(crate) elements: Elements<'a>,
+    pub(crate) interpreter: Interpreter<'a>,
     pub(crate) memory: Vec<i64>,
     pub(crate) outputs: Vec<i64>,
     pub(crate) drawing: Drawing,
     pub(crate) strand: Strand<'a>,
-    pub(crate) bends: Stack<Bend<'a>>,
+    pub(crate) branches: Stack<Branch<'a>>,
 }
 
 /// What a run leaves.
@@ -55,45 +55,56 @@ pub(crate) struct Run {
 
 impl<'a> Worker<'a> {
     /// At the first want of main.
-    fn begin(alloc: Global, program: &'a Program) -> Result<Worker<'a>, OutOfMemory>
-        ensures elements { IfOk result (λ w. HasElements w.elements program.now.cells) }
+    fn begin(
+        alloc: Global,
+        program: &'a Program,
+        words: &'a [i64],
+        limits: Limits,
+    ) -> Result<Worker<'a>, OutOfMemory>
+        ensures job { IfOk result (λ w. job_of w.interpreter ≡ record { program = program.now; words = words.now; limits = limits }) }
         ensures memory { IfOk result (λ w. w.memory.items ≡ first_memory program.now.cells) }
         ensures outputs { IfOk result (λ w. w.outputs.items ≡ []) }
         ensures tree { IfOk result (λ w. w.drawing.tree ≡ fresh_node 0 AStrand 0 ∷ []) }
         ensures place { IfOk result (λ w. w.drawing.place ≡ 0) }
         ensures clock { IfOk result (λ w. w.drawing.clock ≡ 0) }
         ensures journals { IfOk result (λ w. w.drawing.journals.items ≡ replicate (length w.memory.items) []) }
-        ensures strand { IfOk result (λ w. IsStrand program.now.cells w.strand (strands_of program.now).start) }
-        ensures bends { IfOk result (λ w. w.bends ≡ []) }
+        ensures strand { IfOk result (λ w. state_of w.strand ≡ (law_of w).start) }
+        ensures branches { IfOk result (λ w. w.branches ≡ []) }
     {
-        let elements = Elements::of_program(alloc, program)?;
+        let interpreter = Interpreter::new(alloc, program, words, limits)?;
         let memory = first_memory(alloc, program.cells.as_slice())?;
         let drawing = Drawing::begin(alloc, memory.len())?;
-        let strand = Strand::main(alloc, program, &elements)?;
+        let strand = Strand::start(alloc, &interpreter)?;
         Ok(Worker {
-            elements,
+            interpreter,
             memory,
             outputs: Vec::new(alloc),
             drawing,
             strand,
-            bends: Stack::new(alloc),
+            branches: Stack::new(alloc),
         })
     }
 
     /// Runs a program depth first, the left strand of each fork before the right one, to its end or to the first fault.
-    pub(crate) fn run(alloc: Global, program: &'a Program) -> Result<Run, OutOfMemory>
+    pub(crate) fn run(
+        alloc: Global,
+        program: &'a Program,
+        words: &'a [i64],
+        limits: Limits,
+    ) -> Result<Run, OutOfMemory>
         requires named { IsProgramOf (tree_of program.now.ast) program.now }
         requires params { params_at (tree_of program.now.ast) program.now.main ≡ [] }
-        ensures { IfOk result (λ r. IsRun program.now r.drawing.tree r.drawing.journals.items r.end) }
+        ensures { IfOk result (λ r. IsRun (record { program = program.now; words = words.now; limits = limits })
+            r.drawing.tree r.drawing.journals.items r.end) }
     {
-        let mut worker = Worker::begin(alloc, program)?;
+        let mut worker = Worker::begin(alloc, program, words, limits)?;
         'wants: loop {
-            match worker.strand.want {
+            match worker.strand.want() {
                 Want::Fork => worker.fork(alloc)?,
-                Want::Sync | Want::Done => match worker.bends.pop() {
+                Want::Sync | Want::Done => match worker.branches.pop() {
                     None => return Ok(worker.finished()),
-                    Some(Bend::Left { fork, right }) => worker.turn(fork, right)?,
-                    Some(Bend::Right { fork, left }) => worker.join(fork, left)?,
+                    Some(Branch::Left { fork, right }) => worker.turn(fork, right)?,
+                    Some(Branch::Right { fork, left }) => worker.join(fork, left)?,
                 },
                 Want::Fault(kind) => return worker.faulted(kind),
                 Want::Load(_) | Want::Store(..) | Want::Out(_) | Want::Begin | Want::End => {
@@ -106,53 +117,53 @@ impl<'a> Worker<'a> {
     /// Does what the strand stands at, and goes on to its next want.
     fn act(&mut self) -> Result<(), OutOfMemory>
         requires there { self.old.drawing.place < length self.old.drawing.tree }
-        requires answered { ¬ IsOver self.old.strand.want }
-        requires block { self.old.strand.want ≡ Want.End → IsTrue (is_block self.old.drawing.tree self.old.drawing.place) }
-        ensures elements { OnOk result (self.new.elements ≡ self.old.elements) }
-        ensures bends { OnOk result (self.new.bends ≡ self.old.bends) }
-        ensures memory { OnOk result (self.new.memory.items ≡ memory_after self.old.strand.want self.old.memory.items) }
-        ensures outputs { OnOk result (self.new.outputs.items ≡ outputs_after self.old.strand.want self.old.outputs.items) }
+        requires answered { takes_answer (want_of self.old) ≡ true }
+        requires block { want_of self.old ≡ Want.End → IsTrue (is_block self.old.drawing.tree self.old.drawing.place) }
+        ensures interpreter { OnOk result (self.new.interpreter ≡ self.old.interpreter) }
+        ensures branches { OnOk result (self.new.branches ≡ self.old.branches) }
+        ensures memory { OnOk result (self.new.memory.items ≡ memory_after (want_of self.old) self.old.memory.items) }
+        ensures outputs { OnOk result (self.new.outputs.items ≡ outputs_after (want_of self.old) self.old.outputs.items) }
         ensures clock { OnOk result (self.new.drawing.clock ≡ self.old.drawing.clock + 1) }
         ensures tree { OnOk result (self.new.drawing.tree
-            ≡ tree_after self.old.strand.want self.old.memory.items self.old.drawing.tree self.old.drawing.place self.new.drawing.clock) }
+            ≡ tree_after (want_of self.old) self.old.memory.items self.old.drawing.tree self.old.drawing.place self.new.drawing.clock) }
         ensures place { OnOk result (self.new.drawing.place
-            ≡ place_after self.old.strand.want self.old.drawing.tree self.old.drawing.place) }
+            ≡ place_after (want_of self.old) self.old.drawing.tree self.old.drawing.place) }
         ensures journals { OnOk result (self.new.drawing.journals.items
-            ≡ journals_after self.old.strand.want self.old.memory.items self.old.drawing.journals.items self.new.drawing.clock) }
-        ensures strand { OnOk result (ForCells self.old.elements (λ cells. (s : State) → IsStrand cells self.old.strand s
-            → IsStrand cells self.new.strand (answered cells (step cells s) (answer_to self.old.strand.want self.old.memory.items) s))) }
+            ≡ journals_after (want_of self.old) self.old.memory.items self.old.drawing.journals.items self.new.drawing.clock) }
+        ensures strand { OnOk result (state_of self.new.strand
+            ≡ (law_of self.old).answer (state_of self.old.strand) (answer_to (want_of self.old) self.old.memory.items)) }
     {
-        let given = self.meet()?;
-        self.strand.answer(given, &self.elements)
+        let given = self.do_want()?;
+        self.strand.answer(given, &self.interpreter)
     }
 
-    /// Meets the strand's want in memory and outputs, and draws it.
-    fn meet(&mut self) -> Result<Given, OutOfMemory>
+    /// Does what the strand wants in memory and outputs, and draws it.
+    fn do_want(&mut self) -> Result<Given, OutOfMemory>
         requires there { self.old.drawing.place < length self.old.drawing.tree }
-        requires answered { ¬ IsOver self.old.strand.want }
-        requires block { self.old.strand.want ≡ Want.End → IsTrue (is_block self.old.drawing.tree self.old.drawing.place) }
-        ensures given { IfOk result (λ g. g ≡ answer_to self.old.strand.want self.old.memory.items) }
-        ensures elements { OnOk result (self.new.elements ≡ self.old.elements) }
+        requires answered { takes_answer (want_of self.old) ≡ true }
+        requires block { want_of self.old ≡ Want.End → IsTrue (is_block self.old.drawing.tree self.old.drawing.place) }
+        ensures given { IfOk result (λ g. g ≡ answer_to (want_of self.old) self.old.memory.items) }
+        ensures interpreter { OnOk result (self.new.interpreter ≡ self.old.interpreter) }
         ensures strand { OnOk result (self.new.strand ≡ self.old.strand) }
-        ensures bends { OnOk result (self.new.bends ≡ self.old.bends) }
-        ensures memory { OnOk result (self.new.memory.items ≡ memory_after self.old.strand.want self.old.memory.items) }
-        ensures outputs { OnOk result (self.new.outputs.items ≡ outputs_after self.old.strand.want self.old.outputs.items) }
+        ensures branches { OnOk result (self.new.branches ≡ self.old.branches) }
+        ensures memory { OnOk result (self.new.memory.items ≡ memory_after (want_of self.old) self.old.memory.items) }
+        ensures outputs { OnOk result (self.new.outputs.items ≡ outputs_after (want_of self.old) self.old.outputs.items) }
         ensures clock { OnOk result (self.new.drawing.clock ≡ self.old.drawing.clock + 1) }
         ensures tree { OnOk result (self.new.drawing.tree
-            ≡ tree_after self.old.strand.want self.old.memory.items self.old.drawing.tree self.old.drawing.place self.new.drawing.clock) }
+            ≡ tree_after (want_of self.old) self.old.memory.items self.old.drawing.tree self.old.drawing.place self.new.drawing.clock) }
         ensures place { OnOk result (self.new.drawing.place
-            ≡ place_after self.old.strand.want self.old.drawing.tree self.old.drawing.place) }
+            ≡ place_after (want_of self.old) self.old.drawing.tree self.old.drawing.place) }
         ensures journals { OnOk result (self.new.drawing.journals.items
-            ≡ journals_after self.old.strand.want self.old.memory.items self.old.drawing.journals.items self.new.drawing.clock) }
+            ≡ journals_after (want_of self.old) self.old.memory.items self.old.drawing.journals.items self.new.drawing.clock) }
     {
-        match self.strand.want {
+        match self.strand.want() {
             Want::Load(element) => {
-                let value = self.value_at(element);
+                let value = value_at(&self.memory, element as usize);
                 self.drawing.reads(element, value)?;
                 return Ok(Given::Value(value));
             }
             Want::Store(element, value) => {
-                let old = self.value_at(element);
+                let old = value_at(&self.memory, element as usize);
                 if let Some(held) = self.memory.get_mut(element as usize) {
                     *held = value;
                 }
@@ -169,70 +180,53 @@ impl<'a> Worker<'a> {
         Ok(Given::Nothing)
     }
 
-    /// What memory has at an element.
-    fn value_at(&self, element: u32) -> i64
-        ensures { result ≡ value_at self.now.memory.items element }
-    {
-        self.memory.get(element as usize).copied().unwrap_or(0)
-    }
-
     /// Goes on with the left strand of the fork that the strand wants.
     fn fork(&mut self, alloc: Global) -> Result<(), OutOfMemory>
         requires there { self.old.drawing.place < length self.old.drawing.tree }
-        requires wanted { self.old.strand.want ≡ Want.Fork }
-        ensures elements { OnOk result (self.new.elements ≡ self.old.elements) }
-        ensures memory { OnOk result (self.new.memory ≡ self.old.memory) }
-        ensures outputs { OnOk result (self.new.outputs ≡ self.old.outputs) }
+        requires wanted { want_of self.old ≡ Want.Fork }
+        ensures keeps { OnOk result (Keeps self.old self.new) }
         ensures clock { OnOk result (self.new.drawing.clock ≡ self.old.drawing.clock + 1) }
         ensures tree { OnOk result (self.new.drawing.tree
             ≡ forked self.old.drawing.tree self.old.drawing.place self.new.drawing.clock) }
         ensures place { OnOk result (self.new.drawing.place ≡ length self.old.drawing.tree + 1) }
-        ensures journals { OnOk result (self.new.drawing.journals ≡ self.old.drawing.journals) }
-        ensures left { OnOk result (ForCells self.old.elements (λ cells. (s : State) → IsStrand cells self.old.strand s
-            → IsStrand cells self.new.strand (left_of cells (step cells s) s))) }
-        ensures right { OnOk result (Forked self.old.bends self.new.bends (length self.old.drawing.tree) (λ right.
-            ForCells self.old.elements (λ cells. (s : State) → IsStrand cells self.old.strand s
-            → IsStrand cells right (right_of cells (step cells s) s)))) }
+        ensures left { OnOk result (state_of self.new.strand ≡ (law_of self.old).left (state_of self.old.strand)) }
+        ensures right { OnOk result (WaitsOnLeft self.old.branches self.new.branches (length self.old.drawing.tree)
+            ((law_of self.old).right (state_of self.old.strand))) }
     {
         let fork = self.drawing.forks()?;
-        let left = self.strand.fork(alloc, &self.elements)?;
+        let left = self.strand.fork(alloc, &self.interpreter)?;
         let right = std::mem::replace(&mut self.strand, left);
-        self.bends.push(Bend::Left { fork, right })
+        self.branches.push(Branch::Left { fork, right })
     }
 
     /// Goes on with the right strand of a fork, whose left strand has ended.
     fn turn(&mut self, fork: u32, right: Strand<'a>) -> Result<(), OutOfMemory>
         requires { fork < length self.old.drawing.tree }
-        ensures elements { OnOk result (self.new.elements ≡ self.old.elements) }
-        ensures memory { OnOk result (self.new.memory ≡ self.old.memory) }
-        ensures outputs { OnOk result (self.new.outputs ≡ self.old.outputs) }
+        ensures keeps { OnOk result (Keeps self.old self.new) }
         ensures clock { OnOk result (self.new.drawing.clock ≡ self.old.drawing.clock) }
         ensures tree { OnOk result (self.new.drawing.tree ≡ added self.old.drawing.tree fork AStrand 0) }
         ensures place { OnOk result (self.new.drawing.place ≡ length self.old.drawing.tree) }
-        ensures journals { OnOk result (self.new.drawing.journals ≡ self.old.drawing.journals) }
         ensures strand { OnOk result (self.new.strand ≡ right.entry) }
-        ensures bends { OnOk result (self.new.bends ≡ OnRight fork self.old.strand ∷ self.old.bends) }
+        ensures branches { OnOk result (self.new.branches ≡ OnRight fork self.old.strand ∷ self.old.branches) }
     {
         self.drawing.starts(fork)?;
         let left = std::mem::replace(&mut self.strand, right);
-        self.bends.push(Bend::Right { fork, left })
+        self.branches.push(Branch::Right { fork, left })
     }
 
     /// Goes on with the strand that forked, where both strands of the fork have ended.
     fn join(&mut self, fork: u32, left: Strand<'a>) -> Result<(), OutOfMemory>
         requires there { fork < length self.old.drawing.tree }
-        requires ended { self.old.strand.want ≡ Want.Sync }
-        ensures elements { OnOk result (self.new.elements ≡ self.old.elements) }
-        ensures memory { OnOk result (self.new.memory ≡ self.old.memory) }
-        ensures outputs { OnOk result (self.new.outputs ≡ self.old.outputs) }
+        requires ended { is_over (want_of self.old) ≡ true }
+        ensures keeps { OnOk result (Keeps self.old self.new) }
         ensures drawing { OnOk result (self.new.drawing
             ≡ record self.old.drawing { place = parent_of self.old.drawing.tree fork }) }
-        ensures bends { OnOk result (self.new.bends ≡ self.old.bends) }
-        ensures strand { OnOk result (ForCells self.old.elements (λ cells. (s : State) → IsStrand cells self.old.strand s
-            → IsStrand cells self.new.strand (forked_by cells (step cells s) s))) }
+        ensures branches { OnOk result (self.new.branches ≡ self.old.branches) }
+        ensures strand { OnOk result (state_of self.new.strand
+            ≡ (law_of self.old).joined (state_of self.old.strand) (state_of left.entry)) }
     {
         self.drawing.joins(fork);
-        self.strand.joined(left, &self.elements)
+        self.strand.join(left, &self.interpreter)
     }
 
     /// The run that has come to the end of main.
@@ -252,20 +246,20 @@ impl<'a> Worker<'a> {
     /// The run that has come to a fault of the strand. The right strands that were still to come stand in the tree, too.
     fn faulted(self, kind: FaultKind) -> Result<Run, OutOfMemory>
         requires there { self.drawing.place < length self.drawing.tree }
-        requires forks { All (λ f. f < length self.drawing.tree) (unstarted self.bends) }
+        requires forks { All (λ f. f < length self.drawing.tree) (unstarted self.branches) }
         ensures tree { IfOk result (λ r. r.drawing.tree
-            ≡ self.entry.drawing.tree ++ map (λ f. fresh_node f AStrand 0) (unstarted self.entry.bends)) }
+            ≡ self.entry.drawing.tree ++ map (λ f. fresh_node f AStrand 0) (unstarted self.entry.branches)) }
         ensures journals { IfOk result (λ r. r.drawing.journals ≡ self.entry.drawing.journals) }
         ensures end { IfOk result (λ r. r.end
             ≡ ending.Fault (strand_of self.entry.drawing.tree self.entry.drawing.place) kind) }
     {
         let mut drawing = self.drawing;
         let strand = strand_of(&drawing.tree, drawing.place);
-        let mut bends = self.bends;
-        while let Some(bend) = bends.pop() {
-            match bend {
-                Bend::Left { fork, .. } => drawing.starts(fork)?,
-                Bend::Right { .. } => {}
+        let mut branches = self.branches;
+        while let Some(branch) = branches.pop() {
+            match branch {
+                Branch::Left { fork, .. } => drawing.starts(fork)?,
+                Branch::Right { .. } => {}
             }
         }
         Ok(Run {

@@ -10,28 +10,38 @@ use std::io::{Read, Write};
 use std::sync::Wait;
 use std::thread::Threads;
 
+#[derive(Drop)]
+struct Said {
+    status: u8,
+    is_kept: bool,
+    note: Option<Vec<u8>>,
+}
+
+fn ask<R: AllocGlobal + Threads + Wait + Sync>(
+    rt: &R,
+    words: &[String],
+    source: &mut SureSource,
+    sink: &mut SureSink,
+) -> Said {
+    let reply = cwstm(rt, rt.alloc(), words, source, sink, &OpenGate);
+    Said {
+        status: reply.status,
+        is_kept: reply.kept.is_some(),
+        note: note_text(rt.alloc(), &reply.note).ok(),
+    }
+}
+
 fn show<R: AllocGlobal + Print + Threads + Wait + Sync>(rt: &R, text: &[u8]) -> io::Result<()> {
     let words = vec![in rt.alloc(); String::from_str(rt.alloc(), "run")?]?;
     let mut source = SureSource::new(text.to_vec(rt.alloc())?, 4096);
     let Ok(mut sink) = SureSink::with_room(rt.alloc(), 4096) else {
         return println!(rt; "want of memory");
     };
-    let reply = cwstm(
-        rt,
-        rt.alloc(),
-        words.as_slice(),
-        &mut source,
-        &mut sink,
-        &OpenGate,
-    );
-    let status = reply.status;
-    let kept = if reply.kept.is_some() {
-        "kept"
-    } else {
-        "not kept"
-    };
+    let said = ask(rt, words.as_slice(), &mut source, &mut sink);
+    let status = said.status;
+    let kept = if said.is_kept { "kept" } else { "not kept" };
     println!(rt; "status {status}, {kept}")?;
-    if let Ok(note) = note_text(rt.alloc(), &reply.note) {
+    if let Some(note) = said.note {
         io::writer(rt).write_all(note.as_slice())?;
     }
     io::writer(rt).write_all(sink.taken())

@@ -1,36 +1,15 @@
 -- Strands beneath a strand, as the way up from one meets them.
 use Rattle.std.proofs.Common.{◌≡◌, ℕ, zero, suc, ◌<◌, ◌≤◌, refl, ap, sym, ◌∙◌, arith, Bool, true, false, eqb, ◌⊎◌, inl, inr, Some, None, List, [], ◌∷◌, ◌++◌, append_assoc, append-nil}
 use Rattle.std.specs.List.{slice_get}
-use Rattle.std.proofs.lemmas.Bool.{and_parts, and_from, eqb-true, eq-eqb, ne_eqb, cases_eq}
+use Rattle.std.proofs.lemmas.Bool.{and_parts, eq-eqb, ne_eqb, cases_eq}
 use Rattle.cw_tree.specs.declared.picks.Name.{Name}
 use Rattle.cw_tree.specs.declared.picks.Turn.{Turn}
-use Rattle.cw_serial.specs.declared.threads.Thread.{Thread}
-use Rattle.cw_serial.specs.Machine.{same_side, same_turn, is_beneath, turns}
+use Rattle.cw_serial.specs.declared.table.Row.{Row}
+use Rattle.cw_serial.specs.Machine.{same_turn, is_beneath, turns}
 use Rattle.cw_serial.specs.Held.{IsNumbered}
-use Rattle.cw_serial.proofs.Sides.{turn_is}
+use Rattle.cw_serial.proofs.Turns.{turn_true, beneath_more}
 use Rattle.cw_serial.proofs.Numbers.{get_some, snoc_same, snoc_cases, turn_of, turns_last, turns_down}
 use Rattle.cw_serial.proofs.Numbered.{turns_unique, turns_within, parent_low}
-
-side_true : (b c : Bool) → same_side b c ≡ true → b ≡ c
-side_true true c e = sym e
-side_true false true e = absurd cc
-side_true false false e = refl
-
-side_itself : (b : Bool) → same_side b b ≡ true
-side_itself true = refl
-side_itself false = refl
-
-turn_true : (x y : Turn) → same_turn x y ≡ true → x ≡ y
-turn_true x y e =
-    let (fork, side) = and_parts (eqb x.fork y.fork) (same_side x.right y.right) e in
-    turn_is x y.fork y.right (eqb-true x.fork y.fork fork) (side_true x.right y.right side)
-
-turn_itself : (x : Turn) → same_turn x x ≡ true
-turn_itself x = and_from (eqb x.fork x.fork) (same_side x.right x.right) (eq-eqb x.fork x.fork refl) (side_itself x.right)
-
-beneath_more : (q r : List Turn) → is_beneath q (q ++ r) ≡ true
-beneath_more [] r = refl
-beneath_more (x ∷ q) r = and_from (same_turn x x) (is_beneath q (q ++ r)) (turn_itself x) (beneath_more q r)
 
 beneath_leads : (q z : List Turn) → is_beneath q z ≡ true → (r : List Turn) × (z ≡ q ++ r)
 beneath_leads [] z e = (z, refl)
@@ -59,10 +38,10 @@ beneath_up q y x ne = by (is_beneath q (y ++ x ∷ [])) (is_beneath q y) refl re
       let (r, same) = beneath_leads q y f in
       ap (is_beneath q) (ap (λ v. v ++ x ∷ []) same ∙ append_assoc q r (x ∷ [])) ∙ (beneath_more q (r ++ x ∷ []) ∙ sym f)
 
-module _ (names : List Name) (threads : List Thread) where
+module _ {S : Type 0} (names : List Name) (rows : List (Row S)) where
   -- on the way up from a strand, which is beneath the other one as the one here is
   pub record Climbs (above number here : ℕ) : Type 0 where
-    pub same : IsNumbered names threads → (q z : List Turn) → turns names above ≡ Some q → turns names number ≡ Some z → (y : List Turn) × (turns names here ≡ Some y) × (is_beneath q z ≡ is_beneath q y)
+    pub same : IsNumbered names rows → (q z : List Turn) → turns names above ≡ Some q → turns names number ≡ Some z → (y : List Turn) × (turns names here ≡ Some y) × (is_beneath q z ≡ is_beneath q y)
 
   pub climb_up : (above number here : ℕ) (n : Name) → above < here → slice_get names here ≡ Some n → Climbs above number here → Climbs above number n.parent
   climb_up above number zero n low there c = absurd (omega arith)
@@ -71,18 +50,18 @@ module _ (names : List Name) (threads : List Thread) where
         let (y, uy, same) = c.same ok q z up uz in
         let l = turns_last names k y uy in
         let ln : l.name ≡ n = (let e : Some l.name ≡ Some n = sym l.here ∙ there in cc) in
-        let ne : q ≡ l.above ++ turn_of l.name ∷ [] → ⊥ = λ e. absurd (let equal : above ≡ suc k = turns_unique names threads ok above (suc k) q up (uy ∙ ap (λ v. Some v) (l.same ∙ sym e)) in omega arith) in
+        let ne : q ≡ l.above ++ turn_of l.name ∷ [] → ⊥ = λ e. absurd (let equal : above ≡ suc k = turns_unique names rows ok above (suc k) q up (uy ∙ ap (λ v. Some v) (l.same ∙ sym e)) in omega arith) in
         (l.above, ap (λ (v : Name). turns names v.parent) (sym ln) ∙ l.up, same ∙ (ap (is_beneath q) l.same ∙ beneath_up q l.above (turn_of l.name) ne));
   }
 
-  module _ (ok : IsNumbered names threads) (above number here : ℕ) (q z : List Turn) (up : turns names above ≡ Some q) (uz : turns names number ≡ Some z) (c : Climbs above number here) where
+  module _ (ok : IsNumbered names rows) (above number here : ℕ) (q z : List Turn) (up : turns names above ≡ Some q) (uz : turns names number ≡ Some z) (c : Climbs above number here) where
     reached : (y : List Turn) → turns names here ≡ Some y → is_beneath q y ≡ true → above ≤ here
     reached y uy e = by (beneath_leads q y e) where
       by : (r : List Turn) × (y ≡ q ++ r) → above ≤ here
-      by ([], same) = omega (arith, turns_unique names threads ok above here q up (uy ∙ ap (λ v. Some v) (same ∙ append-nil q)))
+      by ([], same) = omega (arith, turns_unique names rows ok above here q up (uy ∙ ap (λ v. Some v) (same ∙ append-nil q)))
       by (x ∷ r, same) =
           let d = turns_down names here q r x (uy ∙ ap (λ v. Some v) same) in
-          let parent = turns_unique names threads ok d.name.parent above q d.up up in
+          let parent = turns_unique names rows ok d.name.parent above q d.up up in
           let low = d.low in
           let within = d.within in
           omega arith
@@ -105,13 +84,13 @@ module _ (names : List Name) (threads : List Thread) where
     pub climb_named : slice_get names here ≡ None → ⊥
     climb_named none =
         let (y, uy, same) = c.same ok q z up uz in
-        let (n, there) = get_some names here (turns_within names threads ok here y uy) in
+        let (n, there) = get_some names here (turns_within names rows ok here y uy) in
         let e : Some n ≡ None = sym there ∙ none in
         cc
 
     parent_below : (k : ℕ) (n : Name) → above < k → slice_get names k ≡ Some n → k ≤ n.parent → ⊥
     parent_below zero n low there high = absurd (omega arith)
-    parent_below (suc k) n low there high = let less = parent_low names threads ok k n there in absurd (omega arith)
+    parent_below (suc k) n low there high = let less = parent_low names rows ok k n there in absurd (omega arith)
 
     pub climb_falls : (n : Name) → above < here → slice_get names here ≡ Some n → here ≤ n.parent → ⊥
     climb_falls n low there high = parent_below here n low there high

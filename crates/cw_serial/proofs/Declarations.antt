@@ -1,16 +1,15 @@
 -- Names that were declared one after another: what each stands for, where one more is declared and where one gets another value.
-use Rattle.std.proofs.Common.{◌≡◌, ℕ, ℤ, suc, ◌-◌, ◌<◌, List, [], ◌∷◌, length, drop, map, Bool, true, false, cond, Option, Some, None, IsSome, Result, Ok, Err, OnOk, OnErr, refl, ap, sym, ◌∙◌, subst, arith}
+use Rattle.std.proofs.Common.{◌≡◌, ℕ, suc, ◌-◌, ◌<◌, List, [], ◌∷◌, length, drop, map, Bool, true, false, cond, Option, Some, None, IsSome, Result, Ok, Err, OnOk, OnErr, refl, ap, sym, ◌∙◌, subst, arith}
 use Rattle.std.specs.Option.{option_map}
 use Rattle.std.specs.Str.{bytes_eq}
 use Rattle.std.specs.Cmp.Lexicographic.{nat_list_eq_equiv}
 use Rattle.std.proofs.lemmas.Slice.Eq.{bytes_eq-Decides}
 use Rattle.std.proofs.lemmas.Result.{on_ok_weaker}
 use Rattle.cw_strand.specs.Names.{find}
-use Rattle.cw_strand.specs.Meaning.{Locals, local_of, with_local}
 use Rattle.cw_serial.specs.declared.locals.Hidden.{Hidden}
-use Rattle.cw_serial.specs.declared.scope.Thing.{Thing}
-use Rattle.cw_serial.specs.Scopes.{thing_of}
-use Rattle.cw_serial.specs.Named.{named, before, with_name, list_of, Fits}
+use Rattle.cw_serial.specs.declared.naming.scope.Thing.{Thing}
+use Rattle.cw_serial.specs.NamingRules.Scopes.{thing_of}
+use Rattle.cw_serial.specs.Named.{named, with_named, before, with_name, list_of, Fits}
 
 same_name : (n m : List ℕ) → bytes_eq n m ≡ true → n ≡ m
 same_name n m e = (bytes_eq-Decides n m).0 e
@@ -82,11 +81,7 @@ module _ {V : Type 0} where
   named-list_of [] f fits n = sym (fits n)
   named-list_of (h ∷ hs) f fits n = newest_found (bytes_eq n h.name.now) n h.name.now (f h.name.now) h.value (list_of hs (before h f)) f refl fits.0 refl (named-list_of hs (before h f) fits.1 n)
 
--- ## The same in the words of the language's own look-ups
-
-pub local_of-named : (ls : Locals) (n : List ℕ) → local_of ls n ≡ named ls n
-local_of-named [] n = refl
-local_of-named (x ∷ xs) n = rw (local_of-named xs n) refl
+-- ## The same in the words of the naming rules
 
 pub find-named : (ls : List (List ℕ × Thing)) (n : List ℕ) → find n (map (λ x. (x.0, thing_of x.1)) ls) ≡ option_map thing_of (named ls n)
 find-named [] n = refl
@@ -97,73 +92,74 @@ find-named (x ∷ xs) n = rw (find-named xs n) (first_or (bytes_eq n x.0)) where
 
 -- ## Another value
 
--- what a name that was set stands for, beneath another name
-set_beneath : (b c : Bool) (n m x : List ℕ) (o p q : Option ℤ) → bytes_eq n m ≡ b → bytes_eq n x ≡ c → bytes_eq x m ≡ false → cond b o (cond c p q) ≡ cond c p (cond b o q)
-set_beneath true true n m x o p q e d other = absurd (cc (ap (bytes_eq x) (sym (same_name n x d) ∙ same_name n m e), own_name x))
-set_beneath true false n m x o p q e d other = refl
-set_beneath false true n m x o p q e d other = refl
-set_beneath false false n m x o p q e d other = refl
+module _ {V : Type 0} where
+  -- what a name that was set stands for, beneath another name
+  set_beneath : (b c : Bool) (n m x : List ℕ) (o p q : Option V) → bytes_eq n m ≡ b → bytes_eq n x ≡ c → bytes_eq x m ≡ false → cond b o (cond c p q) ≡ cond c p (cond b o q)
+  set_beneath true true n m x o p q e d other = absurd (cc (ap (bytes_eq x) (sym (same_name n x d) ∙ same_name n m e), own_name x))
+  set_beneath true false n m x o p q e d other = refl
+  set_beneath false true n m x o p q e d other = refl
+  set_beneath false false n m x o p q e d other = refl
 
--- the newest gets another value
-newest_set : (x y : List ℕ) (o : Option ℤ) (v : ℤ) (xs ys : Locals) → bytes_eq x y ≡ true → IsSome o → xs ≡ ys → with_name y (Some v) ys ≡ with_local (with_name y o xs) x v
-newest_set x y None v xs ys e some same = absurd cc
-newest_set x y (Some w) v xs ys e some same = rw (e, same) refl
+  -- the newest gets another value
+  newest_set : (x y : List ℕ) (o : Option V) (v : V) (xs ys : List (List ℕ × V)) → bytes_eq x y ≡ true → IsSome o → xs ≡ ys → with_name y (Some v) ys ≡ with_named (with_name y o xs) x v
+  newest_set x y None v xs ys e some same = absurd cc
+  newest_set x y (Some w) v xs ys e some same = rw (e, same) refl
 
--- an older one gets another value
-older_set : (x y : List ℕ) (o : Option ℤ) (v : ℤ) (xs ys : Locals) → bytes_eq x y ≡ false → IsSome o → ys ≡ with_local xs x v → with_name y o ys ≡ with_local (with_name y o xs) x v
-older_set x y None v xs ys e some same = absurd cc
-older_set x y (Some w) v xs ys e some same = rw (e, same) refl
+  -- an older one gets another value
+  older_set : (x y : List ℕ) (o : Option V) (v : V) (xs ys : List (List ℕ × V)) → bytes_eq x y ≡ false → IsSome o → ys ≡ with_named xs x v → with_name y o ys ≡ with_named (with_name y o xs) x v
+  older_set x y None v xs ys e some same = absurd cc
+  older_set x y (Some w) v xs ys e some same = rw (e, same) refl
 
-set_hidden : (b : Bool) (n x y : List ℕ) (o p q : Option ℤ) → bytes_eq n y ≡ b → x ≡ y → cond b o (cond (bytes_eq n x) p q) ≡ cond b o q
-set_hidden true n x y o p q e is = refl
-set_hidden false n x y o p q e is = rw (is, e) refl
+  set_hidden : (b : Bool) (n x y : List ℕ) (o p q : Option V) → bytes_eq n y ≡ b → x ≡ y → cond b o (cond (bytes_eq n x) p q) ≡ cond b o q
+  set_hidden true n x y o p q e is = refl
+  set_hidden false n x y o p q e is = rw (is, e) refl
 
-abbrev IsAssigned : List (Hidden ℤ) → Meanings ℤ → Meanings ℤ → List ℕ → ℤ → Type 0
-IsAssigned hs f g x v = (list_of hs g ≡ with_local (list_of hs f) x v) × Fits hs g
+  abbrev IsAssigned : List (Hidden V) → Meanings V → Meanings V → List ℕ → V → Type 0
+  IsAssigned hs f g x v = (list_of hs g ≡ with_named (list_of hs f) x v) × Fits hs g
 
--- the newest of these names, and the others beneath it
-module _ (hs : List (Hidden ℤ)) (h : Hidden ℤ) (f g : Meanings ℤ) (x : List ℕ) (v : ℤ) (fits : Fits (h ∷ hs) f) (sets : IsSet x (Some v) f g) where
-  assigned_first : bytes_eq x h.name.now ≡ true → IsAssigned (h ∷ hs) f g x v
-  assigned_first e =
-      let is : x ≡ h.name.now = same_name x h.name.now e in
-      let same : (n : List ℕ) → before h g n ≡ before h f n = λ n. rw (sets n) (set_hidden (bytes_eq n h.name.now) n x h.name.now h.value (Some v) (f n) refl is) in
-      let new : g h.name.now ≡ Some v = sets h.name.now ∙ rw (nat_list_eq_equiv.symm h.name.now x, e) refl in (
-        rw new (newest_set x h.name.now (f h.name.now) v (list_of hs (before h f)) (list_of hs (before h g)) e fits.0 (sym (list_same hs (before h g) (before h f) same))),
-        (rw new refl, fits_same hs (before h f) (before h g) (λ n. sym (same n)) fits.1),
-      )
+  -- the newest of these names, and the others beneath it
+  module _ (hs : List (Hidden V)) (h : Hidden V) (f g : Meanings V) (x : List ℕ) (v : V) (fits : Fits (h ∷ hs) f) (sets : IsSet x (Some v) f g) where
+    assigned_first : bytes_eq x h.name.now ≡ true → IsAssigned (h ∷ hs) f g x v
+    assigned_first e =
+        let is : x ≡ h.name.now = same_name x h.name.now e in
+        let same : (n : List ℕ) → before h g n ≡ before h f n = λ n. rw (sets n) (set_hidden (bytes_eq n h.name.now) n x h.name.now h.value (Some v) (f n) refl is) in
+        let new : g h.name.now ≡ Some v = sets h.name.now ∙ rw (nat_list_eq_equiv.symm h.name.now x, e) refl in (
+          rw new (newest_set x h.name.now (f h.name.now) v (list_of hs (before h f)) (list_of hs (before h g)) e fits.0 (sym (list_same hs (before h g) (before h f) same))),
+          (rw new refl, fits_same hs (before h f) (before h g) (λ n. sym (same n)) fits.1),
+        )
 
-  beneath_is_set : bytes_eq x h.name.now ≡ false → IsSet x (Some v) (before h f) (before h g)
-  beneath_is_set e n = rw (sets n) (set_beneath (bytes_eq n h.name.now) (bytes_eq n x) n h.name.now x h.value (Some v) (f n) refl refl e)
+    beneath_is_set : bytes_eq x h.name.now ≡ false → IsSet x (Some v) (before h f) (before h g)
+    beneath_is_set e n = rw (sets n) (set_beneath (bytes_eq n h.name.now) (bytes_eq n x) n h.name.now x h.value (Some v) (f n) refl refl e)
 
-  assigned_later : bytes_eq x h.name.now ≡ false → IsAssigned hs (before h f) (before h g) x v → IsAssigned (h ∷ hs) f g x v
-  assigned_later e later =
-      let new : g h.name.now ≡ f h.name.now = sets h.name.now ∙ rw (nat_list_eq_equiv.symm h.name.now x, e) refl in (
-        rw new (older_set x h.name.now (f h.name.now) v (list_of hs (before h f)) (list_of hs (before h g)) e fits.0 later.0),
-        (rw new fits.0, later.1),
-      )
+    assigned_later : bytes_eq x h.name.now ≡ false → IsAssigned hs (before h f) (before h g) x v → IsAssigned (h ∷ hs) f g x v
+    assigned_later e later =
+        let new : g h.name.now ≡ f h.name.now = sets h.name.now ∙ rw (nat_list_eq_equiv.symm h.name.now x, e) refl in (
+          rw new (older_set x h.name.now (f h.name.now) v (list_of hs (before h f)) (list_of hs (before h g)) e fits.0 later.0),
+          (rw new fits.0, later.1),
+        )
 
-  assigned_by : (b : Bool) → bytes_eq x h.name.now ≡ b → (b ≡ false → IsAssigned hs (before h f) (before h g) x v) → IsAssigned (h ∷ hs) f g x v
-  assigned_by true e later = assigned_first e
-  assigned_by false e later = assigned_later e (later refl)
+    assigned_by : (b : Bool) → bytes_eq x h.name.now ≡ b → (b ≡ false → IsAssigned hs (before h f) (before h g) x v) → IsAssigned (h ∷ hs) f g x v
+    assigned_by true e later = assigned_first e
+    assigned_by false e later = assigned_later e (later refl)
 
-assigned : (hs : List (Hidden ℤ)) (f g : Meanings ℤ) (x : List ℕ) (v w : ℤ) → Fits hs f → f x ≡ Some w → IsSet x (Some v) f g → IsAssigned hs f g x v
-assigned [] f g x v w fits there sets = absurd (cc (fits x))
-assigned (h ∷ hs) f g x v w fits there sets = assigned_by hs h f g x v fits sets (bytes_eq x h.name.now) refl (λ e. assigned hs (before h f) (before h g) x v w fits.1 (rw e there) (beneath_is_set hs h f g x v fits sets e))
+  assigned : (hs : List (Hidden V)) (f g : Meanings V) (x : List ℕ) (v w : V) → Fits hs f → f x ≡ Some w → IsSet x (Some v) f g → IsAssigned hs f g x v
+  assigned [] f g x v w fits there sets = absurd (cc (fits x))
+  assigned (h ∷ hs) f g x v w fits there sets = assigned_by hs h f g x v fits sets (bytes_eq x h.name.now) refl (λ e. assigned hs (before h f) (before h g) x v w fits.1 (rw e there) (beneath_is_set hs h f g x v fits sets e))
 
--- the same, where the name is one of the list
-assigned_there : (hs : List (Hidden ℤ)) (f g : Meanings ℤ) (x : List ℕ) (v : ℤ) → Fits hs f → IsSome (local_of (list_of hs f) x) → IsSet x (Some v) f g → IsAssigned hs f g x v
-assigned_there hs f g x v fits some sets = by_value (f x) refl (rw (local_of-named (list_of hs f) x, named-list_of hs f fits x) at some) where
-  by_value : (o : Option ℤ) → f x ≡ o → IsSome o → IsAssigned hs f g x v
-  by_value None is some = absurd cc
-  by_value (Some w) is some = assigned hs f g x v w fits is sets
+  -- the same, where the name is one of the list
+  assigned_there : (hs : List (Hidden V)) (f g : Meanings V) (x : List ℕ) (v : V) → Fits hs f → IsSome (named (list_of hs f) x) → IsSet x (Some v) f g → IsAssigned hs f g x v
+  assigned_there hs f g x v fits some sets = by_value (f x) refl (rw (named-list_of hs f fits x) at some) where
+    by_value : (o : Option V) → f x ≡ o → IsSome o → IsAssigned hs f g x v
+    by_value None is some = absurd cc
+    by_value (Some w) is some = assigned hs f g x v w fits is sets
 
--- what a call came to that gives another value, or has no memory to
-module _ {T E : Type 0} (r : Result T E) (hs : List (Hidden ℤ)) (f g : Meanings ℤ) (x : List ℕ) (v : ℤ) (fits : Fits hs f) (some : IsSome (local_of (list_of hs f) x)) where
-  pub list_assigned : OnOk r (IsSet x (Some v) f g) → OnOk r (list_of hs g ≡ with_local (list_of hs f) x v)
-  list_assigned ok = on_ok_weaker r (λ sets. (assigned_there hs f g x v fits some sets).0) ok
+  -- what a call came to that gives another value, or has no memory to
+  module _ {T E : Type 0} (r : Result T E) (hs : List (Hidden V)) (f g : Meanings V) (x : List ℕ) (v : V) (fits : Fits hs f) (some : IsSome (named (list_of hs f) x)) where
+    pub list_assigned : OnOk r (IsSet x (Some v) f g) → OnOk r (list_of hs g ≡ with_named (list_of hs f) x v)
+    list_assigned ok = on_ok_weaker r (λ sets. (assigned_there hs f g x v fits some sets).0) ok
 
-  pub fits_assigned : OnOk r (IsSet x (Some v) f g) → OnErr r ((n : List ℕ) → g n ≡ f n) → Fits hs g
-  fits_assigned ok err = by_result r ok err where
-    by_result : (r : Result T E) → OnOk r (IsSet x (Some v) f g) → OnErr r ((n : List ℕ) → g n ≡ f n) → Fits hs g
-    by_result (Ok t) ok err = (assigned_there hs f g x v fits some ok).1
-    by_result (Err e) ok err = fits_same hs f g (λ n. sym (err n)) fits
+    pub fits_assigned : OnOk r (IsSet x (Some v) f g) → OnErr r ((n : List ℕ) → g n ≡ f n) → Fits hs g
+    fits_assigned ok err = by_result r ok err where
+      by_result : (r : Result T E) → OnOk r (IsSet x (Some v) f g) → OnErr r ((n : List ℕ) → g n ≡ f n) → Fits hs g
+      by_result (Ok t) ok err = (assigned_there hs f g x v fits some ok).1
+      by_result (Err e) ok err = fits_same hs f g (λ n. sym (err n)) fits

@@ -1,70 +1,56 @@
 -- Forks that follow each other are all made: more levels than the depth change nothing.
 use Rattle.std.proofs.Common.{◌≡◌, ℕ, zero, suc, ◌<◌, ◌≤◌, refl, ap, sym, ◌∙◌, arith, Bool, true, false, cond, Option, Some, None}
 use Rattle.cw_strand.specs.declared.want.Want.{Want}
-use Rattle.cw_strand.specs.declared.want.Want.TheVariants.{Load, Store, Out, Begin, End, Fork, Sync, Done, Fault}
+use Rattle.cw_strand.specs.declared.want.Want.TheVariants.{Fork}
 use Rattle.cw_strand.specs.Strands.{Strands, IsDeep, is_over, is_fork}
-use Rattle.cw_serial.specs.Threads.{Threads, stands, waits, ended, meet, run_on, goes_on}
+use Rattle.cw_serial.specs.StrandTree.{StrandTree, stands, waits, ended, meet, run_on, goes_on}
 
 pub fork_want : (w : Want) → is_fork w ≡ true → w ≡ Fork
 fork_want Fork e = refl
-fork_want (Load c) e = absurd (cc e)
-fork_want (Store c v) e = absurd (cc e)
-fork_want (Out v) e = absurd (cc e)
-fork_want Begin e = absurd (cc e)
-fork_want End e = absurd (cc e)
-fork_want Sync e = absurd (cc e)
-fork_want Done e = absurd (cc e)
-fork_want (Fault k) e = absurd (cc e)
+fork_want _ e = absurd (cc e)
 
 -- a strand at its end wants no fork
 pub over_no_fork : (w : Want) → is_over w ≡ true → is_fork w ≡ false
 over_no_fork Fork e = absurd (cc e)
-over_no_fork (Load c) e = refl
-over_no_fork (Store c v) e = refl
-over_no_fork (Out v) e = refl
-over_no_fork Begin e = refl
-over_no_fork End e = refl
-over_no_fork Sync e = refl
-over_no_fork Done e = refl
-over_no_fork (Fault k) e = refl
+over_no_fork _ e = refl
 
 module _ {A : Type 0} (s : Strands A) where
   -- ## Where two strands meet
 
   -- by what they have ended with
-  abbrev pub met : (ℕ → A → Threads A) → ℕ → (left right : Threads A) → (ended_left ended_right : Option A) → Threads A
+  abbrev pub met : (ℕ → A → StrandTree A) → ℕ → (left right : StrandTree A) → (ended_left ended_right : Option A) → StrandTree A
   met go k l r None q = waits k l r
   met go k l r (Some x) None = waits k l r
   met go k l r (Some x) (Some y) = go k (s.joined y x)
 
-  meet_by : (go : ℕ → A → Threads A) (k : ℕ) (l r : Threads A) (o q : Option A) → elim o [ None ↦ waits k l r | Some x ↦ elim q [ None ↦ waits k l r | Some y ↦ go k (s.joined y x) ] ] ≡ met go k l r o q
+  meet_by : (go : ℕ → A → StrandTree A) (k : ℕ) (l r : StrandTree A) (o q : Option A) → elim o [ None ↦ waits k l r | Some x ↦ elim q [ None ↦ waits k l r | Some y ↦ go k (s.joined y x) ] ] ≡ met go k l r o q
   meet_by go k l r None q = refl
   meet_by go k l r (Some x) None = refl
   meet_by go k l r (Some x) (Some y) = refl
 
-  pub meet_is : (go : ℕ → A → Threads A) (k : ℕ) (l r : Threads A) → meet s go k l r ≡ met go k l r (ended s l) (ended s r)
+  pub meet_is : (go : ℕ → A → StrandTree A) (k : ℕ) (l r : StrandTree A) → meet s go k l r ≡ met go k l r (ended s l) (ended s r)
   meet_is go k l r = meet_by go k l r (ended s l) (ended s r)
 
   -- where the left strand has not ended, or the right one
-  pub meet_left : (go : ℕ → A → Threads A) (k : ℕ) (l r : Threads A) → ended s l ≡ None → meet s go k l r ≡ waits k l r
+  pub meet_left : (go : ℕ → A → StrandTree A) (k : ℕ) (l r : StrandTree A) → ended s l ≡ None → meet s go k l r ≡ waits k l r
   meet_left go k l r e = meet_is go k l r ∙ ap (λ o. met go k l r o (ended s r)) e
 
-  met_right : (go : ℕ → A → Threads A) (k : ℕ) (l r : Threads A) (o : Option A) → met go k l r o None ≡ waits k l r
+  met_right : (go : ℕ → A → StrandTree A) (k : ℕ) (l r : StrandTree A) (o : Option A) → met go k l r o None ≡ waits k l r
   met_right go k l r None = refl
   met_right go k l r (Some x) = refl
 
-  pub meet_right : (go : ℕ → A → Threads A) (k : ℕ) (l r : Threads A) → ended s r ≡ None → meet s go k l r ≡ waits k l r
+  pub meet_right : (go : ℕ → A → StrandTree A) (k : ℕ) (l r : StrandTree A) → ended s r ≡ None → meet s go k l r ≡ waits k l r
   meet_right go k l r e = meet_is go k l r ∙ (ap (met go k l r (ended s l)) e ∙ met_right go k l r (ended s l))
 
-  pub meet_both : (go : ℕ → A → Threads A) (k : ℕ) (l r : Threads A) (x y : A) → ended s l ≡ Some x → ended s r ≡ Some y → meet s go k l r ≡ go k (s.joined y x)
+  pub meet_both : (go : ℕ → A → StrandTree A) (k : ℕ) (l r : StrandTree A) (x y : A) → ended s l ≡ Some x → ended s r ≡ Some y → meet s go k l r ≡ go k (s.joined y x)
   meet_both go k l r x y e f = meet_is go k l r ∙ (ap (λ o. met go k l r o (ended s r)) e ∙ ap (met go k l r (Some x)) f)
 
-  met_same : (go run : ℕ → A → Threads A) (k : ℕ) (l r : Threads A) (o q : Option A) → ((x y : A) → q ≡ Some y → go k (s.joined y x) ≡ run k (s.joined y x)) → met go k l r o q ≡ met run k l r o q
+  met_same : (go run : ℕ → A → StrandTree A) (k : ℕ) (l r : StrandTree A) (o q : Option A) → ((x y : A) → q ≡ Some y → go k (s.joined y x) ≡ run k (s.joined y x)) → met go k l r o q ≡ met run k l r o q
   met_same go run k l r None q same = refl
   met_same go run k l r (Some x) None same = refl
   met_same go run k l r (Some x) (Some y) same = same x y refl
 
-  meet_same : (go run : ℕ → A → Threads A) (k : ℕ) (l r : Threads A) → ((x y : A) → ended s r ≡ Some y → go k (s.joined y x) ≡ run k (s.joined y x)) → meet s go k l r ≡ meet s run k l r
+  meet_same : (go run : ℕ → A → StrandTree A) (k : ℕ) (l r : StrandTree A) → ((x y : A) → ended s r ≡ Some y → go k (s.joined y x) ≡ run k (s.joined y x)) → meet s go k l r ≡ meet s run k l r
   meet_same go run k l r same = meet_is go k l r ∙ (met_same go run k l r (ended s l) (ended s r) same ∙ sym (meet_is run k l r))
 
   -- ## Levels
@@ -96,7 +82,7 @@ module _ {A : Type 0} (s : Strands A) where
 
   module _ (deep : IsDeep s) where
     -- what strands have ended with is no deeper than where they went on from
-    ended_met : (n : ℕ) → ((k : ℕ) (b y : A) → ended s (run_on s n k b) ≡ Some y → s.depth y ≤ s.depth b) → (k : ℕ) (l : Threads A) (a y : A) (o q : Option A) → s.want a ≡ Fork → ended s (run_on s n 0 (s.right a)) ≡ q
+    ended_met : (n : ℕ) → ((k : ℕ) (b y : A) → ended s (run_on s n k b) ≡ Some y → s.depth y ≤ s.depth b) → (k : ℕ) (l : StrandTree A) (a y : A) (o q : Option A) → s.want a ≡ Fork → ended s (run_on s n 0 (s.right a)) ≡ q
         → ended s (met (run_on s n) (suc k) l (run_on s n 0 (s.right a)) o q) ≡ Some y → s.depth y ≤ s.depth a
     ended_met n more k l a y None q w r e = absurd (cc e)
     ended_met n more k l a y (Some x) None w r e = absurd (cc e)

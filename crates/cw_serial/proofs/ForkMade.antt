@@ -4,42 +4,42 @@ use Rattle.std.specs.List.{slice_get}
 use Rattle.std.proofs.lemmas.Bool.{cases_eq}
 use Rattle.std.proofs.lemmas.List.{length-set, length-append}
 use Rattle.std.proofs.lemmas.Option.{slice_get_within}
+use Rattle.cw_strand.specs.Strands.{Strands}
 use Rattle.cw_tree.specs.declared.picks.Name.{Name}
-use Rattle.cw_serial.specs.declared.elements.Elements.{Elements}
-use Rattle.cw_serial.specs.declared.threads.Place.TheVariants.{Stands, Waits}
-use Rattle.cw_serial.specs.declared.threads.Sides.{Sides}
-use Rattle.cw_serial.specs.declared.threads.Thread.{Thread}
-use Rattle.cw_serial.specs.declared.threads.Threads.{Threads as Table}
+use Rattle.cw_serial.specs.declared.table.Place.TheVariants.{Stands, Waits}
+use Rattle.cw_serial.specs.declared.table.Sides.{Sides}
+use Rattle.cw_serial.specs.declared.table.Row.{Row}
+use Rattle.cw_serial.specs.declared.table.Table.{Table}
 use Rattle.cw_serial.specs.Held.{left_name, right_name, number_of, IsNumbered, Forks}
 use Rattle.cw_serial.proofs.Numbers.{front_get, get_beyond}
 use Rattle.cw_serial.proofs.Numbered.{set_here, set_elsewhere, pair_cases}
 use Rattle.cw_serial.proofs.Waiting.{puts_here}
 
-module _ (elements : Elements) (old new : Table) (i : ℕ) (x : Sides) (f : Forks elements old i new x) where
+module _ {S A : Type 0} (s : Strands A) (state : S → A) (old new : Table S) (i : ℕ) (x : Sides) (f : Forks s state old i new x) where
   n : ℕ
   n = length old.names.items
 
   -- the strand that forked: as it was, and as it waits
-  pub was : Thread
-  was = f.waits.thread
+  pub was : Row S
+  was = f.waits.row
 
-  pub now : Thread
+  pub now : Row S
   now = f.notes.more
 
-  waits_thread : Thread
-  waits_thread = record f.waits.thread { place = Waits }
+  waits_row : Row S
+  waits_row = record f.waits.row { place = Waits }
 
-  abbrev pub left_thread : Thread
-  left_thread = f.starts_left.thread
+  abbrev pub left_row : Row S
+  left_row = f.starts_left.row
 
-  abbrev pub right_thread : Thread
-  right_thread = f.starts_right.thread
+  abbrev pub right_row : Row S
+  right_row = f.starts_right.row
 
-  notes_thread : f.notes.thread ≡ waits_thread
-  unfolding waits_thread
-  notes_thread = let e : Some f.notes.thread ≡ Some waits_thread = sym f.notes.here ∙ puts_here old f.one i Waits (Stands f.strand) f.waits in cc
+  notes_row : f.notes.row ≡ waits_row
+  unfolding waits_row
+  notes_row = let e : Some f.notes.row ≡ Some waits_row = sym f.notes.here ∙ puts_here old f.one i Waits (Stands f.strand) f.waits in cc
 
-  pub was_here : slice_get old.threads.items i ≡ Some was
+  pub was_here : slice_get old.rows.items i ≡ Some was
   unfolding was
   was_here = f.waits.here
 
@@ -48,16 +48,16 @@ module _ (elements : Elements) (old new : Table) (i : ℕ) (x : Sides) (f : Fork
   was_stands = f.waits.was
 
   pub now_waits : now.place ≡ Waits
-  unfolding now waits_thread
-  now_waits = f.notes.place ∙ ap (λ (t : Thread). t.place) notes_thread
+  unfolding now waits_row
+  now_waits = f.notes.place ∙ ap (λ (t : Row S). t.place) notes_row
 
   pub now_forks : now.forks.items ≡ was.forks.items ++ x ∷ []
-  unfolding now was waits_thread
-  now_forks = f.notes.forks ∙ ap (λ (t : Thread). t.forks.items ++ x ∷ []) notes_thread
+  unfolding now was waits_row
+  now_forks = f.notes.forks ∙ ap (λ (t : Row S). t.forks.items ++ x ∷ []) notes_row
 
   pub fork_number : f.fork ≡ suc (length was.forks.items)
-  unfolding was waits_thread
-  fork_number = f.notes.number ∙ ap (λ (t : Thread). suc (length t.forks.items)) notes_thread
+  unfolding was waits_row
+  fork_number = f.notes.number ∙ ap (λ (t : Row S). suc (length t.forks.items)) notes_row
 
   pub names_now : new.names.items ≡ old.names.items ++ left_name i f.fork ∷ right_name i f.fork ∷ []
   names_now =
@@ -65,50 +65,50 @@ module _ (elements : Elements) (old new : Table) (i : ℕ) (x : Sides) (f : Fork
       ∙ (ap (λ ns. ns ++ right_name i f.fork ∷ []) (f.starts_left.names ∙ ap (λ v. v.items ++ left_name i f.fork ∷ []) (f.notes.names ∙ f.waits.names))
       ∙ append_assoc old.names.items (left_name i f.fork ∷ []) (right_name i f.fork ∷ []))
 
-  -- the threads without the two new ones
-  pub middle : List Thread
-  middle = f.two.threads.items
+  -- the rows without the two new ones
+  pub middle : List (Row S)
+  middle = f.two.rows.items
 
-  pub threads_now : new.threads.items ≡ middle ++ left_thread ∷ right_thread ∷ []
+  pub rows_now : new.rows.items ≡ middle ++ left_row ∷ right_row ∷ []
   unfolding middle
-  threads_now = f.starts_right.threads ∙ (ap (λ ts. ts ++ right_thread ∷ []) f.starts_left.threads ∙ append_assoc f.two.threads.items (left_thread ∷ []) (right_thread ∷ []))
+  rows_now = f.starts_right.rows ∙ (ap (λ ts. ts ++ right_row ∷ []) f.starts_left.rows ∙ append_assoc f.two.rows.items (left_row ∷ []) (right_row ∷ []))
 
   pub middle_here : slice_get middle i ≡ Some now
   unfolding middle now
-  middle_here = ap (λ ts. slice_get ts i) f.notes.threads ∙ set_here f.one.threads.items i f.notes.thread f.notes.more f.notes.here
+  middle_here = ap (λ ts. slice_get ts i) f.notes.rows ∙ set_here f.one.rows.items i f.notes.row f.notes.more f.notes.here
 
-  pub middle_elsewhere : (j : ℕ) → (i ≡ j → ⊥) → slice_get middle j ≡ slice_get old.threads.items j
+  pub middle_elsewhere : (j : ℕ) → (i ≡ j → ⊥) → slice_get middle j ≡ slice_get old.rows.items j
   unfolding middle
   middle_elsewhere j ne =
-      ap (λ ts. slice_get ts j) f.notes.threads ∙ (set_elsewhere f.one.threads.items i j f.notes.more ne
-      ∙ (ap (λ ts. slice_get ts j) f.waits.threads ∙ set_elsewhere old.threads.items i j (record f.waits.thread { place = Waits }) ne))
+      ap (λ ts. slice_get ts j) f.notes.rows ∙ (set_elsewhere f.one.rows.items i j f.notes.more ne
+      ∙ (ap (λ ts. slice_get ts j) f.waits.rows ∙ set_elsewhere old.rows.items i j (record f.waits.row { place = Waits }) ne))
 
-  middle_length : length middle ≡ length old.threads.items
+  middle_length : length middle ≡ length old.rows.items
   unfolding middle
-  middle_length = ap length f.notes.threads ∙ (length-set f.one.threads.items i f.notes.more ∙ (ap length f.waits.threads ∙ length-set old.threads.items i (record f.waits.thread { place = Waits })))
+  middle_length = ap length f.notes.rows ∙ (length-set f.one.rows.items i f.notes.more ∙ (ap length f.waits.rows ∙ length-set old.rows.items i (record f.waits.row { place = Waits })))
 
   -- ## Numbers
 
-  module _ (ok : IsNumbered old.names.items old.threads.items) where
+  module _ (ok : IsNumbered old.names.items old.rows.items) where
     lengths : length middle ≡ n
     unfolding n
     lengths = middle_length ∙ sym ok.same
 
-    -- a thread: one that was there, the one that forked, or one of the two new ones
-    pub data Which (j : ℕ) (t : Thread) : Type 0 where
-      other : (i ≡ j → ⊥) → slice_get old.threads.items j ≡ Some t → Which j t
+    -- a row: one that was there, the one that forked, or one of the two new ones
+    pub data Which (j : ℕ) (t : Row S) : Type 0 where
+      other : (i ≡ j → ⊥) → slice_get old.rows.items j ≡ Some t → Which j t
       itself : i ≡ j → now ≡ t → Which j t
-      on_left : j ≡ x.left → left_thread ≡ t → Which j t
-      on_right : j ≡ x.right → right_thread ≡ t → Which j t
+      on_left : j ≡ x.left → left_row ≡ t → Which j t
+      on_right : j ≡ x.right → right_row ≡ t → Which j t
 
-    pub which : (j : ℕ) (t : Thread) → slice_get new.threads.items j ≡ Some t → Which j t
+    pub which : (j : ℕ) (t : Row S) → slice_get new.rows.items j ≡ Some t → Which j t
     unfolding n
-    which j t h = by (pair_cases middle j left_thread right_thread t (ap (λ ts. slice_get ts j) (sym threads_now) ∙ h)) where
+    which j t h = by (pair_cases middle j left_row right_row t (ap (λ ts. slice_get ts j) (sym rows_now) ∙ h)) where
       in_middle : slice_get middle j ≡ Some t → (i ≡ j) ⊎ (i ≡ j → ⊥) → Which j t
       in_middle e (inl same) = itself same (let g : Some now ≡ Some t = sym middle_here ∙ (ap (slice_get middle) same ∙ e) in cc)
       in_middle e (inr ne) = other ne (sym (middle_elsewhere j ne) ∙ e)
 
-      by : (slice_get middle j ≡ Some t) ⊎ (((j ≡ length middle) × (left_thread ≡ t)) ⊎ ((j ≡ suc (length middle)) × (right_thread ≡ t))) → Which j t
+      by : (slice_get middle j ≡ Some t) ⊎ (((j ≡ length middle) × (left_row ≡ t)) ⊎ ((j ≡ suc (length middle)) × (right_row ≡ t))) → Which j t
       by (inl e) = in_middle e (cases_eq i j)
       by (inr (inl (e, g))) = on_left (e ∙ (lengths ∙ sym f.left_number)) g
       by (inr (inr (e, g))) = on_right (e ∙ (ap suc lengths ∙ sym f.right_number)) g
@@ -132,23 +132,23 @@ module _ (elements : Elements) (old new : Table) (i : ℕ) (x : Sides) (f : Fork
 
     parent_within : i < n
     unfolding n
-    parent_within = let same = ok.same in let within = slice_get_within old.threads.items i was was_here in omega arith
+    parent_within = let same = ok.same in let within = slice_get_within old.rows.items i was was_here in omega arith
 
-    old_there : (j : ℕ) (t : Thread) → slice_get old.threads.items j ≡ Some t → (u : Thread) × (slice_get new.threads.items j ≡ Some u) × ((g : ℕ) (y : Sides) → slice_get t.forks.items g ≡ Some y → slice_get u.forks.items g ≡ Some y)
+    old_there : (j : ℕ) (t : Row S) → slice_get old.rows.items j ≡ Some t → (u : Row S) × (slice_get new.rows.items j ≡ Some u) × ((g : ℕ) (y : Sides) → slice_get t.forks.items g ≡ Some y → slice_get u.forks.items g ≡ Some y)
     old_there j t h = by (cases_eq i j) where
-      forward : (u : Thread) → slice_get middle j ≡ Some u → slice_get new.threads.items j ≡ Some u
-      forward u e = ap (λ ts. slice_get ts j) threads_now ∙ front_get middle (left_thread ∷ right_thread ∷ []) j u e
+      forward : (u : Row S) → slice_get middle j ≡ Some u → slice_get new.rows.items j ≡ Some u
+      forward u e = ap (λ ts. slice_get ts j) rows_now ∙ front_get middle (left_row ∷ right_row ∷ []) j u e
 
-      by : (i ≡ j) ⊎ (i ≡ j → ⊥) → (u : Thread) × (slice_get new.threads.items j ≡ Some u) × ((g : ℕ) (y : Sides) → slice_get t.forks.items g ≡ Some y → slice_get u.forks.items g ≡ Some y)
+      by : (i ≡ j) ⊎ (i ≡ j → ⊥) → (u : Row S) × (slice_get new.rows.items j ≡ Some u) × ((g : ℕ) (y : Sides) → slice_get t.forks.items g ≡ Some y → slice_get u.forks.items g ≡ Some y)
       by (inr ne) = (t, forward t (middle_elsewhere j ne ∙ h), λ g y e. e)
       by (inl e) =
-          let same : was ≡ t = (let g : Some was ≡ Some t = sym was_here ∙ (ap (slice_get old.threads.items) e ∙ h) in cc) in
-          (now, forward now (ap (slice_get middle) (sym e) ∙ middle_here), λ g y here. ap (λ ys. slice_get ys g) now_forks ∙ front_get was.forks.items (x ∷ []) g y (ap (λ (v : Thread). slice_get v.forks.items g) same ∙ here))
+          let same : was ≡ t = (let g : Some was ≡ Some t = sym was_here ∙ (ap (slice_get old.rows.items) e ∙ h) in cc) in
+          (now, forward now (ap (slice_get middle) (sym e) ∙ middle_here), λ g y here. ap (λ ys. slice_get ys g) now_forks ∙ front_get was.forks.items (x ∷ []) g y (ap (λ (v : Row S). slice_get v.forks.items g) same ∙ here))
 
     Forked : ℕ → ℕ → Sides → Type 0
     Forked a g y = (a < y.left) × (a < y.right) × (slice_get new.names.items y.left ≡ Some (left_name a (suc g))) × (slice_get new.names.items y.right ≡ Some (right_name a (suc g)))
 
-    forked_old : (a g : ℕ) (t : Thread) (y : Sides) → slice_get old.threads.items a ≡ Some t → slice_get t.forks.items g ≡ Some y → Forked a g y
+    forked_old : (a g : ℕ) (t : Row S) (y : Sides) → slice_get old.rows.items a ≡ Some t → slice_get t.forks.items g ≡ Some y → Forked a g y
     unfolding Forked
     forked_old a g t y there here = let (l, r, hl, hr) = ok.forked a g t y there here in (l, r, name_more y.left (left_name a (suc g)) hl, name_more y.right (right_name a (suc g)) hr)
 
@@ -172,18 +172,18 @@ module _ (elements : Elements) (old new : Table) (i : ℕ) (x : Sides) (f : Fork
       by (inl e) = inl e
       by (inr (e, same)) = inr (omega arith, same)
 
-    forked_by : (a g : ℕ) (t : Thread) (y : Sides) → Which a t → slice_get t.forks.items g ≡ Some y → Forked a g y
+    forked_by : (a g : ℕ) (t : Row S) (y : Sides) → Which a t → slice_get t.forks.items g ≡ Some y → Forked a g y
     forked_by a g t y (other ne there) here = forked_old a g t y there here
     forked_by a g t y (itself e same) here =
-        subst (λ b. Forked b g y) e (forked_here g y (push_cases was.forks.items g y (ap (λ ys. slice_get ys g) (sym now_forks) ∙ (ap (λ (v : Thread). slice_get v.forks.items g) same ∙ here))))
-    forked_by a g t y (on_left e same) here = absurd (let none : None ≡ Some y = ap (λ ys. slice_get ys g) (sym f.starts_left.forks) ∙ (ap (λ (v : Thread). slice_get v.forks.items g) same ∙ here) in cc)
-    forked_by a g t y (on_right e same) here = absurd (let none : None ≡ Some y = ap (λ ys. slice_get ys g) (sym f.starts_right.forks) ∙ (ap (λ (v : Thread). slice_get v.forks.items g) same ∙ here) in cc)
+        subst (λ b. Forked b g y) e (forked_here g y (push_cases was.forks.items g y (ap (λ ys. slice_get ys g) (sym now_forks) ∙ (ap (λ (v : Row S). slice_get v.forks.items g) same ∙ here))))
+    forked_by a g t y (on_left e same) here = absurd (let none : None ≡ Some y = ap (λ ys. slice_get ys g) (sym f.starts_left.forks) ∙ (ap (λ (v : Row S). slice_get v.forks.items g) same ∙ here) in cc)
+    forked_by a g t y (on_right e same) here = absurd (let none : None ≡ Some y = ap (λ ys. slice_get ys g) (sym f.starts_right.forks) ∙ (ap (λ (v : Row S). slice_get v.forks.items g) same ∙ here) in cc)
 
     Named : ℕ → Name → Type 0
-    Named j m = (t : Thread) × (g : ℕ) × (y : Sides) × (slice_get new.threads.items m.parent ≡ Some t) × (m.fork ≡ suc g) × (slice_get t.forks.items g ≡ Some y) × (number_of y m.right ≡ suc j)
+    Named j m = (t : Row S) × (g : ℕ) × (y : Sides) × (slice_get new.rows.items m.parent ≡ Some t) × (m.fork ≡ suc g) × (slice_get t.forks.items g ≡ Some y) × (number_of y m.right ≡ suc j)
 
-    new_there : slice_get new.threads.items i ≡ Some now
-    new_there = ap (λ ts. slice_get ts i) threads_now ∙ front_get middle (left_thread ∷ right_thread ∷ []) i now middle_here
+    new_there : slice_get new.rows.items i ≡ Some now
+    new_there = ap (λ ts. slice_get ts i) rows_now ∙ front_get middle (left_row ∷ right_row ∷ []) i now middle_here
 
     newest_there : slice_get now.forks.items (length was.forks.items) ≡ Some x
     newest_there = ap (λ ys. slice_get ys (length was.forks.items)) now_forks ∙ (ap (slice_get (was.forks.items ++ x ∷ [])) (omega arith) ∙ get_beyond was.forks.items (x ∷ []) 0)
@@ -195,16 +195,16 @@ module _ (elements : Elements) (old new : Table) (i : ℕ) (x : Sides) (f : Fork
         let (u, at, keeps) = old_there m.parent t there in
         (u, g, y, at, fork, keeps g y here, number)
     named_by j m (inr (inl (e, same))) =
-        subst (λ (v : Name). (t : Thread) × (g : ℕ) × (y : Sides) × (slice_get new.threads.items v.parent ≡ Some t) × (v.fork ≡ suc g) × (slice_get t.forks.items g ≡ Some y) × (number_of y v.right ≡ suc j)) same
+        subst (λ (v : Name). (t : Row S) × (g : ℕ) × (y : Sides) × (slice_get new.rows.items v.parent ≡ Some t) × (v.fork ≡ suc g) × (slice_get t.forks.items g ≡ Some y) × (number_of y v.right ≡ suc j)) same
         (now, length was.forks.items, x, new_there, fork_number, newest_there, f.left_number ∙ sym e)
     named_by j m (inr (inr (e, same))) =
-        subst (λ (v : Name). (t : Thread) × (g : ℕ) × (y : Sides) × (slice_get new.threads.items v.parent ≡ Some t) × (v.fork ≡ suc g) × (slice_get t.forks.items g ≡ Some y) × (number_of y v.right ≡ suc j)) same
+        subst (λ (v : Name). (t : Row S) × (g : ℕ) × (y : Sides) × (slice_get new.rows.items v.parent ≡ Some t) × (v.fork ≡ suc g) × (slice_get t.forks.items g ≡ Some y) × (number_of y v.right ≡ suc j)) same
         (now, length was.forks.items, x, new_there, fork_number, newest_there, f.right_number ∙ sym e)
 
-    pub fork_numbered : IsNumbered new.names.items new.threads.items
+    pub fork_numbered : IsNumbered new.names.items new.rows.items
     unfolding Forked Named
     fork_numbered = record {
-      same = ap length names_now ∙ (length-append old.names.items (left_name i f.fork ∷ right_name i f.fork ∷ []) ∙ (ap (λ m. m + 2) (ok.same ∙ sym middle_length) ∙ (sym (length-append middle (left_thread ∷ right_thread ∷ [])) ∙ ap length (sym threads_now))));
+      same = ap length names_now ∙ (length-append old.names.items (left_name i f.fork ∷ right_name i f.fork ∷ []) ∙ (ap (λ m. m + 2) (ok.same ∙ sym middle_length) ∙ (sym (length-append middle (left_row ∷ right_row ∷ [])) ∙ ap length (sym rows_now))));
       first = name_more 0 _ ok.first;
       forked = λ a g t y there here. forked_by a g t y (which a t there) here;
       named = λ j m h. named_by j m (pair_cases old.names.items (suc j) (left_name i f.fork) (right_name i f.fork) m (ap (λ ns. slice_get ns (suc j)) (sym names_now) ∙ h));

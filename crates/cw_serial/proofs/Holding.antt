@@ -2,22 +2,15 @@
 use Rattle.std.proofs.Common.{◌≡◌, ℕ, suc, ◌-◌, ◌<◌, refl, ap, sym, ◌∙◌, arith, subst, Bool, true, false, ◌⊎◌, inl, inr, Option, Some, None, List, [], ◌∷◌, ◌++◌, length, append-nil, append_assoc}
 use Rattle.std.specs.List.{slice_get}
 use Rattle.std.proofs.lemmas.Bool.{cases_eq}
-use Rattle.cw_code.specs.declared.CellInfo.{CellInfo}
-use Rattle.cw_strand.specs.declared.want.Want.{Want}
-use Rattle.cw_strand.specs.declared.want.Want.TheVariants.{Load, Store, Out, Begin, End, Fork, Sync, Done, Fault}
-use Rattle.cw_strand.specs.Meaning.{State, step, wanted}
 use Rattle.cw_tree.specs.declared.picks.Turn.{Turn}
-use Rattle.cw_serial.specs.declared.work.Work.{Work}
-use Rattle.cw_serial.specs.declared.strand.Strand.{Strand}
-use Rattle.cw_serial.specs.declared.threads.Place.{Place}
-use Rattle.cw_serial.specs.declared.threads.Place.TheVariants.{Stands, Waits, Gone}
-use Rattle.cw_serial.specs.declared.threads.Sides.{Sides}
-use Rattle.cw_serial.specs.declared.threads.Thread.{Thread}
-use Rattle.cw_serial.specs.declared.threads.Threads.{Threads as Table}
-use Rattle.cw_serial.specs.Threads.{Threads, stands, waits}
+use Rattle.cw_serial.specs.declared.table.Place.{Place}
+use Rattle.cw_serial.specs.declared.table.Place.TheVariants.{Stands, Waits, Gone}
+use Rattle.cw_serial.specs.declared.table.Sides.{Sides}
+use Rattle.cw_serial.specs.declared.table.Row.{Row}
+use Rattle.cw_serial.specs.declared.table.Table.{Table}
+use Rattle.cw_serial.specs.StrandTree.{StrandTree, stands, waits}
 use Rattle.cw_serial.specs.Machine.{turns}
 use Rattle.cw_serial.specs.Spots.{turn_to, Spot, standing, waiting, spot}
-use Rattle.cw_serial.specs.Standing.{IsStrand, rests_at}
 use Rattle.cw_serial.specs.Held.{IsPlace, Holds}
 use Rattle.cw_serial.proofs.Sides.{turn_is}
 use Rattle.cw_serial.proofs.Numbers.{get_some}
@@ -51,92 +44,70 @@ beneath (x ∷ p) (y ∷ q) = by (same_turns x y) (beneath p q) where
   by (inl e) more = beneath_more x y p q e more
   by (inr ne) more = inr (beside_other x y p q ne)
 
--- ## Wants
-
-wanted_at : (w : Want) (work : Work) → wanted (rests_at w work) ≡ w
-wanted_at Fork work = refl
-wanted_at Sync work = refl
-wanted_at Done work = refl
-wanted_at Begin work = refl
-wanted_at End work = refl
-wanted_at (Load c) work = refl
-wanted_at (Store c v) work = refl
-wanted_at (Out v) work = refl
-wanted_at (Fault k) work = refl
-
--- a strand in memory wants what its state wants
-pub same_want : (cells : List CellInfo) (st : Strand) (a : State) → IsStrand cells st a → wanted (step cells a) ≡ st.want
-same_want cells st a h = ap wanted h ∙ wanted_at st.want st.work
-
 -- ## Places
 
-module _ (cells : List CellInfo) where
-  pub record AtStand (place : Place) (forks : ℕ) (k : ℕ) (a : State) : Type 0 where
-    pub strand : Strand
+module _ {S A : Type 0} (state : S → A) where
+  pub record AtStand (place : Place S) (forks : ℕ) (k : ℕ) (a : A) : Type 0 where
+    pub strand : S
     pub stands : place ≡ Stands strand
     pub many : forks ≡ k
-    pub state : IsStrand cells strand a
+    pub is : state strand ≡ a
 
-  pub at_stand : (place : Place) (forks k : ℕ) (a : State) → IsPlace cells place forks (Some (standing k a)) → AtStand place forks k a
-  at_stand (Stands st) forks k a h = record { strand = st; stands = refl; many = h.0; state = h.1 }
+  pub at_stand : (place : Place S) (forks k : ℕ) (a : A) → IsPlace state place forks (Some (standing k a)) → AtStand place forks k a
+  at_stand (Stands st) forks k a h = record { strand = st; stands = refl; many = h.0; is = h.1 }
   at_stand Waits forks k a h = absurd h
   at_stand Gone forks k a h = absurd h
 
-  pub at_wait : (place : Place) (forks k : ℕ) → IsPlace cells place forks (Some (waiting k)) → (place ≡ Waits) × (forks ≡ k) × (0 < k)
+  pub at_wait : (place : Place S) (forks k : ℕ) → IsPlace state place forks (Some (waiting k)) → (place ≡ Waits) × (forks ≡ k) × (0 < k)
   at_wait Waits forks k h = (refl, h.0, h.1)
   at_wait (Stands st) forks k h = absurd h
   at_wait Gone forks k h = absurd h
 
-  pub record FromStand (st : Strand) (forks : ℕ) (o : Option (Spot State)) : Type 0 where
-    pub state : State
-    pub there : o ≡ Some (standing forks state)
-    pub is : IsStrand cells st state
-
-  pub from_stand : (st : Strand) (forks : ℕ) (o : Option (Spot State)) → IsPlace cells (Stands st) forks o → FromStand st forks o
+  pub from_stand : (st : S) (forks : ℕ) (o : Option (Spot A)) → IsPlace state (Stands st) forks o → o ≡ Some (standing forks (state st))
   from_stand st forks None h = absurd h
   from_stand st forks (Some (waiting k)) h = absurd h
-  from_stand st forks (Some (standing k a)) h = record { state = a; there = ap (λ m. Some (standing m a)) (sym h.0); is = h.1 }
+  from_stand st forks (Some (standing k a)) h = ap (λ m. Some (standing m a)) (sym h.0) ∙ ap (λ b. Some (standing forks b)) (sym h.1)
 
-  pub from_wait : (forks : ℕ) (o : Option (Spot State)) → IsPlace cells Waits forks o → (o ≡ Some (waiting forks)) × (0 < forks)
+  pub from_wait : (forks : ℕ) (o : Option (Spot A)) → IsPlace state Waits forks o → (o ≡ Some (waiting forks)) × (0 < forks)
   from_wait forks None h = absurd h
   from_wait forks (Some (standing k a)) h = absurd h
   from_wait forks (Some (waiting k)) h = (ap (λ m. Some (waiting m)) (sym h.0), let many : forks ≡ k = h.0 in let some : 0 < k = h.1 in omega arith)
 
-  module _ (table : Table) (tree : Threads State) (holds : Holds cells table tree) where
-    pub thread_named : (i : ℕ) (p : List Turn) → turns table.names.items i ≡ Some p → (th : Thread) × (slice_get table.threads.items i ≡ Some th)
-    thread_named i p up = get_some table.threads.items i (let same = holds.numbered.same in let within = turns_within table.names.items table.threads.items holds.numbered i p up in omega arith)
+  module _ (table : Table S) (tree : StrandTree A) (holds : Holds state table tree) where
+    pub row_named : (i : ℕ) (p : List Turn) → turns table.names.items i ≡ Some p → (row : Row S) × (slice_get table.rows.items i ≡ Some row)
+    row_named i p up = get_some table.rows.items i (let same = holds.numbered.same in let within = turns_within table.names.items table.rows.items holds.numbered i p up in omega arith)
 
     -- a strand that waits, with the strands of its fork
     pub record WaitsFor (i : ℕ) (q : List Turn) (k : ℕ) : Type 0 where
-      pub thread : Thread
+      pub row : Row S
       pub sides : Sides
-      pub here : slice_get table.threads.items i ≡ Some thread
-      pub place : thread.place ≡ Waits
-      pub newest : slice_get thread.forks.items (length thread.forks.items - 1) ≡ Some sides
+      pub here : slice_get table.rows.items i ≡ Some row
+      pub place : row.place ≡ Waits
+      pub newest : slice_get row.forks.items (length row.forks.items - 1) ≡ Some sides
       pub left : turns table.names.items sides.left ≡ Some (q ++ turn_to k false ∷ [])
       pub right : turns table.names.items sides.right ≡ Some (q ++ turn_to k true ∷ [])
 
     pub waits_for : (i : ℕ) (q : List Turn) (k : ℕ) → turns table.names.items i ≡ Some q → spot tree q ≡ Some (waiting k) → WaitsFor i q k
     waits_for i q k up h =
-        let (th, here) = thread_named i q up in
-        let (place, many, some) = at_wait th.place (length th.forks.items) k (subst (IsPlace cells th.place (length th.forks.items)) h (holds.places i q th up here)) in
-        let (x, newest) = get_some th.forks.items (length th.forks.items - 1) (omega arith) in
-        let number : suc (length th.forks.items - 1) ≡ k = omega arith in
+        let (row, here) = row_named i q up in
+        let (place, many, some) = at_wait row.place (length row.forks.items) k (subst (IsPlace state row.place (length row.forks.items)) h (holds.places i q row up here)) in
+        let (x, newest) = get_some row.forks.items (length row.forks.items - 1) (omega arith) in
+        let number : suc (length row.forks.items - 1) ≡ k = omega arith in
         record {
-          thread = th;
+          row = row;
           sides = x;
           here = here;
           place = place;
           newest = newest;
-          left = turns_of_left table.names.items table.threads.items holds.numbered i (length th.forks.items - 1) th x q here newest up ∙ ap (λ m. Some (q ++ turn_to m false ∷ [])) number;
-          right = turns_of_right table.names.items table.threads.items holds.numbered i (length th.forks.items - 1) th x q here newest up ∙ ap (λ m. Some (q ++ turn_to m true ∷ [])) number;
+          left = turns_of_left table.names.items table.rows.items holds.numbered i (length row.forks.items - 1) row x q here newest up ∙ ap (λ m. Some (q ++ turn_to m false ∷ [])) number;
+          right = turns_of_right table.names.items table.rows.items holds.numbered i (length row.forks.items - 1) row x q here newest up ∙ ap (λ m. Some (q ++ turn_to m true ∷ [])) number;
         }
 
     step_down : (q r : List Turn) (x y : Turn) → x ≡ y → (q ++ y ∷ []) ++ r ≡ q ++ x ∷ r
     step_down q r x y e = append_assoc q (y ∷ []) r ∙ ap (λ z. q ++ z ∷ r) (sym e)
 
     -- each strand of the tree has a number
-    listed_below : (u : Threads State) (q r : List Turn) (i : ℕ) (v : Spot State) → turns table.names.items i ≡ Some q → ((z : List Turn) → spot tree (q ++ z) ≡ spot u z) → spot u r ≡ Some v → (j : ℕ) × (turns table.names.items j ≡ Some (q ++ r))
+    listed_below : (u : StrandTree A) (q r : List Turn) (i : ℕ) (v : Spot A) → turns table.names.items i ≡ Some q → ((z : List Turn) → spot tree (q ++ z) ≡ spot u z) → spot u r ≡ Some v → (j : ℕ) × (turns table.names.items j ≡ Some (q ++ r))
     listed_below u q [] i v up same h = (i, up ∙ ap (λ z. Some z) (sym (append-nil q)))
     listed_below (stands k a) q (x ∷ r) i v up same h = absurd cc
     listed_below (waits k l m) q (x ∷ r) i v up same h =
@@ -152,5 +123,5 @@ module _ (cells : List CellInfo) where
         let (j, found) = listed_below m (q ++ y ∷ []) r w.sides.right v w.right (λ z. ap (spot tree) (append_assoc q (y ∷ []) z) ∙ (same (y ∷ z) ∙ spot_right k l m z)) f in
         (j, found ∙ ap (λ z. Some z) (step_down q r x y e)))
 
-    pub listed : (p : List Turn) (v : Spot State) → spot tree p ≡ Some v → (j : ℕ) × (turns table.names.items j ≡ Some p)
+    pub listed : (p : List Turn) (v : Spot A) → spot tree p ≡ Some v → (j : ℕ) × (turns table.names.items j ≡ Some p)
     listed p v h = listed_below tree [] p 0 v (rw holds.numbered.first refl) (λ z. refl) h

@@ -6,8 +6,8 @@ use Rattle.std.proofs.lemmas.List.{length-set}
 use Rattle.std.proofs.lemmas.Option.{slice_get_within}
 use Rattle.cw_tree.specs.declared.picks.Name.{Name}
 use Rattle.cw_tree.specs.declared.picks.Turn.{Turn}
-use Rattle.cw_serial.specs.declared.threads.Sides.{Sides}
-use Rattle.cw_serial.specs.declared.threads.Thread.{Thread}
+use Rattle.cw_serial.specs.declared.table.Sides.{Sides}
+use Rattle.cw_serial.specs.declared.table.Row.{Row}
 use Rattle.cw_serial.specs.Machine.{turns}
 use Rattle.cw_serial.specs.Spots.{turn_to}
 use Rattle.cw_serial.specs.Held.{root, left_name, right_name, number_of, IsNumbered}
@@ -48,7 +48,7 @@ pair_cases {X = X} (y ∷ xs) (suc i) a b x h = by (pair_cases xs i a b x h) whe
 
 -- ## Names and numbers
 
-module _ (names : List Name) (threads : List Thread) (ok : IsNumbered names threads) where
+module _ {S : Type 0} (names : List Name) (rows : List (Row S)) (ok : IsNumbered names rows) where
   sides_low : (i j : ℕ) (x : Sides) (right : Bool) → i < x.left → i < x.right → number_of x right ≡ j → i < j
   sides_low i j x true l r e = omega arith
   sides_low i j x false l r e = omega arith
@@ -77,9 +77,9 @@ module _ (names : List Name) (threads : List Thread) (ok : IsNumbered names thre
   same_number i j n m hi hj parent fork right =
       let (t, f, x, there, tf, here, number) = ok.named i n hi in
       let (u, g, y, yonder, ug, at, other) = ok.named j m hj in
-      let tu : t ≡ u = (let e : Some t ≡ Some u = sym there ∙ (ap (slice_get threads) parent ∙ yonder) in cc) in
+      let tu : t ≡ u = (let e : Some t ≡ Some u = sym there ∙ (ap (slice_get rows) parent ∙ yonder) in cc) in
       let fg : f ≡ g = omega arith in
-      let xy : x ≡ y = (let e : Some x ≡ Some y = sym here ∙ (ap (slice_get t.forks.items) fg ∙ (ap (λ (v : Thread). slice_get v.forks.items g) tu ∙ at)) in cc) in
+      let xy : x ≡ y = (let e : Some x ≡ Some y = sym here ∙ (ap (slice_get t.forks.items) fg ∙ (ap (λ (v : Row S). slice_get v.forks.items g) tu ∙ at)) in cc) in
       let e : suc i ≡ suc j = sym number ∙ (ap (number_of x) right ∙ (ap (λ v. number_of v m.right) xy ∙ other)) in
       omega arith
 
@@ -105,64 +105,65 @@ module _ (names : List Name) (threads : List Thread) (ok : IsNumbered names thre
   turns_within (suc i) p h = let l = turns_last names i p h in slice_get_within names (suc i) l.name l.here
 
   -- the strands of a fork
-  left_turns : (i f : ℕ) (t : Thread) (x : Sides) (p : List Turn) → slice_get threads i ≡ Some t → slice_get t.forks.items f ≡ Some x → turns names i ≡ Some p → (m : ℕ) → x.left ≡ m → turns names m ≡ Some (p ++ turn_to (suc f) false ∷ [])
+  left_turns : (i f : ℕ) (t : Row S) (x : Sides) (p : List Turn) → slice_get rows i ≡ Some t → slice_get t.forks.items f ≡ Some x → turns names i ≡ Some p → (m : ℕ) → x.left ≡ m → turns names m ≡ Some (p ++ turn_to (suc f) false ∷ [])
   left_turns i f t x p there here up zero e = let (l, r, hl, hr) = ok.forked i f t x there here in absurd (omega arith)
   left_turns i f t x p there here up (suc m) e = let (l, r, hl, hr) = ok.forked i f t x there here in turns_step names m (left_name i (suc f)) p (ap (slice_get names) (sym e) ∙ hl) (omega arith) up
 
-  right_turns : (i f : ℕ) (t : Thread) (x : Sides) (p : List Turn) → slice_get threads i ≡ Some t → slice_get t.forks.items f ≡ Some x → turns names i ≡ Some p → (m : ℕ) → x.right ≡ m → turns names m ≡ Some (p ++ turn_to (suc f) true ∷ [])
+  right_turns : (i f : ℕ) (t : Row S) (x : Sides) (p : List Turn) → slice_get rows i ≡ Some t → slice_get t.forks.items f ≡ Some x → turns names i ≡ Some p → (m : ℕ) → x.right ≡ m → turns names m ≡ Some (p ++ turn_to (suc f) true ∷ [])
   right_turns i f t x p there here up zero e = let (l, r, hl, hr) = ok.forked i f t x there here in absurd (omega arith)
   right_turns i f t x p there here up (suc m) e = let (l, r, hl, hr) = ok.forked i f t x there here in turns_step names m (right_name i (suc f)) p (ap (slice_get names) (sym e) ∙ hr) (omega arith) up
 
-  pub turns_of_left : (i f : ℕ) (t : Thread) (x : Sides) (p : List Turn) → slice_get threads i ≡ Some t → slice_get t.forks.items f ≡ Some x → turns names i ≡ Some p → turns names x.left ≡ Some (p ++ turn_to (suc f) false ∷ [])
+  pub turns_of_left : (i f : ℕ) (t : Row S) (x : Sides) (p : List Turn) → slice_get rows i ≡ Some t → slice_get t.forks.items f ≡ Some x → turns names i ≡ Some p → turns names x.left ≡ Some (p ++ turn_to (suc f) false ∷ [])
   turns_of_left i f t x p there here up = left_turns i f t x p there here up x.left refl
 
-  pub turns_of_right : (i f : ℕ) (t : Thread) (x : Sides) (p : List Turn) → slice_get threads i ≡ Some t → slice_get t.forks.items f ≡ Some x → turns names i ≡ Some p → turns names x.right ≡ Some (p ++ turn_to (suc f) true ∷ [])
+  pub turns_of_right : (i f : ℕ) (t : Row S) (x : Sides) (p : List Turn) → slice_get rows i ≡ Some t → slice_get t.forks.items f ≡ Some x → turns names i ≡ Some p → turns names x.right ≡ Some (p ++ turn_to (suc f) true ∷ [])
   turns_of_right i f t x p there here up = right_turns i f t x p there here up x.right refl
 
   -- beneath a name only strands of the forks that its strand made
-  pub down_within : (i j : ℕ) (t : Thread) (p r : List Turn) (x : Turn) → slice_get threads i ≡ Some t → turns names i ≡ Some p → turns names j ≡ Some (p ++ x ∷ r) → x.fork ≤ length t.forks.items
+  pub down_within : (i j : ℕ) (t : Row S) (p r : List Turn) (x : Turn) → slice_get rows i ≡ Some t → turns names i ≡ Some p → turns names j ≡ Some (p ++ x ∷ r) → x.fork ≤ length t.forks.items
   down_within i j t p r x there hi hj =
       let d = turns_down names j p r x hj in
       let (u, f, y, yonder, fork, at, number) = ok.named d.number d.name d.here in
       let same : d.name.parent ≡ i = turns_unique d.name.parent i p d.up hi in
-      let ut : u ≡ t = (let e : Some u ≡ Some t = sym yonder ∙ (ap (slice_get threads) same ∙ there) in cc) in
-      let within : f < length t.forks.items = slice_get_within t.forks.items f y (ap (λ (v : Thread). slice_get v.forks.items f) (sym ut) ∙ at) in
+      let ut : u ≡ t = (let e : Some u ≡ Some t = sym yonder ∙ (ap (slice_get rows) same ∙ there) in cc) in
+      let within : f < length t.forks.items = slice_get_within t.forks.items f y (ap (λ (v : Row S). slice_get v.forks.items f) (sym ut) ∙ at) in
       let turn : d.name.fork ≡ x.fork = ap (λ (v : Turn). v.fork) d.turn in
       omega arith
 
 -- ## Other places, and one fork more
 
--- threads with the same forks
-pub record SameForks (old new : List Thread) : Type 0 where
-  pub same : length new ≡ length old
-  pub there : (i : ℕ) (t : Thread) → slice_get old i ≡ Some t → (u : Thread) × (slice_get new i ≡ Some u) × (u.forks ≡ t.forks)
-  pub back : (i : ℕ) (u : Thread) → slice_get new i ≡ Some u → (t : Thread) × (slice_get old i ≡ Some t) × (u.forks ≡ t.forks)
+module _ {S : Type 0} where
+  -- rows with the same forks
+  pub record SameForks (old new : List (Row S)) : Type 0 where
+    pub same : length new ≡ length old
+    pub there : (i : ℕ) (t : Row S) → slice_get old i ≡ Some t → (u : Row S) × (slice_get new i ≡ Some u) × (u.forks ≡ t.forks)
+    pub back : (i : ℕ) (u : Row S) → slice_get new i ≡ Some u → (t : Row S) × (slice_get old i ≡ Some t) × (u.forks ≡ t.forks)
 
-pub numbered_same : (names : List Name) (old new : List Thread) → SameForks old new → IsNumbered names old → IsNumbered names new
-numbered_same names old new s ok = record {
-  same = ok.same ∙ sym s.same;
-  first = ok.first;
-  forked = λ i f u x there here.
-      let (t, at, same) = s.back i u there in
-      ok.forked i f t x at (ap (λ v. slice_get v.items f) (sym same) ∙ here);
-  named = λ j n h.
-      let (t, f, x, there, fork, here, number) = ok.named j n h in
-      let (u, at, same) = s.there n.parent t there in
-      (u, f, x, at, fork, ap (λ v. slice_get v.items f) same ∙ here, number);
-}
+  pub numbered_same : (names : List Name) (old new : List (Row S)) → SameForks old new → IsNumbered names old → IsNumbered names new
+  numbered_same names old new s ok = record {
+    same = ok.same ∙ sym s.same;
+    first = ok.first;
+    forked = λ i f u x there here.
+        let (t, at, same) = s.back i u there in
+        ok.forked i f t x at (ap (λ v. slice_get v.items f) (sym same) ∙ here);
+    named = λ j n h.
+        let (t, f, x, there, fork, here, number) = ok.named j n h in
+        let (u, at, same) = s.there n.parent t there in
+        (u, f, x, at, fork, ap (λ v. slice_get v.items f) same ∙ here, number);
+  }
 
-pub set_forks : (threads : List Thread) (i : ℕ) (t u : Thread) → slice_get threads i ≡ Some t → u.forks ≡ t.forks → SameForks threads (set threads i u)
-set_forks threads i t u here same = record {
-  same = length-set threads i u;
-  there = λ j v h. there_by j v h (cases_eq i j);
-  back = λ j v h. back_by j v (set_cases threads i j t u v here h);
-} where
-  there_by : (j : ℕ) (v : Thread) → slice_get threads j ≡ Some v → (i ≡ j) ⊎ (i ≡ j → ⊥) → (w : Thread) × (slice_get (set threads i u) j ≡ Some w) × (w.forks ≡ v.forks)
-  there_by j v h (inl e) =
-      let tv : t ≡ v = (let f : Some t ≡ Some v = sym here ∙ (ap (slice_get threads) e ∙ h) in cc) in
-      (u, ap (slice_get (set threads i u)) (sym e) ∙ set_here threads i t u here, same ∙ ap (λ (w : Thread). w.forks) tv)
-  there_by j v h (inr ne) = (v, set_elsewhere threads i j u ne ∙ h, refl)
+  pub set_forks : (rows : List (Row S)) (i : ℕ) (t u : Row S) → slice_get rows i ≡ Some t → u.forks ≡ t.forks → SameForks rows (set rows i u)
+  set_forks rows i t u here same = record {
+    same = length-set rows i u;
+    there = λ j v h. there_by j v h (cases_eq i j);
+    back = λ j v h. back_by j v (set_cases rows i j t u v here h);
+  } where
+    there_by : (j : ℕ) (v : Row S) → slice_get rows j ≡ Some v → (i ≡ j) ⊎ (i ≡ j → ⊥) → (w : Row S) × (slice_get (set rows i u) j ≡ Some w) × (w.forks ≡ v.forks)
+    there_by j v h (inl e) =
+        let tv : t ≡ v = (let f : Some t ≡ Some v = sym here ∙ (ap (slice_get rows) e ∙ h) in cc) in
+        (u, ap (slice_get (set rows i u)) (sym e) ∙ set_here rows i t u here, same ∙ ap (λ (w : Row S). w.forks) tv)
+    there_by j v h (inr ne) = (v, set_elsewhere rows i j u ne ∙ h, refl)
 
-  back_by : (j : ℕ) (v : Thread) → ((i ≡ j) × (u ≡ v)) ⊎ ((i ≡ j → ⊥) × (slice_get threads j ≡ Some v)) → (w : Thread) × (slice_get threads j ≡ Some w) × (v.forks ≡ w.forks)
-  back_by j v (inl (e, f)) = (t, ap (slice_get threads) (sym e) ∙ here, ap (λ (w : Thread). w.forks) (sym f) ∙ same)
-  back_by j v (inr (ne, h)) = (v, h, refl)
+    back_by : (j : ℕ) (v : Row S) → ((i ≡ j) × (u ≡ v)) ⊎ ((i ≡ j → ⊥) × (slice_get rows j ≡ Some v)) → (w : Row S) × (slice_get rows j ≡ Some w) × (v.forks ≡ w.forks)
+    back_by j v (inl (e, f)) = (t, ap (slice_get rows) (sym e) ∙ here, ap (λ (w : Row S). w.forks) (sym f) ∙ same)
+    back_by j v (inr (ne, h)) = (v, h, refl)

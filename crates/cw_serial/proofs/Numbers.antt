@@ -15,11 +15,6 @@ front_get [] ys i x h = absurd cc
 front_get (y ∷ xs) ys zero x h = h
 front_get (y ∷ xs) ys (suc i) x h = front_get xs ys i x h
 
-pub get_within : {X : Type 0} (xs ys : List X) (i : ℕ) → i < length xs → slice_get (xs ++ ys) i ≡ slice_get xs i
-get_within [] ys i h = absurd (omega arith)
-get_within (x ∷ xs) ys zero h = refl
-get_within (x ∷ xs) ys (suc i) h = get_within xs ys i (omega arith)
-
 pub get_beyond : {X : Type 0} (xs ys : List X) (n : ℕ) → slice_get (xs ++ ys) (length xs + n) ≡ slice_get ys n
 get_beyond [] ys n = ap (slice_get ys) (omega arith)
 get_beyond (x ∷ xs) ys n = let e : length (x ∷ xs) + n ≡ suc (length xs + n) = omega arith in ap (slice_get ((x ∷ xs) ++ ys)) e ∙ get_beyond xs ys n
@@ -77,10 +72,6 @@ pub record Down (names : List Name) (p : List Turn) (x : Turn) (j : ℕ) : Type 
   pub up : turns names name.parent ≡ Some p
 
 module _ (names : List Name) where
-  with_none : (n : ℕ) (o : Option Name) → with_turn n o None ≡ None
-  with_none n None = refl
-  with_none n (Some x) = refl
-
   with_late : (n : ℕ) (x : Name) (p : Option (List Turn)) → nat_lt x.parent n ≡ false → with_turn n (Some x) p ≡ None
   with_late n x None e = refl
   with_late n x (Some p) e = ap (λ b. cond b (Some (p ++ turn_of x ∷ [])) None) e

@@ -2,16 +2,16 @@
 use Rattle.std.proofs.Common.{◌≡◌, ℕ, zero, suc, ◌<◌, refl, ap, sym, ◌∙◌, arith, subst, Bool, true, false, cond, ◌⊎◌, inl, inr, Option, Some, None, List, [], ◌∷◌, ◌++◌, set, append_assoc, append-nil}
 use Rattle.std.specs.List.{slice_get}
 use Rattle.std.proofs.lemmas.Bool.{lt-ltb, cases_eq}
-use Rattle.cw_strand.specs.Meaning.{State}
 use Rattle.cw_tree.specs.declared.picks.Name.{Name}
 use Rattle.cw_tree.specs.declared.picks.Turn.{Turn}
 use Rattle.cw_serial.specs.declared.machine.Machine.{Machine as Code}
 use Rattle.cw_serial.specs.declared.orders.Known.{Known}
-use Rattle.cw_serial.specs.declared.threads.Sides.{Sides}
-use Rattle.cw_serial.specs.declared.threads.Thread.{Thread}
-use Rattle.cw_serial.specs.Threads.{at}
+use Rattle.cw_serial.specs.declared.interpreter.strand.Strand.{Strand}
+use Rattle.cw_serial.specs.declared.table.Sides.{Sides}
+use Rattle.cw_serial.specs.declared.table.Row.{Row}
+use Rattle.cw_serial.specs.StrandTree.{at}
 use Rattle.cw_serial.specs.Machine.{turns, root_turns, is_root}
-use Rattle.cw_serial.specs.Programs.{strands_of}
+use Rattle.cw_serial.specs.Room.Strands.{StrandState, state_of, strands_of}
 use Rattle.cw_serial.specs.Spots.{turn_to, Spot, spot}
 use Rattle.cw_serial.specs.Held.{IsNumbered, number_of, side_of, started_of, started_at}
 use Rattle.cw_serial.specs.Orders.{SameStrand, AreKnown, root_number, known_at, parent_number, LeadDown, StandsNowhere}
@@ -58,35 +58,35 @@ module _ (order : List Name) where
 
 -- ## Down
 
-module _ (names : List Name) (threads : List Thread) (ok : IsNumbered names threads) where
+module _ {S : Type 0} (names : List Name) (rows : List (Row S)) (ok : IsNumbered names rows) where
   -- the strand of a fork that was started
-  started_turns : (i : ℕ) (n : Name) (j : ℕ) (q : List Turn) → turns names i ≡ Some q → started_at threads (record n { parent = i }) ≡ Some j → turns names j ≡ Some (q ++ turn_of n ∷ [])
-  started_turns i n j q up h = by (slice_get threads i) refl h where
-    side : (right : Bool) (f : ℕ) (t : Thread) (x : Sides) → slice_get threads i ≡ Some t → slice_get t.forks.items f ≡ Some x → number_of x right ≡ j → turns names j ≡ Some (q ++ turn_to (suc f) right ∷ [])
-    side true f t x there here e = ap (turns names) (sym e) ∙ turns_of_right names threads ok i f t x q there here up
-    side false f t x there here e = ap (turns names) (sym e) ∙ turns_of_left names threads ok i f t x q there here up
+  started_turns : (i : ℕ) (n : Name) (j : ℕ) (q : List Turn) → turns names i ≡ Some q → started_at rows (record n { parent = i }) ≡ Some j → turns names j ≡ Some (q ++ turn_of n ∷ [])
+  started_turns i n j q up h = by (slice_get rows i) refl h where
+    side : (right : Bool) (f : ℕ) (t : Row S) (x : Sides) → slice_get rows i ≡ Some t → slice_get t.forks.items f ≡ Some x → number_of x right ≡ j → turns names j ≡ Some (q ++ turn_to (suc f) right ∷ [])
+    side true f t x there here e = ap (turns names) (sym e) ∙ turns_of_right names rows ok i f t x q there here up
+    side false f t x there here e = ap (turns names) (sym e) ∙ turns_of_left names rows ok i f t x q there here up
 
-    fork : (right : Bool) (f : ℕ) (t : Thread) → slice_get threads i ≡ Some t → (o : Option Sides) → slice_get t.forks.items f ≡ o → side_of right o ≡ Some j → turns names j ≡ Some (q ++ turn_to (suc f) right ∷ [])
+    fork : (right : Bool) (f : ℕ) (t : Row S) → slice_get rows i ≡ Some t → (o : Option Sides) → slice_get t.forks.items f ≡ o → side_of right o ≡ Some j → turns names j ≡ Some (q ++ turn_to (suc f) right ∷ [])
     fork right f t there None here e = absurd cc
     fork right f t there (Some x) here e = side right f t x there here cc
 
-    thread : (t : Thread) (g : ℕ) (right : Bool) → slice_get threads i ≡ Some t → started_of (Some t) g right ≡ Some j → turns names j ≡ Some (q ++ turn_to g right ∷ [])
-    thread t zero right there e = absurd cc
-    thread t (suc f) right there e = fork right f t there (slice_get t.forks.items f) refl e
+    row : (t : Row S) (g : ℕ) (right : Bool) → slice_get rows i ≡ Some t → started_of (Some t) g right ≡ Some j → turns names j ≡ Some (q ++ turn_to g right ∷ [])
+    row t zero right there e = absurd cc
+    row t (suc f) right there e = fork right f t there (slice_get t.forks.items f) refl e
 
-    by : (o : Option Thread) → slice_get threads i ≡ o → started_of o n.fork n.right ≡ Some j → turns names j ≡ Some (q ++ turn_of n ∷ [])
+    by : (o : Option (Row S)) → slice_get rows i ≡ o → started_of o n.fork n.right ≡ Some j → turns names j ≡ Some (q ++ turn_of n ∷ [])
     by None there e = absurd cc
-    by (Some t) there e = thread t n.fork n.right there e
+    by (Some t) there e = row t n.fork n.right there e
 
   -- beneath a fork that was not started is no strand
-  not_started : (i : ℕ) (n : Name) (j : ℕ) (q r : List Turn) → turns names i ≡ Some q → started_at threads (record n { parent = i }) ≡ None → turns names j ≡ Some (q ++ turn_of n ∷ r) → ⊥
+  not_started : (i : ℕ) (n : Name) (j : ℕ) (q r : List Turn) → turns names i ≡ Some q → started_at rows (record n { parent = i }) ≡ None → turns names j ≡ Some (q ++ turn_of n ∷ r) → ⊥
   not_started i n j q r up h uj =
       let d = turns_down names j q r (turn_of n) uj in
       let (t, f, x, there, fork, here, number) = ok.named d.number d.name d.here in
-      let parent : d.name.parent ≡ i = turns_unique names threads ok d.name.parent i q d.up up in
+      let parent : d.name.parent ≡ i = turns_unique names rows ok d.name.parent i q d.up up in
       let forks : suc f ≡ n.fork = sym fork ∙ ap (λ (v : Turn). v.fork) d.turn in
-      let found : started_of (slice_get threads i) n.fork n.right ≡ Some (number_of x n.right) =
-      ap (λ o. started_of o n.fork n.right) (ap (slice_get threads) (sym parent) ∙ there)
+      let found : started_of (slice_get rows i) n.fork n.right ≡ Some (number_of x n.right) =
+      ap (λ o. started_of o n.fork n.right) (ap (slice_get rows) (sym parent) ∙ there)
       ∙ (ap (λ g. started_of (Some t) g n.right) (sym forks) ∙ ap (side_of n.right) here) in
       let e : Some (number_of x n.right) ≡ None = sym found ∙ h in
       cc
@@ -103,20 +103,20 @@ module _ (code : Code) where
   abbrev names : List Name
   names = code.strands.names.items
 
-  abbrev threads : List Thread
-  threads = code.strands.threads.items
+  abbrev rows : List (Row Strand)
+  rows = code.strands.rows.items
 
-  nowhere_by : (order : List Name) (n i : ℕ) (x : Name) (q r : List Turn) → turns names i ≡ Some q → started_at threads (record x { parent = i }) ≡ None → turns order n ≡ Some (q ++ turn_of x ∷ r) → StandsNowhere order n code
-  nowhere_by order n i x q r up none named p m z is uz =
-      at_is (strands_of p) m.strands z ∙ by (spot m.strands z) refl where
+  nowhere_by : (order : List Name) (n i : ℕ) (x : Name) (q r : List Turn) → turns names i ≡ Some q → started_at rows (record x { parent = i }) ≡ None → turns order n ≡ Some (q ++ turn_of x ∷ r) → StandsNowhere order n code
+  nowhere_by order n i x q r up none named job m z is uz =
+      at_is (strands_of job) m.strands z ∙ by (spot m.strands z) refl where
         same : z ≡ q ++ turn_of x ∷ r
         same = let e : Some z ≡ Some (q ++ turn_of x ∷ r) = sym uz ∙ named in cc
 
-        by : (o : Option (Spot State)) → spot m.strands z ≡ o → at_spot (strands_of p) (spot m.strands z) ≡ None
-        by None e = ap (at_spot (strands_of p)) e
+        by : (o : Option (Spot StrandState)) → spot m.strands z ≡ o → at_spot (strands_of job) (spot m.strands z) ≡ None
+        by None e = ap (at_spot (strands_of job)) e
         by (Some v) e =
-            let (j, uj) = listed p.cells code.strands m.strands is.strands z v e in
-            absurd (not_started names threads is.strands.numbered i x j q r up none (uj ∙ ap (λ y. Some y) same))
+            let (j, uj) = listed state_of code.strands m.strands is.strands z v e in
+            absurd (not_started names rows is.strands.numbered i x j q r up none (uj ∙ ap (λ y. Some y) same))
 
   -- a name that is led down to, from one beneath which is this one
   down_path : (order : List Name) (from n : ℕ) (todo : List ℕ) (q : List Turn) → LeadDown order from todo n → turns order from ≡ Some q → (r : List Turn) × (turns order n ≡ Some (q ++ r))
@@ -130,7 +130,7 @@ module _ (code : Code) where
 
   pub record Descends (old : Known) (number : ℕ) (todo : List ℕ) (now : Known) (above : ℕ) (left : List ℕ) : Type 0 where
     pub order : now.order.now ≡ old.order.now
-    pub down : IsNumbered names threads → (from n : ℕ) → LeadDown old.order.now from todo n → SameStrand old.order.now names from number → AreKnown old.order.now old.numbers.items names
+    pub down : IsNumbered names rows → (from n : ℕ) → LeadDown old.order.now from todo n → SameStrand old.order.now names from number → AreKnown old.order.now old.numbers.items names
         → (at : ℕ) × LeadDown old.order.now at left n × SameStrand old.order.now names at above × AreKnown old.order.now now.numbers.items names
 
   -- a name of the order that is led down by
@@ -154,7 +154,7 @@ module _ (code : Code) where
           subst (λ v. SameStrand order names v i) e (subst (SameStrand order names a) ji same)
 
   module _ (old mid : Known) (number above : ℕ) (todo left rest : List ℕ) (a : ℕ) (popped : left ≡ a ∷ rest) (d : Descends old number todo mid above left) where
-    pub descends_more : (x : Name) (j : ℕ) (new : Known) → slice_get mid.order.now a ≡ Some x → started_at threads (record x { parent = above }) ≡ Some j → new.order ≡ mid.order → new.numbers.items ≡ set mid.numbers.items a (Some j) → Descends old number todo new j rest
+    pub descends_more : (x : Name) (j : ℕ) (new : Known) → slice_get mid.order.now a ≡ Some x → started_at rows (record x { parent = above }) ≡ Some j → new.order ≡ mid.order → new.numbers.items ≡ set mid.numbers.items a (Some j) → Descends old number todo new j rest
     descends_more x j new here started order numbers = record {
       order = ap (λ v. v.now) order ∙ d.order;
       down = λ ok from n lead same known.
@@ -162,24 +162,24 @@ module _ (code : Code) where
           let (y, yonder, parent, low, further) = first_name old.order.now at a n rest (subst (λ l. LeadDown old.order.now at l n) popped lead_now) in
           let xy : y ≡ x = (let e : Some y ≡ Some x = sym yonder ∙ (ap (λ o. slice_get o a) (sym d.order) ∙ here) in cc) in
           let named = child_turns old.order.now at a y here_now.path yonder parent low here_now.here in
-          let strand = started_turns names threads ok above x j here_now.path here_now.there started in
+          let strand = started_turns names rows ok above x j here_now.path here_now.there started in
           let child : SameStrand old.order.now names a j = record { path = here_now.path ++ turn_of y ∷ []; here = named; there = strand ∙ ap (λ (v : Name). Some (here_now.path ++ turn_of v ∷ [])) (sym xy) } in
           (a, further, child, subst (λ v. AreKnown old.order.now v names) (sym numbers) (note_known old.order.now mid.numbers.items a j all child));
     }
 
     -- where the next strand was not started, none of those beneath it stands
-    pub descends_none : (x : Name) → slice_get mid.order.now a ≡ Some x → started_at threads (record x { parent = above }) ≡ None
-        → IsNumbered names threads → (from n : ℕ) → LeadDown old.order.now from todo n → SameStrand old.order.now names from number → AreKnown old.order.now old.numbers.items names → StandsNowhere old.order.now n code × AreKnown old.order.now mid.numbers.items names
+    pub descends_none : (x : Name) → slice_get mid.order.now a ≡ Some x → started_at rows (record x { parent = above }) ≡ None
+        → IsNumbered names rows → (from n : ℕ) → LeadDown old.order.now from todo n → SameStrand old.order.now names from number → AreKnown old.order.now old.numbers.items names → StandsNowhere old.order.now n code × AreKnown old.order.now mid.numbers.items names
     descends_none x here none ok from n lead same known =
         let (at, lead_now, here_now, all) = d.down ok from n lead same known in
         let (y, yonder, parent, low, further) = first_name old.order.now at a n rest (subst (λ l. LeadDown old.order.now at l n) popped lead_now) in
         let yx : x ≡ y = (let e : Some x ≡ Some y = sym here ∙ (ap (λ o. slice_get o a) d.order ∙ yonder) in cc) in
         let (r, un) = down_path old.order.now a n rest (here_now.path ++ turn_of y ∷ []) further (child_turns old.order.now at a y here_now.path yonder parent low here_now.here) in
-        (nowhere_by old.order.now n above y here_now.path r here_now.there (ap (λ (v : Name). started_at threads (record v { parent = above })) (sym yx) ∙ none) (un ∙ ap (λ v. Some v) (append_assoc here_now.path (turn_of y ∷ []) r)), all)
+        (nowhere_by old.order.now n above y here_now.path r here_now.there (ap (λ (v : Name). started_at rows (record v { parent = above })) (sym yx) ∙ none) (un ∙ ap (λ v. Some v) (append_assoc here_now.path (turn_of y ∷ []) r)), all)
 
     -- each name that leads down is one of the order
     pub descends_named : slice_get mid.order.now a ≡ None
-        → IsNumbered names threads → (from n : ℕ) → LeadDown old.order.now from todo n → SameStrand old.order.now names from number → AreKnown old.order.now old.numbers.items names → StandsNowhere old.order.now n code × AreKnown old.order.now mid.numbers.items names
+        → IsNumbered names rows → (from n : ℕ) → LeadDown old.order.now from todo n → SameStrand old.order.now names from number → AreKnown old.order.now old.numbers.items names → StandsNowhere old.order.now n code × AreKnown old.order.now mid.numbers.items names
     descends_named none ok from n lead same known =
         let (at, lead_now, here_now, all) = d.down ok from n lead same known in
         let (y, yonder, parent, low, further) = first_name old.order.now at a n rest (subst (λ l. LeadDown old.order.now at l n) popped lead_now) in

@@ -1,8 +1,8 @@
 -- The sides of a fork, by the step that leads to one.
-use Rattle.std.proofs.Common.{◌≡◌, ℕ, refl, ap, ◌∙◌, Bool, true, false, cond, eqb, ◌⊎◌, inl, inr}
+use Rattle.std.proofs.Common.{◌≡◌, ℕ, refl, ap, ◌∙◌, Bool, true, false, cond, eqb}
 use Rattle.std.proofs.lemmas.Bool.{eqb-true, eq-eqb}
 use Rattle.cw_tree.specs.declared.picks.Turn.{Turn}
-use Rattle.cw_serial.specs.Threads.{side_by}
+use Rattle.cw_serial.specs.StrandTree.{side_by}
 use Rattle.cw_serial.specs.Spots.{turn_to}
 
 pub turn_is : (x : Turn) (k : ℕ) (b : Bool) → x.fork ≡ k → x.right ≡ b → x ≡ turn_to k b
@@ -27,11 +27,6 @@ module _ {X : Type 0} where
 
   pub side_right : (k : ℕ) (l r none : X) → side_by (turn_to k true) k l r none ≡ r
   side_right k l r none = ap (λ f. side f true l r none) (eq-eqb k k refl)
-
-  side_cases_by : (f b : Bool) (l r none : X) → ((f ≡ true) × (b ≡ false) × (side f b l r none ≡ l)) ⊎ (((f ≡ true) × (b ≡ true) × (side f b l r none ≡ r)) ⊎ ((f ≡ false) × (side f b l r none ≡ none)))
-  side_cases_by true true l r none = inr (inl (refl, refl, refl))
-  side_cases_by true false l r none = inl (refl, refl, refl)
-  side_cases_by false b l r none = inr (inr (refl, refl))
 
 -- a step leads to the left strand, to the right one, or nowhere
 pub data Way (x : Turn) (k : ℕ) : Type 0 where

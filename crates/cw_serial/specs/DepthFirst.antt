@@ -1,31 +1,10 @@
--- The depth-first order: always the leftmost standing strand is picked. And what each pick does.
-use Rattle.std.specs.Prelude.{◌≡◌, ℕ, ℤ, Bool, true, false, List, [], ◌∷◌, ◌++◌, slice_set, Option, Some, None, option_map, if◌then◌else◌}
+-- The depth-first order: always the leftmost standing strand is picked.
+use Rattle.std.specs.Prelude.{◌≡◌, ℕ, Bool, true, false, List, [], ◌∷◌, Option, Some, None, option_map, if◌then◌else◌}
 use Rattle.std.specs.Option.{option_or}
-use Rattle.cw_strand.specs.declared.want.Want.{Want}
-use Rattle.cw_strand.specs.declared.want.Want.TheVariants.{Load, Store, Out}
-use Rattle.cw_strand.specs.declared.want.Given.{Given}
-use Rattle.cw_strand.specs.declared.want.Given.TheVariants.{Nothing, Value}
 use Rattle.cw_strand.specs.Strands.{Strands, is_over}
 use Rattle.cw_tree.specs.declared.picks.Turn.{Turn}
-use Rattle.cw_serial.specs.Threads.{Threads, stands, waits}
-use Rattle.cw_serial.specs.Machine.{Machine, value_at, pick}
-
--- ## What a want does
-
--- what a want is answered with from this memory
-abbrev pub answer_to : Want → List ℤ → Given
-answer_to (Load c) memory = Value (value_at memory c)
-answer_to w memory = Nothing
-
-abbrev pub memory_after : Want → List ℤ → List ℤ
-memory_after (Store c v) memory = slice_set memory c v
-memory_after w memory = memory
-
-abbrev pub outputs_after : Want → List ℤ → List ℤ
-outputs_after (Out v) outputs = outputs ++ v ∷ []
-outputs_after w outputs = outputs
-
--- ## Always the leftmost
+use Rattle.cw_serial.specs.StrandTree.{StrandTree, stands, waits}
+use Rattle.cw_serial.specs.Machine.{Machine, pick}
 
 -- a name, seen from the strand that made the fork
 abbrev pub beneath : ℕ → Bool → Option (List Turn) → Option (List Turn)
@@ -33,7 +12,7 @@ beneath k side p = option_map (λ q. record { fork = k; right = side } ∷ q) p
 
 module _ {A : Type 0} (s : Strands A) where
   -- the leftmost strand that stands at a want, or at a fault
-  abbrev pub leftmost : Threads A → Option (List Turn)
+  abbrev pub leftmost : StrandTree A → Option (List Turn)
   leftmost (stands k a) = if is_over (s.want a) then None else Some []
   leftmost (waits k l r) = option_or (beneath k false (leftmost l)) (beneath k true (leftmost r))
 

@@ -1,41 +1,43 @@
 -- What the machine in memory stands for.
-use Rattle.std.specs.Prelude.{◌≡◌, ◌++◌, ◌<◌, ◌≤◌, ℕ, ℤ, suc, Bool, true, false, List, [], ◌∷◌, drop, length, slice_get, slice_set, Option, Some, None, if◌then◌else◌}
+use Rattle.std.specs.Prelude.{◌≡◌, ◌==◌, ◌<◌, ◌≤◌, ℕ, suc, Bool, true, false, List, [], ◌∷◌, length, slice_get, Option, Some, None, if◌then◌else◌}
 use Rattle.cw_strand.specs.declared.want.Want.{Want}
-use Rattle.cw_strand.specs.declared.want.Want.TheVariants.{Load, Store, Out, Begin, End}
 use Rattle.cw_strand.specs.declared.want.Given.{Given}
-use Rattle.cw_strand.specs.declared.want.Given.TheVariants.{Nothing, Value}
 use Rattle.cw_strand.specs.Strands.{Strands, is_over}
-use Rattle.cw_strand.specs.Meaning.{State}
 use Rattle.cw_tree.specs.declared.picks.Name.{Name}
 use Rattle.cw_tree.specs.declared.picks.Turn.{Turn}
-use Rattle.cw_serial.specs.declared.program.Program.{Program}
 use Rattle.cw_serial.specs.declared.machine.Machine.{Machine as Code}
-use Rattle.cw_serial.specs.Threads.{Threads, at}
-use Rattle.cw_serial.specs.Machine.{Machine, value_at, turns}
-use Rattle.cw_serial.specs.Programs.{strands_of}
+use Rattle.cw_serial.specs.declared.machine.Begun.{Begun as Block}
+use Rattle.cw_serial.specs.Jobs.{Job}
+use Rattle.cw_serial.specs.Room.Strands.{StrandState, job_of, state_of, strands_of}
+use Rattle.cw_serial.specs.StrandTree.{StrandTree, at}
+use Rattle.cw_serial.specs.Wants.{answer_to, memory_after, outputs_after, blocks_after}
+use Rattle.cw_serial.specs.Machine.{Begun, Machine, turns}
 use Rattle.cw_serial.specs.Spots.{IsSettled}
-use Rattle.cw_serial.specs.Standing.{HasElements}
 use Rattle.cw_serial.specs.Held.{root, left_name, right_name, Holds}
 
--- these numbers are those of the strands of these names
-abbrev pub AreNamed : List Name → List ℕ → List (List Turn) → Type 0
-AreNamed names [] [] = Unit {0}
-AreNamed names (n ∷ ns) (q ∷ qs) = (turns names n ≡ Some q) × AreNamed names ns qs
-AreNamed names ns qs = ⊥
+-- the names of the strands that were started, each at its number
+abbrev pub names_in : Code → List Name
+names_in code = code.strands.names.items
 
--- The machine of the program is in this state.
-pub record IsMachine (p : Program) (code : Code) (m : Machine State) : Type 0 where
-  pub elements : HasElements code.elements p.cells
+-- these blocks were begun by the strands of these names
+abbrev pub AreBegun : List Name → List Block → List Begun → Type 0
+AreBegun names [] [] = Unit {0}
+AreBegun names (n ∷ ns) (q ∷ qs) = (turns names n.strand ≡ Some q.strand) × AreBegun names ns qs
+AreBegun names ns qs = ⊥
+
+-- The machine of the job is in this state.
+pub record IsMachine (job : Job) (code : Code) (m : Machine StrandState) : Type 0 where
+  pub job_is : job_of code.interpreter ≡ job
   pub memory : m.memory ≡ code.memory.items
   pub outputs : m.outputs ≡ code.outputs.items
-  pub strands : Holds p.cells code.strands m.strands
-  pub settled : IsSettled (strands_of p) m.strands
-  pub begun : AreNamed code.strands.names.items code.begun m.begun
+  pub strands : Holds state_of code.strands m.strands
+  pub settled : IsSettled (strands_of job) m.strands
+  pub begun : AreBegun (names_in code) code.begun m.begun
 
 -- The names of the strands that were started, in the order in which they were. Number 0 is the root; a strand's number is greater than
 -- that of the one that started it; no two strands have the same name; both strands of a fork were started, and of each earlier one.
 -- Each strand that stands at a want or is at its end is among them.
-pub record AreNames {A : Type 0} (s : Strands A) (names : List Name) (t : Threads A) : Type 0 where
+pub record AreNames {A : Type 0} (s : Strands A) (names : List Name) (t : StrandTree A) : Type 0 where
   pub first : slice_get names 0 ≡ Some root
   pub parents : (j : ℕ) (n : Name) → slice_get names (suc j) ≡ Some n → n.parent < suc j
   pub named : (i : ℕ) → i < length names → (q : List Turn) × (turns names i ≡ Some q)
@@ -55,33 +57,25 @@ want_before_end s None = None
 want_before_end s (Some a) = before_end (Some (s.want a))
 
 -- a pick was made, or cannot be made
-abbrev pub Picks : Program → Machine State → Option (Machine State) → Bool → Code → Type 0
-Picks p m (Some t) true new = IsMachine p new t
-Picks p m None false new = IsMachine p new m
-Picks p m t moved new = ⊥
+abbrev pub Picks : Job → Machine StrandState → Option (Machine StrandState) → Bool → Code → Type 0
+Picks job m (Some t) true new = IsMachine job new t
+Picks job m None false new = IsMachine job new m
+Picks job m t moved new = ⊥
 
--- memory, outputs and begun blocks are these, and nothing else changed
-pub record Meant (old : Code) (values shown : List ℤ) (blocks : List ℕ) (new : Code) : Type 0 where
-  pub memory : new.memory.items ≡ values
-  pub outputs : new.outputs.items ≡ shown
-  pub begun : new.begun ≡ blocks
-  pub elements : new.elements ≡ old.elements
+-- the begun blocks after a want of the strand of that number, or none where it cannot be done
+abbrev pub begun_after : Want → ℕ → List Block → Option (List Block)
+begun_after w n blocks = blocks_after (record { strand = n }) (λ b. b.strand == n) w blocks
+
+-- A want of that strand was done, and this is for the strand.
+pub record IsDone (w : Want) (n : ℕ) (old : Code) (given : Given) (new : Code) : Type 0 where
+  pub given_is : given ≡ answer_to w old.memory.items
+  pub memory : new.memory.items ≡ memory_after w old.memory.items
+  pub outputs : new.outputs.items ≡ outputs_after w old.outputs.items
+  pub begun : begun_after w n old.begun ≡ Some new.begun
+  pub interpreter : new.interpreter ≡ old.interpreter
   pub strands : new.strands ≡ old.strands
 
--- no pick does this
-abbrev pub CannotMeet : Want → Type 0
-CannotMeet (Load c) = ⊥
-CannotMeet (Store c v) = ⊥
-CannotMeet (Out v) = ⊥
-CannotMeet Begin = ⊥
-CannotMeet End = ⊥
-CannotMeet w = Unit {0}
-
--- a want of that strand was met, with this for the strand; or it is none that is met
-abbrev pub Meets : Want → ℕ → Code → Option Given → Code → Type 0
-Meets (Load c) n old (Some given) new = (given ≡ Value (value_at old.memory.items c)) × Meant old old.memory.items old.outputs.items old.begun new
-Meets (Store c v) n old (Some given) new = (given ≡ Nothing) × Meant old (slice_set old.memory.items c v) old.outputs.items old.begun new
-Meets (Out v) n old (Some given) new = (given ≡ Nothing) × Meant old old.memory.items (old.outputs.items ++ v ∷ []) old.begun new
-Meets Begin n old (Some given) new = (given ≡ Nothing) × Meant old old.memory.items old.outputs.items (n ∷ old.begun) new
-Meets End n old (Some given) new = (given ≡ Nothing) × Meant old old.memory.items old.outputs.items (drop 1 old.begun) new
-Meets w n old given new = CannotMeet w × (given ≡ None) × (new ≡ old)
+-- a want of that strand was done; or it cannot be done, and nothing changed
+abbrev pub Does : Want → ℕ → Code → Option Given → Code → Type 0
+Does w n old (Some given) new = IsDone w n old given new
+Does w n old None new = (begun_after w n old.begun ≡ None) × (new ≡ old)

@@ -1,27 +1,27 @@
 -- The machine with one memory, driven by picks. It does one want of a strand at each pick. While a block is begun, only strands inside
--- the innermost begun one may be picked: so each block is done without a break.
-use Rattle.std.specs.Prelude.{ℕ, ℤ, zero, suc, ◌==◌, ◌&&◌, Bool, true, false, not, pos, List, [], ◌∷◌, ◌++◌, drop, slice_get, slice_set, nat_lt, Option, Some, None, is_some, unwrap_or, if◌then◌else◌}
+-- the innermost begun one may be picked, and only the strand that began it ends it: so each block is done without a break.
+use Rattle.std.specs.Prelude.{ℕ, ℤ, zero, suc, ◌==◌, ◌&&◌, Bool, true, false, not, List, [], ◌∷◌, ◌++◌, slice_get, nat_lt, Option, Some, None, option_map, is_some, unwrap_or, if◌then◌else◌}
 use Rattle.cw_strand.specs.declared.want.Want.{Want}
-use Rattle.cw_strand.specs.declared.want.Want.TheVariants.{Load, Store, Out, Begin, End, Sync, Done, Fault}
-use Rattle.cw_strand.specs.declared.want.Given.TheVariants.{Nothing, Value}
+use Rattle.cw_strand.specs.declared.want.Want.TheVariants.{Sync, Done, Fault}
 use Rattle.cw_strand.specs.Strands.{Strands}
 use Rattle.cw_tree.specs.declared.picks.Name.{Name}
 use Rattle.cw_tree.specs.declared.picks.Turn.{Turn}
 use Rattle.cw_tree.specs.declared.picks.Picks.{Picks}
 use Rattle.cw_serial.specs.declared.ends.SerialEnd.{SerialEnd}
 use Rattle.cw_serial.specs.declared.ends.SerialEnd.TheVariants as last
-use Rattle.cw_serial.specs.Threads.{Threads, at, put, goes_on, ended}
+use Rattle.cw_serial.specs.StrandTree.{StrandTree, at, put, goes_on, ended}
+use Rattle.cw_serial.specs.Wants.{answer_to, memory_after, outputs_after, blocks_after}
+
+-- a begun block, by the name of the strand that began it
+pub record Begun : Type 0 where
+  pub strand : List Turn
 
 pub record Machine (A : Type 0) : Type 0 where
   pub memory : List ℤ
   pub outputs : List ℤ
-  pub strands : Threads A
-  -- the begun blocks, the innermost first, each by the name of the strand that began it
-  pub begun : List (List Turn)
-
--- what the memory holds at an element, and 0 where there is none
-abbrev pub value_at : List ℤ → ℕ → ℤ
-value_at memory c = unwrap_or (slice_get memory c) (pos 0)
+  pub strands : StrandTree A
+  -- the begun blocks, the innermost first
+  pub begun : List Begun
 
 abbrev pub same_side : Bool → Bool → Bool
 same_side true b = b
@@ -30,38 +30,44 @@ same_side false b = not b
 abbrev pub same_turn : Turn → Turn → Bool
 same_turn x y = (x.fork == y.fork) && same_side x.right y.right
 
+abbrev pub same_name : List Turn → List Turn → Bool
+same_name [] [] = true
+same_name (x ∷ p) (y ∷ q) = same_turn x y && same_name p q
+same_name _ _ = false
+
 -- the strand of the second name is that of the first, or was started beneath it
 abbrev pub is_beneath : List Turn → List Turn → Bool
 is_beneath [] p = true
 is_beneath (x ∷ q) [] = false
 is_beneath (x ∷ q) (y ∷ p) = same_turn x y && is_beneath q p
 
-abbrev pub may_pick : (begun : List (List Turn)) → List Turn → Bool
+abbrev pub may_pick : (begun : List Begun) → List Turn → Bool
 may_pick [] p = true
-may_pick (b ∷ bs) p = is_beneath b p
+may_pick (b ∷ bs) p = is_beneath b.strand p
 
 -- ## Picks
 
 module _ {A : Type 0} (s : Strands A) where
-  -- the strand of that name does what it stands at; where that is nothing, it cannot be picked
-  abbrev pub does : Machine A → List Turn → A → Want → Option (Machine A)
-  does m p a (Load c) = Some (record m { strands = put s m.strands p (s.answer a (Value (value_at m.memory c))) })
-  does m p a (Store c v) = Some (record m { memory = slice_set m.memory c v; strands = put s m.strands p (s.answer a Nothing) })
-  does m p a (Out v) = Some (record m { outputs = m.outputs ++ v ∷ []; strands = put s m.strands p (s.answer a Nothing) })
-  does m p a Begin = Some (record m { begun = p ∷ m.begun; strands = put s m.strands p (s.answer a Nothing) })
-  does m p a End = Some (record m { begun = drop 1 m.begun; strands = put s m.strands p (s.answer a Nothing) })
-  does m p a w = None
+  -- a strand of that name, which stands so, does what it wants; where that cannot be done, it cannot be picked
+  abbrev pub does : Machine A → List Turn → A → Option (Machine A)
+  does m p a =
+      option_map (λ blocks. record {
+        memory = memory_after (s.want a) m.memory;
+        outputs = outputs_after (s.want a) m.outputs;
+        strands = put s m.strands p (s.answer a (answer_to (s.want a) m.memory));
+        begun = blocks;
+      }) (blocks_after (record { strand = p }) (λ b. same_name b.strand p) (s.want a) m.begun)
 
   abbrev pub pick_at : Machine A → List Turn → Option A → Option (Machine A)
   pick_at m p None = None
-  pick_at m p (Some a) = if may_pick m.begun p then does m p a (s.want a) else None
+  pick_at m p (Some a) = if may_pick m.begun p then does m p a else None
 
   abbrev pub pick : Machine A → List Turn → Option (Machine A)
   pick m p = pick_at m p (at s m.strands p)
 
   -- before the first pick
-  abbrev pub begun : List ℤ → Machine A
-  begun memory = record { memory = memory; outputs = []; strands = goes_on s 0 s.start; begun = [] }
+  abbrev pub initial : List ℤ → Machine A
+  initial memory = record { memory = memory; outputs = []; strands = goes_on s 0 s.start; begun = [] }
 
   abbrev pub has_ended : Machine A → Bool
   has_ended m = is_some (ended s m.strands)
@@ -131,4 +137,4 @@ module _ {A : Type 0} (s : Strands A) where
 
   -- the end of the machine under picks
   abbrev pub serial_end : List ℤ → Picks → SerialEnd
-  serial_end memory picks = play (begun s memory) picks.names picks.list picks.last 0
+  serial_end memory picks = play (initial s memory) picks.names picks.list picks.last 0

@@ -16,6 +16,11 @@ abbrev pub named : {V : Type 0} → List (List ℕ × V) → List ℕ → Option
 named [] n = None
 named (x ∷ xs) n = if bytes_eq n x.0 then Some x.1 else named xs n
 
+-- the newest of a name stands for another value
+abbrev pub with_named : {V : Type 0} → List (List ℕ × V) → List ℕ → V → List (List ℕ × V)
+with_named [] n v = []
+with_named (x ∷ xs) n v = if bytes_eq n x.0 then (x.0, v) ∷ xs else x ∷ with_named xs n v
+
 -- what each name stood for before one was declared
 abbrev pub before : {V : Type 0} → Hidden V → (List ℕ → Option V) → List ℕ → Option V
 before h f n = if bytes_eq n h.name.now then h.value else f n

@@ -2,18 +2,17 @@
 use Rattle.std.specs.Prelude.{◌≡◌, ◌<◌, ℕ, zero, suc, Bool, true, false, List, [], ◌∷◌, nat_lt, slice_get, Option, Some, None, if◌then◌else◌}
 use Rattle.cw_strand.specs.declared.want.Want.{Want}
 use Rattle.cw_strand.specs.declared.want.Want.TheVariants.{Fault}
-use Rattle.cw_strand.specs.Meaning.{State}
 use Rattle.cw_tree.specs.declared.picks.Name.{Name}
 use Rattle.cw_tree.specs.declared.picks.Turn.{Turn}
-use Rattle.cw_serial.specs.declared.program.Program.{Program}
 use Rattle.cw_serial.specs.declared.machine.Machine.{Machine as Code}
 use Rattle.cw_serial.specs.declared.play.Play.{Play}
 use Rattle.cw_serial.specs.declared.ends.SerialEnd.{SerialEnd}
 use Rattle.cw_serial.specs.declared.ends.SerialEnd.TheVariants as last
-use Rattle.cw_serial.specs.Threads.{at}
+use Rattle.cw_serial.specs.StrandTree.{at}
 use Rattle.cw_serial.specs.Machine.{Machine, turns, is_root}
-use Rattle.cw_serial.specs.Programs.{strands_of}
-use Rattle.cw_serial.specs.InMemory.{IsMachine}
+use Rattle.cw_serial.specs.Jobs.{Job}
+use Rattle.cw_serial.specs.Room.Strands.{StrandState, strands_of}
+use Rattle.cw_serial.specs.InMemory.{IsMachine, names_in}
 
 -- name n of an order is that of strand i
 pub record SameStrand (order names : List Name) (n i : ℕ) : Type 0 where
@@ -54,37 +53,37 @@ LeadsUp order numbers n (Some i) todo = (from : ℕ) × (known_at order numbers 
 
 -- no strand of that name stands in the machine
 abbrev pub StandsNowhere : List Name → ℕ → Code → Type 0
-StandsNowhere order n code = (p : Program) (m : Machine State) (q : List Turn) → IsMachine p code m → turns order n ≡ Some q → at (strands_of p) m.strands q ≡ None
+StandsNowhere order n code = (job : Job) (m : Machine StrandState) (q : List Turn) → IsMachine job code m → turns order n ≡ Some q → at (strands_of job) m.strands q ≡ None
 
 -- what is found of a name: the number of its strand, or that none stands
 abbrev pub Finds : List Name → ℕ → Code → Option ℕ → Type 0
 Finds order n code None = StandsNowhere order n code
-Finds order n code (Some i) = SameStrand order code.strands.names.items n i
+Finds order n code (Some i) = SameStrand order (names_in code) n i
 
 -- the strand of that number, where there is one, is that of the name; or none of the name stands
-abbrev pub IsNamed : Program → Machine State → Code → Option ℕ → Option (List Turn) → Type 0
-IsNamed p m code None None = Unit {0}
-IsNamed p m code None (Some q) = at (strands_of p) m.strands q ≡ None
-IsNamed p m code (Some i) (Some q) = turns code.strands.names.items i ≡ Some q
-IsNamed p m code (Some i) None = ⊥
+abbrev pub IsNamed : Job → Machine StrandState → Code → Option ℕ → Option (List Turn) → Type 0
+IsNamed job m code None None = Unit {0}
+IsNamed job m code None (Some q) = at (strands_of job) m.strands q ≡ None
+IsNamed job m code (Some i) (Some q) = turns (names_in code) i ≡ Some q
+IsNamed job m code (Some i) None = ⊥
 
-abbrev pub at_named : Program → Machine State → Option (List Turn) → Option State
-at_named p m None = None
-at_named p m (Some q) = at (strands_of p) m.strands q
+abbrev pub at_named : Job → Machine StrandState → Option (List Turn) → Option StrandState
+at_named job m None = None
+at_named job m (Some q) = at (strands_of job) m.strands q
 
 -- ## A machine that is driven by the names of an order
 
--- The machine of the program is in this state, and what is known of these names is so there.
-pub record IsPlay (p : Program) (names : List Name) (code : Play) (m : Machine State) : Type 0 where
-  pub machine : IsMachine p code.machine m
+-- The machine of the job is in this state, and what is known of these names is so there.
+pub record IsPlay (job : Job) (names : List Name) (code : Play) (m : Machine StrandState) : Type 0 where
+  pub machine : IsMachine job code.machine m
   pub order : code.known.order.now ≡ names
-  pub known : AreKnown names code.known.numbers.items code.machine.strands.names.items
+  pub known : AreKnown names code.known.numbers.items (names_in code.machine)
 
 -- the pick of a name was made, or cannot be made
-abbrev pub Plays : Program → List Name → Machine State → Option (Machine State) → Bool → Play → Type 0
-Plays p names m (Some t) true new = IsPlay p names new t
-Plays p names m None false new = IsPlay p names new m
-Plays p names m t moved new = ⊥
+abbrev pub Plays : Job → List Name → Machine StrandState → Option (Machine StrandState) → Bool → Play → Type 0
+Plays job names m (Some t) true new = IsPlay job names new t
+Plays job names m None false new = IsPlay job names new m
+Plays job names m t moved new = ⊥
 
 -- how a run ends whose last strand wants this
 abbrev pub end_from : Option Want → (name place : ℕ) → SerialEnd

@@ -2,7 +2,7 @@
 use Rattle.std.specs.Prelude.{◌≡◌, ℕ, Bool, false, List, [], ◌∷◌, Option, Some, None}
 use Rattle.cw_tree.specs.declared.picks.Turn.{Turn}
 use Rattle.cw_strand.specs.Strands.{Strands, is_fork}
-use Rattle.cw_serial.specs.Threads.{Threads, stands, waits, side_by, ended, meet, goes_on}
+use Rattle.cw_serial.specs.StrandTree.{StrandTree, stands, waits, side_by, ended, meet, goes_on}
 
 -- the step to the left strand or the right one of a k-th fork
 abbrev pub turn_to : ℕ → Bool → Turn
@@ -13,7 +13,7 @@ pub data Spot (A : Type 0) : Type 0 where
   standing : ℕ → A → Spot A
   waiting : ℕ → Spot A
 
-abbrev pub spot : {A : Type 0} → Threads A → List Turn → Option (Spot A)
+abbrev pub spot : {A : Type 0} → StrandTree A → List Turn → Option (Spot A)
 spot (stands k a) [] = Some (standing k a)
 spot (stands k a) (x ∷ p) = None
 spot (waits k l r) [] = Some (waiting k)
@@ -21,7 +21,7 @@ spot (waits k l r) (x ∷ p) = side_by x k (spot l p) (spot r p) None
 
 module _ {A : Type 0} (s : Strands A) where
   -- the tree once all forks and joins are made
-  abbrev pub settle : Threads A → Threads A
+  abbrev pub settle : StrandTree A → StrandTree A
   settle (stands k a) = goes_on s k a
   settle (waits k l r) = meet s (goes_on s) k (settle l) (settle r)
 
@@ -31,6 +31,6 @@ module _ {A : Type 0} (s : Strands A) where
   Apart x y = Unit {0}
 
   -- No fork can be made and no join.
-  abbrev pub IsSettled : Threads A → Type 0
+  abbrev pub IsSettled : StrandTree A → Type 0
   IsSettled (stands k a) = is_fork (s.want a) ≡ false
   IsSettled (waits k l r) = IsSettled l × IsSettled r × Apart (ended s l) (ended s r)

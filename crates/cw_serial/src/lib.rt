@@ -1,48 +1,50 @@
 //! The machine with one memory: checked programs, their strands, and the machine's end under given picks.
-//! Stands on `cw_text`, `cw_code`, `cw_strand`, `cw_tree`.
-//! Contracts cite `specs/Threads.antt` and `specs/Machine.antt` (the machine, over any strands), `specs/Programs.antt` (what a
-//! checked program is), `specs/Standing.antt` (what the strand in memory stands for), `specs/InMemory.antt` with `specs/Held.antt` and
-//! `specs/Spots.antt` (what the machine in memory stands for), `specs/Orders.antt` (the strands that an order names). Private ones cite `specs/Scopes.antt`, `specs/Visible.antt` and
-//! `specs/Items.antt` (names and what items declare), `specs/Named.antt` (names in memory) and `specs/Loads.antt` (that settling ends).
+//! Stands on `cw_base`, `cw_text`, `cw_code`, `cw_strand` and `cw_tree`.
+//! Contracts cite `specs/Jobs.antt` (what is run), `specs/Room/Strands.antt` (its strands, which all else knows by their law alone),
+//! `specs/StrandTree.antt`, `specs/Wants.antt` and `specs/Machine.antt` (the machine, over any strands), `specs/MachineOf.antt` (that of
+//! a job), `specs/Programs.antt` (what a checked program is), `specs/InMemory.antt` with `specs/Held.antt` and `specs/Spots.antt` (what the
+//! machine in memory stands for), and `specs/Orders.antt` (the strands that an order names). Private ones cite `specs/NamingRules`
+//! (names and what items declare), `specs/Named.antt` (names in memory) and the rest of `specs/Room` (work and tasks).
 #![tactic(auto)]
 
-ghost use Rattle.cw_serial.specs.Rows.{Ends, StrandEnds};
+ghost use Rattle.cw_serial.specs.Forks.{ForksAreMade};
+ghost use Rattle.cw_serial.specs.Jobs.{Job};
+ghost use Rattle.cw_serial.specs.Room.Strands.{strands_of};
+ghost use Rattle.cw_serial.specs.Room.Rows.{Ends, StrandEnds};
+ghost use Rattle.cw_serial.specs.Rows.{CrossingEnds};
 
-mod checking;
-mod elements;
 mod ends;
-mod items;
+mod interpreter;
 mod locals;
 mod machine;
+mod memory;
 mod names;
-mod operators;
+mod naming;
 mod orders;
 mod play;
 mod program;
-mod scope;
-mod stack;
-mod strand;
-mod threads;
-mod visible;
-mod work;
+mod table;
 
-pub use checking::checked;
 pub use cw_code::{CellInfo, FaultKind, Limits};
 pub use cw_strand::{NameFault, NameKind};
 pub use cw_tree::{Name, Picks};
-pub use elements::{Elements, first_memory};
 pub use ends::SerialEnd;
+pub use interpreter::{Interpreter, Strand};
 pub use machine::Machine;
+pub use memory::{first_memory, value_at};
+pub use naming::checked;
 pub use play::{Play, serial};
 pub use program::{NameRefusal, Program};
-pub use stack::Stack;
-pub use strand::Strand;
 
 /// Worked runs of the machine.
 pub fn worked_runs()
     ensures main { Ends }
     ensures strands { StrandEnds }
+    ensures crossing { CrossingEnds }
 {}
 
-#[cfg(test)]
-mod tests;
+/// A strand that wants a fork makes it at once, and where both its strands have ended the strand that forked goes on, however many
+/// forks and joins follow each other.
+pub fn forks_are_made()
+    ensures { (job : Job) → ForksAreMade (strands_of job) }
+{}

@@ -1,10 +1,8 @@
 ghost use Rattle.std.specs.Prelude.{◌≡◌, ◌-◌, [], ◌∷◌, IfOk, OnOk, IsSome, length, drop};
-ghost use Rattle.cw_serial.specs.Named.{named};
-ghost use Rattle.cw_strand.specs.Meaning.{local_of, with_local};
+ghost use Rattle.cw_serial.specs.Named.{named, with_named};
 
 use crate::names::Names;
-use crate::stack::Stack;
-use cw_base::OutOfMemory;
+use cw_base::{OutOfMemory, Stack};
 use std::alloc::Global;
 use std::marker::Model;
 
@@ -93,24 +91,17 @@ impl<'a, V: Copy> Locals<'a, V> {
         self.declared.pop();
         Ok(())
     }
-}
 
-impl<'a> Locals<'a, i64> {
-    /// The value of a name, if it is the name of a local.
-    pub fn value(&self, name: &str) -> Option<i64>
-        ensures { result ≡ local_of self.now name.now }
-    {
-        self.get(name)
-    }
-
-    /// The newest of a name gets another value.
-    pub fn assign(&mut self, name: &'a str, value: i64) -> Result<(), OutOfMemory>
-        requires { IsSome (local_of self.old name.now) }
-        ensures { OnOk result (self.new ≡ with_local self.old name.now value) }
+    /// The newest of a name stands for another value.
+    pub fn assign(&mut self, name: &'a str, value: V) -> Result<(), OutOfMemory>
+        requires { IsSome (named self.old name.now) }
+        ensures { OnOk result (self.new ≡ with_named self.old name.now value) }
     {
         self.values.set(name, Some(value))
     }
+}
 
+impl<'a> Locals<'a, i64> {
     /// The same once more.
     pub fn copy(&self) -> Result<Locals<'a, i64>, OutOfMemory>
         ensures { IfOk result (λ l. l ≡ self.now) }

@@ -2,8 +2,7 @@ ghost use Rattle.std.specs.Prelude.{◌≡◌, [], Some, IfOk, slice_get, slice_
 
 use crate::Name;
 use crate::machine::Machine;
-use crate::stack::Stack;
-use cw_base::OutOfMemory;
+use cw_base::{OutOfMemory, Stack};
 use std::alloc::Global;
 
 /// The strands that an order names, by their numbers in the machine, as far as they were asked for.
@@ -17,6 +16,7 @@ impl<'n> Known<'n> {
     ghost use Rattle.std.specs.Prelude.{List, ℕ};
     ghost use Rattle.cw_tree.specs.declared.picks.Name.{Name as Named};
     ghost use Rattle.cw_serial.specs.Held.{IsNumbered};
+    ghost use Rattle.cw_serial.specs.InMemory.{names_in};
     ghost use Rattle.cw_serial.specs.Orders.{AreKnown, SameStrand, known_at, parent_number, root_number, LeadsUp, LeadDown, Finds};
 
     /// Nothing is known yet.
@@ -40,10 +40,10 @@ impl<'n> Known<'n> {
     ) -> Result<Option<u32>, OutOfMemory>
         ensures order { IfOk result (λ found. self.new.order.now ≡ self.old.order.now) }
         ensures found { IfOk result (λ found.
-            IsNumbered machine.now.strands.names.items machine.now.strands.threads.items →
-            AreKnown self.old.order.now self.old.numbers.items machine.now.strands.names.items →
+            IsNumbered (names_in machine.now) machine.now.strands.rows.items →
+            AreKnown self.old.order.now self.old.numbers.items (names_in machine.now) →
             Finds self.old.order.now name machine.now found
-            × AreKnown self.old.order.now self.new.numbers.items machine.now.strands.names.items) }
+            × AreKnown self.old.order.now self.new.numbers.items (names_in machine.now)) }
     {
         let mut todo = Stack::new(alloc);
         let Some(number) = self.climb(name, &mut todo)? else {
@@ -73,12 +73,12 @@ impl<'n> Known<'n> {
     /// The number of the strand to which these names lead down, if that was started.
     fn descend(&mut self, machine: &Machine<'_>, number: u32, mut todo: Stack<u32>) -> Option<u32>
         ensures order { self.new.order.now ≡ self.old.order.now }
-        ensures found { IsNumbered machine.now.strands.names.items machine.now.strands.threads.items →
+        ensures found { IsNumbered (names_in machine.now) machine.now.strands.rows.items →
             (from n : ℕ) → LeadDown self.old.order.now from todo n →
-            SameStrand self.old.order.now machine.now.strands.names.items from number →
-            AreKnown self.old.order.now self.old.numbers.items machine.now.strands.names.items →
+            SameStrand self.old.order.now (names_in machine.now) from number →
+            AreKnown self.old.order.now self.old.numbers.items (names_in machine.now) →
             Finds self.old.order.now n machine.now result
-            × AreKnown self.old.order.now self.new.numbers.items machine.now.strands.names.items }
+            × AreKnown self.old.order.now self.new.numbers.items (names_in machine.now) }
     {
         let mut above = number;
         while let Some(at) = todo.pop() {

@@ -1,5 +1,6 @@
 ghost use Rattle.std.specs.Prelude.{◌≡◌, IfOk};
-ghost use Rattle.cw_serial.specs.Programs.{end_under, machine_of};
+ghost use Rattle.cw_serial.specs.Jobs.{Job};
+ghost use Rattle.cw_serial.specs.MachineOf.{end_under, machine_of};
 ghost use Rattle.cw_serial.specs.Orders.{IsPlay};
 
 use crate::machine::Machine;
@@ -19,23 +20,22 @@ pub struct Play<'a, 'n> {
 
 impl<'a, 'n> Play<'a, 'n> {
     ghost use Rattle.std.specs.Prelude.{List};
-    ghost use Rattle.cw_strand.specs.Meaning.{State};
     ghost use Rattle.cw_tree.specs.declared.picks.Name.{Name as Named};
-    ghost use Rattle.cw_serial.specs.declared.program.Program.{Program as Checked};
     ghost use Rattle.cw_serial.specs.Machine.{Machine as State_of, pick_named, shown, turns};
     ghost use Rattle.cw_serial.specs.InMemory.{want_before_end};
     ghost use Rattle.cw_serial.specs.Orders.{at_named, Plays};
-    ghost use Rattle.cw_serial.specs.Programs.{strands_of};
+    ghost use Rattle.cw_serial.specs.Room.Strands.{StrandState, strands_of};
 
-    /// The machine before the first pick. Words and limits have no meaning in the language so far.
+    /// The machine before the first pick.
     pub fn new(
         alloc: Global,
         program: &'a Program,
-        words: &[i64],
+        words: &'a [i64],
         limits: Limits,
         names: &'n [Name],
     ) -> Result<Play<'a, 'n>, OutOfMemory>
-        ensures { IfOk result (λ play. IsPlay program.now names.now play (machine_of program.now)) }
+        ensures { IfOk result (λ play. let job : Job = record { program = program.now; words = words.now; limits = limits } in
+            IsPlay job names.now play (machine_of job)) }
     {
         let machine = Machine::new(alloc, program, words, limits)?;
         let known = Known::new(alloc, names)?;
@@ -48,7 +48,7 @@ impl<'a, 'n> Play<'a, 'n> {
 
     /// What the memory holds.
     pub fn memory(&self) -> &[i64]
-        ensures { (p : Checked) (names : List Named) (m : State_of State) → IsPlay p names self.now m → m.memory ≡ result.now }
+        ensures { (job : Job) (names : List Named) (m : State_of StrandState) → IsPlay job names self.now m → m.memory ≡ result.now }
     {
         self.machine.memory()
     }
@@ -56,10 +56,10 @@ impl<'a, 'n> Play<'a, 'n> {
     /// What the strand of a name wants. Nothing where it waits for its fork, has come to its end or was not started, or where the
     /// number is no name.
     pub fn at(&mut self, name: u32) -> Result<Option<Want>, OutOfMemory>
-        ensures want { IfOk result (λ want. (p : Checked) (names : List Named) (m : State_of State) → IsPlay p names self.old m →
-            want ≡ want_before_end (strands_of p) (at_named p m (turns names name))) }
-        ensures same { IfOk result (λ want. (p : Checked) (names : List Named) (m : State_of State) → IsPlay p names self.old m →
-            IsPlay p names self.new m) }
+        ensures want { IfOk result (λ want. (job : Job) (names : List Named) (m : State_of StrandState) → IsPlay job names self.old m →
+            want ≡ want_before_end (strands_of job) (at_named job m (turns names name))) }
+        ensures same { IfOk result (λ want. (job : Job) (names : List Named) (m : State_of StrandState) → IsPlay job names self.old m →
+            IsPlay job names self.new m) }
     {
         let strand = self.known.number(self.alloc, &self.machine, name)?;
         Ok(self.machine.want_of(strand))
@@ -68,20 +68,19 @@ impl<'a, 'n> Play<'a, 'n> {
     /// Makes the pick of the strand of a name, or answers false where it cannot be made, with the machine as it was. The program is
     /// the one that the machine was made of. After an error the machine can only be dropped.
     pub fn pick(&mut self, program: &'a Program, name: u32) -> Result<bool, OutOfMemory>
-        ensures { IfOk result (λ moved. (p : Checked) (names : List Named) (m : State_of State) → IsPlay p names self.old m →
-            Plays p names m (pick_named (strands_of p) m (turns names name)) moved self.new) }
+        ensures { IfOk result (λ moved. (job : Job) (names : List Named) (m : State_of StrandState) → IsPlay job names self.old m →
+            Plays job names m (pick_named (strands_of job) m (turns names name)) moved self.new) }
     {
         let Some(strand) = self.known.number(self.alloc, &self.machine, name)? else {
             return Ok(false);
         };
-        let moved = self.machine.pick(program, strand)?;
-        Ok(moved)
+        self.machine.pick(program, strand)
     }
 
     /// The end where the picks are used up, so many of them, and the last name is this one.
     pub fn end(self, last: u32, place: u32) -> Result<SerialEnd, OutOfMemory>
-        ensures { IfOk result (λ e. (p : Checked) (names : List Named) (m : State_of State) → IsPlay p names self.entry m →
-            e ≡ shown (strands_of p) m names last place) }
+        ensures { IfOk result (λ e. (job : Job) (names : List Named) (m : State_of StrandState) → IsPlay job names self.entry m →
+            e ≡ shown (strands_of job) m names last place) }
     {
         let Play {
             alloc,
@@ -93,8 +92,7 @@ impl<'a, 'n> Play<'a, 'n> {
     }
 }
 
-/// The end of the machine with one memory under these picks, whatever they are. Words and limits have no meaning in the
-/// language so far: `main` has no parameters, and fuel and size are not counted. More than 4,294,967,295 picks or strands, whose
+/// The end of the machine with one memory under these picks, whatever they are. More than 4,294,967,295 picks or strands, whose
 /// number no end and no name can give, are answered as want of memory.
 pub fn serial(
     alloc: Global,
@@ -103,7 +101,7 @@ pub fn serial(
     limits: Limits,
     picks: &Picks,
 ) -> Result<SerialEnd, OutOfMemory>
-    ensures { IfOk result (λ e. e ≡ end_under program.now picks.now) }
+    ensures { IfOk result (λ e. e ≡ end_under (record { program = program.now; words = words.now; limits = limits }) picks.now) }
 {
     let Ok(count) = u32::try_from(picks.list.len()) else {
         return Err(OutOfMemory);
@@ -115,6 +113,5 @@ pub fn serial(
             return Ok(SerialEnd::Stuck { place });
         }
     }
-    let end = play.end(picks.last, count)?;
-    Ok(end)
+    play.end(picks.last, count)
 }

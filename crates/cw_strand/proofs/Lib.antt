@@ -1,8 +1,6 @@
+pub mod FitTasks
 pub mod Forking
+pub mod Lawful
 pub mod LocalWork
-pub mod NestedStrands
-pub mod NestedTasks
-pub mod ProvidedStrands
-pub mod ProvidedTasks
-pub mod Settling
+pub mod Standing
 pub mod StandingNames

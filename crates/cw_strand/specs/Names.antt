@@ -5,7 +5,7 @@ use Rattle.std.specs.Prelude.{ℕ, zero, suc, ◌+◌, List, [], ◌∷◌, repl
 use Rattle.std.specs.List.{flat_map}
 use Rattle.cw_text.specs.declared.ast.Word.{Word}
 use Rattle.std.specs.Str.{bytes_eq}
-use Rattle.cw_text.specs.Syntax.{Term, number, name, unary, binary, Statement, set_new, assign, out, atomic, spawn, sync, Block, empty, first, Declaration, cell, func}
+use Rattle.cw_text.specs.Syntax.{Term, number, name, unary, binary, Statement, declare, assign, out, atomic, spawn, sync, Block, empty, first, Declaration, cell, func}
 use Rattle.cw_code.specs.declared.CellInfo.{CellInfo}
 use Rattle.cw_strand.specs.declared.naming.NameKind.{NameKind}
 use Rattle.cw_strand.specs.declared.naming.NameKind.TheVariants as kind
@@ -59,12 +59,12 @@ in_term g (binary o l r) = in_term g l then in_term g r
 
 -- what is visible after a statement
 abbrev pub scope_after : Statement → Scope → Scope
-scope_after (set_new w e) g = (w.name, a_local) ∷ g
+scope_after (declare w e) g = (w.name, a_local) ∷ g
 scope_after s g = g
 
 abbrev mutual
   pub in_statement : Scope → Statement → Fault
-  in_statement g (set_new w e) = declared_new (find w.name g) w.line then in_term g e
+  in_statement g (declare w e) = declared_new (find w.name g) w.line then in_term g e
   in_statement g (assign w e) = used (find w.name g) w.line then in_term g e
   in_statement g (out e) = in_term g e
   in_statement g (atomic b) = in_block g b

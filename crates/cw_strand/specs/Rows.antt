@@ -1,7 +1,7 @@
 -- Worked programs.
 use Rattle.std.specs.Prelude.{ℕ, zero, suc, ◌≡◌, List, [], ◌∷◌, codes, Result, Ok, Err, None, ℤ, pos, unwrap_or}
 use Rattle.cw_text.specs.declared.fault.TextFault.{TextFault}
-use Rattle.cw_text.specs.Syntax.{Declaration, name, empty}
+use Rattle.cw_text.specs.Syntax.{Declaration, empty}
 use Rattle.cw_text.specs.Rows.{read}
 use Rattle.cw_code.specs.declared.FaultKind.TheVariants.{Overflow}
 use Rattle.cw_strand.specs.declared.naming.NameKind.TheVariants.{Unknown, Twice, NoMain, NotALocal}
@@ -11,7 +11,7 @@ use Rattle.cw_strand.specs.declared.want.Given.{Given}
 use Rattle.cw_strand.specs.declared.want.Given.TheVariants.{Nothing, Value}
 use Rattle.cw_strand.specs.Names as names
 use Rattle.cw_strand.specs.Strands.{Strands}
-use Rattle.cw_strand.specs.Meaning.{State, Task, value, perform, show, meet, finish, strands, body_at}
+use Rattle.cw_strand.specs.Meaning.{Standing, Task, perform, show, wait, finish, strands, body_at}
 
 abbrev pub tree : List ℕ → List Declaration
 tree text = given (read text) where
@@ -64,7 +64,7 @@ asked s zero vs others a = []
 asked s (suc n) vs others a = s.want a ∷ after_want s (λ us more b. asked s n us more b) (s.want a) vs others a
 
 -- the strands of the text's program
-abbrev pub strands_of_text : List ℕ → Strands State
+abbrev pub strands_of_text : List ℕ → Strands Standing
 strands_of_text text = let ds = tree text in strands (names.cells_of ds) (body_at ds (unwrap_or (names.main_of ds) 0))
 
 abbrev pub trace : List ℕ → List ℤ → List Want
@@ -92,12 +92,12 @@ abbrev pub after_answers : {A : Type 0} → Strands A → List Given → A
 after_answers s [] = s.start
 after_answers s (g ∷ gs) = s.answer (after_answers s gs) g
 
--- what a strand stands at and what it has still to do, once it got these answers, the newest first
+-- what a strand stands at and what it has to do once that is answered, once it got these answers, the newest first
 abbrev pub standing : List ℕ → List Given → Want × List Task
-standing text given = let s = strands_of_text text in let a = after_answers s given in (s.want a, a.todo)
+standing text given = let x = after_answers (strands_of_text text) given in (x.want, x.state.todo)
 
 -- Both are over, the second one too early: its name stands for nothing.
 abbrev pub Endings : Type 0
 Endings =
     (standing (codes "cell c; fn main() { let x = c; out x * x; }") (Nothing ∷ Value (pos 3) ∷ []) ≡ (Done, finish ∷ []))
-    × (standing (codes "fn main() { out x; }") [] ≡ (Done, value (name (record { name = codes "x"; line = 1 })) ∷ show ∷ perform empty ∷ meet ∷ finish ∷ []))
+    × (standing (codes "fn main() { out x; }") [] ≡ (Done, show ∷ perform empty ∷ wait ∷ finish ∷ []))

@@ -1,9 +1,10 @@
 -- The law of strands: all that a machine, a record or a replay knows of one. It is given from the syntax tree in
 -- `Meaning`; whatever else gives it, as compiled code, takes that one's place.
-use Rattle.std.specs.Prelude.{◌≡◌, ℕ, ◌<◌, ◌≤◌, Bool, true, false}
+use Rattle.std.specs.Prelude.{◌≡◌, ℕ, zero, suc, ◌<◌, ◌≤◌, Bool, true, false, List, [], ◌∷◌}
 use Rattle.cw_strand.specs.declared.want.Want.{Want}
-use Rattle.cw_strand.specs.declared.want.Want.TheVariants.{Fork, Sync, Done}
+use Rattle.cw_strand.specs.declared.want.Want.TheVariants.{Load, Store, Out, Begin, End, Fork, Sync, Done, Fault}
 use Rattle.cw_strand.specs.declared.want.Given.{Given}
+use Rattle.cw_strand.specs.declared.want.Given.TheVariants.{Nothing, Value}
 
 pub record Strands (A : Type 0) : Type 0 where
   -- the strand of main, at its first want
@@ -17,8 +18,10 @@ pub record Strands (A : Type 0) : Type 0 where
   pub right : A → A
   -- what the right strand at its end and the left one at its end become: the strand that forked, at its next want
   pub joined : (right left : A) → A
-  -- from here no more forks than so many follow each other without another want
+  -- from here no more forks and answers than so many follow each other
   pub depth : A → ℕ
+
+-- ## Wants
 
 -- a strand that wants this has come to its end: the right one of a fork at a sync, another one where it is done
 abbrev pub is_over : Want → Bool
@@ -30,8 +33,76 @@ abbrev pub is_fork : Want → Bool
 is_fork Fork = true
 is_fork w = false
 
--- The depth falls at each fork, on both sides, and does not rise where two strands become one.
-pub record IsDeep {A : Type 0} (s : Strands A) : Type 0 where
-  pub left : (a : A) → s.want a ≡ Fork → s.depth (s.left a) < s.depth a
-  pub right : (a : A) → s.want a ≡ Fork → s.depth (s.right a) < s.depth a
-  pub joined : (right left : A) → s.depth (s.joined right left) ≤ s.depth right
+-- a strand that wants this goes on once it is answered
+abbrev pub takes_answer : Want → Bool
+takes_answer Fork = false
+takes_answer Sync = false
+takes_answer Done = false
+takes_answer (Fault k) = false
+takes_answer w = true
+
+-- this answers that want: a value a load; nothing a store, an output, and the begin and the end of a block
+abbrev pub IsAnswer : Want → Given → Type 0
+IsAnswer (Load c) (Value v) = Unit {0}
+IsAnswer (Store c v) Nothing = Unit {0}
+IsAnswer (Out v) Nothing = Unit {0}
+IsAnswer Begin Nothing = Unit {0}
+IsAnswer End Nothing = Unit {0}
+IsAnswer w given = ⊥
+
+-- ## Blocks
+--
+-- Numbers say how many blocks are begun and not ended: in the strand itself; then, where it is the right one of a fork, in the
+-- strand that forked; and so on, up to a left one or that of main.
+
+-- what becomes of them once a want is answered
+abbrev pub own_after : Want → List ℕ → List ℕ
+own_after Begin (b ∷ bs) = suc b ∷ bs
+own_after End (suc b ∷ bs) = b ∷ bs
+own_after w bs = bs
+
+-- What a strand with these numbers of blocks may want: an end where it began a block itself; with no such block left, a sync
+-- where it is a right strand, and to be done where it is another one; all else at any time.
+abbrev pub MayWant : Want → List ℕ → Type 0
+MayWant End (suc b ∷ bs) = Unit {0}
+MayWant End bs = ⊥
+MayWant Sync (zero ∷ b ∷ bs) = Unit {0}
+MayWant Sync bs = ⊥
+MayWant Done (zero ∷ []) = Unit {0}
+MayWant Done bs = ⊥
+MayWant w bs = Unit {0}
+
+-- ## Runs of strands
+
+module _ {A : Type 0} (s : Strands A) where
+  -- From one want of a strand to a later one of the same strand: each want is answered with what it takes, and where the strand
+  -- forks both strands of the fork come to their ends and are joined.
+  pub data GoesTo : List ℕ → A → List ℕ → A → Type 0 where
+    stays : {own : List ℕ} {a : A} → GoesTo own a own a
+    answered : {from own : List ℕ} {a b : A} → GoesTo from a own b → (given : Given) → IsAnswer (s.want b) given → GoesTo from a (own_after (s.want b) own) (s.answer b given)
+    joins : {from own beside : List ℕ} {n : ℕ} {a b left right : A} → GoesTo from a own b → s.want b ≡ Fork
+        → GoesTo (0 ∷ []) (s.left b) beside left → is_over (s.want left) ≡ true
+        → GoesTo (0 ∷ own) (s.right b) (n ∷ own) right → is_over (s.want right) ≡ true
+        → GoesTo from a own (s.joined right left)
+
+  -- What the strands of a run may come to: that of main, and the two of each fork.
+  pub data Reached : List ℕ → A → Type 0 where
+    of_main : {own : List ℕ} {a : A} → GoesTo (0 ∷ []) s.start own a → Reached own a
+    of_left : {above own : List ℕ} {f a : A} → Reached above f → s.want f ≡ Fork → GoesTo (0 ∷ []) (s.left f) own a → Reached own a
+    of_right : {above own : List ℕ} {f a : A} → Reached above f → s.want f ≡ Fork → GoesTo (0 ∷ above) (s.right f) own a → Reached own a
+
+  -- The depth falls at each fork, on both sides, and at each answer. It does not rise where two strands become one.
+  pub record IsDeep : Type 0 where
+    pub left : (a : A) → s.want a ≡ Fork → s.depth (s.left a) < s.depth a
+    pub right : (a : A) → s.want a ≡ Fork → s.depth (s.right a) < s.depth a
+    pub answer : (a : A) (given : Given) → takes_answer (s.want a) ≡ true → s.depth (s.answer a given) < s.depth a
+    pub joined : (right left : A) → s.depth (s.joined right left) ≤ s.depth right
+
+  -- A block ends in the strand that began it, and a strand ends only once its own blocks have ended.
+  abbrev pub Closes : Type 0
+  Closes = (own : List ℕ) (a : A) → Reached own a → MayWant (s.want a) own
+
+  -- The law: what holds of the strands of every program that may be run.
+  pub record IsLawful : Type 0 where
+    pub deep : IsDeep
+    pub closes : Closes

@@ -1,12 +1,12 @@
 //! What a strand means: which names a program may use, what a strand wants next, what an answer makes of it, and which
-//! strands a fork and a join make of it. Stands on `cw_text` and `cw_code`.
+//! strands a fork and a join make of it. Stands on `cw_base`, `cw_text` and `cw_code`.
 //! `specs/Strands.antt` is the law of strands that all layers above take as a parameter, `specs/Meaning.antt` gives it from
 //! the syntax tree, `specs/Names.antt` has the naming rules, `specs/Arithmetic.antt` the operators. `specs/Laws.antt` has
 //! what holds of strands, `specs/Rows.antt` the worked programs.
 #![tactic(auto)]
 
 ghost use Rattle.cw_strand.specs.Rows.{Faults, Traces, Forks, Endings};
-ghost use Rattle.cw_strand.specs.Laws.{LocalWorkEnds, ForksEnd, EndsOnlyWhenDone, BlocksClose};
+ghost use Rattle.cw_strand.specs.Laws.{LocalWorkEnds, ForksEnd, EndsOnlyWhenDone, BlocksClose, StrandsAreLawful};
 
 mod naming;
 mod want;
@@ -21,12 +21,12 @@ pub fn worked_programs()
     ensures forks { Forks }
 {}
 
-/// A strand never goes on by itself for ever: it always comes to a want.
+/// A strand never goes on by itself for ever: it always comes to a want, and stands there.
 pub fn local_work_ends()
     ensures { LocalWorkEnds }
 {}
 
-/// No more forks follow each other, without another want, than a strand's depth says.
+/// No more forks and answers follow each other than a strand's depth says.
 pub fn forks_end()
     ensures { ForksEnd }
 {}
@@ -42,4 +42,9 @@ pub fn ends_only_when_done()
 /// another one where it is done.
 pub fn blocks_close()
     ensures { BlocksClose }
+{}
+
+/// The strands of every program without a naming fault keep the law of strands.
+pub fn strands_are_lawful()
+    ensures { StrandsAreLawful }
 {}

@@ -2,13 +2,13 @@
 use Rattle.std.proofs.Common.{◌≡◌, ℕ, ◌<◌, ◌≤◌, ◌^◌, ◌==◌, not, ◌||◌, ◌&&◌, Bool, true, false, cond, List, [], ◌∷◌, length, get_or, codes, refl, ap, arith, lit<}
 use Rattle.std.proofs.lemmas.List.Sums.{take_while-cons, prefix_len-le-length}
 use Rattle.std.proofs.lemmas.List.Folds.{length-prefix_len}
-use Rattle.std.specs.Prelude.{nat_le}
+use Rattle.std.specs.Prelude.{nat_eq, nat_le}
 use Rattle.std.specs.Char.{is_ascii_digit}
-use Rattle.std.specs.List.{take_while}
+use Rattle.std.specs.List.{starts_with, take_while}
 use Rattle.cw_text.specs.declared.fault.TextKind.TheVariants.{BadNumber}
 use Rattle.cw_text.specs.declared.mark.Mark.{Mark}
 use Rattle.cw_text.specs.declared.mark.Mark.TheVariants as m
-use Rattle.cw_text.specs.Lexemes.{Token, Front, gap, found, mark, number, bad, end, is_blank, is_letter, is_word, begins_with, begins_by, spelling, signs, word_token, number_token, value_of_digits, after_digits, sign_front, front, width}
+use Rattle.cw_text.specs.Lexemes.{Token, Front, gap, found, mark, number, bad, end, is_blank, is_letter, is_word, begins_by, spelling, signs, word_token, number_token, value_of_digits, after_digits, sign_front, front, width}
 use Rattle.std.specs.Str.{bytes_eq}
 
 -- ## Words and numbers from their first byte on
@@ -66,15 +66,15 @@ and_right : (a b : Bool) → (a && b) ≡ true → b ≡ true
 and_right true b h = h
 and_right false b h = cc
 
-begins_with_fits : (xs ys : List ℕ) → begins_with xs ys ≡ true → length xs ≤ length ys
-begins_with_fits [] ys h = omega arith
-begins_with_fits (x ∷ xs) [] h = cc
-begins_with_fits (x ∷ xs) (y ∷ ys) h = omega (arith, begins_with_fits xs ys (and_right (x == y) (begins_with xs ys) h))
+starts_with_fits : (xs ys : List ℕ) → starts_with nat_eq ys xs ≡ true → length xs ≤ length ys
+starts_with_fits [] ys h = omega arith
+starts_with_fits (x ∷ xs) [] h = cc
+starts_with_fits (x ∷ xs) (y ∷ ys) h = omega (arith, starts_with_fits xs ys (and_right (x == y) (starts_with nat_eq ys xs) h))
 
 sign_is_front : (ss : List Mark) (c : ℕ) (cs : List ℕ) → IsFrontOf (c ∷ cs) (sign_front ss (c ∷ cs))
 sign_is_front [] c cs = record { some = omega arith; within = omega arith; no_end = refl }
-sign_is_front (s ∷ ss) c cs = either (IsFrontOf (c ∷ cs)) (begins_with (spelling s) (c ∷ cs)) (found (mark s) (length (spelling s))) (sign_front ss (c ∷ cs))
-    (λ h. record { some = spelled_some s; within = begins_with_fits (spelling s) (c ∷ cs) h; no_end = refl })
+sign_is_front (s ∷ ss) c cs = either (IsFrontOf (c ∷ cs)) (starts_with nat_eq (c ∷ cs) (spelling s)) (found (mark s) (length (spelling s))) (sign_front ss (c ∷ cs))
+    (λ h. record { some = spelled_some s; within = starts_with_fits (spelling s) (c ∷ cs) h; no_end = refl })
     (λ _. sign_is_front ss c cs)
 
 length-take_while : (p : ℕ → Bool) (xs : List ℕ) → length (take_while p xs) ≤ length xs
@@ -85,7 +85,7 @@ front_is ks c cs =
     either (IsFrontOf (c ∷ cs)) (is_blank c) _ _ (λ _. record { some = omega arith; within = omega arith; no_end = refl })
     (λ _. either (IsFrontOf (c ∷ cs)) (is_letter c) _ _ (λ _. record { some = omega arith; within = omega (arith, length-take_while is_word cs); no_end = word_no_end ks (c ∷ take_while is_word cs) })
     (λ _. either (IsFrontOf (c ∷ cs)) (is_ascii_digit c) _ _ (λ _. record { some = omega arith; within = omega (arith, length-take_while is_ascii_digit cs); no_end = number_no_end (c ∷ take_while is_ascii_digit cs) (after_digits cs) })
-    (λ _. either (IsFrontOf (c ∷ cs)) (begins_with (codes "//") (c ∷ cs)) _ _ (λ _. record { some = omega arith; within = omega (arith, length-take_while (λ x. not (x == 10)) cs); no_end = refl })
+    (λ _. either (IsFrontOf (c ∷ cs)) (starts_with nat_eq (c ∷ cs) (codes "//")) _ _ (λ _. record { some = omega arith; within = omega (arith, length-take_while (λ x. not (x == 10)) cs); no_end = refl })
     (λ _. sign_is_front signs c cs))))
 
 pub front_width : (ks : List Mark) (text : List ℕ) (f : Front) → f ≡ front ks text → 0 < length text → (0 < width f) × (width f ≤ length text)

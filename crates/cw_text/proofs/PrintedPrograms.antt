@@ -3,7 +3,7 @@ use Rattle.std.proofs.Common.{◌≡◌, ℕ, zero, suc, ◌<◌, ◌≤◌, Lis
 use Rattle.std.proofs.lemmas.List.Elements.{All-head, All-tail}
 use Rattle.cw_text.specs.declared.mark.Mark.TheVariants as m
 use Rattle.cw_text.specs.Lexemes.{Lexemes, end_on, comes, mark, name as a_name}
-use Rattle.cw_text.specs.Syntax.{Term, Statement, set_new, assign, out, atomic, spawn, sync, Block, empty, first, with_statement, Declaration, cell, func}
+use Rattle.cw_text.specs.Syntax.{Term, Statement, declare, assign, out, atomic, spawn, sync, Block, empty, first, with_statement, Declaration, cell, func}
 use Rattle.cw_text.specs.Grammar.{Symbol, Values, a_term, a_word, a_block, an_init, declared, act, push, block, cell_done, closing, exactly, expr, func_done, items, let_done, assign_done, out_done, atomic_done, spawn_done, sync_done, pending, program_in, program_of, read, stmts, word, word_at}
 use Rattle.cw_text.specs.Printed.{before, sign, in_braces, term_tokens, statement_tokens, statements_tokens, declaration_tokens, tokens, printed, IsReadableTerm, IsReadableStatement, IsReadableBlock, IsReadableDeclaration, IsReadable}
 use Rattle.cw_text.proofs.PrintedTerms.{before-append, term_read}
@@ -58,7 +58,7 @@ block_read b k vs xs room inside =
 mutual
   statement_read : (s : Statement) (b : Block) (k : List Symbol) (vs : Values) (xs : Lexemes) → pending k ≤ 200 → IsReadableStatement (pending k) s →
       read (stmts ∷ k) (a_block b ∷ vs) (before (statement_tokens s) xs) ≡ read (stmts ∷ k) (a_block (with_statement b s) ∷ vs) xs
-  statement_read (set_new w e) b k vs xs low h =
+  statement_read (declare w e) b k vs xs low h =
       let value = before (sign m.Assign ++ term_tokens 0 e ++ sign m.Semicolon) xs in
       let left = exactly m.Assign ∷ expr ∷ exactly m.Semicolon ∷ act let_done ∷ stmts ∷ k in
       taken_open (word ∷ left) (a_block b ∷ vs) 1 (comes (mark m.Let) 1 (comes (a_name w.name) w.line value)) low

@@ -1,15 +1,15 @@
 -- The tree of whatever is read can be read from its own tokens.
-use Rattle.std.proofs.Common.{◌≡◌, ℕ, zero, suc, ◌^◌, nat_lt, Bool, true, false, List, [], ◌∷◌, Result, Ok, Err, subst, codes, ◌||◌, ◌-◌, length, nat_le}
+use Rattle.std.proofs.Common.{◌≡◌, ℕ, zero, suc, ◌^◌, nat_lt, Bool, true, false, List, [], ◌∷◌, Result, Ok, Err, subst, codes, ◌||◌, ◌-◌, length, nat_eq, nat_le}
 use Rattle.std.proofs.lemmas.Bool.{cond_both, leb-false}
 use Rattle.std.proofs.lemmas.List.Elements.{All-nil}
 use Rattle.std.specs.Char.{is_ascii_digit}
-use Rattle.std.specs.List.{take_while}
+use Rattle.std.specs.List.{starts_with, take_while}
 use Rattle.std.specs.Str.Lossy.{utf8_valid_len}
 use Rattle.cw_text.specs.Text.{program}
 use Rattle.cw_text.specs.declared.fault.TextFault.{TextFault}
 use Rattle.cw_text.specs.declared.fault.TextKind.TheVariants.{BadNumber}
 use Rattle.cw_text.specs.declared.mark.Mark.{Mark}
-use Rattle.cw_text.specs.Lexemes.{Token, Front, gap, found, front, begun_by, width, lexemes_from, lexemes, line_after, keywords, signs, sign_front, word_token, number_token, value_of_digits, begins_by, begins_with, spelling, is_blank, is_letter, is_word, after_digits, Lexemes, end_on, comes, mark, number as a_number, bad, end}
+use Rattle.cw_text.specs.Lexemes.{Token, Front, gap, found, front, begun_by, width, lexemes_from, lexemes, line_after, keywords, signs, sign_front, word_token, number_token, value_of_digits, begins_by, spelling, is_blank, is_letter, is_word, after_digits, Lexemes, end_on, comes, mark, number as a_number, bad, end}
 use Rattle.std.specs.Str.{bytes_eq}
 use Rattle.cw_text.specs.Syntax.{Declaration}
 use Rattle.cw_text.specs.Grammar.{Symbol, Values, State, declared, feed, items, program_in, program_of, read, then_read}
@@ -72,7 +72,7 @@ number_small digits rest =
 
 sign_small : (ss : List Mark) (text : List ℕ) → IsSmall (sign_front ss text)
 sign_small [] text = tt
-sign_small (s ∷ ss) text = cond_both (begins_with (spelling s) text) (found (mark s) (length (spelling s))) (sign_front ss text) IsSmall (λ _. tt) (λ _. sign_small ss text)
+sign_small (s ∷ ss) text = cond_both (starts_with nat_eq text (spelling s)) (found (mark s) (length (spelling s))) (sign_front ss text) IsSmall (λ _. tt) (λ _. sign_small ss text)
 
 front_small : (ks : List Mark) (text : List ℕ) → IsSmall (front ks text)
 front_small ks [] = tt
@@ -80,7 +80,7 @@ front_small ks (c ∷ cs) =
     cond_both (is_blank c) _ _ IsSmall (λ _. tt)
     (λ _. cond_both (is_letter c) _ _ IsSmall (λ _. word_small ks (c ∷ take_while is_word cs))
     (λ _. cond_both (is_ascii_digit c) _ _ IsSmall (λ _. number_small (c ∷ take_while is_ascii_digit cs) (after_digits cs))
-    (λ _. cond_both (begins_with (codes "//") (c ∷ cs)) _ _ IsSmall (λ _. tt) (λ _. sign_small signs (c ∷ cs)))))
+    (λ _. cond_both (starts_with nat_eq (c ∷ cs) (codes "//")) _ _ IsSmall (λ _. tt) (λ _. sign_small signs (c ∷ cs)))))
 
 begun_small : (f : Front) (l : ℕ) (xs : Lexemes) → IsSmall f → HasSmallNumbers xs → HasSmallNumbers (begun_by f l xs)
 begun_small (gap n) l xs small rest = rest

@@ -13,7 +13,7 @@ use Rattle.cw_text.specs.declared.mark.Mark.TheVariants as m
 use Rattle.cw_text.specs.Lexemes.{Token, mark, name as a_name, number as a_number, bad, end}
 use Rattle.std.specs.Str.{bytes_eq}
 use Rattle.std.specs.Cmp.Lexicographic.{same_text}
-use Rattle.cw_text.specs.Syntax.{Term, Statement, set_new, assign, out, atomic, spawn, sync, cell, func, number, name, unary, binary, Block, empty, with_statement}
+use Rattle.cw_text.specs.Syntax.{Term, Statement, declare, assign, out, atomic, spawn, sync, cell, func, number, name, unary, binary, Block, empty, with_statement}
 use Rattle.cw_text.specs.Grammar.{Symbol, Values, State, a_term, a_word, a_block, an_init, declared, act, block, cell_init, cell_done, func_done, let_done, assign_done, out_done, atomic_done, spawn_done, sync_done, closing, comparison, exactly, expr, feed, init, items, lift, lifted, main_word, negated, newest_height, operand, pending, products, read_from, stmts, sums, go_on, infix_by, opened, operand_by, take, refuse, rest_of_expr, same_mark, join, push, product_of, sum_of, comparison_of, with_init, word, word_at}
 use Rattle.cw_text.specs.Printed.{IsReadableDeclaration, IsReadableStatement, IsReadableBlock, IsReadable}
 use Rattle.cw_text.proofs.Readable.{IsReadableAt, readable_looser, readable_bracketed, readable_unary, readable_binary, product_tightness, sum_tightness, comparison_tightness, readable_with, whole}
@@ -167,7 +167,7 @@ step (block ∷ k) vs (mark m.BraceOpen) l fits sound = opened_leads (act (push 
 step (block ∷ k) vs t l fits sound = tt
 step (stmts ∷ k) (a_block b ∷ vs) (mark m.Let) l fits sound =
     opened_leads (word ∷ exactly m.Assign ∷ expr ∷ exactly m.Semicolon ∷ act let_done ∷ stmts ∷ k) (a_block b ∷ vs) (mark m.Let) l
-    (λ low w e h. more_sound k vs b (set_new w e) sound (whole h))
+    (λ low w e h. more_sound k vs b (declare w e) sound (whole h))
 step (stmts ∷ k) (a_block b ∷ vs) (mark m.Out) l fits sound =
     opened_leads (expr ∷ exactly m.Semicolon ∷ act out_done ∷ stmts ∷ k) (a_block b ∷ vs) (mark m.Out) l
     (λ low e h. more_sound k vs b (out e) sound (whole h))

@@ -14,7 +14,7 @@ use Rattle.cw_text.specs.declared.fault.TextKind.TheVariants.{Unexpected, TooDee
 use Rattle.cw_text.specs.declared.fault.TextFault.{TextFault}
 use Rattle.cw_text.specs.declared.mark.Mark.{Mark}
 use Rattle.cw_text.specs.declared.mark.Mark.TheVariants as m
-use Rattle.cw_text.specs.Syntax.{Term, number, name, unary, binary, Statement, set_new, assign, out, atomic, spawn, sync, Block, empty, Declaration, cell, func, with_statement, height}
+use Rattle.cw_text.specs.Syntax.{Term, number, name, unary, binary, Statement, declare, assign, out, atomic, spawn, sync, Block, empty, Declaration, cell, func, with_statement, height}
 use Rattle.cw_text.specs.Lexemes.{Token, Lexemes, end_on, comes, name as a_name, number as a_number, mark, bad, end, spelling}
 use Rattle.std.specs.Str.{bytes_eq}
 
@@ -74,7 +74,7 @@ stated s (a_block b ∷ vs) = a_block (with_statement b s) ∷ vs
 stated s vs = vs
 
 abbrev pub let_done : Values → Values
-let_done (a_term e ∷ a_word w ∷ vs) = stated (set_new w e) vs
+let_done (a_term e ∷ a_word w ∷ vs) = stated (declare w e) vs
 let_done vs = vs
 
 abbrev pub assign_done : Values → Values

@@ -1,6 +1,7 @@
 -- The tokens of a text: names, numbers, keywords and signs, each with its line.
-use Rattle.std.specs.Prelude.{ℕ, zero, suc, ◌+◌, ◌-◌, ◌*◌, ◌^◌, Bool, true, false, ◌||◌, ◌&&◌, not, List, [], ◌∷◌, length, if◌then◌else◌, ◌==◌, nat_le, fold, codes, take_while}
+use Rattle.std.specs.Prelude.{ℕ, zero, suc, ◌+◌, ◌-◌, ◌*◌, ◌^◌, Bool, false, ◌||◌, not, List, [], ◌∷◌, length, if◌then◌else◌, ◌==◌, nat_eq, nat_le, fold, codes, take_while}
 use Rattle.std.specs.Char.{is_ascii_digit, is_ascii_alphabetic}
+use Rattle.std.specs.List.{starts_with}
 use Rattle.std.specs.Str.{bytes_eq}
 use Rattle.cw_text.specs.declared.fault.TextKind.{TextKind}
 use Rattle.cw_text.specs.declared.fault.TextKind.TheVariants.{BadChar, BadNumber}
@@ -32,11 +33,6 @@ is_word c = is_letter c || is_ascii_digit c
 
 abbrev pub is_blank : ℕ → Bool
 is_blank c = c == 32 || c == 9 || c == 13 || c == 10
-
-abbrev pub begins_with : List ℕ → List ℕ → Bool
-begins_with [] ys = true
-begins_with (x ∷ xs) [] = false
-begins_with (x ∷ xs) (y ∷ ys) = x == y && begins_with xs ys
 
 -- how a word or a sign is spelled
 abbrev pub spelling : Mark → List ℕ
@@ -88,7 +84,7 @@ word_token (k ∷ ks) text = if bytes_eq (spelling k) text then mark k else word
 -- the first sign of the list with which the text begins
 abbrev pub sign_front : List Mark → List ℕ → Front
 sign_front [] text = found (bad BadChar) 1
-sign_front (s ∷ ss) text = if begins_with (spelling s) text then found (mark s) (length (spelling s)) else sign_front ss text
+sign_front (s ∷ ss) text = if starts_with nat_eq text (spelling s) then found (mark s) (length (spelling s)) else sign_front ss text
 
 abbrev pub value_of_digits : List ℕ → ℕ
 value_of_digits ds = fold (λ n d. 10 * n + (d - 48)) 0 ds
@@ -111,7 +107,7 @@ front ks (c ∷ cs) =
     if is_blank c then gap 1
     else (if is_letter c then found (word_token ks (c ∷ take_while is_word cs)) (suc (length (take_while is_word cs)))
     else (if is_ascii_digit c then found (number_token (c ∷ take_while is_ascii_digit cs) (after_digits cs)) (suc (length (take_while is_ascii_digit cs)))
-    else (if begins_with (codes "//") (c ∷ cs) then gap (suc (length (take_while (λ x. not (x == 10)) cs)))
+    else (if starts_with nat_eq (c ∷ cs) (codes "//") then gap (suc (length (take_while (λ x. not (x == 10)) cs)))
     else sign_front signs (c ∷ cs))))
 
 abbrev pub line_after : ℕ → ℕ → ℕ

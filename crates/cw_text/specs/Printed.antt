@@ -6,7 +6,7 @@ use Rattle.cw_text.specs.declared.ast.Op.TheVariants as op
 use Rattle.cw_text.specs.declared.ast.Word.{Word}
 use Rattle.cw_text.specs.declared.mark.Mark.{Mark}
 use Rattle.cw_text.specs.declared.mark.Mark.TheVariants as m
-use Rattle.cw_text.specs.Syntax.{Term, number, name, unary, binary, Statement, set_new, assign, out, atomic, spawn, sync, Block, empty, first, Declaration, cell, func, height}
+use Rattle.cw_text.specs.Syntax.{Term, number, name, unary, binary, Statement, declare, assign, out, atomic, spawn, sync, Block, empty, first, Declaration, cell, func, height}
 use Rattle.cw_text.specs.Lexemes.{Token, Lexemes, end_on, comes, name as a_name, number as a_number, mark}
 
 -- a token and its line
@@ -81,7 +81,7 @@ in_braces ps = sign m.BraceOpen ++ ps ++ sign m.BraceClose
 
 abbrev mutual
   pub statement_tokens : Statement → List Placed
-  statement_tokens (set_new w e) = sign m.Let ++ word_tokens w ++ sign m.Assign ++ term_tokens 0 e ++ sign m.Semicolon
+  statement_tokens (declare w e) = sign m.Let ++ word_tokens w ++ sign m.Assign ++ term_tokens 0 e ++ sign m.Semicolon
   statement_tokens (assign w e) = word_tokens w ++ sign m.Assign ++ term_tokens 0 e ++ sign m.Semicolon
   statement_tokens (out e) = sign m.Out ++ term_tokens 0 e ++ sign m.Semicolon
   statement_tokens (atomic b) = sign m.Atomic ++ in_braces (statements_tokens b)
@@ -142,7 +142,7 @@ pub record IsReadableTerm (around : ℕ) (e : Term) : Type 0 where
 -- a statement, and the statements of a block, inside so many brackets
 abbrev mutual
   pub IsReadableStatement : (around : ℕ) → Statement → Type 0
-  IsReadableStatement n (set_new w e) = IsReadableTerm n e
+  IsReadableStatement n (declare w e) = IsReadableTerm n e
   IsReadableStatement n (assign w e) = IsReadableTerm n e
   IsReadableStatement n (out e) = IsReadableTerm n e
   IsReadableStatement n (atomic b) = (n < 200) × IsReadableBlock (n + 1) b

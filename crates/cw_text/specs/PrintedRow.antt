@@ -1,16 +1,16 @@
 -- A worked tree, and the text that it is printed as: brackets stand where the tree needs them, and nowhere else.
 use Rattle.std.specs.Prelude.{◌≡◌, List, [], ◌∷◌, codes, pos, negsuc}
-use Rattle.cw_text.specs.Syntax.{Term, name, number, unary, binary, set_new, assign, out, atomic, spawn, sync, empty, first, Declaration, cell, func}
+use Rattle.cw_text.specs.Syntax.{Term, name, number, unary, binary, declare, assign, out, atomic, spawn, sync, empty, first, Declaration, cell, func}
 use Rattle.cw_text.specs.Lexemes.{keywords, lexemes}
 use Rattle.cw_text.specs.Printed.{printed}
-use Rattle.cw_text.specs.Rows.{w}
+use Rattle.cw_text.specs.Rows.{word}
 use Rattle.cw_text.specs.declared.ast.Op.TheVariants as op
 
 abbrev pub a : Term
-a = name (w (codes "a"))
+a = name (word (codes "a"))
 
 abbrev pub b : Term
-b = name (w (codes "b"))
+b = name (word (codes "b"))
 
 abbrev pub less : Term
 less = binary op.Lt a b
@@ -26,8 +26,8 @@ tree =
     cell (codes "a") 1 0 (pos 0)
     ∷ cell (codes "b") 1 0 (negsuc 2)
     ∷ func (codes "main") 1 []
-    (first (set_new (w (codes "x")) (binary op.Eq less less))
-    (first (assign (w (codes "a")) (binary op.Le difference product))
+    (first (declare (word (codes "x")) (binary op.Eq less less))
+    (first (assign (word (codes "a")) (binary op.Le difference product))
     (first (out (binary op.Sub (binary op.Add less difference) less))
     (first (out (binary op.Add (binary op.Sub difference product) (binary op.Add product (number (pos 7)))))
     (first (out (binary op.Mul (binary op.Mul less product) less))

@@ -1,7 +1,7 @@
 -- Worked texts: what they read as, or their first fault.
 use Rattle.std.specs.Prelude.{Result, ◌++◌, pos, negsuc, replicate, ℕ, zero, suc, ◌≡◌, List, [], ◌∷◌, codes, Ok, Err}
 use Rattle.std.specs.List.{flat_map}
-use Rattle.cw_text.specs.Syntax.{Declaration, func, cell, Block, empty, first, set_new, assign, out, atomic, spawn, sync, binary, name, number, unary}
+use Rattle.cw_text.specs.Syntax.{Declaration, func, cell, Block, empty, first, declare, assign, out, atomic, spawn, sync, binary, name, number, unary}
 use Rattle.cw_text.specs.Lexemes.{end_on, comes, name as a_name, number as a_number, mark, bad, lexemes, keywords}
 use Rattle.cw_text.specs.Grammar.{program_of}
 use Rattle.cw_text.specs.declared.fault.TextKind.{TextKind}
@@ -17,8 +17,9 @@ read text = program_of (lexemes keywords text)
 abbrev pub refused : TextKind → ℕ → Result (List Declaration) TextFault
 refused k l = Err (record { kind = k; line = l })
 
-abbrev pub w : List ℕ → Word
-w text = record { name = text; line = 1 }
+-- a name on line 1
+abbrev pub word : List ℕ → Word
+word text = record { name = text; line = 1 }
 
 abbrev pub Tokens : Type 0
 Tokens =
@@ -29,7 +30,7 @@ abbrev pub Programs : Type 0
 Programs =
     (read (codes "fn main() {}") ≡ Ok (func (codes "main") 1 [] empty ∷ []))
     × (read [] ≡ Ok [])
-    × (read (codes "cell c = -3; fn main() { let x = c + 1 * 2; c = x; out -c < (3 - c) - 1; }") ≡ Ok (cell (codes "c") 1 0 (negsuc 2) ∷ func (codes "main") 1 [] (first (set_new (w (codes "x")) (binary op.Add (name (w (codes "c"))) (binary op.Mul (number (pos 1)) (number (pos 2))))) (first (assign (w (codes "c")) (name (w (codes "x")))) (first (out (binary op.Lt (unary op.Neg (name (w (codes "c")))) (binary op.Sub (binary op.Sub (number (pos 3)) (name (w (codes "c")))) (number (pos 1))))) empty))) ∷ []))
+    × (read (codes "cell c = -3; fn main() { let x = c + 1 * 2; c = x; out -c < (3 - c) - 1; }") ≡ Ok (cell (codes "c") 1 0 (negsuc 2) ∷ func (codes "main") 1 [] (first (declare (word (codes "x")) (binary op.Add (name (word (codes "c"))) (binary op.Mul (number (pos 1)) (number (pos 2))))) (first (assign (word (codes "c")) (name (word (codes "x")))) (first (out (binary op.Lt (unary op.Neg (name (word (codes "c")))) (binary op.Sub (binary op.Sub (number (pos 3)) (name (word (codes "c")))) (number (pos 1))))) empty))) ∷ []))
     × (read (codes "fn main() { atomic { spawn { atomic { } } sync; } }") ≡ Ok (func (codes "main") 1 [] (first (atomic (first (spawn (first (atomic empty) empty)) (first sync empty))) empty) ∷ []))
 
 -- n ones, with signs between them

@@ -19,7 +19,7 @@ pub data Term : Type 0 where
 
 mutual
   pub data Statement : Type 0 where
-    set_new : Word → Term → Statement
+    declare : Word → Term → Statement
     assign : Word → Term → Statement
     out : Term → Statement
     atomic : Block → Statement
@@ -55,7 +55,7 @@ term_of (Binary' op p l q r) = binary op (term_of l) (term_of r)
 
 abbrev mutual
   pub statement_of : Stmt → Statement
-  statement_of (stmt.Let w e) = set_new w (term_of e)
+  statement_of (stmt.Let w e) = declare w (term_of e)
   statement_of (stmt.Assign w e) = assign w (term_of e)
   statement_of (stmt.Out e) = out (term_of e)
   statement_of (stmt.Atomic' s b) = atomic (inner_of b)

@@ -62,6 +62,3 @@ pub fn printed_is_read()
         program text ≡ Ok ds → program_of (printed ds) ≡ Ok ds }
     ensures worked { Worked }
 {}
-
-#[cfg(test)]
-mod tests;

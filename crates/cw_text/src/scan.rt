@@ -2,7 +2,7 @@ ghost use Rattle.std.specs.Prelude.{◌≡◌, ◌≤◌, ◌<◌, ◌^◌, ◌=
 ghost use Rattle.std.specs.Char.{is_ascii_digit};
 ghost use Rattle.std.specs.List.{AllPass};
 ghost use Rattle.cw_text.specs.Front.{lexeme_of, front_of};
-ghost use Rattle.cw_text.specs.Lexemes.{is_letter, is_word, is_blank, begins_by, begins_with};
+ghost use Rattle.cw_text.specs.Lexemes.{is_letter, is_word, is_blank, begins_by};
 ghost use Rattle.cw_text.specs.Lexemes.{word_token, number_token, value_of_digits, after_digits};
 ghost use Rattle.cw_text.specs.Lexemes.{found, sign_front, front};
 
@@ -113,21 +113,13 @@ fn number_token(digits: &[u8], rest: &[u8]) -> Token<'static>
     }
 }
 
-// Whether a text begins with this spelling.
-#[tactic(auto, using(crate::proofs::Spelled::begins_with_is))]
-fn begins_with(text: &[u8], spelling: &[u8]) -> bool
-    ensures { result ≡ begins_with spelling.now text.now }
-{
-    text.starts_with(spelling)
-}
-
 // The first of these signs with which a text begins.
 fn sign_front(signs: &[Mark], text: &[u8]) -> Front<'static>
     ensures { front_of result ≡ sign_front signs.now text.now }
 {
     for mark in signs {
         let spelling = spelling(*mark);
-        if begins_with(text, spelling) {
+        if text.starts_with(spelling) {
             return Front::Found(Token::Mark(*mark), spelling.len());
         }
     }
@@ -162,7 +154,7 @@ pub fn read_front<'a>(words: &[Mark], text: &'a [u8]) -> Front<'a>
         [byte, ..] if is_blank(*byte) => Front::Gap(1),
         [byte, ..] if is_letter(*byte) => word_front(words, text),
         [byte, ..] if byte.is_ascii_digit() => number_front(text),
-        _ if begins_with(text, b"//") => Front::Gap(line_len(text)),
+        _ if text.starts_with(b"//") => Front::Gap(line_len(text)),
         _ => sign_front(&SIGNS, text),
     }
 }

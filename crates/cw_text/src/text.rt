@@ -41,6 +41,3 @@ pub fn read_program(alloc: Global, bytes: &[u8]) -> Result<Ast, TextRefusal>
     }
     parser::program(alloc, Cursor::new(bytes))
 }
-
-#[cfg(test)]
-mod tests;

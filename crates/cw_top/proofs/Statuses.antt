@@ -1,84 +1,79 @@
 -- What the statuses say, from the causes of the notes.
-use Rattle.std.proofs.Common.{◌≡◌, ◌≢◌, ◌⊎◌, inl, inr, Bool, true, false, List, ℕ, Option, Some, None, IsSomeAnd, IfSome, ◌↔◌}
+use Rattle.std.proofs.Common.{◌≡◌, ◌≢◌, ◌⊎◌, inl, inr, List, ℕ, ℤ, Option, Some, None, IsSomeAnd, IfSome, ◌↔◌, sym, ◌∙◌, subst}
+use Rattle.cw_io.specs.Outside.{Appends}
+use Rattle.cw_code.specs.declared.CellInfo.{CellInfo}
+use Rattle.cw_code.specs.declared.Limits.{Limits}
+use Rattle.cw_tree.specs.declared.node.Node.{Node}
+use Rattle.cw_tree.specs.declared.picks.Picks.{Picks}
+use Rattle.cw_serial.specs.declared.ends.SerialEnd.{SerialEnd}
+use Rattle.cw_serial.specs.declared.ends.SerialEnd.TheVariants as last
 use Rattle.cw_record.specs.declared.record.Record.{Record}
 use Rattle.cw_record.specs.declared.record_end.RecordEnd.{RecordEnd}
 use Rattle.cw_record.specs.declared.record_end.RecordEnd.TheVariants.{Finished, Fault, Budget, Moves}
-use Rattle.cw_record.specs.Records.{HasEnded}
+use Rattle.cw_record.specs.Records.{HasEnded, IsReplayed}
+use Rattle.cw_record.specs.Replay.{SameEnd}
+use Rattle.cw_top.specs.declared.command.Command.{Command}
+use Rattle.cw_top.specs.declared.command.Command.TheVariants.{Run}
 use Rattle.cw_top.specs.declared.outcome.Note.{Note}
 use Rattle.cw_top.specs.declared.outcome.Note.TheVariants as note
 use Rattle.cw_top.specs.Refusals.{refusal}
-use Rattle.cw_top.specs.Outcome.{HasCause, IsStatus, IsRunOf, IsRefusedFor, status_of_end}
+use Rattle.cw_top.specs.Texts.{end_text, finished_text}
+use Rattle.cw_top.specs.Outcome.{Accepts, ComesTo, HasCause, IsMisused, IsRefusedFor, IsRunOf, IsStatus, Writes, WritesEndOfOneMemory, end_of_one_memory, status_of_end}
 
--- a status that no end has
+-- words that are no command come to status 2
+of_none : (kept : Option Record) (status : ℕ) (n : Note) → n ≡ note.Usage → IsStatus kept status n → status ≡ 2
+of_none kept status n is h = (subst (λ m. IsStatus kept status m) is h).1
+
 no_end : (e : RecordEnd) (status : ℕ) → status ≡ status_of_end e → (status ≢ 2) × (status ≢ 3) × (status ≢ 4) × (status ≢ 5)
 no_end (Finished m o) status is = (λ h. cc, λ h. cc, λ h. cc, λ h. cc)
 no_end (Fault x k) status is = (λ h. cc, λ h. cc, λ h. cc, λ h. cc)
 no_end (Budget x) status is = (λ h. cc, λ h. cc, λ h. cc, λ h. cc)
 no_end Moves status is = (λ h. cc, λ h. cc, λ h. cc, λ h. cc)
 
-pub usage : (kept : Option Record) (status : ℕ) (n : Note) (command : Bool) (left : Option (List ℕ)) (r w : Type 0) → IsStatus kept status n → HasCause n command left r w → (status ≡ 2) ↔ (command ≡ false)
-usage None status note.Usage command left r w (fits, is) cause = (λ h. cause, λ h. is)
-usage None status note.Memory command left r w (fits, is) cause = (λ h. cc, λ h. cc)
-usage None status note.Read command left r w (fits, is) (cause, rose) = (λ h. cc, λ h. cc)
-usage None status (note.Text f) command left r w (fits, is) (cause, refused) = (λ h. cc, λ h. cc)
-usage None status (note.Name f) command left r w (fits, is) (cause, refused) = (λ h. cc, λ h. cc)
-usage None status note.Nothing command left r w (fits, is) cause = absurd fits
-usage None status note.Write command left r w (fits, is) cause = absurd fits
-usage (Some x) status note.Nothing command left r w (fits, is) cause = (λ h. absurd ((no_end x.end status is).0 h), λ h. cc)
-usage (Some x) status note.Write command left r w (fits, is) (cause, rose) = (λ h. cc, λ h. cc)
-usage (Some x) status note.Usage command left r w (fits, is) cause = absurd fits
-usage (Some x) status note.Memory command left r w (fits, is) cause = absurd fits
-usage (Some x) status note.Read command left r w (fits, is) cause = absurd fits
-usage (Some x) status (note.Text f) command left r w (fits, is) cause = absurd fits
-usage (Some x) status (note.Name f) command left r w (fits, is) cause = absurd fits
+-- a status with which nothing is amiss
+no_fault : (kept : Option Record) (status : ℕ) → IsStatus kept status note.Nothing → (status ≢ 2) × (status ≢ 3) × (status ≢ 4) × (status ≢ 5)
+no_fault None status h = absurd h
+no_fault (Some r) status h = no_end r.end status h
 
-pub read_fault : (kept : Option Record) (status : ℕ) (n : Note) (command : Bool) (left : Option (List ℕ)) (r w : Type 0) → IsStatus kept status n → HasCause n command left r w → status ≡ 3 → r
-read_fault None status note.Read command left r w (fits, is) (cause, rose) h = rose
-read_fault None status note.Usage command left r w (fits, is) cause h = cc
-read_fault None status note.Memory command left r w (fits, is) cause h = cc
-read_fault None status (note.Text f) command left r w (fits, is) cause h = cc
-read_fault None status (note.Name f) command left r w (fits, is) cause h = cc
-read_fault None status note.Nothing command left r w (fits, is) cause h = absurd fits
-read_fault None status note.Write command left r w (fits, is) cause h = absurd fits
-read_fault (Some x) status note.Nothing command left r w (fits, is) cause h = absurd ((no_end x.end status is).1 h)
-read_fault (Some x) status note.Write command left r w (fits, is) cause h = cc
-read_fault (Some x) status note.Usage command left r w (fits, is) cause h = absurd fits
-read_fault (Some x) status note.Memory command left r w (fits, is) cause h = absurd fits
-read_fault (Some x) status note.Read command left r w (fits, is) cause h = absurd fits
-read_fault (Some x) status (note.Text f) command left r w (fits, is) cause h = absurd fits
-read_fault (Some x) status (note.Name f) command left r w (fits, is) cause h = absurd fits
+pub usage : (command : Option Command) (kept : Option Record) (status : ℕ) (n : Note) (left : Option (List ℕ)) (r w : Type 0) → IsStatus kept status n → HasCause command n left r w → (status ≡ 2) ↔ IsMisused command left
+usage None kept status n left r w is cause = (λ h. tt, λ h. of_none kept status n cause is)
+usage (Some (Run ws ls)) kept status note.Nothing left r w is cause = (λ h. absurd ((no_fault kept status is).0 h), λ h. absurd h)
+usage (Some (Run ws ls)) kept status note.Usage left r w is cause = absurd cause
+usage (Some (Run ws ls)) kept status note.Memory left r w (none, is) cause = (λ h. cc, λ h. absurd h)
+usage (Some (Run ws ls)) kept status note.Read left r w (none, is) cause = (λ h. cc, λ h. absurd h)
+usage (Some (Run ws ls)) kept status note.Write left r w (some, is) cause = (λ h. cc, λ h. absurd h)
+usage (Some (Run ws ls)) kept status (note.Text f) left r w (none, is) cause = (λ h. cc, λ h. absurd h)
+usage (Some (Run ws ls)) kept status (note.Name f) left r w (none, is) cause = (λ h. cc, λ h. absurd h)
 
-pub write_fault : (kept : Option Record) (status : ℕ) (n : Note) (command : Bool) (left : Option (List ℕ)) (r w : Type 0) → IsStatus kept status n → HasCause n command left r w → status ≡ 4 → w
-write_fault (Some x) status note.Write command left r w (fits, is) (cause, rose) h = rose
-write_fault (Some x) status note.Nothing command left r w (fits, is) cause h = absurd ((no_end x.end status is).2 h)
-write_fault (Some x) status note.Usage command left r w (fits, is) cause h = absurd fits
-write_fault (Some x) status note.Memory command left r w (fits, is) cause h = absurd fits
-write_fault (Some x) status note.Read command left r w (fits, is) cause h = absurd fits
-write_fault (Some x) status (note.Text f) command left r w (fits, is) cause h = absurd fits
-write_fault (Some x) status (note.Name f) command left r w (fits, is) cause h = absurd fits
-write_fault None status note.Read command left r w (fits, is) cause h = cc
-write_fault None status note.Usage command left r w (fits, is) cause h = cc
-write_fault None status note.Memory command left r w (fits, is) cause h = cc
-write_fault None status (note.Text f) command left r w (fits, is) cause h = cc
-write_fault None status (note.Name f) command left r w (fits, is) cause h = cc
-write_fault None status note.Nothing command left r w (fits, is) cause h = absurd fits
-write_fault None status note.Write command left r w (fits, is) cause h = absurd fits
+pub read_fault : (command : Option Command) (kept : Option Record) (status : ℕ) (n : Note) (left : Option (List ℕ)) (r w : Type 0) → IsStatus kept status n → HasCause command n left r w → status ≡ 3 → r
+read_fault None kept status n left r w is cause h = let two = of_none kept status n cause is in cc
+read_fault (Some (Run ws ls)) kept status note.Nothing left r w is cause h = absurd ((no_fault kept status is).1 h)
+read_fault (Some (Run ws ls)) kept status note.Usage left r w is cause h = absurd cause
+read_fault (Some (Run ws ls)) kept status note.Memory left r w (none, is) cause h = cc
+read_fault (Some (Run ws ls)) kept status note.Read left r w is cause h = cause
+read_fault (Some (Run ws ls)) kept status note.Write left r w (some, is) cause h = cc
+read_fault (Some (Run ws ls)) kept status (note.Text f) left r w (none, is) cause h = cc
+read_fault (Some (Run ws ls)) kept status (note.Name f) left r w (none, is) cause h = cc
 
-pub refused : (kept : Option Record) (status : ℕ) (n : Note) (command : Bool) (left : Option (List ℕ)) (r w : Type 0) → IsStatus kept status n → HasCause n command left r w → status ≡ 5 → IsRefusedFor n left
-refused None status (note.Text f) command left r w (fits, is) (cause, why) h = why
-refused None status (note.Name f) command left r w (fits, is) (cause, why) h = why
-refused None status note.Read command left r w (fits, is) cause h = cc
-refused None status note.Usage command left r w (fits, is) cause h = cc
-refused None status note.Memory command left r w (fits, is) cause h = cc
-refused None status note.Nothing command left r w (fits, is) cause h = absurd fits
-refused None status note.Write command left r w (fits, is) cause h = absurd fits
-refused (Some x) status note.Nothing command left r w (fits, is) cause h = absurd ((no_end x.end status is).3 h)
-refused (Some x) status note.Write command left r w (fits, is) cause h = cc
-refused (Some x) status note.Usage command left r w (fits, is) cause h = absurd fits
-refused (Some x) status note.Memory command left r w (fits, is) cause h = absurd fits
-refused (Some x) status note.Read command left r w (fits, is) cause h = absurd fits
-refused (Some x) status (note.Text f) command left r w (fits, is) cause h = absurd fits
-refused (Some x) status (note.Name f) command left r w (fits, is) cause h = absurd fits
+pub write_fault : (command : Option Command) (kept : Option Record) (status : ℕ) (n : Note) (left : Option (List ℕ)) (r w : Type 0) → IsStatus kept status n → HasCause command n left r w → status ≡ 4 → w
+write_fault None kept status n left r w is cause h = let two = of_none kept status n cause is in cc
+write_fault (Some (Run ws ls)) kept status note.Nothing left r w is cause h = absurd ((no_fault kept status is).2 h)
+write_fault (Some (Run ws ls)) kept status note.Usage left r w is cause h = absurd cause
+write_fault (Some (Run ws ls)) kept status note.Memory left r w (none, is) cause h = cc
+write_fault (Some (Run ws ls)) kept status note.Read left r w (none, is) cause h = cc
+write_fault (Some (Run ws ls)) kept status note.Write left r w is cause h = cause
+write_fault (Some (Run ws ls)) kept status (note.Text f) left r w (none, is) cause h = cc
+write_fault (Some (Run ws ls)) kept status (note.Name f) left r w (none, is) cause h = cc
+
+pub refused : (command : Option Command) (kept : Option Record) (status : ℕ) (n : Note) (left : Option (List ℕ)) (r w : Type 0) → IsStatus kept status n → HasCause command n left r w → status ≡ 5 → IsRefusedFor n left
+refused None kept status n left r w is cause h = let two = of_none kept status n cause is in cc
+refused (Some (Run ws ls)) kept status note.Nothing left r w is cause h = absurd ((no_fault kept status is).3 h)
+refused (Some (Run ws ls)) kept status note.Usage left r w is cause h = absurd cause
+refused (Some (Run ws ls)) kept status note.Memory left r w (none, is) cause h = cc
+refused (Some (Run ws ls)) kept status note.Read left r w (none, is) cause h = cc
+refused (Some (Run ws ls)) kept status note.Write left r w (some, is) cause h = cc
+refused (Some (Run ws ls)) kept status (note.Text f) left r w is cause h = cause
+refused (Some (Run ws ls)) kept status (note.Name f) left r w is cause h = cause
 
 -- a run that has ended finished or met a fault
 ended : (e : RecordEnd) (status : ℕ) → HasEnded e → status ≡ status_of_end e → (status ≡ 0) ⊎ (status ≡ 6) ⊎ (status ≡ 1)
@@ -92,18 +87,36 @@ not_refused : (left : Option (List ℕ)) (n : Note) → IsSomeAnd left (λ bytes
 not_refused None n h why = h
 not_refused (Some bytes) n h why = cc
 
-pub complete : (kept : Option Record) (status : ℕ) (n : Note) (command : Bool) (left : Option (List ℕ)) (r w : Type 0) → IsStatus kept status n → HasCause n command left r w → IfSome kept (IsRunOf left) → command ≡ true → IsSomeAnd left (λ bytes. refusal bytes ≡ None) → (r → ⊥) → (w → ⊥) → (status ≡ 0) ⊎ (status ≡ 6) ⊎ (status ≡ 1)
-complete None status note.Usage command left r w (fits, is) cause run known accepted no_r no_w = cc
-complete None status note.Memory command left r w (fits, is) cause run known accepted no_r no_w = inr (inr is)
-complete None status note.Read command left r w (fits, is) (cause, rose) run known accepted no_r no_w = absurd (no_r rose)
-complete None status (note.Text f) command left r w (fits, is) (cause, why) run known accepted no_r no_w = absurd (not_refused left (note.Text f) accepted why)
-complete None status (note.Name f) command left r w (fits, is) (cause, why) run known accepted no_r no_w = absurd (not_refused left (note.Name f) accepted why)
-complete None status note.Nothing command left r w (fits, is) cause run known accepted no_r no_w = absurd fits
-complete None status note.Write command left r w (fits, is) cause run known accepted no_r no_w = absurd fits
-complete (Some x) status note.Nothing command left r w (fits, is) cause run known accepted no_r no_w = ended x.end status run.ended is
-complete (Some x) status note.Write command left r w (fits, is) (cause, rose) run known accepted no_r no_w = absurd (no_w rose)
-complete (Some x) status note.Usage command left r w (fits, is) cause run known accepted no_r no_w = absurd fits
-complete (Some x) status note.Memory command left r w (fits, is) cause run known accepted no_r no_w = absurd fits
-complete (Some x) status note.Read command left r w (fits, is) cause run known accepted no_r no_w = absurd fits
-complete (Some x) status (note.Text f) command left r w (fits, is) cause run known accepted no_r no_w = absurd fits
-complete (Some x) status (note.Name f) command left r w (fits, is) cause run known accepted no_r no_w = absurd fits
+pub complete : (command : Option Command) (kept : Option Record) (status : ℕ) (n : Note) (left : Option (List ℕ)) (r w : Type 0) → IsStatus kept status n → HasCause command n left r w → IfSome kept (IsRunOf command left) → Accepts command left → (r → ⊥) → (w → ⊥) → ComesTo command status
+complete None kept status n left r w is cause run accepted no_r no_w = of_none kept status n cause is
+complete (Some (Run ws ls)) None status note.Nothing left r w is cause run accepted no_r no_w = absurd is
+complete (Some (Run ws ls)) (Some x) status note.Nothing left r w is cause run accepted no_r no_w = ended x.end status run.done.ended is
+complete (Some (Run ws ls)) kept status note.Usage left r w is cause run accepted no_r no_w = absurd cause
+complete (Some (Run ws ls)) kept status note.Memory left r w (none, is) cause run accepted no_r no_w = inr (inr is)
+complete (Some (Run ws ls)) kept status note.Read left r w is cause run accepted no_r no_w = absurd (no_r cause)
+complete (Some (Run ws ls)) kept status note.Write left r w is cause run accepted no_r no_w = absurd (no_w cause)
+complete (Some (Run ws ls)) kept status (note.Text f) left r w is cause run accepted no_r no_w = absurd (not_refused left (note.Text f) accepted cause)
+complete (Some (Run ws ls)) kept status (note.Name f) left r w is cause run accepted no_r no_w = absurd (not_refused left (note.Name f) accepted cause)
+
+-- where a run's status is 0 the machine finished, with the memory and the outputs that were written
+at_zero : (cells : List CellInfo) (t : List Node) (e : RecordEnd) (picks : Picks) (s : SerialEnd) (old new : Option (List ℕ)) → 0 ≡ status_of_end e → SameEnd e picks s → Appends old new (end_text cells t e) → (memory outputs : List ℤ) × (s ≡ last.Finished memory outputs) × Appends old new (finished_text cells memory outputs)
+at_zero cells t (Finished m o) picks s old new is same written = (m, o, same, written)
+at_zero cells t (Fault x k) picks s old new is same written = cc
+at_zero cells t (Budget x) picks s old new is same written = cc
+at_zero cells t Moves picks s old new is same written = cc
+
+of_replay : (ws : List ℤ) (ls : Limits) (r : Record) (old new : Option (List ℕ)) → 0 ≡ status_of_end r.end → IsReplayed r → Writes (Some (Run ws ls)) (Some r) note.Nothing old new → WritesEndOfOneMemory (Some (Run ws ls)) r old new
+of_replay ws ls r old new is replays written =
+    let (memory, outputs, finishes, told) = at_zero r.program.cells r.tree r.end r.order (end_of_one_memory r) old new is replays.end written in
+    record { memory = memory; outputs = outputs; finishes = finishes; written = told }
+
+pub finished : (command : Option Command) (kept : Option Record) (status : ℕ) (n : Note) (left old new : Option (List ℕ)) → IsStatus kept status n → IfSome kept (IsRunOf command left) → Writes command kept n old new → status ≡ 0 → IsSomeAnd kept (λ r. WritesEndOfOneMemory command r old new)
+finished command None status note.Nothing left old new is run written zero = absurd is
+finished None (Some r) status note.Nothing left old new is run written zero = absurd run
+finished (Some (Run ws ls)) (Some r) status note.Nothing left old new is run written zero = of_replay ws ls r old new (sym zero ∙ is) run.replays written
+finished command kept status note.Usage left old new (none, is) run written zero = cc
+finished command kept status note.Memory left old new (none, is) run written zero = cc
+finished command kept status note.Read left old new (none, is) run written zero = cc
+finished command kept status note.Write left old new (some, is) run written zero = cc
+finished command kept status (note.Text f) left old new (none, is) run written zero = cc
+finished command kept status (note.Name f) left old new (none, is) run written zero = cc

@@ -1,5 +1,6 @@
 pub mod Words
 pub mod Refusals
+pub mod Reasons
 pub mod Texts
 pub mod Outcome
 pub mod Rows

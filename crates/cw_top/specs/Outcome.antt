@@ -1,7 +1,8 @@
--- What a status says: a part for each thing that the top call promises, each a function of what it is about alone, so
--- that a further command replaces one part.
-use Rattle.std.specs.Prelude.{◌≡◌, ◌≤◌, ℕ, Bool, true, false, List, [], ◌++◌, length, Option, Some, None, IfSome}
-use Rattle.cw_io.specs.Outside.{Takes, Appends, AppendsFront}
+-- What a status says: a part for each thing that the top call promises. What depends on the command is a function of it, with
+-- a case for each command and one for words that are none, so that a further command adds its cases and changes no clause.
+use Rattle.std.specs.Prelude.{◌≡◌, ◌≤◌, ◌⊎◌, ℕ, ℤ, List, [], ◌++◌, length, Option, Some, None, IfSome, IsSome, IsSomeAnd}
+use Rattle.cw_io.specs.Outside.{Takes, Appends, AppendsFront, RunsDry}
+use Rattle.cw_code.specs.declared.CellInfo.{CellInfo}
 use Rattle.cw_code.specs.declared.Limits.{Limits}
 use Rattle.cw_text.specs.Syntax.{tree_of}
 use Rattle.cw_strand.specs.Names.{first_memory}
@@ -11,20 +12,18 @@ use Rattle.cw_tree.specs.Journals.{AreJournals}
 use Rattle.cw_record.specs.declared.record.Record.{Record}
 use Rattle.cw_record.specs.declared.record_end.RecordEnd.{RecordEnd}
 use Rattle.cw_record.specs.declared.record_end.RecordEnd.TheVariants.{Finished, Fault, Budget, Moves}
+use Rattle.cw_serial.specs.declared.ends.SerialEnd.{SerialEnd}
+use Rattle.cw_serial.specs.declared.ends.SerialEnd.TheVariants as last
+use Rattle.cw_serial.specs.declared.program.Program.{Program}
 use Rattle.cw_serial.specs.Programs.{IsProgramOf}
-use Rattle.cw_record.specs.Records.{BlocksEnded, HasEnded, Holds, IsDepthFirst, IsNumberedDepthFirst}
+use Rattle.cw_serial.specs.MachineOf.{end_under}
+use Rattle.cw_record.specs.Records.{job_of, BlocksEnded, HasEnded, IsReplayed, IsDepthFirst, IsNumberedDepthFirst}
+use Rattle.cw_top.specs.declared.command.Command.{Command}
+use Rattle.cw_top.specs.declared.command.Command.TheVariants.{Run}
 use Rattle.cw_top.specs.declared.outcome.Note.{Note}
 use Rattle.cw_top.specs.declared.outcome.Note.TheVariants as note
 use Rattle.cw_top.specs.Refusals.{refusal, Spells}
-use Rattle.cw_top.specs.Texts.{run_text}
-
--- the limits of a run whose command gives none
-abbrev pub default_limits : Limits
-default_limits = record { fuel = 1000000; size = 1000000; aborts = 100000; strands = 262144; moves = 10000000 }
-
--- the most bytes that are ever read: one more than a text may have
-abbrev pub most_read : ℕ
-most_read = 1048577
+use Rattle.cw_top.specs.Texts.{finished_text, run_text}
 
 -- ## The status, the note and the run
 
@@ -34,38 +33,26 @@ status_of_end (Fault strand kind) = 6
 status_of_end (Budget strand) = 7
 status_of_end Moves = 9
 
--- a write that fails keeps the run
-abbrev pub status_of_run : Note → RecordEnd → ℕ
-status_of_run note.Write e = 4
-status_of_run n e = status_of_end e
-
-abbrev pub status_of_refusal : Note → ℕ
-status_of_refusal note.Nothing = 0
-status_of_refusal note.Usage = 2
-status_of_refusal note.Memory = 1
-status_of_refusal note.Read = 3
-status_of_refusal note.Write = 4
-status_of_refusal (note.Text f) = 5
-status_of_refusal (note.Name f) = 5
-
--- a note with which a run is kept: there was a run, and its text was written, or the write failed
-abbrev pub IsOfRun : Note → Type 0
-IsOfRun note.Nothing = Unit {0}
-IsOfRun note.Write = Unit {0}
-IsOfRun n = ⊥
-
-abbrev pub IsOfRefusal : Note → Type 0
-IsOfRefusal note.Nothing = ⊥
-IsOfRefusal note.Write = ⊥
-IsOfRefusal n = Unit {0}
-
--- A run is kept where there was one, and the status is that of its end or of the failed write; else the status is that of
--- the note.
+-- Where nothing is amiss, a run is kept and the status is that of its end. A write that fails keeps the run.
 abbrev pub IsStatus : Option Record → ℕ → Note → Type 0
-IsStatus None status n = IsOfRefusal n × (status ≡ status_of_refusal n)
-IsStatus (Some r) status n = IsOfRun n × (status ≡ status_of_run n r.end)
+IsStatus kept status note.Nothing = IsSomeAnd kept (λ r. status ≡ status_of_end r.end)
+IsStatus kept status note.Usage = (kept ≡ None) × (status ≡ 2)
+IsStatus kept status note.Memory = (kept ≡ None) × (status ≡ 1)
+IsStatus kept status note.Read = (kept ≡ None) × (status ≡ 3)
+IsStatus kept status note.Write = IsSome kept × (status ≡ 4)
+IsStatus kept status (note.Text f) = (kept ≡ None) × (status ≡ 5)
+IsStatus kept status (note.Name f) = (kept ≡ None) × (status ≡ 5)
 
 -- ## What was read
+
+-- the most bytes that are ever taken from a source: one more than a text may have
+abbrev pub most_bytes : ℕ
+most_bytes = 1048577
+
+-- the most bytes that a command takes
+abbrev pub most_read : Option Command → ℕ
+most_read None = 0
+most_read (Some (Run words limits)) = most_bytes
 
 -- At most so many bytes were taken.
 abbrev pub TakesAtMost : ℕ → (old new : Option (List ℕ)) → Type 0
@@ -75,77 +62,116 @@ TakesAtMost most old new = (bytes : List ℕ) × (length bytes ≤ most) × Take
 abbrev pub GivesOn : (left_old left_new : Option (List ℕ)) (old new : List ℕ) (count : ℕ) → Type 0
 GivesOn left_old left_new old new count = (bytes : List ℕ) × (length bytes ≡ count) × (new ≡ old ++ bytes) × Takes left_old left_new bytes
 
+-- what a command has read where it ran: the whole source
+abbrev pub ReadsWhole : Option Command → (old new : Option (List ℕ)) → Type 0
+ReadsWhole None old new = ⊥
+ReadsWhole (Some (Run words limits)) old new = RunsDry old new
+
 -- A source is refused for this reason, where its bytes are told.
 abbrev pub IsRefusedFor : Note → Option (List ℕ) → Type 0
 IsRefusedFor n left = IfSome left (λ bytes. refusal bytes ≡ Some n)
 
+-- a source, with its bytes told, that a command accepts
+abbrev pub Accepts : Option Command → Option (List ℕ) → Type 0
+Accepts None left = Unit {0}
+Accepts (Some (Run words limits)) left = IsSomeAnd left (λ bytes. refusal bytes ≡ None)
+
 -- ## The run
 
--- What is kept is the run of one worker: of the program that the whole source spells, without words, with the limits of
--- the command. Nothing was refused; the strands went depth first; the run ended by itself or at the fault of one of its
--- strands; and one memory does the same in its order. What it did is a computation tree, whose stamps differ and rise along
--- it, and which has each access of each element, in its journal.
-pub record IsRunOf (left : Option (List ℕ)) (r : Record) : Type 0 where
-  pub spelled : IfSome left (λ bytes. Spells bytes r.program)
-  pub program : IsProgramOf (tree_of r.program.ast) r.program
-  pub words : r.words ≡ []
-  pub limits : r.limits ≡ default_limits
+abbrev pub words_of : Command → List ℤ
+words_of (Run words limits) = words
+
+abbrev pub limits_of : Command → Limits
+limits_of (Run words limits) = limits
+
+-- what a command runs: the program that the whole source spells
+abbrev pub Runs : Command → (left : Option (List ℕ)) → Program → Type 0
+Runs (Run words limits) left p = IfSome left (λ bytes. Spells bytes p)
+
+-- One worker did it: nothing was refused, the strands went depth first, and the run ended by itself or at the fault of one of
+-- its strands.
+pub record IsOfOneWorker (r : Record) : Type 0 where
   pub conflicts : r.conflicts ≡ []
   pub order : IsDepthFirst r
   pub ended : HasEnded r.end
-  pub tree : IsTree r.tree
-  pub replays : Holds r
-  pub journals : AreJournals r.tree (first_memory r.program.cells) r.journals
   pub numbered : IsNumberedDepthFirst r.tree
   pub blocks : BlocksEnded r.tree r.end
-  pub stamps : AreStamps r.tree
   pub pending_last : PendingLast r.tree
+
+-- how a command's run is done
+abbrev pub IsDoneAs : Command → Record → Type 0
+IsDoneAs (Run words limits) r = IsOfOneWorker r
+
+-- A run of this command: of its program, with its words and limits. One memory does the same in its order. What it did is a
+-- computation tree, whose stamps differ and rise along it, and which has each access of each element, in its journal.
+pub record IsRunBy (c : Command) (left : Option (List ℕ)) (r : Record) : Type 0 where
+  pub runs : Runs c left r.program
+  pub program : IsProgramOf (tree_of r.program.ast) r.program
+  pub words : r.words ≡ words_of c
+  pub limits : r.limits ≡ limits_of c
+  pub done : IsDoneAs c r
+  pub replays : IsReplayed r
+  pub tree : IsTree r.tree
+  pub stamps : AreStamps r.tree
+  pub journals : AreJournals r.tree (first_memory r.program.cells) r.journals
   pub refusals : AreRefusals r.tree r.conflicts
+
+-- Only a command leaves a run, and it is its own.
+abbrev pub IsRunOf : Option Command → (left : Option (List ℕ)) → Record → Type 0
+IsRunOf command left r = IsSomeAnd command (λ c. IsRunBy c left r)
 
 -- ## What was written
 
+-- the text that a command writes for its run
+abbrev pub text_of : Option Command → Record → List ℕ
+text_of None r = []
+text_of (Some (Run words limits)) r = run_text r
+
+-- the same of a run that finished, from what one memory comes to
+abbrev pub text_of_end : Option Command → List CellInfo → (memory outputs : List ℤ) → List ℕ
+text_of_end None cells memory outputs = []
+text_of_end (Some (Run words limits)) cells memory outputs = finished_text cells memory outputs
+
 -- With a run its whole text, or a front of it where the write failed; with a refusal nothing.
-abbrev pub Writes : Option Record → Note → (old new : Option (List ℕ)) → Type 0
-Writes None n old new = Appends old new []
-Writes (Some r) note.Write old new = AppendsFront old new (run_text r)
-Writes (Some r) n old new = Appends old new (run_text r)
+abbrev pub Writes : Option Command → Option Record → Note → (old new : Option (List ℕ)) → Type 0
+Writes command None n old new = Appends old new []
+Writes command (Some r) note.Write old new = AppendsFront old new (text_of command r)
+Writes command (Some r) n old new = Appends old new (text_of command r)
 
--- ## The cause of each answer
+-- how one memory ends in the order that is kept
+abbrev pub end_of_one_memory : Record → SerialEnd
+end_of_one_memory r = end_under (job_of r) r.order
 
--- Want of memory is free. Each other reason has its cause.
-abbrev pub HasCause : Note → (command : Bool) (left : Option (List ℕ)) (read_failed write_failed : Type 0) → Type 0
-HasCause note.Nothing command left read_failed write_failed = command ≡ true
-HasCause note.Usage command left read_failed write_failed = command ≡ false
-HasCause note.Memory command left read_failed write_failed = command ≡ true
-HasCause note.Read command left read_failed write_failed = (command ≡ true) × read_failed
-HasCause note.Write command left read_failed write_failed = (command ≡ true) × write_failed
-HasCause (note.Text f) command left read_failed write_failed = (command ≡ true) × IsRefusedFor (note.Text f) left
-HasCause (note.Name f) command left read_failed write_failed = (command ≡ true) × IsRefusedFor (note.Name f) left
+-- One memory, in the order that is kept, finishes, and what was written is the command's text of its outputs and of itself.
+pub record WritesEndOfOneMemory (command : Option Command) (r : Record) (old new : Option (List ℕ)) : Type 0 where
+  pub memory : List ℤ
+  pub outputs : List ℤ
+  pub finishes : end_of_one_memory r ≡ last.Finished memory outputs
+  pub written : Appends old new (text_of_end command r.program.cells memory outputs)
 
--- Why a run's text was not written: want of memory, or a failed write; or it was written.
-abbrev pub IsOfWriting : Note → (write_failed : Type 0) → Type 0
-IsOfWriting note.Nothing write_failed = Unit {0}
-IsOfWriting note.Memory write_failed = Unit {0}
-IsOfWriting note.Write write_failed = write_failed
-IsOfWriting n write_failed = ⊥
+-- ## The statuses that come, and their causes
 
--- Why reading stopped before the end: want of memory, or a failed read.
-abbrev pub IsWhyStopped : Note → (read_failed : Type 0) → Type 0
-IsWhyStopped note.Memory read_failed = Unit {0}
-IsWhyStopped note.Read read_failed = read_failed
-IsWhyStopped n read_failed = ⊥
+-- why a run comes to this note: want of memory is free, each fault has its cause
+abbrev pub IsCauseOfRun : Note → (left : Option (List ℕ)) (read_failed write_failed : Type 0) → Type 0
+IsCauseOfRun note.Nothing left read_failed write_failed = Unit {0}
+IsCauseOfRun note.Usage left read_failed write_failed = ⊥
+IsCauseOfRun note.Memory left read_failed write_failed = Unit {0}
+IsCauseOfRun note.Read left read_failed write_failed = read_failed
+IsCauseOfRun note.Write left read_failed write_failed = write_failed
+IsCauseOfRun (note.Text f) left read_failed write_failed = IsRefusedFor (note.Text f) left
+IsCauseOfRun (note.Name f) left read_failed write_failed = IsRefusedFor (note.Name f) left
 
--- Why bytes were not read to a program: want of memory, or that they are refused.
-abbrev pub IsWhyRefused : Note → List ℕ → Type 0
-IsWhyRefused note.Memory bytes = Unit {0}
-IsWhyRefused (note.Text f) bytes = refusal bytes ≡ Some (note.Text f)
-IsWhyRefused (note.Name f) bytes = refusal bytes ≡ Some (note.Name f)
-IsWhyRefused n bytes = ⊥
+-- why a command comes to this note
+abbrev pub HasCause : Option Command → Note → (left : Option (List ℕ)) (read_failed write_failed : Type 0) → Type 0
+HasCause None n left read_failed write_failed = n ≡ note.Usage
+HasCause (Some (Run words limits)) n left read_failed write_failed = IsCauseOfRun n left read_failed write_failed
 
--- Why a source was not read to a program: want of memory, a failed read, or that its bytes are refused.
-abbrev pub IsWhyNotRead : Note → (read_failed : Type 0) (left : Option (List ℕ)) → Type 0
-IsWhyNotRead note.Memory read_failed left = Unit {0}
-IsWhyNotRead note.Read read_failed left = read_failed
-IsWhyNotRead (note.Text f) read_failed left = IsRefusedFor (note.Text f) left
-IsWhyNotRead (note.Name f) read_failed left = IsRefusedFor (note.Name f) left
-IsWhyNotRead n read_failed left = ⊥
+-- where the words are of no use: they are no command, whatever the source is
+abbrev pub IsMisused : Option Command → (left : Option (List ℕ)) → Type 0
+IsMisused None left = Unit {0}
+IsMisused (Some (Run words limits)) left = ⊥
+
+-- the statuses that a command comes to, where it accepts the source and neither a read nor a write fails
+abbrev pub ComesTo : Option Command → ℕ → Type 0
+ComesTo None status = status ≡ 2
+ComesTo (Some (Run words limits)) status = (status ≡ 0) ⊎ (status ≡ 6) ⊎ (status ≡ 1)

@@ -1,10 +1,11 @@
 -- Worked words.
-use Rattle.std.specs.Prelude.{◌≡◌, true, false, [], ◌∷◌, codes}
-use Rattle.cw_top.specs.Words.{is_command}
+use Rattle.std.specs.Prelude.{◌≡◌, [], ◌∷◌, Some, None, codes}
+use Rattle.cw_top.specs.declared.command.Command.TheVariants.{Run}
+use Rattle.cw_top.specs.Words.{command_of, default_limits}
 
 abbrev pub Commands : Type 0
 Commands =
-    (is_command (codes "run" ∷ []) ≡ true)
-    × (is_command [] ≡ false)
-    × (is_command (codes "Run" ∷ []) ≡ false)
-    × (is_command (codes "run" ∷ codes "--workers" ∷ codes "1" ∷ []) ≡ false)
+    (command_of (codes "run" ∷ []) ≡ Some (Run [] default_limits))
+    × (command_of [] ≡ None)
+    × (command_of (codes "Run" ∷ []) ≡ None)
+    × (command_of (codes "run" ∷ codes "--workers" ∷ codes "1" ∷ []) ≡ None)

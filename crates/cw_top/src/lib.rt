@@ -1,17 +1,20 @@
 //! The top call: all that the program does, from the words of its command and the bytes read to the bytes written and
 //! its status.
 //! Stands on all crates below.
-//! Contracts cite `specs/Words.antt` (which words are a command), `specs/Refusals.antt` (why a source is refused),
-//! `specs/Texts.antt` (what is written) and `specs/Outcome.antt` (what a status says).
+//! Contracts cite `specs/Words.antt` (which words are which command), `specs/Refusals.antt` (why a source is refused),
+//! `specs/Reasons.antt` (why there is no run), `specs/Texts.antt` (what is written) and `specs/Outcome.antt` (what a status says).
 #![tactic(auto)]
 
+mod command;
 mod outcome;
 mod reading;
+mod reasons;
 mod text;
 mod top;
 
 ghost use Rattle.cw_top.specs.Rows.{Commands};
 
+pub use command::{Command, command_of};
 pub use outcome::{Note, Reply};
 pub use text::{note_text, result_text};
 pub use top::cwstm;

@@ -1,7 +1,6 @@
 ghost use Rattle.std.specs.Prelude.{◌≡◌, ◌++◌, codes, IfOk, IsTrue, OnOk, string_bytes};
 ghost use Rattle.std.specs.List.{flat_map};
 ghost use Rattle.cw_tree.specs.Nodes.{is_strand};
-ghost use Rattle.cw_serial.specs.Machine.{value_at};
 ghost use Rattle.cw_record.specs.Order.{ending_strand};
 ghost use Rattle.cw_top.specs.Texts.{at_line, cell_lines, element_line, end_text, fault_name, finished_text, line, name_fault_name, note_text as text_of_note, output_line, plain_line, run_text, strand_text, text_fault_name};
 
@@ -9,6 +8,7 @@ use crate::Note;
 use cw_base::OutOfMemory;
 use cw_code::{CellInfo, FaultKind};
 use cw_record::{Record, RecordEnd};
+use cw_serial::value_at;
 use cw_strand::NameKind;
 use cw_text::TextKind;
 use cw_tree::Tree;
@@ -88,13 +88,6 @@ fn push_output(text: &mut String, value: i64) -> Result<(), OutOfMemory>
 {
     writeln!(text, "out {value}")?;
     Ok(())
-}
-
-// The value of an element, and 0 where there is none.
-fn value_at(memory: &[i64], element: usize) -> i64
-    ensures { result ≡ value_at memory.now element }
-{
-    memory.get(element).copied().unwrap_or(0)
 }
 
 fn push_plain(text: &mut String, cell: &CellInfo, memory: &[i64]) -> Result<(), OutOfMemory>

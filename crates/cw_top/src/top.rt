@@ -1,62 +1,31 @@
-ghost use Rattle.std.specs.Prelude.{◌≡◌, ◌↔◌, ◌≤◌, ◌⊎◌, true, false, None, IfOk, IfErr, IfSome, IsSomeAnd, IsTrue, OnSome};
-ghost use Rattle.cw_io.specs.Outside.{Keeps, Rose, RunsDry};
+ghost use Rattle.std.specs.Prelude.{◌≡◌, ◌↔◌, ◌≤◌, None, Some, IfOk, IfErr, IfSome, IsErrOf, IsSomeAnd, IsTrue, OnOk, OnSome, []};
+ghost use Rattle.cw_io.specs.Outside.{Appends, AppendsFront, Keeps, Rose, RunsDry, TellsOn};
 ghost use Rattle.cw_tree.specs.Nodes.{is_strand};
 ghost use Rattle.cw_record.specs.Order.{ending_strand};
-ghost use Rattle.cw_top.specs.Outcome.{HasCause, IsOfRefusal, IsOfWriting, IsRefusedFor, IsRunOf, IsStatus, IsWhyNotRead, TakesAtMost, Writes, default_limits, most_read, status_of_refusal, status_of_run};
-ghost use Rattle.cw_top.specs.Refusals.{refusal};
-ghost use Rattle.cw_top.specs.Words.{are_command};
+ghost use Rattle.cw_top.specs.declared.command.Command.TheVariants.{Run};
+ghost use Rattle.cw_top.specs.declared.reasons.NoRun.TheVariants.{Stopped};
+ghost use Rattle.cw_top.specs.declared.reasons.Stop.TheVariants.{ReadFault};
+ghost use Rattle.cw_top.specs.declared.reasons.NotWritten.TheVariants.{OutOfMemory, WriteFault};
+ghost use Rattle.cw_top.specs.Outcome.{Accepts, ComesTo, HasCause, IsMisused, IsRefusedFor, IsRunOf, IsStatus, ReadsWhole, TakesAtMost, Writes, WritesEndOfOneMemory, most_bytes, most_read, status_of_end};
+ghost use Rattle.cw_top.specs.Reasons.{WhyNoRun, note_of};
+ghost use Rattle.cw_top.specs.Texts.{run_text};
+ghost use Rattle.cw_top.specs.Words.{command_in};
 
+use crate::command::{Command, command_of};
 use crate::reading::program_from;
+use crate::reasons::{NoRun, NotWritten, Refusal, Stop};
 use crate::{Note, Reply, result_text};
 use cw_base::Seq;
 use cw_code::Limits;
-use cw_io::{Failed, Gate, Sink, Source, write_all};
+use cw_io::{Gate, Sink, Source, write_all};
 use cw_record::{Record, RecordEnd, depth_first};
 use std::alloc::Global;
 use std::sync::Wait;
 use std::thread::Threads;
 
-fn are_command(words: &[String]) -> bool
-    ensures { result ≡ are_command words.now }
+fn status_of_end(end: &RecordEnd) -> u8
+    ensures { result ≡ status_of_end end.now }
 {
-    match words {
-        [word] => word.as_str() == "run",
-        _ => false,
-    }
-}
-
-fn default_limits() -> Limits
-    ensures { result ≡ default_limits }
-{
-    Limits {
-        fuel: 1_000_000,
-        size: 1_000_000,
-        aborts: 100_000,
-        strands: 262_144,
-        moves: 10_000_000,
-    }
-}
-
-fn status_of_refusal(note: Note) -> u8
-    ensures { result ≡ status_of_refusal note }
-{
-    match note {
-        Note::Nothing => 0,
-        Note::Usage => 2,
-        Note::Memory => 1,
-        Note::Read => 3,
-        Note::Write => 4,
-        Note::Text(_) => 5,
-        Note::Name(_) => 5,
-    }
-}
-
-fn status_of_run(note: Note, end: &RecordEnd) -> u8
-    ensures { result ≡ status_of_run note end.now }
-{
-    if matches!(note, Note::Write) {
-        return 4;
-    }
     match end {
         RecordEnd::Finished { .. } => 0,
         RecordEnd::Fault { .. } => 6,
@@ -66,83 +35,121 @@ fn status_of_run(note: Note, end: &RecordEnd) -> u8
 }
 
 // Reads a program from the source and runs it with one worker.
-fn run_of<S: Source>(alloc: Global, source: &mut S) -> Result<Record, Note>
+fn run_of<S: Source>(
+    alloc: Global,
+    words: Seq<i64>,
+    limits: Limits,
+    source: &mut S,
+) -> Result<Record, NoRun>
     ensures later { S.faults source.old ≤ S.faults source.new }
-    ensures why { IfErr result (λ n. IsWhyNotRead n (Rose (S.faults source.old) (S.faults source.new)) (S.left source.old)) }
-    ensures taken { TakesAtMost most_read (S.left source.old) (S.left source.new) }
-    ensures whole { IfOk result (λ _. RunsDry (S.left source.old) (S.left source.new)) }
-    ensures run { IfOk result (IsRunOf (S.left source.old)) }
+    ensures kept { (IsErrOf result (Stopped ReadFault) → ⊥) → S.faults source.new ≡ S.faults source.old }
+    ensures why { IfErr result (λ n. WhyNoRun n (Rose (S.faults source.old) (S.faults source.new)) (S.left source.old)) }
+    ensures taken { TakesAtMost most_bytes (S.left source.old) (S.left source.new) }
+    ensures whole { OnOk result (RunsDry (S.left source.old) (S.left source.new)) }
+    ensures run { IfOk result (IsRunOf (Some (Run words limits)) (S.left source.old)) }
 {
-    let program = match program_from(alloc, source) {
-        Ok(program) => program,
-        Err(note) => return Err(note),
-    };
-    match depth_first(alloc, program, Seq::new(alloc), default_limits()) {
-        Ok(record) => Ok(record),
-        Err(_) => Err(Note::Memory),
-    }
+    let program = program_from(alloc, source)?;
+    Ok(depth_first(alloc, program, words, limits)?)
 }
 
-fn refused(note: Note) -> Reply
-    requires { IsOfRefusal note }
+// Writes the text of a run.
+fn write_run<K: Sink>(alloc: Global, run: &Record, sink: &mut K) -> Result<(), NotWritten>
+    requires { IsTrue (is_strand run.now.tree (ending_strand run.now.end)) }
+    ensures later { K.faults sink.old ≤ K.faults sink.new }
+    ensures kept { (IsErrOf result WriteFault → ⊥) → K.faults sink.new ≡ K.faults sink.old }
+    ensures written { OnOk result (Appends (K.written sink.old) (K.written sink.new) (run_text run.now)) }
+    ensures nothing { IsErrOf result OutOfMemory → Appends (K.written sink.old) (K.written sink.new) [] }
+    ensures tells { (IsErrOf result WriteFault → ⊥) → TellsOn (K.written sink.old) (K.written sink.new) }
+    ensures front { IsErrOf result WriteFault → AppendsFront (K.written sink.old) (K.written sink.new) (run_text run.now) }
+    ensures cause { IsErrOf result WriteFault → Rose (K.faults sink.old) (K.faults sink.new) }
+{
+    let text = result_text(alloc, run)?;
+    Ok(write_all(sink, text.as_slice())?)
+}
+
+fn without_run(why: NoRun) -> Reply
     ensures status { IsStatus result.kept result.status result.note }
-    ensures note { result.note ≡ note }
+    ensures note { result.note ≡ note_of why }
     ensures none { result.kept ≡ None }
 {
+    let (status, note) = match why {
+        NoRun::Stopped(Stop::ReadFault) => (3, Note::Read),
+        NoRun::Refused(Refusal::Text(fault)) => (5, Note::Text(fault)),
+        NoRun::Refused(Refusal::Name(fault)) => (5, Note::Name(fault)),
+        _ => (1, Note::Memory),
+    };
     Reply {
-        status: status_of_refusal(note),
+        status,
         note,
         kept: None,
     }
 }
 
-// Writes the text of a run.
-fn written<K: Sink>(alloc: Global, run: Record, sink: &mut K) -> Reply
-    requires { IsTrue (is_strand run.tree (ending_strand run.end)) }
-    ensures later { K.faults sink.old ≤ K.faults sink.new }
+// What comes of `run`.
+fn ran<S: Source, K: Sink>(
+    alloc: Global,
+    words: Seq<i64>,
+    limits: Limits,
+    source: &mut S,
+    sink: &mut K,
+) -> Reply
+    ensures read_later { S.faults source.old ≤ S.faults source.new }
+    ensures write_later { K.faults sink.old ≤ K.faults sink.new }
+    ensures read_kept { (result.status ≡ 3 → ⊥) → S.faults source.new ≡ S.faults source.old }
+    ensures write_kept { (result.status ≡ 4 → ⊥) → K.faults sink.new ≡ K.faults sink.old }
     ensures status { IsStatus result.kept result.status result.note }
-    ensures kept { IfSome result.kept (λ r. r ≡ run) }
-    ensures cause { IsOfWriting result.note (Rose (K.faults sink.old) (K.faults sink.new)) }
-    ensures written { Writes result.kept result.note (K.written sink.old) (K.written sink.new) }
+    ensures cause { HasCause (Some (Run words limits)) result.note (S.left source.old) (Rose (S.faults source.old) (S.faults source.new)) (Rose (K.faults sink.old) (K.faults sink.new)) }
+    ensures taken { TakesAtMost most_bytes (S.left source.old) (S.left source.new) }
+    ensures whole { OnSome result.kept (RunsDry (S.left source.old) (S.left source.new)) }
+    ensures run { IfSome result.kept (IsRunOf (Some (Run words limits)) (S.left source.old)) }
+    ensures written { Writes (Some (Run words limits)) result.kept result.note (K.written sink.old) (K.written sink.new) }
+    ensures tells { (result.status ≡ 4 → ⊥) → TellsOn (K.written sink.old) (K.written sink.new) }
 {
-    let text = match result_text(alloc, &run) {
-        Ok(text) => text,
-        Err(_) => return refused(Note::Memory),
+    let run = match run_of(alloc, words, limits, source) {
+        Ok(run) => run,
+        Err(why) => return without_run(why),
     };
-    let note = match write_all(sink, text.as_slice()) {
-        Ok(()) => Note::Nothing,
-        Err(Failed) => Note::Write,
-    };
-    Reply {
-        status: status_of_run(note, &run.end),
-        note,
-        kept: Some(run),
+    match write_run(alloc, &run, sink) {
+        Ok(()) => Reply {
+            status: status_of_end(&run.end),
+            note: Note::Nothing,
+            kept: Some(run),
+        },
+        Err(NotWritten::WriteFault) => Reply {
+            status: 4,
+            note: Note::Write,
+            kept: Some(run),
+        },
+        Err(NotWritten::OutOfMemory) => without_run(NoRun::OutOfMemory),
     }
 }
 
 // All that the top call does, which never waits.
 fn answer<S: Source, K: Sink>(
     alloc: Global,
-    words: &[String],
+    command: Option<Command>,
     source: &mut S,
     sink: &mut K,
 ) -> Reply
     ensures read_later { S.faults source.old ≤ S.faults source.new }
     ensures write_later { K.faults sink.old ≤ K.faults sink.new }
+    ensures read_kept { (result.status ≡ 3 → ⊥) → S.faults source.new ≡ S.faults source.old }
+    ensures write_kept { (result.status ≡ 4 → ⊥) → K.faults sink.new ≡ K.faults sink.old }
     ensures status { IsStatus result.kept result.status result.note }
-    ensures cause { HasCause result.note (are_command words.now) (S.left source.old) (Rose (S.faults source.old) (S.faults source.new)) (Rose (K.faults sink.old) (K.faults sink.new)) }
-    ensures unread { are_command words.now ≡ false → Keeps (S.left source.old) (S.left source.new) }
-    ensures taken { TakesAtMost most_read (S.left source.old) (S.left source.new) }
-    ensures whole { OnSome result.kept (RunsDry (S.left source.old) (S.left source.new)) }
-    ensures run { IfSome result.kept (IsRunOf (S.left source.old)) }
-    ensures written { Writes result.kept result.note (K.written sink.old) (K.written sink.new) }
+    ensures cause { HasCause command result.note (S.left source.old) (Rose (S.faults source.old) (S.faults source.new)) (Rose (K.faults sink.old) (K.faults sink.new)) }
+    ensures taken { TakesAtMost (most_read command) (S.left source.old) (S.left source.new) }
+    ensures whole { OnSome result.kept (ReadsWhole command (S.left source.old) (S.left source.new)) }
+    ensures run { IfSome result.kept (IsRunOf command (S.left source.old)) }
+    ensures written { Writes command result.kept result.note (K.written sink.old) (K.written sink.new) }
+    ensures tells { (result.status ≡ 4 → ⊥) → TellsOn (K.written sink.old) (K.written sink.new) }
 {
-    if !are_command(words) {
-        return refused(Note::Usage);
-    }
-    match run_of(alloc, source) {
-        Ok(run) => written(alloc, run, sink),
-        Err(note) => refused(note),
+    match command {
+        None => Reply {
+            status: 2,
+            note: Note::Usage,
+            kept: None,
+        },
+        Some(Command::Run { words, limits }) => ran(alloc, words, limits, source, sink),
     }
 }
 
@@ -163,26 +170,35 @@ pub fn cwstm<R: Threads + Wait + Sync, S: Source, K: Sink, G: Gate>(
     // The status is that of the run that is kept, or else that of the note.
     ensures status { IsStatus result.kept result.status result.note }
 
-    // Each other answer than success has its cause.
-    ensures usage { (result.status ≡ 2) ↔ (are_command words.now ≡ false) }
+    // Each answer has its cause, by the command.
+    ensures cause { HasCause (command_in words.now) result.note (S.left source.old) (Rose (S.faults source.old) (S.faults source.new)) (Rose (K.faults sink.old) (K.faults sink.new)) }
+    ensures usage { (result.status ≡ 2) ↔ IsMisused (command_in words.now) (S.left source.old) }
     ensures read_fault { result.status ≡ 3 → Rose (S.faults source.old) (S.faults source.new) }
     ensures write_fault { result.status ≡ 4 → Rose (K.faults sink.old) (K.faults sink.new) }
     ensures refused { result.status ≡ 5 → IsRefusedFor result.note (S.left source.old) }
-    ensures complete { are_command words.now ≡ true → IsSomeAnd (S.left source.old) (λ bytes. refusal bytes ≡ None)
+    ensures complete { Accepts (command_in words.now) (S.left source.old)
         → (Rose (S.faults source.old) (S.faults source.new) → ⊥) → (Rose (K.faults sink.old) (K.faults sink.new) → ⊥)
-        → (result.status ≡ 0) ⊎ (result.status ≡ 6) ⊎ (result.status ≡ 1) }
+        → ComesTo (command_in words.now) result.status }
 
-    // What is kept is the run of one worker, of the program that the whole source spells, and one memory does the same.
-    ensures run { IfSome result.kept (IsRunOf (S.left source.old)) }
-    ensures whole { OnSome result.kept (RunsDry (S.left source.old) (S.left source.new)) }
+    // What is kept is a run of the command, and one memory does the same.
+    ensures run { IfSome result.kept (IsRunOf (command_in words.now) (S.left source.old)) }
+    ensures whole { OnSome result.kept (ReadsWhole (command_in words.now) (S.left source.old) (S.left source.new)) }
 
-    ensures unread { are_command words.now ≡ false → Keeps (S.left source.old) (S.left source.new) }
-    ensures taken { TakesAtMost most_read (S.left source.old) (S.left source.new) }
-    ensures written { Writes result.kept result.note (K.written sink.old) (K.written sink.new) }
+    // With status 0 the text of what one memory comes to was written.
+    ensures finished { result.status ≡ 0 → IsSomeAnd result.kept (λ r. WritesEndOfOneMemory (command_in words.now) r (K.written sink.old) (K.written sink.new)) }
 
-    // Counts of faults never fall.
+    ensures unread { most_read (command_in words.now) ≡ 0 → Keeps (S.left source.old) (S.left source.new) }
+    ensures taken { TakesAtMost (most_read (command_in words.now)) (S.left source.old) (S.left source.new) }
+    ensures written { Writes (command_in words.now) result.kept result.note (K.written sink.old) (K.written sink.new) }
+
+    // Unless a write failed, a sink that told still tells.
+    ensures tells { (result.status ≡ 4 → ⊥) → TellsOn (K.written sink.old) (K.written sink.new) }
+
+    // Counts of faults never fall, and rise only with the status that says so.
     ensures read_later { S.faults source.old ≤ S.faults source.new }
     ensures write_later { K.faults sink.old ≤ K.faults sink.new }
+    ensures read_kept { (result.status ≡ 3 → ⊥) → S.faults source.new ≡ S.faults source.old }
+    ensures write_kept { (result.status ≡ 4 → ⊥) → K.faults sink.new ≡ K.faults sink.old }
 {
-    answer(alloc, words, source, sink)
+    answer(alloc, command_of(alloc, words), source, sink)
 }

@@ -47,6 +47,3 @@ pub fn worked_run()
     ensures stops { Stops }
     ensures breaks { Breaks }
 {}
-
-#[cfg(test)]
-mod tests;

@@ -5,24 +5,25 @@
 
 use cw_io::{OpenGate, ReadSource, WriteSink};
 use cw_top::{Note, cwstm, note_text};
-use std::env;
 use std::io::{ErrorKind, Write};
 use std::process::ExitCode;
+use std::{env, io};
 
-// The words of the command, without the program's name. A word that is not UTF-8 is no word of any command.
-fn words_of(rt: &HostRuntime) -> Result<Vec<String>, Note> {
+// The words of the command, without the program's name.
+fn words_of(rt: &HostRuntime) -> io::Result<Vec<String>> {
     let mut words = Vec::new(rt.alloc());
-    let all = match env::args(rt) {
-        Ok(all) => all,
-        Err(error) if error.kind() == ErrorKind::OutOfMemory => return Err(Note::Memory),
-        Err(_) => return Err(Note::Usage),
-    };
-    for word in all.skip(1) {
-        if words.push(word).is_err() {
-            return Err(Note::Memory);
-        }
+    for word in env::args(rt)?.skip(1) {
+        words.push(word)?;
     }
     Ok(words)
+}
+
+// A word that is not UTF-8 is no word of any command.
+fn without_words(error: &io::Error) -> (u8, Note) {
+    if error.kind() == ErrorKind::OutOfMemory {
+        return (1, Note::Memory);
+    }
+    (2, Note::Usage)
 }
 
 // Nothing else can be told of a write to standard error that fails.
@@ -35,9 +36,10 @@ fn say(rt: &HostRuntime, note: &Note) {
 fn main(rt: HostRuntime) -> ExitCode {
     let words = match words_of(&rt) {
         Ok(words) => words,
-        Err(note) => {
+        Err(error) => {
+            let (status, note) = without_words(&error);
             say(&rt, &note);
-            return ExitCode::from(if matches!(note, Note::Memory) { 1 } else { 2 });
+            return ExitCode::from(status);
         }
     };
     let mut source = ReadSource::new(rt.stdin());

@@ -25,6 +25,12 @@ fn with_end(alloc: Global, mut run: Record, end: RecordEnd) -> Result<Checked, F
     Ok(check(alloc, &run)?)
 }
 
+// The end under other picks.
+fn end_with_picks(alloc: Global, mut run: Record, list: Seq<u32>) -> Result<SerialEnd, Fail> {
+    run.order.list = list;
+    Ok(serial(alloc, &run.program, &[], run.limits, &run.order)?)
+}
+
 fn finished(alloc: Global, memory: &[i64], outputs: &[i64]) -> Result<RecordEnd, Fail> {
     Ok(RecordEnd::Finished {
         memory: Seq::from_vec(memory.to_vec(alloc)?),
@@ -33,19 +39,24 @@ fn finished(alloc: Global, memory: &[i64], outputs: &[i64]) -> Result<RecordEnd,
 }
 
 // What a check says where the picks are these.
-fn with_picks(alloc: Global, mut run: Record, list: &[u32], last: u32) -> Result<Checked, Fail> {
-    run.order.list = Seq::from_vec(list.to_vec(alloc)?);
+fn with_picks(alloc: Global, mut run: Record, list: Seq<u32>, last: u32) -> Result<Checked, Fail> {
+    run.order.list = list;
     run.order.last = last;
     Ok(check(alloc, &run)?)
 }
 
-// What a check says where the first of four accesses and outputs read this.
-fn with_first_read(alloc: Global, mut run: Record, value: i64) -> Result<Checked, Fail> {
+// The tree of `COUNTS` where its first access read this.
+fn counts_tree(alloc: Global, value: i64) -> Result<Tree, Fail> {
     let mut tree = Tree::new(alloc)?;
     tree.add(0, Kind::Read { cell: 0, value }, 1)?;
     tree.add(0, Kind::Write { cell: 0, value: 1 }, 2)?;
     tree.add(0, Kind::Read { cell: 0, value: 1 }, 3)?;
     tree.add(0, Kind::Out { value: 1 }, 4)?;
+    Ok(tree)
+}
+
+// What a check says where the tree is this.
+fn with_tree(alloc: Global, mut run: Record, tree: Tree) -> Result<Checked, Fail> {
     run.tree = tree;
     Ok(check(alloc, &run)?)
 }
@@ -73,6 +84,11 @@ fn another_end_is_told_by_its_first_difference(rt: HostRuntime) -> Result<(), Fa
         let said = with_end(rt.alloc(), record(&rt, COUNTS)?, end)?;
         assert_eq!(rt; said, wanted);
     }
+    Ok(())
+}
+
+#[test]
+fn an_end_of_another_kind_is_told_by_its_number(rt: HostRuntime) -> Result<(), Fail> {
     let spent = RecordEnd::Budget { strand: 0 };
     let said = with_end(rt.alloc(), record(&rt, COUNTS)?, spent)?;
     assert_eq!(rt; said, disagree(1, 2, 0));
@@ -89,6 +105,7 @@ fn another_order_is_refused(rt: HostRuntime) -> Result<(), Fail> {
         (&[1, 1, 1, 2], 1, disagree(1, 0, 4)),
     ];
     for (list, last, wanted) in table {
+        let list = Seq::from_vec(list.to_vec(rt.alloc())?);
         let said = with_picks(rt.alloc(), record(&rt, BESIDE)?, list, last)?;
         assert_eq!(rt; said, wanted);
     }
@@ -98,18 +115,18 @@ fn another_order_is_refused(rt: HostRuntime) -> Result<(), Fail> {
 // The pick that leaves the block is the one that is stuck.
 #[test]
 fn a_begun_block_is_not_left_early(rt: HostRuntime) -> Result<(), Fail> {
-    let mut run = record(&rt, BESIDE)?;
-    run.order.list = Seq::from_vec([1, 2, 1, 1].to_vec(rt.alloc())?);
-    let end = serial(rt.alloc(), &run.program, &[], run.limits, &run.order)?;
+    let list = Seq::from_vec([1, 2, 1, 1].to_vec(rt.alloc())?);
+    let end = end_with_picks(rt.alloc(), record(&rt, BESIDE)?, list)?;
     assert!(rt; matches!(end, SerialEnd::Stuck { place: 1 }));
     Ok(())
 }
 
 #[test]
 fn a_pick_that_does_otherwise_than_the_tree_is_refused(rt: HostRuntime) -> Result<(), Fail> {
-    let same = with_first_read(rt.alloc(), record(&rt, COUNTS)?, 0)?;
-    assert_eq!(rt; same, Checked::Agrees);
-    let other = with_first_read(rt.alloc(), record(&rt, COUNTS)?, 7)?;
-    assert_eq!(rt; other, disagree(1, 0, 4));
+    for (value, wanted) in [(0, Checked::Agrees), (7, disagree(1, 0, 4))] {
+        let tree = counts_tree(rt.alloc(), value)?;
+        let said = with_tree(rt.alloc(), record(&rt, COUNTS)?, tree)?;
+        assert_eq!(rt; said, wanted);
+    }
     Ok(())
 }

@@ -1,5 +1,5 @@
-use Rattle.cw_strand.proofs.NestedStrands.{blocks_close}
+use Rattle.cw_strand.proofs.Lawful.{lawful}
 use Rattle.cw_strand.proofs.blocks_close.Goals as goal
 
 pub returns : goal.returns
-returns c ds main own a named is none = blocks_close ds main named none own a
+returns c ds main faultless = (lawful ds main faultless).closes

@@ -1,5 +1,5 @@
-use Rattle.cw_strand.proofs.LocalWork.{settled_rests}
+use Rattle.cw_strand.proofs.Standing.{local_work_ends}
 use Rattle.cw_strand.proofs.local_work_ends.Goals as goal
 
 pub returns : goal.returns
-returns c = settled_rests
+returns c = local_work_ends

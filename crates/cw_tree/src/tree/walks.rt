@@ -10,7 +10,7 @@ impl Tree {
         requires { b < length self.now }
         ensures { result ≡ is_ancestor self.now a b }
     {
-        // each parent has a smaller number
+        // A hint to the prover, without effect: each parent has a smaller number.
         let _ = &self.nodes;
         let mut n = b;
         while n > a {
@@ -84,7 +84,7 @@ impl Tree {
         requires v { v < length self.now }
         ensures { result ≡ victim self.now u v }
     {
-        // each parent has a smaller number
+        // A hint to the prover, without effect: each parent has a smaller number.
         let _ = &self.nodes;
         let meet = self.lca(u, v);
         let mut found = None;

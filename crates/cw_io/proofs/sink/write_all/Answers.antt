@@ -9,5 +9,6 @@ loop-done-preserved g c =
     record {
       within = search rules;
       appended = Appends-take _ _ _ c.args.text.now c.loop-done.done _ c.loop-done.invariant.appended (rw rest_is at c.in_ok-done.ensures.taken);
-      later = search rules;
+      told = search rules;
+      same = search rules;
     }

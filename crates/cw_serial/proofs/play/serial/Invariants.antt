@@ -2,4 +2,4 @@ use Rattle.cw_serial.proofs.Played.{Played}
 use Rattle.cw_serial.proofs.play.serial.Given as goal
 
 abbrev pub invariant-loop-place : goal.invariant-loop-place
-invariant-loop-place l = Played l.program l.picks l.play l.place
+invariant-loop-place l = Played (record { program = l.program; words = l.words; limits = l.fn.limits }) l.picks l.play l.place

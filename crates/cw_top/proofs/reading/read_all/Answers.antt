@@ -1,14 +1,14 @@
-use Rattle.cw_top.specs.Outcome.{most_read}
+use Rattle.cw_top.specs.Outcome.{most_bytes}
 use Rattle.cw_top.proofs.Pieces.{Takes-gives, TakesAtMost-append}
-use Rattle.std.proofs.Common.{arith}
+use Rattle.std.proofs.Common.{rules}
 use Rattle.cw_top.proofs.reading.read_all.Goals as goal
 
 pub pieces-preserved : goal.pieces-preserved
 pieces-preserved g c = record {
-  few = c.in-Ok.ensures.few;
-  later = omega (arith, c.pieces.invariant.later, c.in-Ok.ensures.later);
-  given = Takes-gives _ _ _ _ _ _ c.pieces.invariant.given c.in-Ok.ensures.given;
+  few = c.in_ok-count.ensures.few;
+  same = search rules;
+  given = Takes-gives _ _ _ _ _ _ c.pieces.invariant.given c.in_ok-count.ensures.given;
 }
 
-pub returns-in-Err-clause-taken : goal.returns-in-Err-clause-taken
-returns-in-Err-clause-taken g c = TakesAtMost-append _ _ _ c.pieces.bytes.items most_read c.pieces.invariant.few c.pieces.invariant.given c.in-Err.ensures.taken
+pub returns-in_err-count-clause-taken : goal.returns-in_err-count-clause-taken
+returns-in_err-count-clause-taken g c = TakesAtMost-append _ _ _ c.pieces.bytes.items most_bytes c.pieces.invariant.few c.pieces.invariant.given c.in_err-count.ensures.taken

@@ -1,8 +1,9 @@
+use Rattle.cw_top.proofs.Pieces as pieces
 use Rattle.cw_top.proofs.Statuses as statuses
 use Rattle.cw_top.proofs.top.cwstm.Goals as goal
 
 pub returns-clause-usage : goal.returns-clause-usage
-returns-clause-usage g c = statuses.usage _ _ _ _ _ _ _ c.answer.ensures.status c.answer.ensures.cause
+returns-clause-usage g c = let cause = rw c.command_of.ensures at c.answer.ensures.cause in statuses.usage _ _ _ _ _ _ _ c.answer.ensures.status cause
 
 pub returns-clause-read_fault : goal.returns-clause-read_fault
 returns-clause-read_fault g c = statuses.read_fault _ _ _ _ _ _ _ c.answer.ensures.status c.answer.ensures.cause
@@ -14,4 +15,16 @@ pub returns-clause-refused : goal.returns-clause-refused
 returns-clause-refused g c = statuses.refused _ _ _ _ _ _ _ c.answer.ensures.status c.answer.ensures.cause
 
 pub returns-clause-complete : goal.returns-clause-complete
-returns-clause-complete g c = statuses.complete _ _ _ _ _ _ _ c.answer.ensures.status c.answer.ensures.cause c.answer.ensures.run
+returns-clause-complete g c =
+    let cause = rw c.command_of.ensures at c.answer.ensures.cause in
+    let run = rw c.command_of.ensures at c.answer.ensures.run in
+    statuses.complete _ _ _ _ _ _ _ c.answer.ensures.status cause run
+
+pub returns-clause-finished : goal.returns-clause-finished
+returns-clause-finished g c =
+    let run = rw c.command_of.ensures at c.answer.ensures.run in
+    let written = rw c.command_of.ensures at c.answer.ensures.written in
+    statuses.finished _ _ _ _ _ _ _ c.answer.ensures.status run written
+
+pub returns-clause-unread : goal.returns-clause-unread
+returns-clause-unread g c = let taken = rw c.command_of.ensures at c.answer.ensures.taken in pieces.TakesAtMost-none _ _ _ taken

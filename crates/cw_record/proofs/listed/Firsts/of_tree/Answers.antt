@@ -1,6 +1,5 @@
 use Rattle.std.proofs.Common.{arith, ap, ◌∙◌, ◌<◌, refl, length, get_or, rules}
-use Rattle.cw_record.proofs.Found.{first_le}
-use Rattle.cw_record.proofs.Listing.{listing_start, listing_known, listing_new, strand_there, order_strand, same_at, same_length}
+use Rattle.cw_record.proofs.Listing.{listing_start, listing_known, listing_new, strand_there, order_strand, first_met, same_at, same_length}
 use Rattle.cw_record.proofs.listed.Firsts.of_tree.Goals as goal
 use Rattle.cw_record.proofs.listed.Firsts.of_tree.Goals.{then-is_none+in_ok-push, else-is_none}
 
@@ -15,21 +14,13 @@ bounds-same-strand c =
 
 pub index-requires : goal.index-requires
 index-requires c =
-    let t = c.args.tree.now in
-    let s = get_or c.deref-strand-items.result.now c.loop-strand.strand-index 0 in
-    let is = order_strand t c.deref-strand-items.result.now (c.deref-strand-items.ensures.value ∙ c.in_ok-order.ensures) c.loop-strand.strand-index c.loop-strand-test.true in
-    let there : s < length t = strand_there t s is in
     let len = c.loop-strand.invariant.len in
-    omega (arith, same_at t c.args.same.now c.requires s there, first_le t s there)
+    omega (arith, first_met c.args.tree.now c.args.same.now c.deref-strand-items.result.now c.requires (c.deref-strand-items.ensures.value ∙ c.in_ok-order.ensures) c.loop-strand.strand-index c.loop-strand-test.true)
 
 pub index_mut-requires : goal.index_mut-requires
 index_mut-requires c =
-    let t = c.args.tree.now in
-    let s = get_or c.deref-strand-items.result.now c.loop-strand.strand-index 0 in
-    let is = order_strand t c.deref-strand-items.result.now (c.deref-strand-items.ensures.value ∙ c.in_ok-order.ensures) c.loop-strand.strand-index c.loop-strand-test.true in
-    let there : s < length t = strand_there t s is in
     let len = c.loop-strand.invariant.len in
-    omega (arith, same_at t c.args.same.now c.requires s there, first_le t s there)
+    omega (arith, first_met c.args.tree.now c.args.same.now c.deref-strand-items.result.now c.requires (c.deref-strand-items.ensures.value ∙ c.in_ok-order.ensures) c.loop-strand.strand-index c.loop-strand-test.true)
 
 pub loop-strand-preserved : goal.loop-strand-preserved
 loop-strand-preserved c =

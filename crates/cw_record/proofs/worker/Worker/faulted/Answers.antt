@@ -9,25 +9,25 @@ use Rattle.cw_record.proofs.worker.Worker.faulted.Goals as goal
 use Rattle.cw_record.proofs.worker.Worker.faulted.Goals.{in-Left+in_ok-starts-in-Left, in-Right}
 
 pub starts-requires : goal.starts-requires
-starts-requires c = first_there (length c.loop-bend.drawing.tree) c.loop-bend.bends c.pop.new.self c.in-Some.bend c.in-Some.ensures c.loop-bend.invariant.2 c.in-Left.fork c.in-Left.right c.in-Left.is
+starts-requires c = first_there (length c.loop-branch.drawing.tree) c.loop-branch.branches c.pop.new.self c.in-Some.branch c.in-Some.ensures c.loop-branch.invariant.2 c.in-Left.fork c.in-Left.right c.in-Left.is
 
-pub loop-bend-preserved-after-bend : goal.loop-bend-preserved-after-bend
-loop-bend-preserved-after-bend c =
-    let there = c.loop-bend.invariant.2 in
-    let rest = rest_there (length c.loop-bend.drawing.tree) c.loop-bend.bends c.pop.new.self c.in-Some.bend c.in-Some.ensures there in
-    elim c.match-bend.branch [
+pub loop-branch-preserved-after-branch : goal.loop-branch-preserved-after-branch
+loop-branch-preserved-after-branch c =
+    let there = c.loop-branch.invariant.2 in
+    let rest = rest_there (length c.loop-branch.drawing.tree) c.loop-branch.branches c.pop.new.self c.in-Some.branch c.in-Some.ensures there in
+    elim c.match-branch.branch [
       | in-Left+in_ok-starts-in-Left w ↦
           let is = ap (λ d. d.tree) w.drawing-is ∙ w.in_ok-starts-in-Left.ensures.tree in (
             ap (λ t. with_strands t (unstarted c.pop.new.self)) is
-                ∙ (one_unstarted c.loop-bend.drawing.tree w.in-Left.fork (unstarted c.pop.new.self)
-                ∙ (ap (λ bs. with_strands c.loop-bend.drawing.tree (unstarted bs)) (sym (c.in-Some.ensures ∙ ap (λ b. b ∷ c.pop.new.self) w.in-Left.is)) ∙ c.loop-bend.invariant.0)),
-            ap (λ d. d.journals) w.drawing-is ∙ (w.in_ok-starts-in-Left.ensures.journals ∙ c.loop-bend.invariant.1),
-            more_there (length c.loop-bend.drawing.tree) (length c.match-bend.drawing.tree) c.pop.new.self (omega (arith, ap length is, length_more c.loop-bend.drawing.tree (fresh_node w.in-Left.fork Strand 0))) rest,
+                ∙ (one_unstarted c.loop-branch.drawing.tree w.in-Left.fork (unstarted c.pop.new.self)
+                ∙ (ap (λ bs. with_strands c.loop-branch.drawing.tree (unstarted bs)) (sym (c.in-Some.ensures ∙ ap (λ b. b ∷ c.pop.new.self) w.in-Left.is)) ∙ c.loop-branch.invariant.0)),
+            ap (λ d. d.journals) w.drawing-is ∙ (w.in_ok-starts-in-Left.ensures.journals ∙ c.loop-branch.invariant.1),
+            more_there (length c.loop-branch.drawing.tree) (length c.match-branch.drawing.tree) c.pop.new.self (omega (arith, ap length is, length_more c.loop-branch.drawing.tree (fresh_node w.in-Left.fork Strand 0))) rest,
           )
       | in-Right w ↦ (
         ap (λ d. with_strands d.tree (unstarted c.pop.new.self)) w.drawing-is
-            ∙ (ap (λ bs. with_strands c.loop-bend.drawing.tree (unstarted bs)) (sym (c.in-Some.ensures ∙ ap (λ b. b ∷ c.pop.new.self) w.in-Right.is)) ∙ c.loop-bend.invariant.0),
-        ap (λ d. d.journals) w.drawing-is ∙ c.loop-bend.invariant.1,
-        more_there (length c.loop-bend.drawing.tree) (length c.match-bend.drawing.tree) c.pop.new.self (omega (arith, ap (λ d. length d.tree) w.drawing-is)) rest,
+            ∙ (ap (λ bs. with_strands c.loop-branch.drawing.tree (unstarted bs)) (sym (c.in-Some.ensures ∙ ap (λ b. b ∷ c.pop.new.self) w.in-Right.is)) ∙ c.loop-branch.invariant.0),
+        ap (λ d. d.journals) w.drawing-is ∙ c.loop-branch.invariant.1,
+        more_there (length c.loop-branch.drawing.tree) (length c.match-branch.drawing.tree) c.pop.new.self (omega (arith, ap (λ d. length d.tree) w.drawing-is)) rest,
       )
     ]

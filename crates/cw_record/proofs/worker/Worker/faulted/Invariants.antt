@@ -5,11 +5,11 @@ use Rattle.cw_tree.specs.declared.node.Kind.TheVariants.{Strand}
 use Rattle.cw_record.specs.Worked.{unstarted}
 use Rattle.cw_record.proofs.worker.Worker.faulted.Given as goal
 
-abbrev pub invariant-loop-bend : goal.invariant-loop-bend
-invariant-loop-bend l =
-    (l.drawing.tree ++ map (λ f. fresh_node f Strand 0) (unstarted l.bends) ≡ l.fn.self.drawing.tree ++ map (λ f. fresh_node f Strand 0) (unstarted l.fn.self.bends))
+abbrev pub invariant-loop-branch : goal.invariant-loop-branch
+invariant-loop-branch l =
+    (l.drawing.tree ++ map (λ f. fresh_node f Strand 0) (unstarted l.branches) ≡ l.fn.self.drawing.tree ++ map (λ f. fresh_node f Strand 0) (unstarted l.fn.self.branches))
     × (l.drawing.journals ≡ l.fn.self.drawing.journals)
-    × All (λ f. f < length l.drawing.tree) (unstarted l.bends)
+    × All (λ f. f < length l.drawing.tree) (unstarted l.branches)
 
-abbrev pub decreases-loop-bend : goal.decreases-loop-bend
-decreases-loop-bend l = length l.bends
+abbrev pub decreases-loop-branch : goal.decreases-loop-branch
+decreases-loop-branch l = length l.branches

@@ -1,4 +1,4 @@
 use Rattle.cw_serial.proofs.play.Play.memory.Goals as goal
 
 pub returns : goal.returns
-returns c = λ p names m is. c.memory.ensures p m is.machine
+returns c = λ job names m is. c.memory.ensures job m is.machine

@@ -1,0 +1,4 @@
+mod machines;
+mod orders;
+mod texts;
+mod trees;

@@ -1,3 +1,0 @@
-mod items;
-mod listed;
-mod order;

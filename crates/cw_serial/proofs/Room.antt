@@ -1,0 +1,5 @@
+pub mod Lawful
+pub mod Bodies
+pub mod DoneTasks
+pub mod StandingWork
+pub mod Locals

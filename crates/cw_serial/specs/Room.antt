@@ -1,0 +1,4 @@
+pub mod Elements
+pub mod Works
+pub mod Strands
+pub mod Rows

@@ -1,0 +1,49 @@
+-- The strands that a machine holds: each stands at a want, or waits for the two strands of a fork. Forks and joins are made as soon
+-- as they can be.
+--
+-- A strand is named by the steps down to it from the root.
+use Rattle.std.specs.Prelude.{ℕ, zero, suc, ◌==◌, true, false, List, [], ◌∷◌, Option, Some, None, if◌then◌else◌}
+use Rattle.cw_tree.specs.declared.picks.Turn.{Turn}
+use Rattle.cw_strand.specs.Strands.{Strands, is_over, is_fork}
+
+pub data StrandTree (A : Type 0) : Type 0 where
+  -- a strand that made so many forks, at a want
+  stands : ℕ → A → StrandTree A
+  -- a strand that waits for its k-th fork: the left strand of it and the right one
+  waits : ℕ → StrandTree A → StrandTree A → StrandTree A
+
+-- the left strand or the right one of a k-th fork is what a step leads to, or else nothing
+abbrev pub side_by : {A : Type 0} → Turn → ℕ → (left right nothing : A) → A
+side_by x k l r none = if x.fork == k then (if x.right then r else l) else none
+
+module _ {A : Type 0} (s : Strands A) where
+  -- a strand that has come to its end
+  abbrev pub ended : StrandTree A → Option A
+  ended (stands k a) = if is_over (s.want a) then Some a else None
+  ended (waits k l r) = None
+
+  -- the two strands of a k-th fork; where both have ended, the strand that forked goes on
+  abbrev pub meet : (ℕ → A → StrandTree A) → ℕ → (left right : StrandTree A) → StrandTree A
+  meet go k l r = elim (ended l) [ None ↦ waits k l r | Some x ↦ elim (ended r) [ None ↦ waits k l r | Some y ↦ go k (s.joined y x) ] ]
+
+  -- a strand that made k forks makes its next ones, n levels of them
+  abbrev pub run_on : ℕ → ℕ → A → StrandTree A
+  run_on zero k a = stands k a
+  run_on (suc n) k a = elim (is_fork (s.want a)) [ false ↦ stands k a | true ↦ meet (run_on n) (suc k) (run_on n 0 (s.left a)) (run_on n 0 (s.right a)) ]
+
+  -- all of them
+  abbrev pub goes_on : ℕ → A → StrandTree A
+  goes_on k a = run_on (s.depth a) k a
+
+  -- the strand of that name, where it stands at a want or is at its end
+  abbrev pub at : StrandTree A → List Turn → Option A
+  at (stands k a) [] = Some a
+  at (stands k a) (x ∷ p) = None
+  at (waits k l r) [] = None
+  at (waits k l r) (x ∷ p) = side_by x k (at l p) (at r p) None
+
+  -- the strand of that name becomes another one, and goes on
+  abbrev pub put : StrandTree A → List Turn → A → StrandTree A
+  put (stands k a) p b = goes_on k b
+  put (waits k l r) [] b = waits k l r
+  put (waits k l r) (x ∷ p) b = meet goes_on k (if x.right then l else put l p b) (if x.right then put r p b else r)

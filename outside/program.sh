@@ -1,0 +1,137 @@
+#!/usr/bin/env bash
+# Tries the program from outside, where no contract reaches: its words, standard input and output, notes and statuses, and large sources,
+# since no clause forbids a false want of memory. A later command adds its lines to the table.
+# Usage: outside/program.sh PROGRAM, with the program as the gate builds it: crates/cwstm/out/cwstm, once `rt ci` has passed.
+# Ends with the line 'N passed, M failed', and with status 1 where one failed.
+set -u
+program=$(realpath "${1:?the program}")
+folder=$(mktemp -d)
+trap 'rm -rf "$folder"' EXIT
+cd "$folder" || exit 1
+passed=0
+failed=0
+
+# judge NAME STATUS WANTED_STATUS WANTED_TEXT WANTED_NOTE: compares with the files `text` and `note`
+judge() {
+  printf '%s' "$4" > wanted_text
+  printf '%s' "$5" > wanted_note
+  if [ "$2" = "$3" ] && cmp -s text wanted_text && cmp -s note wanted_note; then
+    passed=$((passed + 1))
+  else
+    failed=$((failed + 1))
+    printf 'FAILED %s: status %s, wanted %s; text %s; note %s\n' "$1" "$2" "$3" "$(head -c 200 text | tr '\n' '~')" "$(head -c 200 note | tr '\n' '~')"
+  fi
+}
+
+# try NAME STATUS TEXT NOTE WORD..: runs the program on the file `source`
+try() {
+  local name=$1 status=$2 text=$3 note=$4 got
+  shift 4
+  timeout 60 "$program" "$@" < source > text 2> note
+  got=$?
+  judge "$name" "$got" "$status" "$text" "$note"
+}
+
+usage=$'cwstm: usage\n'
+
+# ## Words, texts and statuses
+
+printf 'cell c; fn main() { c = c + 1; out c; }' > source
+try 'a run' 0 $'out 1\nc = 1\nend\n' '' run
+try 'no words' 2 '' "$usage"
+try 'a word that is no command' 2 '' "$usage" Run
+try 'a word behind run' 2 '' "$usage" run run
+try 'an option that is none' 2 '' "$usage" run --workers 1
+try 'an empty word' 2 '' "$usage" ''
+try 'a word that is no UTF-8' 2 '' "$usage" $'\xff'
+try 'run and a word that is no UTF-8' 2 '' "$usage" run $'r\xffun'
+
+printf 'cell c = 4;\nfn main() { spawn { atomic { c = c + 1; } } atomic { c = c * 2; } sync; out c; out -c; }' > source
+try 'spawned and atomic blocks' 0 $'out 10\nout -10\nc = 10\nend\n' '' run
+
+printf '' > source
+try 'no text' 5 '' $'cwstm: line 0: NoMain\n' run
+printf 'cell c;\n@' > source
+try 'a character that is none of the language' 5 '' $'cwstm: line 2: BadChar\n' run
+printf 'fn main() {\n\n out x; }' > source
+try 'a name that is not declared' 5 '' $'cwstm: line 3: Unknown\n' run
+printf 'fn main() { out "a\xff"; }' > source
+try 'a text that is no UTF-8' 5 '' $'cwstm: line 1: NotUtf8\n' run
+printf 'fn main() {' > source
+try 'a text that stops short' 5 '' $'cwstm: line 1: Unexpected\n' run
+
+printf 'fn main() { out 9223372036854775807 + 1; }' > source
+try 'a fault of main' 6 $'fault Overflow in 0\n' '' run
+printf 'fn main() { spawn { out 9223372036854775807 * 2; } }' > source
+try 'a fault of a spawned strand' 6 $'fault Overflow in 0.1l\n' '' run
+
+# ## Reading and writing that fail
+
+printf 'cell c; fn main() { c = c + 1; out c; }' > source
+"$program" run <&- > text 2> note
+judge 'closed standard input' $? 3 '' $'cwstm: read fault\n'
+"$program" run < "$folder" > text 2> note
+judge 'a folder as standard input' $? 3 '' $'cwstm: read fault\n'
+: > text
+"$program" run < source > /dev/full 2> note
+judge 'a full device' $? 4 '' $'cwstm: write fault\n'
+"$program" run < source >&- 2> note
+judge 'closed standard output' $? 4 '' $'cwstm: write fault\n'
+# the reader of the pipe has gone before anything is written
+{ sleep 0.2; "$program" run < source 2> note; echo $? > status; } | true
+judge 'a pipe that no one reads' "$(cat status)" 4 '' $'cwstm: write fault\n'
+(trap '' PIPE; { sleep 0.2; "$program" run < source 2> note; echo $? > status; } | true)
+judge 'the same where the signal is ignored' "$(cat status)" 4 '' $'cwstm: write fault\n'
+{ printf 'cell c; fn '; sleep 0.2; printf 'main() { out c; }'; } | "$program" run > text 2> note
+judge 'a source that comes in pieces' $? 0 $'out 0\nc = 0\nend\n' ''
+
+# ## Large sources
+
+{
+  echo 'cell c; fn main() {'
+  for _ in $(seq 30000); do echo 'spawn{atomic{c=c+1;}}'; done
+  echo '}'
+} > source
+try '30,000 spawned blocks' 0 $'c = 30000\nend\n' '' run
+
+{
+  echo 'cell c; fn main() {'
+  for _ in $(seq 199); do echo 'c = c + 1; atomic {'; done
+  for _ in $(seq 199); do echo '}'; done
+  echo '}'
+} > source
+try '200 blocks in each other' 0 $'c = 199\nend\n' '' run
+
+{
+  printf 'fn main() { out 1'
+  for _ in $(seq 199); do printf ' + 1'; done
+  echo '; }'
+} > source
+try 'an expression of height 200' 0 $'out 200\nend\n' '' run
+
+{
+  printf 'fn main() { out 1'
+  for _ in $(seq 200); do printf ' + 1'; done
+  echo '; }'
+} > source
+try 'an expression of height 201' 5 '' $'cwstm: line 1: TooDeep\n' run
+
+{
+  for i in $(seq 4096); do echo "cell c$i = $i;"; done
+  echo 'fn main() { out c1 + c4096; }'
+} > source
+try '4,096 cells' 0 "$(echo 'out 4097'; for i in $(seq 4096); do echo "c$i = $i"; done; echo end)"$'\n' '' run
+
+{
+  for i in $(seq 4097); do echo "cell c$i;"; done
+  echo 'fn main() {}'
+} > source
+try '4,097 cells' 5 '' $'cwstm: line 4097: TooManyCells\n' run
+
+head -c 1048577 /dev/zero | tr '\0' ' ' > source
+try 'one byte more than a text may have' 5 '' $'cwstm: line 0: TooLong\n' run
+{ printf 'fn main() {}'; head -c 1048564 /dev/zero | tr '\0' ' '; } > source
+try 'as many bytes as a text may have' 0 $'end\n' '' run
+
+echo "$passed passed, $failed failed"
+[ "$failed" -eq 0 ]
