@@ -9,7 +9,7 @@ abbrev pub Rose : ℕ → ℕ → Type 0
 Rose before after = (before < after) ⊎ (after ≡ 2 ^ 64 - 1)
 
 -- Faults never fall; a failure is told only where they rose, and with success they are as before.
-pub record HasCause {T E : Type 0} (before after : ℕ) (result : Result T E) : Type 0 where
+pub record CountsFaults {T E : Type 0} (before after : ℕ) (result : Result T E) : Type 0 where
   pub later : before ≤ after
   pub failed : IsErr result → Rose before after
   pub kept : OnOk result (after ≡ before)

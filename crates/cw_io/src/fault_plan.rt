@@ -1,6 +1,6 @@
 ghost use Rattle.std.specs.Prelude.{◌≡◌, ◌⊎◌, true};
 ghost use Rattle.cw_io.specs.FaultPlan.{fresh_plan, IsListed, FailsWhere};
-ghost use Rattle.cw_io.specs.Outside.{HasCause};
+ghost use Rattle.cw_io.specs.Outside.{CountsFaults};
 
 use crate::Failed;
 use std::marker::Model;
@@ -35,7 +35,7 @@ impl FaultPlan {
     /// Counts one call, and says whether it fails: where its number is listed, or the object is full.
     pub fn call(&mut self, is_full: bool) -> Result<(), Failed>
         ensures planned { FailsWhere (IsListed self.old ⊎ (is_full ≡ true)) self.old self.new result }
-        ensures cause { HasCause self.old.failed self.new.failed result }
+        ensures cause { CountsFaults self.old.failed self.new.failed result }
     {
         self.made = self.made.saturating_add(1);
         if is_full || self.failing.contains(&self.made) {

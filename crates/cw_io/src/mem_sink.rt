@@ -1,7 +1,7 @@
 ghost use Rattle.std.specs.Prelude.{◌≡◌, ◌↔◌, ◌⊎◌, ◌≤◌, [], length, take, Some, Ok, IsErr, IfOk, OnOk, OnErr};
 ghost use Rattle.cw_io.specs.FaultPlan.{fresh_plan, failed_after, IsListed, FailsWhere};
 ghost use Rattle.cw_io.specs.MemSink.{empty_stock, room_left, IsFullFor, TakesFront};
-ghost use Rattle.cw_io.specs.Outside.{HasCause, Appends, TellsOn};
+ghost use Rattle.cw_io.specs.Outside.{CountsFaults, Appends, TellsOn};
 
 use crate::fault_plan::FaultPlan;
 use crate::store::Store;
@@ -70,7 +70,7 @@ impl Sink for MemSink {
         ensures same { OnErr result (self.new.stock ≡ self.old.stock) }
 
         // As of every sink.
-        ensures cause { HasCause self.old.plan.failed self.new.plan.failed result }
+        ensures cause { CountsFaults self.old.plan.failed self.new.plan.failed result }
         ensures within { IfOk result (λ n. n ≤ length piece.now) }
         ensures taken { IfOk result (λ n. Appends (Some self.old.stock.written) (Some self.new.stock.written) (take n piece.now)) }
         ensures told { OnOk result (TellsOn (Some self.old.stock.written) (Some self.new.stock.written)) }
@@ -133,7 +133,7 @@ impl Sink for SureSink {
         ensures failed { self.new.failed ≡ failed_after self.old.failed result }
 
         // As of every sink.
-        ensures cause { HasCause self.old.failed self.new.failed result }
+        ensures cause { CountsFaults self.old.failed self.new.failed result }
         ensures within { IfOk result (λ n. n ≤ length piece.now) }
         ensures taken { IfOk result (λ n. Appends (Some self.old.stock.written) (Some self.new.stock.written) (take n piece.now)) }
         ensures told { OnOk result (TellsOn (Some self.old.stock.written) (Some self.new.stock.written)) }

@@ -1,7 +1,7 @@
 ghost use Rattle.std.specs.Prelude.{◌≡◌, ◌≢◌, ◌≤◌, [], length, take, Some, Ok, IfOk, OnErr, IsOkAnd};
 ghost use Rattle.cw_io.specs.FaultPlan.{fresh_plan, IsListed, FailsWhere};
 ghost use Rattle.cw_io.specs.MemSource.{GivesNext};
-ghost use Rattle.cw_io.specs.Outside.{HasCause, Takes, Keeps, IsDry};
+ghost use Rattle.cw_io.specs.Outside.{CountsFaults, Takes, Keeps, IsDry};
 
 use crate::fault_plan::FaultPlan;
 use crate::feed::Feed;
@@ -49,7 +49,7 @@ impl Source for MemSource {
         ensures same { OnErr result (self.new.supply ≡ self.old.supply) }
 
         // As of every source.
-        ensures cause { HasCause self.old.plan.failed self.new.plan.failed result }
+        ensures cause { CountsFaults self.old.plan.failed self.new.plan.failed result }
         ensures within { IfOk result (λ n. n ≤ length buf.old) }
         ensures given { IfOk result (λ n. Takes (Some self.old.supply.left) (Some self.new.supply.left) (take n buf.new)) }
         ensures end { result ≡ Ok 0 → buf.old ≢ [] → IsDry (Some self.old.supply.left) }
@@ -95,7 +95,7 @@ impl Source for SureSource {
         ensures next { IsOkAnd result (GivesNext self.old self.new buf.old buf.new) }
 
         // As of every source.
-        ensures cause { HasCause 0 0 result }
+        ensures cause { CountsFaults 0 0 result }
         ensures within { IfOk result (λ n. n ≤ length buf.old) }
         ensures given { IfOk result (λ n. Takes (Some self.old.left) (Some self.new.left) (take n buf.new)) }
         ensures end { result ≡ Ok 0 → buf.old ≢ [] → IsDry (Some self.old.left) }

@@ -1,5 +1,5 @@
 ghost use Rattle.std.specs.Prelude.{◌≡◌, ◌≤◌, ℕ, List, [], length, take, Option, IfOk, OnOk, OnErr, Ok};
-ghost use Rattle.cw_io.specs.Outside.{HasCause, Appends, AppendsFront, TellsOn};
+ghost use Rattle.cw_io.specs.Outside.{CountsFaults, Appends, AppendsFront, TellsOn};
 
 use crate::Failed;
 
@@ -14,7 +14,7 @@ pub trait Sink {
     /// Takes a front of the piece, and answers how many bytes. Nothing is taken only of an empty piece: else the write
     /// failed. After `Failed` nothing was taken. A sink that told goes on telling, but it may fall silent at a failure.
     fn write(&mut self, piece: &[u8]) -> Result<usize, Failed>
-        ensures cause { HasCause (faults self.old) (faults self.new) result }
+        ensures cause { CountsFaults (faults self.old) (faults self.new) result }
         ensures within { IfOk result (λ n. n ≤ length piece.now) }
         ensures taken { IfOk result (λ n. Appends (written self.old) (written self.new) (take n piece.now)) }
         ensures told { OnOk result (TellsOn (written self.old) (written self.new)) }
@@ -25,7 +25,7 @@ pub trait Sink {
 /// Writes the whole text, in as many turns as the sink needs. It ends, since each turn writes a byte at least, and takes no
 /// memory. The first write that fails ends it, and the sink then holds a front of the text.
 pub fn write_all<K: Sink>(sink: &mut K, text: &[u8]) -> Result<(), Failed>
-    ensures cause { HasCause (K.faults sink.old) (K.faults sink.new) result }
+    ensures cause { CountsFaults (K.faults sink.old) (K.faults sink.new) result }
     ensures ok { OnOk result (Appends (K.written sink.old) (K.written sink.new) text.now) }
     ensures told { OnOk result (TellsOn (K.written sink.old) (K.written sink.new)) }
     ensures err { OnErr result (AppendsFront (K.written sink.old) (K.written sink.new) text.now) }

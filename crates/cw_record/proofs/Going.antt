@@ -5,10 +5,7 @@ use Rattle.cw_strand.specs.Names.{first_memory}
 use Rattle.cw_strand.specs.Strands.{Closes, IsDeep, is_over}
 use Rattle.cw_tree.specs.declared.node.Node.{Node}
 use Rattle.cw_tree.specs.declared.node.Kind.TheVariants.{Strand}
-use Rattle.cw_tree.specs.declared.access.Entry.{Entry}
 use Rattle.cw_tree.specs.Nodes.{parent_of}
-use Rattle.cw_tree.specs.Shape.{AreStamps}
-use Rattle.cw_tree.proofs.CellJournals.{HasJournals}
 use Rattle.cw_serial.specs.Jobs.{Job}
 use Rattle.cw_serial.specs.declared.interpreter.strand.Strand.{Strand as Written}
 use Rattle.cw_serial.specs.Machine.{Machine}
@@ -16,12 +13,12 @@ use Rattle.cw_serial.specs.Room.Strands.{StrandState, job_of, state_of, strands_
 use Rattle.cw_serial.specs.MachineOf.{machine_of}
 use Rattle.cw_serial.proofs.Branches.{Branch, on_left, on_right}
 use Rattle.cw_serial.proofs.Weights.{weight, weight_falls, weight_le}
-use Rattle.cw_serial.proofs.Working.{Worker as Working, machine_at, IsAtWork, after_fork, forks_off, fork_stays, none_begun, after_turn, turns_right, turn_stays, after_join, joins_up, join_stays}
+use Rattle.cw_serial.proofs.Working.{Worker as Working, machine_at, IsAtWork, after_fork as worker_after_fork, forks_off, fork_stays, none_begun, after_turn, turns_right, turn_stays, after_join as worker_after_join, joins_up, join_stays}
 use Rattle.cw_record.specs.declared.items.Item.{Item}
 use Rattle.cw_record.specs.declared.worker.Branch.{Branch as Held}
 use Rattle.cw_record.specs.declared.worker.Branch.TheVariants.{Left, Right}
 use Rattle.cw_record.specs.declared.worker.Worker.{Worker}
-use Rattle.cw_record.specs.Drawn.{added, forked}
+use Rattle.cw_record.specs.Drawn.{added, after_fork, after_join, after_start, drawn, forked}
 use Rattle.cw_record.specs.Worked.{Keeps, WaitsOnLeft, law_of, unstarted, want_of}
 use Rattle.cw_record.proofs.Building.{IsBuilt, open_items}
 use Rattle.cw_record.proofs.Descending.{Descends, Crossing}
@@ -30,37 +27,21 @@ use Rattle.cw_record.proofs.GrowingItems.{fork_built, fork_items, turn_built, tu
 use Rattle.cw_record.proofs.GrowingJournals.{has_beside, has_forked}
 use Rattle.cw_record.proofs.GrowingWays.{way_fork, way_turn, way_join, crossed_there, crossed_parent, crossed_strand, crossed_fork}
 use Rattle.cw_record.proofs.Playing.{SameDoers, Plays, plays_kept}
-use Rattle.cw_record.proofs.Running.{HoldsBranches, crossings, Runs, wants_same, law_same, left_to_do, weights}
+use Rattle.cw_record.proofs.Running.{Draws, HoldsBranches, Runs, crossings, draws_by, wants_same, law_same, left_to_do, weights}
 use Rattle.cw_record.proofs.Shaped.{IsShaped, shaped_strand, shaped_forked}
 use Rattle.cw_record.proofs.Stamped.{stamped_strand, stamped_forked}
 
 module _ (job : Job) where
-  -- what is drawn of a run, where the strands on the way down are these
-  record Drawn (t : List Node) (at clock : ℕ) (kept : List _) (xs : List Held) (w : Working StrandState) : Type 0 where
-    built : IsBuilt t at clock
-    shape : IsShaped t (unstarted xs)
-    stamps : AreStamps t
-    branches : HoldsBranches xs w.branches
-    place : Descends t at (crossings xs w.branches) w.blocks w.forks
-    journals : HasJournals t (first_memory job.program.cells) w.memory kept
-    played : Plays (strands_of job) t (machine_of job) (open_items t at) (machine_at (strands_of job) w)
-
   -- the worker in memory, from what was drawn
   runs_from : (code new : Worker) (w u : Working StrandState) → Runs job code w → Keeps code new → u.memory ≡ w.memory → u.outputs ≡ w.outputs → IsAtWork (strands_of job) u → state_of new.strand ≡ u.strand
-      → Drawn new.drawing.tree new.drawing.place new.drawing.clock new.drawing.journals.items new.branches u → Runs job new u
-  runs_from code new w u r stays memory outputs work strand d = record {
+      → Draws job (drawn new.drawing) new.branches u → Runs job new u
+  runs_from code new w u r stays memory outputs work strand draws = record {
     job_is = ap job_of stays.interpreter ∙ r.job_is;
     memory = ap (λ v. v.items) stays.memory ∙ (r.memory ∙ sym memory);
     outputs = ap (λ v. v.items) stays.outputs ∙ (r.outputs ∙ sym outputs);
     strand = strand;
-    branches = d.branches;
     work = work;
-    built = d.built;
-    shape = d.shape;
-    stamps = d.stamps;
-    place = d.place;
-    journals = d.journals;
-    played = d.played;
+    draws = draws;
   }
 
   -- the machine that was played to is the same one
@@ -73,20 +54,22 @@ module _ (job : Job) where
   module _ (deep : IsDeep (strands_of job)) (closes : Closes (strands_of job)) where
     -- ## A fork
 
-    fork_drawn : (code : Worker) (w : Working StrandState) (st : ℕ) (r : Runs job code w) → code.drawing.clock < st → (f : (strands_of job).want w.strand ≡ want.Fork) → (right : Written) → state_of right ≡ (strands_of job).right w.strand
-        → Drawn (forked code.drawing.tree code.drawing.place st) (suc (length code.drawing.tree)) st code.drawing.journals.items (Left (length code.drawing.tree) right ∷ code.branches) (after_fork (strands_of job) w)
-    fork_drawn code w st r later f right stands =
+    fork_drawn : (code : Worker) (w : Working StrandState) (r : Runs job code w) → (f : (strands_of job).want w.strand ≡ want.Fork) → (right : Written) → state_of right ≡ (strands_of job).right w.strand
+        → Draws job (record (after_fork (drawn code.drawing)) { place = suc (length code.drawing.tree) }) (Left (length code.drawing.tree) right ∷ code.branches) (worker_after_fork (strands_of job) w)
+    fork_drawn code w r f right stands =
         let t = code.drawing.tree in
         let at = code.drawing.place in
+        let st = code.drawing.clock + 1 in
+        let later : code.drawing.clock < st = omega arith in
         record {
-          built = fork_built t at code.drawing.clock r.built st later;
-          shape = shaped_forked t (unstarted code.branches) r.shape at r.built.there r.built.place st;
-          stamps = stamped_forked t at code.drawing.clock r.built r.stamps st later;
-          branches = (stands, r.branches);
-          place = way_fork t at code.drawing.clock r.built st (crossings code.branches w.branches) w.blocks w.forks r.place;
-          journals = has_forked t at code.drawing.clock r.built (first_memory job.program.cells) w.memory code.drawing.journals.items r.journals st;
-          played = same_played t (forked t at st) (machine_at (strands_of job) w) (machine_at (strands_of job) (after_fork (strands_of job) w)) (open_items t at) _ (doers_forked t at code.drawing.clock r.built st)
-              (fork_items t at code.drawing.clock r.built st later) (fork_stays (strands_of job) closes deep w f) r.played;
+          built = fork_built t at code.drawing.clock r.draws.built st later;
+          shape = shaped_forked t (unstarted code.branches) r.draws.shape at r.draws.built.there r.draws.built.place st;
+          stamps = stamped_forked t at code.drawing.clock r.draws.built r.draws.stamps st later;
+          branches = (stands, r.draws.branches);
+          place = way_fork t at code.drawing.clock r.draws.built st (crossings code.branches w.branches) w.blocks w.forks r.draws.place;
+          journals = has_forked t at code.drawing.clock r.draws.built (first_memory job.program.cells) w.memory code.drawing.journals.items r.draws.journals st;
+          played = same_played t (forked t at st) (machine_at (strands_of job) w) (machine_at (strands_of job) (worker_after_fork (strands_of job) w)) (open_items t at) _ (doers_forked t at code.drawing.clock r.draws.built st)
+              (fork_items t at code.drawing.clock r.draws.built st later) (fork_stays (strands_of job) closes deep w f) r.draws.played;
         }
 
     forked_branches : (old new : List Held) (n : ℕ) (state : StrandState) → WaitsOnLeft old new n state → (right : Written) × (new ≡ Left n right ∷ old) × (state_of right ≡ state)
@@ -104,26 +87,17 @@ module _ (job : Job) where
         let was : left_to_do code ≡ weight (s.depth w.strand) + weights s code.branches = ap (λ l. weight (l.depth (state_of code.strand)) + weights l code.branches) same ∙ ap (λ a. weight (s.depth a) + weights s code.branches) r.strand in
         omega arith
 
-    pub forks_on : (code new : Worker) (w : Working StrandState) (r : Runs job code w) → Keeps code new → want_of code ≡ want.Fork → new.drawing.clock ≡ code.drawing.clock + 1 → new.drawing.tree ≡ forked code.drawing.tree code.drawing.place new.drawing.clock
-        → new.drawing.place ≡ length code.drawing.tree + 1 → state_of new.strand ≡ (law_of code).left (state_of code.strand)
-        → WaitsOnLeft code.branches new.branches (length code.drawing.tree) ((law_of code).right (state_of code.strand)) → Runs job new (after_fork (strands_of job) w) × (left_to_do new < left_to_do code)
-    forks_on code new w r stays f clock tree place left right =
+    pub forks_on : (code new : Worker) (w : Working StrandState) (r : Runs job code w) → Keeps code new → want_of code ≡ want.Fork → drawn new.drawing ≡ after_fork (drawn code.drawing) → state_of new.strand ≡ (law_of code).left (state_of code.strand)
+        → WaitsOnLeft code.branches new.branches (length code.drawing.tree) ((law_of code).right (state_of code.strand)) → Runs job new (worker_after_fork (strands_of job) w) × (left_to_do new < left_to_do code)
+    forks_on code new w r stays f drawing left right =
         let s = strands_of job in
         let (other, is, stands) = forked_branches code.branches new.branches (length code.drawing.tree) _ right in
         let wanted : s.want w.strand ≡ want.Fork = sym (wants_same job code w r) ∙ f in
         let goes_left : state_of new.strand ≡ s.left w.strand = left ∙ (ap (λ l. l.left (state_of code.strand)) (law_same job code w r) ∙ ap s.left r.strand) in
         let goes_right : state_of other ≡ s.right w.strand = stands ∙ (ap (λ l. l.right (state_of code.strand)) (law_same job code w r) ∙ ap s.right r.strand) in
-        let st = new.drawing.clock in
-        let later : code.drawing.clock < st = omega (arith, clock) in
-        let d = fork_drawn code w st r later wanted other goes_right in
-        let at : new.drawing.place ≡ suc (length code.drawing.tree) = omega (arith, place) in
-        let u = after_fork s w in
-        let T : List Node → Type 0 = λ t. Drawn t (suc (length code.drawing.tree)) st code.drawing.journals.items (Left (length code.drawing.tree) other ∷ code.branches) u in
-        let A : ℕ → Type 0 = λ n. Drawn new.drawing.tree n st code.drawing.journals.items (Left (length code.drawing.tree) other ∷ code.branches) u in
-        let J : List (List Entry) → Type 0 = λ kept. Drawn new.drawing.tree new.drawing.place st kept (Left (length code.drawing.tree) other ∷ code.branches) u in
-        let B : List Held → Type 0 = λ xs. Drawn new.drawing.tree new.drawing.place st new.drawing.journals.items xs u in (
-          runs_from code new w u r stays refl refl (forks_off s closes w r.work wanted) goes_left
-              (subst B (sym is) (subst J (sym (ap (λ v. v.items) stays.journals)) (subst A (sym at) (subst T (sym tree) d)))),
+        let next : length code.drawing.tree + 1 ≡ suc (length code.drawing.tree) = omega arith in
+        let placed = drawing ∙ ap (λ p. record (after_fork (drawn code.drawing)) { place = p }) next in (
+          runs_from code new w (worker_after_fork s w) r stays refl refl (forks_off s closes w r.work wanted) goes_left (draws_by placed is (fork_drawn code w r wanted other goes_right)),
           fork_leaves_less code new w r stays wanted other (length code.drawing.tree) is goes_left goes_right,
         )
 
@@ -138,43 +112,38 @@ module _ (job : Job) where
 
       pub turns_on : (right : Written) (r : StrandState) → code.branches ≡ Left f right ∷ rest
           → Runs job code (let w : Working StrandState = record { memory = memory; outputs = outputs; branches = on_left k n r ∷ c; forks = m; blocks = b; strand = a } in w)
-          → new.drawing.clock ≡ code.drawing.clock → new.drawing.tree ≡ added code.drawing.tree f Strand 0 → new.drawing.place ≡ length code.drawing.tree → new.strand ≡ right → new.branches ≡ Right f code.strand ∷ rest
+          → drawn new.drawing ≡ after_start f (drawn code.drawing) → new.strand ≡ right → new.branches ≡ Right f code.strand ∷ rest
           → ((w : Working StrandState) × Runs job new w) × (left_to_do new < left_to_do code)
-      turns_on right r was h clock tree place strand branches =
+      turns_on right r was h drawing strand branches =
           let t = code.drawing.tree in
           let at = code.drawing.place in
           let x : Working StrandState = record { memory = memory; outputs = outputs; branches = on_left k n r ∷ c; forks = m; blocks = b; strand = a } in
           let o = is_at_end x h in
           let u = after_turn (strands_of job) closes memory outputs c k n m b a o r in
           let cross : Crossing = record { node = f; turn = record { fork = k; right = false }; blocks = n } in
-          let held : HoldsBranches (Left f right ∷ rest) (on_left k n r ∷ c) = (let P : List Held → Type 0 = λ xs. HoldsBranches xs (on_left k n r ∷ c) in subst P was h.branches) in
+          let held : HoldsBranches (Left f right ∷ rest) (on_left k n r ∷ c) = (let P : List Held → Type 0 = λ xs. HoldsBranches xs (on_left k n r ∷ c) in subst P was h.draws.branches) in
           let none : b ≡ 0 = none_begun (strands_of job) closes x h.work o in
           let down : Descends t at (cross ∷ crossings rest c) 0 m =
           (let P : List Held → Type 0 = λ xs. Descends t at (crossings xs (on_left k n r ∷ c)) b m in
           let Q : ℕ → Type 0 = λ j. Descends t at (cross ∷ crossings rest c) j m in
-          subst Q none (subst P was h.place)) in
-          let up : parent_of t at ≡ f = crossed_parent t at code.drawing.clock h.built cross (crossings rest c) m down in
-          let on_strand = crossed_strand t at code.drawing.clock h.built cross (crossings rest c) m down in
-          let at_fork = crossed_fork t at code.drawing.clock h.built cross (crossings rest c) m down in
-          let there : f < length t = crossed_there t at code.drawing.clock h.built cross (crossings rest c) m down in
+          subst Q none (subst P was h.draws.place)) in
+          let up : parent_of t at ≡ f = crossed_parent t at code.drawing.clock h.draws.built cross (crossings rest c) m down in
+          let on_strand = crossed_strand t at code.drawing.clock h.draws.built cross (crossings rest c) m down in
+          let at_fork = crossed_fork t at code.drawing.clock h.draws.built cross (crossings rest c) m down in
+          let there : f < length t = crossed_there t at code.drawing.clock h.draws.built cross (crossings rest c) m down in
           let I : ℕ → Type 0 = λ g. IsBuilt (added t g Strand 0) (length t) code.drawing.clock in
           let O : ℕ → Type 0 = λ g. open_items (added t g Strand 0) (length t) ≡ open_items t at in
           let F : List Held → Type 0 = λ xs. IsShaped t (unstarted xs) in
-          let d : Drawn (added t f Strand 0) (length t) code.drawing.clock code.drawing.journals.items (Right f code.strand ∷ rest) u = record {
-            built = subst I up (turn_built t at code.drawing.clock h.built on_strand at_fork);
-            shape = shaped_strand t f (unstarted rest) (subst F was h.shape);
-            stamps = stamped_strand t h.built.rooted h.stamps f there;
+          let draws : Draws job (after_start f (drawn code.drawing)) (Right f code.strand ∷ rest) u = record {
+            built = subst I up (turn_built t at code.drawing.clock h.draws.built on_strand at_fork);
+            shape = shaped_strand t f (unstarted rest) (subst F was h.draws.shape);
+            stamps = stamped_strand t h.draws.built.rooted h.draws.stamps f there;
             branches = (h.strand, held.1);
-            place = way_turn t at code.drawing.clock h.built cross (crossings rest c) m down;
-            journals = has_beside t at code.drawing.clock h.built (first_memory job.program.cells) memory code.drawing.journals.items h.journals f Strand 0 (λ e. refl);
-            played = same_played t (added t f Strand 0) (machine_at (strands_of job) x) (machine_at (strands_of job) u) (open_items t at) (open_items (added t f Strand 0) (length t)) (doers_beside t h.built.rooted f Strand 0 there refl)
-                (subst O up (turn_items t at code.drawing.clock h.built on_strand at_fork)) (turn_stays (strands_of job) closes memory outputs c k n m b a o r h.work) h.played;
+            place = way_turn t at code.drawing.clock h.draws.built cross (crossings rest c) m down;
+            journals = has_beside t at code.drawing.clock h.draws.built (first_memory job.program.cells) memory code.drawing.journals.items h.draws.journals f Strand 0 (λ e. refl);
+            played = same_played t (added t f Strand 0) (machine_at (strands_of job) x) (machine_at (strands_of job) u) (open_items t at) (open_items (added t f Strand 0) (length t)) (doers_beside t h.draws.built.rooted f Strand 0 there refl)
+                (subst O up (turn_items t at code.drawing.clock h.draws.built on_strand at_fork)) (turn_stays (strands_of job) closes memory outputs c k n m b a o r h.work) h.draws.played;
           } in
-          let T : List Node → Type 0 = λ y. Drawn y (length t) code.drawing.clock code.drawing.journals.items (Right f code.strand ∷ rest) u in
-          let A : ℕ → Type 0 = λ y. Drawn new.drawing.tree y code.drawing.clock code.drawing.journals.items (Right f code.strand ∷ rest) u in
-          let C : ℕ → Type 0 = λ y. Drawn new.drawing.tree new.drawing.place y code.drawing.journals.items (Right f code.strand ∷ rest) u in
-          let J : List (List Entry) → Type 0 = λ y. Drawn new.drawing.tree new.drawing.place new.drawing.clock y (Right f code.strand ∷ rest) u in
-          let B : List Held → Type 0 = λ y. Drawn new.drawing.tree new.drawing.place new.drawing.clock new.drawing.journals.items y u in
           let same = law_same job code x h in
           let now = now_law x h in
           let s = strands_of job in
@@ -183,32 +152,32 @@ module _ (job : Job) where
             (
               u,
               runs_from code new x u h stays refl refl (turns_right (strands_of job) closes memory outputs c k n m b a o r h.work) (ap state_of strand ∙ held.0)
-                  (subst B (sym branches) (subst J (sym (ap (λ v. v.items) stays.journals)) (subst C (sym clock) (subst A (sym place) (subst T (sym tree) d))))),
+                  (draws_by drawing branches draws),
             ),
             omega arith,
           )
 
       pub joins_on : (left : Written) (o : ℕ) (l : StrandState) → code.branches ≡ Right f left ∷ rest
           → Runs job code (let w : Working StrandState = record { memory = memory; outputs = outputs; branches = on_right k n o l ∷ c; forks = m; blocks = b; strand = a } in w)
-          → new.drawing.clock ≡ code.drawing.clock → new.drawing.tree ≡ code.drawing.tree → new.drawing.place ≡ parent_of code.drawing.tree f → new.branches ≡ rest
+          → drawn new.drawing ≡ after_join f (drawn code.drawing) → new.branches ≡ rest
           → state_of new.strand ≡ (law_of code).joined (state_of code.strand) (state_of left)
           → ((w : Working StrandState) × Runs job new w) × (left_to_do new < left_to_do code)
-      joins_on left o l was h clock tree place branches strand =
+      joins_on left o l was h drawing branches strand =
           let t = code.drawing.tree in
           let at = code.drawing.place in
           let x : Working StrandState = record { memory = memory; outputs = outputs; branches = on_right k n o l ∷ c; forks = m; blocks = b; strand = a } in
           let v = is_at_end x h in
-          let u = after_join (strands_of job) closes memory outputs c k n m b a v l in
+          let u = worker_after_join (strands_of job) closes memory outputs c k n m b a v l in
           let cross : Crossing = record { node = f; turn = record { fork = k; right = true }; blocks = n } in
-          let held : HoldsBranches (Right f left ∷ rest) (on_right k n o l ∷ c) = (let P : List Held → Type 0 = λ xs. HoldsBranches xs (on_right k n o l ∷ c) in subst P was h.branches) in
+          let held : HoldsBranches (Right f left ∷ rest) (on_right k n o l ∷ c) = (let P : List Held → Type 0 = λ xs. HoldsBranches xs (on_right k n o l ∷ c) in subst P was h.draws.branches) in
           let none : b ≡ 0 = none_begun (strands_of job) closes x h.work v in
           let down : Descends t at (cross ∷ crossings rest c) 0 m =
           (let P : List Held → Type 0 = λ xs. Descends t at (crossings xs (on_right k n o l ∷ c)) b m in
           let Q : ℕ → Type 0 = λ j. Descends t at (cross ∷ crossings rest c) j m in
-          subst Q none (subst P was h.place)) in
-          let up : parent_of t at ≡ f = crossed_parent t at code.drawing.clock h.built cross (crossings rest c) m down in
-          let on_strand = crossed_strand t at code.drawing.clock h.built cross (crossings rest c) m down in
-          let at_fork = crossed_fork t at code.drawing.clock h.built cross (crossings rest c) m down in
+          subst Q none (subst P was h.draws.place)) in
+          let up : parent_of t at ≡ f = crossed_parent t at code.drawing.clock h.draws.built cross (crossings rest c) m down in
+          let on_strand = crossed_strand t at code.drawing.clock h.draws.built cross (crossings rest c) m down in
+          let at_fork = crossed_fork t at code.drawing.clock h.draws.built cross (crossings rest c) m down in
           let I : ℕ → Type 0 = λ g. IsBuilt t (parent_of t g) code.drawing.clock in
           let O : ℕ → Type 0 = λ g. open_items t (parent_of t g) ≡ open_items t at in
           let F : List Held → Type 0 = λ xs. IsShaped t (unstarted xs) in
@@ -220,25 +189,20 @@ module _ (job : Job) where
           let low = weight_le (s.depth (s.joined a l)) (s.depth a) (deep.joined a l) in
           let todo : left_to_do new ≡ weight (s.depth (s.joined a l)) + weights s rest = (rw (now, becomes, branches) refl) in
           let before : left_to_do code ≡ weight (s.depth a) + (1 + weights s rest) = (rw (same, was, h.strand) refl) in
-          let d : Drawn t (parent_of t f) code.drawing.clock code.drawing.journals.items rest u = record {
-            built = subst I up (join_built t at code.drawing.clock h.built on_strand at_fork);
-            shape = subst F was h.shape;
-            stamps = h.stamps;
+          let draws : Draws job (after_join f (drawn code.drawing)) rest u = record {
+            built = subst I up (join_built t at code.drawing.clock h.draws.built on_strand at_fork);
+            shape = subst F was h.draws.shape;
+            stamps = h.draws.stamps;
             branches = held.1;
-            place = way_join t at code.drawing.clock h.built cross (crossings rest c) m down;
-            journals = h.journals;
+            place = way_join t at code.drawing.clock h.draws.built cross (crossings rest c) m down;
+            journals = h.draws.journals;
             played = same_played t t (machine_at (strands_of job) x) (machine_at (strands_of job) u) (open_items t at) (open_items t (parent_of t f)) (record { longer = omega arith; doers = λ i j. refl; kinds = λ i j. refl })
-                (subst O up (join_items t at code.drawing.clock h.built on_strand at_fork)) (join_stays (strands_of job) closes memory outputs c k n m b a v o l h.work) h.played;
-          } in
-          let T : List Node → Type 0 = λ y. Drawn y (parent_of t f) code.drawing.clock code.drawing.journals.items rest u in
-          let A : ℕ → Type 0 = λ y. Drawn new.drawing.tree y code.drawing.clock code.drawing.journals.items rest u in
-          let C : ℕ → Type 0 = λ y. Drawn new.drawing.tree new.drawing.place y code.drawing.journals.items rest u in
-          let J : List (List Entry) → Type 0 = λ y. Drawn new.drawing.tree new.drawing.place new.drawing.clock y rest u in
-          let B : List Held → Type 0 = λ y. Drawn new.drawing.tree new.drawing.place new.drawing.clock new.drawing.journals.items y u in (
+                (subst O up (join_items t at code.drawing.clock h.draws.built on_strand at_fork)) (join_stays (strands_of job) closes memory outputs c k n m b a v o l h.work) h.draws.played;
+          } in (
             (
               u,
               runs_from code new x u h stays refl refl (joins_up (strands_of job) closes memory outputs c k n m b a v o l h.work) becomes
-                  (subst B (sym branches) (subst J (sym (ap (λ v. v.items) stays.journals)) (subst C (sym clock) (subst A (sym place) (subst T (sym tree) d))))),
+                  (draws_by drawing branches draws),
             ),
             omega arith,
           )

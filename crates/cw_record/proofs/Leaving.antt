@@ -12,7 +12,6 @@ use Rattle.cw_tree.specs.declared.access.Entry.{Entry}
 use Rattle.cw_tree.specs.Nodes.{is_aborted, fresh_node}
 use Rattle.cw_tree.specs.Series.{strand_of, place as place_in}
 use Rattle.cw_tree.specs.Names.{name_of}
-use Rattle.cw_tree.specs.Shape.{AreStamps}
 use Rattle.cw_tree.proofs.CellJournals.{HasJournals, journals_begin}
 use Rattle.cw_tree.proofs.Strands.{strand_of_le}
 use Rattle.cw_serial.specs.Jobs.{Job}
@@ -26,6 +25,7 @@ use Rattle.cw_record.specs.declared.items.Item.{Item}
 use Rattle.cw_record.specs.declared.record_end.RecordEnd.TheVariants.{Finished, Fault}
 use Rattle.cw_record.specs.declared.worker.Branch.{Branch as Held}
 use Rattle.cw_record.specs.declared.worker.Worker.{Worker}
+use Rattle.cw_record.specs.Drawn.{blank, drawn}
 use Rattle.cw_record.specs.Items.{items}
 use Rattle.cw_record.specs.Order.{node_of}
 use Rattle.cw_record.specs.Records.{IsRun}
@@ -45,7 +45,7 @@ use Rattle.cw_record.proofs.Playing.{SameDoers, Plays, plays_kept, does_all, goe
 use Rattle.cw_record.proofs.Shaped.{IsShaped, shaped_root, tree_of_shape, to_come_there, shaped_strands}
 use Rattle.cw_record.proofs.Stamped.{stamped_root, stamped_behind}
 use Rattle.cw_record.proofs.StrandIs.{strand_is}
-use Rattle.cw_record.proofs.Running.{HoldsBranches, crossings, Runs, runs_name, wants_same}
+use Rattle.cw_record.proofs.Running.{Draws, HoldsBranches, Runs, crossings, draws_by, runs_name, wants_same}
 use Rattle.cw_record.proofs.Unstarted.{with_strands, unstarted_name, unstarted_items, unstarted_node, unstarted_strand, unstarted_strand_of}
 use Rattle.cw_record.proofs.Waiting.{one_unstarted}
 
@@ -58,41 +58,31 @@ all_empty (suc n) (suc c) es h = all_empty n c es h
 
 module _ (job : Job) where
   -- the worker at the first want of main
-  pub runs_first : (code : Worker) → job_of code.interpreter ≡ job → code.memory.items ≡ first_memory job.program.cells → code.outputs.items ≡ [] → code.drawing.tree ≡ fresh_node 0 Strand 0 ∷ [] → code.drawing.place ≡ 0 → code.drawing.clock ≡ 0
-      → code.drawing.journals.items ≡ replicate (length code.memory.items) [] → state_of code.strand ≡ (law_of code).start → code.branches ≡ [] → (w : Working StrandState) × Runs job code w
-  runs_first code is memory outputs tree place clock journals strand branches =
+  pub runs_first : (code : Worker) → job_of code.interpreter ≡ job → code.memory.items ≡ first_memory job.program.cells → code.outputs.items ≡ [] → drawn code.drawing ≡ blank (length code.memory.items)
+      → state_of code.strand ≡ (law_of code).start → code.branches ≡ [] → (w : Working StrandState) × Runs job code w
+  runs_first code is memory outputs drawing strand branches =
       let first = first_memory job.program.cells in
       let root = fresh_node 0 Strand 0 ∷ [] in
+      let empty = replicate (length first) [] in
       let w : Working StrandState = record { memory = first; outputs = []; branches = []; forks = 0; blocks = 0; strand = (strands_of job).start } in
-      let kept : code.drawing.journals.items ≡ replicate (length first) [] = journals ∙ ap (λ m. replicate (length m) []) memory in
-      let B : List Node → Type 0 = λ t. IsBuilt t 0 0 in
-      let BP : ℕ → Type 0 = λ at. IsBuilt code.drawing.tree at 0 in
-      let BC : ℕ → Type 0 = λ c. IsBuilt code.drawing.tree code.drawing.place c in
-      let S : List Node → Type 0 = λ t. IsShaped t [] in
-      let SX : List Held → Type 0 = λ xs. IsShaped code.drawing.tree (unstarted xs) in
-      let D : List Node → Type 0 = λ t. Descends t 0 [] 0 0 in
-      let DP : ℕ → Type 0 = λ at. Descends code.drawing.tree at [] 0 0 in
-      let DX : List Held → Type 0 = λ xs. Descends code.drawing.tree code.drawing.place (crossings xs []) 0 0 in
-      let H : List Node → Type 0 = λ t. HasJournals t first first (replicate (length first) []) in
-      let HJ : List (List Entry) → Type 0 = λ es. HasJournals code.drawing.tree first first es in
-      let I : List Node → Type 0 = λ t. Plays (strands_of job) t (machine_of job) (open_items t 0) (machine_at (strands_of job) w) in
-      let IP : ℕ → Type 0 = λ at. Plays (strands_of job) code.drawing.tree (machine_of job) (open_items code.drawing.tree at) (machine_at (strands_of job) w) in
-      let IE : List Item → Type 0 = λ is. Plays (strands_of job) root (machine_of job) is (machine_at (strands_of job) w) in
-      let X : List Held → Type 0 = λ xs. HoldsBranches xs [] in (
+      let I : List Item → Type 0 = λ is. Plays (strands_of job) root (machine_of job) is (machine_at (strands_of job) w) in
+      let draws : Draws job (blank (length first)) [] w = record {
+        built = built_root;
+        shape = shaped_root;
+        stamps = stamped_root;
+        branches = tt;
+        place = descends_root;
+        journals = journals_begin (fresh_node 0 Strand 0) first empty refl (length-replicate (length first) []) (λ c es h. all_empty (length first) c es h);
+        played = subst I (sym root_items) refl;
+      } in (
         w,
         record {
           job_is = is;
           memory = memory;
           outputs = outputs;
           strand = strand ∙ ap (λ j. (strands_of j).start) is;
-          branches = subst X (sym branches) tt;
           work = starts_work (strands_of job) first;
-          shape = subst SX (sym branches) (subst S (sym tree) shaped_root);
-          stamps = subst AreStamps (sym tree) stamped_root;
-          built = subst BC (sym clock) (subst BP (sym place) (subst B (sym tree) built_root));
-          place = subst DX (sym branches) (subst DP (sym place) (subst D (sym tree) descends_root));
-          journals = subst HJ (sym kept) (subst H (sym tree) (journals_begin (fresh_node 0 Strand 0) first (replicate (length first) []) refl (length-replicate (length first) []) (λ c es h. all_empty (length first) c es h)));
-          played = subst IP (sym place) (subst I (sym tree) (subst IE (sym root_items) refl));
+          draws = draws_by (drawing ∙ ap (λ m. blank (length m)) memory) branches draws;
         },
       )
 
@@ -111,31 +101,31 @@ module _ (job : Job) where
         let t = code.drawing.tree in
         let w : Working StrandState = record { memory = memory; outputs = outputs; branches = branches; forks = forks; blocks = blocks; strand = a } in
         let o : is_over ((strands_of job).want a) ≡ true = ap is_over (sym (wants_same job code w r)) ∙ over in
-        let empty : branches ≡ [] = no_branches code.branches branches none r.branches in
+        let empty : branches ≡ [] = no_branches code.branches branches none r.draws.branches in
         let zeroed : blocks ≡ 0 = none_begun (strands_of job) closes w r.work o in
         let DB : ℕ → Type 0 = λ b. Descends t code.drawing.place (crossings code.branches branches) b forks in
         let DX : List Held → Type 0 = λ xs. Descends t code.drawing.place (crossings xs branches) 0 forks in
         let DC : List (Branch StrandState) → Type 0 = λ c. Descends t code.drawing.place (crossings [] c) 0 forks in
-        let at_root : code.drawing.place ≡ 0 = way_root t code.drawing.place forks (subst DC empty (subst DX none (subst DB zeroed r.place))) in
+        let at_root : code.drawing.place ≡ 0 = way_root t code.drawing.place forks (subst DC empty (subst DX none (subst DB zeroed r.draws.place))) in
         let IP : ℕ → Type 0 = λ at. Plays (strands_of job) t (machine_of job) (open_items t at) (machine_at (strands_of job) w) in
-        let played = subst IP at_root r.played in
+        let played = subst IP at_root r.draws.played in
         let m = machine_at (strands_of job) w in
         let stands : ended (strands_of job) m.strands ≡ Some a =
         ap (λ c. ended (strands_of job) (plugged (strands_of job) c (goes_on (strands_of job) forks a))) empty
         ∙ (ap (ended (strands_of job)) (goes_over (strands_of job) forks a o) ∙ ended_stands (strands_of job) forks a o) in
-        let blocks = blocks_built t 0 code.drawing.clock (let B : ℕ → Type 0 = λ at. IsBuilt t at code.drawing.clock in subst B at_root r.built) in
+        let blocks = blocks_built t 0 code.drawing.clock (let B : ℕ → Type 0 = λ at. IsBuilt t at code.drawing.clock in subst B at_root r.draws.built) in
         record {
           ended = tt;
-          tree = tree_of_shape t (let S : List Held → Type 0 = λ xs. IsShaped t (unstarted xs) in subst S none r.shape);
-          numbered = r.built.numbered;
+          tree = tree_of_shape t (let S : List Held → Type 0 = λ xs. IsShaped t (unstarted xs) in subst S none r.draws.shape);
+          numbered = r.draws.built.numbered;
           blocks = blocks;
-          refusals = none_refused t 0 r.shape.untried blocks;
-          stamps = r.stamps;
-          pending_last = last_built t code.drawing.place code.drawing.clock r.built;
-          strand = r.built.root;
+          refusals = none_refused t 0 r.draws.shape.untried blocks;
+          stamps = r.draws.stamps;
+          pending_last = last_built t code.drawing.place code.drawing.clock r.draws.built;
+          strand = r.draws.built.root;
           order = λ budget. record { machine = m; picks = goes_depth_first (strands_of job) t (machine_of job) m (open_items t 0) played; stops = (ap is_some stands, sym r.memory, sym r.outputs) };
           acts = λ budget. does_all (strands_of job) t (machine_of job) m (open_items t 0) played;
-          journals = r.journals.journals;
+          journals = r.draws.journals.journals;
         }
 
     -- ## A fault
@@ -158,33 +148,33 @@ module _ (job : Job) where
         let place = code.drawing.place in
         let fs = unstarted code.branches in
         let x = strand_of old place in
-        let low = to_come_there old fs r.shape in
+        let low = to_come_there old fs r.draws.shape in
         let u = with_strands old fs in
-        let there = r.built.there in
-        let le : x ≤ place = strand_of_le old r.built.rooted place there in
+        let there = r.draws.built.there in
+        let le : x ≤ place = strand_of_le old r.draws.built.rooted place there in
         let wanted : (strands_of job).want w.strand ≡ want.Fault kind = sym (wants_same job code w r) ∙ is in
         let m = machine_at (strands_of job) w in
         let same : SameDoers old u = record {
           longer = longer old fs;
-          doers = λ i h. (let sle : strand_of old (node_of i) ≤ node_of i = strand_of_le old r.built.rooted (node_of i) h in
-              ap (name_of u) (unstarted_strand_of old fs r.built.rooted (node_of i) h) ∙ unstarted_name old r.built.rooted fs low (strand_of old (node_of i)) (omega arith));
+          doers = λ i h. (let sle : strand_of old (node_of i) ≤ node_of i = strand_of_le old r.draws.built.rooted (node_of i) h in
+              ap (name_of u) (unstarted_strand_of old fs r.draws.built.rooted (node_of i) h) ∙ unstarted_name old r.draws.built.rooted fs low (strand_of old (node_of i)) (omega arith));
           kinds = λ n h. ap (option_map (λ y. y.kind)) (unstarted_node old fs n h);
         } in
-        let named : name_of u x ≡ way w.branches = unstarted_name old r.built.rooted fs low x (omega arith) ∙ runs_name job code w r in
-        let listed = λ (budget : ℕ). unstarted_items old r.built.rooted fs low r.built.root [] budget x kind (omega arith) ∙ fault_items old place code.drawing.clock r.built [] budget kind in
-        let played : Plays (strands_of job) u (machine_of job) (open_items old place) m = plays_kept (strands_of job) old u same (machine_of job) m (open_items old place) r.played in
+        let named : name_of u x ≡ way w.branches = unstarted_name old r.draws.built.rooted fs low x (omega arith) ∙ runs_name job code w r in
+        let listed = λ (budget : ℕ). unstarted_items old r.draws.built.rooted fs low r.draws.built.root [] budget x kind (omega arith) ∙ fault_items old place code.drawing.clock r.draws.built [] budget kind in
+        let played : Plays (strands_of job) u (machine_of job) (open_items old place) m = plays_kept (strands_of job) old u same (machine_of job) m (open_items old place) r.draws.played in
         let played_at = λ (budget : ℕ). (let P : List Item → Type 0 = λ is. Plays (strands_of job) u (machine_of job) is m in subst P (sym (listed budget)) played) in
-        let shape = shaped_strands fs old r.shape in
-        let blocks = blocks_at_fault old place code.drawing.clock r.built fs low in
+        let shape = shaped_strands fs old r.draws.shape in
+        let blocks = blocks_at_fault old place code.drawing.clock r.draws.built fs low in
         let all : IsRun job u code.drawing.journals.items (Fault x kind) = record {
           ended = tt;
           tree = tree_of_shape u shape;
-          numbered = numbered_at_fault old place code.drawing.clock r.built fs (waiting_over old r.built.rooted r.built.root code.branches w.branches r.branches place w.blocks w.forks there r.place);
+          numbered = numbered_at_fault old place code.drawing.clock r.draws.built fs (waiting_over old r.draws.built.rooted r.draws.built.root code.branches w.branches r.draws.branches place w.blocks w.forks there r.draws.place);
           blocks = blocks;
           refusals = none_refused u (place_in u x) shape.untried blocks;
-          stamps = stamped_behind old r.built.rooted r.stamps fs low;
-          pending_last = last_behind fs old r.shape (last_built old place code.drawing.clock r.built);
-          strand = unstarted_strand old fs x (omega arith) ∙ strand_is old r.built.rooted r.built.root place there;
+          stamps = stamped_behind old r.draws.built.rooted r.draws.stamps fs low;
+          pending_last = last_behind fs old r.draws.shape (last_built old place code.drawing.clock r.draws.built);
+          strand = unstarted_strand old fs x (omega arith) ∙ strand_is old r.draws.built.rooted r.draws.built.root place there;
           order = λ budget. record {
             machine = m;
             picks = goes_depth_first (strands_of job) u (machine_of job) m (items u [] budget (Fault x kind)) (played_at budget);
@@ -194,7 +184,7 @@ module _ (job : Job) where
             );
           };
           acts = λ budget. does_all (strands_of job) u (machine_of job) m (items u [] budget (Fault x kind)) (played_at budget);
-          journals = (has_strands old (first_memory job.program.cells) w.memory code.drawing.journals.items fs (not_aborted old place code.drawing.clock r.built) r.journals).journals;
+          journals = (has_strands old (first_memory job.program.cells) w.memory code.drawing.journals.items fs (not_aborted old place code.drawing.clock r.draws.built) r.draws.journals).journals;
         } in
         let P : List Node → Type 0 = λ v. IsRun job v code.drawing.journals.items (Fault x kind) in
         subst P (sym grown) all

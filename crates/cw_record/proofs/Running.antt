@@ -1,5 +1,5 @@
 -- One worker in memory goes depth first through a run, and draws its tree.
-use Rattle.std.proofs.Common.{◌≡◌, ℕ, ◌+◌, List, [], ◌∷◌, ◌++◌, refl, ap, ◌∙◌}
+use Rattle.std.proofs.Common.{◌≡◌, ℕ, ◌+◌, List, [], ◌∷◌, ◌++◌, refl, ap, sym, ◌∙◌, subst}
 use Rattle.cw_strand.specs.Names.{first_memory}
 use Rattle.cw_strand.specs.Strands.{Strands}
 use Rattle.cw_tree.specs.Series.{strand_of}
@@ -14,6 +14,7 @@ use Rattle.cw_serial.proofs.Working.{Worker as Working, machine_at, IsAtWork}
 use Rattle.cw_record.specs.declared.worker.Branch.{Branch as Held}
 use Rattle.cw_record.specs.declared.worker.Branch.TheVariants.{Left, Right}
 use Rattle.cw_record.specs.declared.worker.Worker.{Worker}
+use Rattle.cw_record.specs.Drawn.{Drawn, drawn}
 use Rattle.cw_record.specs.Worked.{law_of, unstarted, want_of}
 use Rattle.cw_record.proofs.Building.{IsBuilt, open_items}
 use Rattle.cw_record.proofs.Descending.{Crossing, way_of, Descends}
@@ -53,24 +54,35 @@ weights s (Right f left ∷ xs) = 1 + weights s xs
 abbrev pub left_to_do : Worker → ℕ
 left_to_do w = weight ((law_of w).depth (state_of w.strand)) + weights (law_of w) w.branches
 
+-- What is drawn is this run so far, where the strands on the way down are these.
+pub record Draws (job : Job) (d : Drawn) (xs : List Held) (w : Working StrandState) : Type 0 where
+  pub built : IsBuilt d.tree d.place d.clock
+  pub shape : IsShaped d.tree (unstarted xs)
+  pub stamps : AreStamps d.tree
+  pub branches : HoldsBranches xs w.branches
+  pub place : Descends d.tree d.place (crossings xs w.branches) w.blocks w.forks
+  pub journals : HasJournals d.tree (first_memory job.program.cells) w.memory d.journals
+  pub played : Plays (strands_of job) d.tree (machine_of job) (open_items d.tree d.place) (machine_at (strands_of job) w)
+
+-- the same, by equations
+pub draws_by : {job : Job} {d e : Drawn} {xs ys : List Held} {w : Working StrandState} → e ≡ d → ys ≡ xs → Draws job d xs w → Draws job e ys w
+draws_by {job} {d} {e} {xs} {ys} {w} drawing branches h =
+    let D : Drawn → Type 0 = λ x. Draws job x xs w in
+    let B : List Held → Type 0 = λ x. Draws job e x w in
+    subst B (sym branches) (subst D (sym drawing) h)
+
 -- The worker in memory is this one, and what it drew is the run so far.
 pub record Runs (job : Job) (code : Worker) (w : Working StrandState) : Type 0 where
   pub job_is : job_of code.interpreter ≡ job
   pub memory : code.memory.items ≡ w.memory
   pub outputs : code.outputs.items ≡ w.outputs
   pub strand : state_of code.strand ≡ w.strand
-  pub branches : HoldsBranches code.branches w.branches
   pub work : IsAtWork (strands_of job) w
-  pub built : IsBuilt code.drawing.tree code.drawing.place code.drawing.clock
-  pub shape : IsShaped code.drawing.tree (unstarted code.branches)
-  pub stamps : AreStamps code.drawing.tree
-  pub place : Descends code.drawing.tree code.drawing.place (crossings code.branches w.branches) w.blocks w.forks
-  pub journals : HasJournals code.drawing.tree (first_memory job.program.cells) w.memory code.drawing.journals.items
-  pub played : Plays (strands_of job) code.drawing.tree (machine_of job) (open_items code.drawing.tree code.drawing.place) (machine_at (strands_of job) w)
+  pub draws : Draws job (drawn code.drawing) code.branches w
 
 -- the strand that is run has the name of the way to it
 pub runs_name : (job : Job) (code : Worker) (w : Working StrandState) → Runs job code w → name_of code.drawing.tree (strand_of code.drawing.tree code.drawing.place) ≡ way w.branches
-runs_name job code w r = (strand_down code.drawing.tree code.drawing.place code.drawing.clock r.built (crossings code.branches w.branches) w.blocks w.forks r.place).0 ∙ way_is code.branches w.branches r.branches
+runs_name job code w r = (strand_down code.drawing.tree code.drawing.place code.drawing.clock r.draws.built (crossings code.branches w.branches) w.blocks w.forks r.draws.place).0 ∙ way_is code.branches w.branches r.draws.branches
 
 module _ (job : Job) (code : Worker) (w : Working StrandState) (r : Runs job code w) where
   -- the strand in memory wants what this one wants

@@ -1,14 +1,13 @@
 -- The tree of one worker is a computation tree, but for strands that are still to come.
-use Rattle.std.proofs.Common.{◌≡◌, ℕ, ℤ, zero, suc, ◌+◌, ◌<◌, List, [], ◌∷◌, length, refl, ap, sym, ◌∙◌, arith, Bool, true, false, inl, inr, subst, nat_eq, nat_lt, append-nil}
+use Rattle.std.proofs.Common.{◌≡◌, ℕ, zero, suc, ◌+◌, ◌<◌, List, [], ◌∷◌, length, refl, ap, sym, ◌∙◌, arith, Bool, true, false, inl, inr, subst, nat_eq, nat_lt, append-nil}
 use Rattle.std.specs.Prelude.{◌&&◌, ◌||◌, All, IsTrue, count_by}
 use Rattle.std.proofs.lemmas.Bool.{and_from, or_cases, or_left, or_right, eq-eqb, ne_eqb, lt-ltb, false_from_ne_true}
 use Rattle.std.proofs.lemmas.List.Elements.{All-nil, All-cons, All-head, All-tail, All-weaker}
 use Rattle.std.proofs.lemmas.List.Sums.{length-filter, sum_by-cons}
 use Rattle.cw_tree.specs.declared.node.Node.{Node}
 use Rattle.cw_tree.specs.declared.node.Kind.{Kind}
-use Rattle.cw_tree.specs.declared.node.Kind.TheVariants.{Strand, Fork, Block, Read, Write, Out}
+use Rattle.cw_tree.specs.declared.node.Kind.TheVariants.{Strand, Fork}
 use Rattle.cw_tree.specs.declared.node.BlockState.{BlockState}
-use Rattle.cw_tree.specs.declared.node.BlockState.TheVariants.{Committed}
 use Rattle.cw_tree.specs.Nodes.{passes, is_node, is_strand_kind, is_fork_kind, is_block_kind, is_tried_kind, parent_of, is_strand, is_fork, is_block, is_tried, all_nodes, fresh_node, closed}
 use Rattle.cw_tree.specs.Walks.{IsRooted}
 use Rattle.cw_tree.specs.Series.{children}
@@ -17,10 +16,7 @@ use Rattle.cw_tree.specs.Shape.{IsTree}
 use Rattle.cw_tree.proofs.Counting.{count, count_step, count_same}
 use Rattle.cw_tree.proofs.Growing.{get_append, length_more, node_new, number_new, node_grown, number_grown, rooted_more}
 use Rattle.cw_tree.proofs.Closing.{length_closed, node_closed, number_closed, same_closed, rooted_closed}
-use Rattle.cw_strand.specs.declared.want.Want.{Want}
-use Rattle.cw_strand.specs.declared.want.Want.TheVariants as want
-use Rattle.cw_serial.specs.Wants.{value_at}
-use Rattle.cw_record.specs.Drawn.{added, forked, tree_after}
+use Rattle.cw_record.specs.Drawn.{added, forked}
 use Rattle.cw_record.specs.Walked.{is_child}
 use Rattle.cw_record.proofs.DepthFirst.{no_children}
 use Rattle.cw_record.proofs.Lists.{each_more}
@@ -239,12 +235,3 @@ shaped_closed t fs s b state end =
       untried = λ n h. kinds is_tried_kind n ∙ s.untried n (omega arith);
       to_come = All-weaker (λ f. is_fork t f ≡ true) (λ f. is_fork v f ≡ true) (λ f e. kinds is_fork_kind f ∙ e) fs s.to_come;
     }
-
--- what a want that is done adds
-pub shaped_after : (x : Want) (memory : List ℤ) (t : List Node) (fs : List ℕ) (p stamp : ℕ) → IsShaped t fs → p < length t → (is_strand t p || is_block t p) ≡ true → IsShaped (tree_after x memory t p stamp) fs
-shaped_after (want.Load c) memory t fs p stamp s there place = shaped_beside t fs s p there place (Read c (value_at memory c)) stamp refl refl refl
-shaped_after (want.Store c v) memory t fs p stamp s there place = shaped_beside t fs s p there place (Write c v) stamp refl refl refl
-shaped_after (want.Out v) memory t fs p stamp s there place = shaped_beside t fs s p there place (Out v) stamp refl refl refl
-shaped_after want.Begin memory t fs p stamp s there place = shaped_beside t fs s p there place Block stamp refl refl refl
-shaped_after want.End memory t fs p stamp s there place = shaped_closed t fs s p Committed stamp
-shaped_after _ memory t fs p stamp s there place = s

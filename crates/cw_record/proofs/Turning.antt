@@ -1,12 +1,11 @@
 -- The steps of one worker through a job, whatever the forks on the way down are, and what it answers.
-use Rattle.std.proofs.Common.{◌≡◌, ℕ, ◌+◌, ◌<◌, List, [], ◌∷◌, length, refl, ap, sym, ◌∙◌, subst, true}
+use Rattle.std.proofs.Common.{◌≡◌, ℕ, ◌<◌, List, [], ◌∷◌, length, refl, ap, sym, ◌∙◌, subst, true}
 use Rattle.cw_strand.specs.declared.want.Want.{Want}
 use Rattle.cw_strand.specs.declared.want.Want.TheVariants as want
 use Rattle.cw_strand.specs.Strands.{Closes, IsDeep, MayWant, is_over, takes_answer}
 use Rattle.cw_strand.specs.Laws.{params_at}
 use Rattle.cw_text.specs.Syntax.{tree_of}
-use Rattle.cw_tree.specs.declared.node.Kind.TheVariants.{Strand}
-use Rattle.cw_tree.specs.Nodes.{parent_of, is_block}
+use Rattle.cw_tree.specs.Nodes.{is_block}
 use Rattle.std.specs.Prelude.{All, IfOk, IsTrue, Result, Ok, Err}
 use Rattle.cw_base.specs.declared.memory.OutOfMemory.{OutOfMemory}
 use Rattle.cw_code.specs.declared.FaultKind.{FaultKind}
@@ -18,9 +17,8 @@ use Rattle.cw_serial.specs.declared.interpreter.strand.Strand.{Strand as Written
 use Rattle.cw_serial.specs.Room.Strands.{StrandState, state_of, strands_of}
 use Rattle.cw_serial.proofs.Branches.{Branch, on_left, on_right}
 use Rattle.cw_serial.specs.Programs.{IsProgramOf}
-use Rattle.cw_serial.specs.Wants.{answer_to}
 use Rattle.cw_serial.proofs.Room.Lawful.{deep_of, lawful_of}
-use Rattle.cw_serial.proofs.Working.{Worker as Working, own_in, reached, after_act, after_fork}
+use Rattle.cw_serial.proofs.Working.{Worker as Working, own_in, reached, after_act, after_fork as worker_after_fork}
 use Rattle.cw_record.specs.declared.worker.Branch.{Branch as Held}
 use Rattle.cw_record.specs.declared.worker.Branch.TheVariants.{Left, Right}
 use Rattle.cw_record.specs.declared.worker.Worker.{Worker}
@@ -31,7 +29,7 @@ use Rattle.cw_record.specs.Worked.{Keeps, WaitsOnLeft, law_of, unstarted, want_o
 use Rattle.cw_record.proofs.Acting.{Acted, acts_on, act_leaves_less, end_blocks}
 use Rattle.cw_record.proofs.Descending.{Descends}
 use Rattle.cw_record.proofs.Unstarted.{with_strands}
-use Rattle.cw_record.specs.Drawn.{added, forked}
+use Rattle.cw_record.specs.Drawn.{after_fork, after_join, after_start, drawn}
 use Rattle.cw_record.specs.Records.{IsRun}
 use Rattle.cw_record.specs.declared.record_end.RecordEnd.TheVariants.{Finished, Fault}
 use Rattle.cw_record.proofs.Going.{forks_on, turns_on, joins_on}
@@ -49,13 +47,13 @@ module _ {job : Job} {code : Worker} {w : Working StrandState} (r : Runs job cod
   RunsWith bs = Runs job code (let v : Working StrandState = record { memory = w.memory; outputs = w.outputs; branches = bs; forks = w.forks; blocks = w.blocks; strand = w.strand } in v)
 
   held : (x : Held) (rest : List Held) → code.branches ≡ x ∷ rest → HoldsBranches (x ∷ rest) w.branches
-  held x rest was = let P : List Held → Type 0 = λ xs. HoldsBranches xs w.branches in subst P was r.branches
+  held x rest was = let P : List Held → Type 0 = λ xs. HoldsBranches xs w.branches in subst P was r.draws.branches
 
   -- the node of the first fork is there
   first_there : (x : Held) (rest : List Held) → code.branches ≡ x ∷ rest → fork_at x < length code.drawing.tree
   first_there x rest was =
       let n = length code.drawing.tree in
-      let all = crossings_there code.drawing.tree code.drawing.place code.drawing.clock r.built (crossings code.branches w.branches) w.blocks w.forks r.place in
+      let all = crossings_there code.drawing.tree code.drawing.place code.drawing.clock r.draws.built (crossings code.branches w.branches) w.blocks w.forks r.draws.place in
       let P : List Held → Type 0 = λ xs. All (λ y. y.node < n) (crossings xs w.branches) in
       by w.branches (held x rest was) (subst P was all) where
         by : (c : List (Branch StrandState)) → HoldsBranches (x ∷ rest) c → All (λ y. y.node < length code.drawing.tree) (crossings (x ∷ rest) c) → fork_at x < length code.drawing.tree
@@ -78,41 +76,37 @@ module _ {job : Job} {code : Worker} {w : Working StrandState} (r : Runs job cod
 
     -- ## A step
 
-    pub act_run : (new : Worker) → takes_answer (want_of code) ≡ true → Acted code new
-        → state_of new.strand ≡ (law_of code).answer (state_of code.strand) (answer_to (want_of code) code.memory.items) → StillRuns job code new
-    act_run new answered acted strand =
-        ((after_act (strands_of job) w, acts_on job closes code new w r answered acted strand), act_leaves_less job closes deep code new w r answered acted strand)
+    pub act_run : (new : Worker) → takes_answer (want_of code) ≡ true → Acted code new → StillRuns job code new
+    act_run new answered acted = ((after_act (strands_of job) w, acts_on job closes code new w r answered acted), act_leaves_less job closes deep code new w r answered acted)
 
-    pub fork_run : {new : Worker} → Keeps code new → want_of code ≡ want.Fork → new.drawing.clock ≡ code.drawing.clock + 1 → new.drawing.tree ≡ forked code.drawing.tree code.drawing.place new.drawing.clock
-        → new.drawing.place ≡ length code.drawing.tree + 1 → state_of new.strand ≡ (law_of code).left (state_of code.strand)
+    pub fork_run : {new : Worker} → Keeps code new → want_of code ≡ want.Fork → drawn new.drawing ≡ after_fork (drawn code.drawing) → state_of new.strand ≡ (law_of code).left (state_of code.strand)
         → WaitsOnLeft code.branches new.branches (length code.drawing.tree) ((law_of code).right (state_of code.strand)) → StillRuns job code new
-    fork_run {new} stays wanted clock tree place left right =
-        let (runs, less) = forks_on job deep closes code new w r stays wanted clock tree place left right in
-        ((after_fork (strands_of job) w, runs), less)
+    fork_run {new} stays wanted drawing left right =
+        let (runs, less) = forks_on job deep closes code new w r stays wanted drawing left right in
+        ((worker_after_fork (strands_of job) w, runs), less)
 
     -- from the end of a strand to the branch that was taken
     module _ {x : Held} {rest : List Held} (taken : code.branches ≡ x ∷ rest) {new : Worker} (over : is_over (want_of code) ≡ true) (keeps : Keeps (record code { branches = rest }) new) where
       stays : Keeps code new
-      stays = record { interpreter = keeps.interpreter; memory = keeps.memory; outputs = keeps.outputs; journals = keeps.journals }
+      stays = record { interpreter = keeps.interpreter; memory = keeps.memory; outputs = keeps.outputs }
 
-      pub turn_run : {f : ℕ} {right : Written} → x ≡ Left f right → new.drawing.clock ≡ code.drawing.clock → new.drawing.tree ≡ added code.drawing.tree f Strand 0 → new.drawing.place ≡ length code.drawing.tree → new.strand ≡ right
-          → new.branches ≡ Right f code.strand ∷ rest → StillRuns job code new
-      turn_run {f} {right} is clock tree place strand branches = by w.branches refl (held (Left f right) rest was) where
+      pub turn_run : {f : ℕ} {right : Written} → x ≡ Left f right → drawn new.drawing ≡ after_start f (drawn code.drawing) → new.strand ≡ right → new.branches ≡ Right f code.strand ∷ rest → StillRuns job code new
+      turn_run {f} {right} is drawing strand branches = by w.branches refl (held (Left f right) rest was) where
         was : code.branches ≡ Left f right ∷ rest
         was = taken ∙ ap (λ b. b ∷ rest) is
 
         by : (c : List (Branch StrandState)) → w.branches ≡ c → HoldsBranches (Left f right ∷ rest) c → StillRuns job code new
-        by (on_left k n s ∷ c) e h = turns_on job deep closes code new w.memory w.outputs c k n w.forks w.blocks w.strand over stays f rest right s was (subst RunsWith e r) clock tree place strand branches
+        by (on_left k n s ∷ c) e h = turns_on job deep closes code new w.memory w.outputs c k n w.forks w.blocks w.strand over stays f rest right s was (subst RunsWith e r) drawing strand branches
         by _ e h = absurd h
 
-      pub join_run : {f : ℕ} {left : Written} → x ≡ Right f left → new.drawing.clock ≡ code.drawing.clock → new.drawing.tree ≡ code.drawing.tree → new.drawing.place ≡ parent_of code.drawing.tree f → new.branches ≡ rest
+      pub join_run : {f : ℕ} {left : Written} → x ≡ Right f left → drawn new.drawing ≡ after_join f (drawn code.drawing) → new.branches ≡ rest
           → state_of new.strand ≡ (law_of code).joined (state_of code.strand) (state_of left) → StillRuns job code new
-      join_run {f} {left} is clock tree place branches strand = by w.branches refl (held (Right f left) rest was) where
+      join_run {f} {left} is drawing branches strand = by w.branches refl (held (Right f left) rest was) where
         was : code.branches ≡ Right f left ∷ rest
         was = taken ∙ ap (λ b. b ∷ rest) is
 
         by : (c : List (Branch StrandState)) → w.branches ≡ c → HoldsBranches (Right f left ∷ rest) c → StillRuns job code new
-        by (on_right k n o l ∷ c) e h = joins_on job deep closes code new w.memory w.outputs c k n w.forks w.blocks w.strand over stays f rest left o l was (subst RunsWith e r) clock tree place branches strand
+        by (on_right k n o l ∷ c) e h = joins_on job deep closes code new w.memory w.outputs c k n w.forks w.blocks w.strand over stays f rest left o l was (subst RunsWith e r) drawing branches strand
         by _ e h = absurd h
 
     -- a block is ended where the place is in it
@@ -121,7 +115,7 @@ module _ {job : Job} {code : Worker} {w : Working StrandState} (r : Runs job cod
         let wanted : (strands_of job).want w.strand ≡ want.End = sym (wants_same job code w r) ∙ e in
         let (n, is) = end_blocks w.branches w.blocks (subst (λ (v : Want). MayWant v (own_in w.branches w.blocks)) wanted (closes _ _ (reached (strands_of job) r.work))) in
         let P : ℕ → Type 0 = λ b. Descends code.drawing.tree code.drawing.place (crossings code.branches w.branches) b w.forks in
-        way_block code.drawing.tree code.drawing.place (crossings code.branches w.branches) n w.forks (subst P is r.place)
+        way_block code.drawing.tree code.drawing.place (crossings code.branches w.branches) n w.forks (subst P is r.draws.place)
 
     -- ## What is answered
 
@@ -134,11 +128,11 @@ module _ {job : Job} {code : Worker} {w : Working StrandState} (r : Runs job cod
         subst E (sym end) (subst D (sym drawing) all)
 
     pub fault_answer : (kind : FaultKind) → want_of code ≡ want.Fault kind → (result : Result Run OutOfMemory)
-        → IfOk result (λ x. x.drawing.tree ≡ with_strands code.drawing.tree (unstarted code.branches)) → IfOk result (λ x. x.drawing.journals ≡ code.drawing.journals)
+        → IfOk result (λ x. x.drawing.tree ≡ with_strands code.drawing.tree (unstarted code.branches)) → IfOk result (λ x. x.drawing.journals.items ≡ code.drawing.journals.items)
         → IfOk result (λ x. x.end ≡ Fault (strand_of code.drawing.tree code.drawing.place) kind) → IfOk result (λ x. IsRun job x.drawing.tree x.drawing.journals.items x.end)
     fault_answer kind is (Ok x) tree journals end =
         let all = fault_run job closes code w r kind is x.drawing.tree tree in
         let J : List (List Entry) → Type 0 = λ es. IsRun job x.drawing.tree es (Fault (strand_of code.drawing.tree code.drawing.place) kind) in
         let E : RecordEnd → Type 0 = λ e. IsRun job x.drawing.tree x.drawing.journals.items e in
-        subst E (sym end) (subst J (sym (ap (λ v. v.items) journals)) all)
+        subst E (sym end) (subst J (sym journals) all)
     fault_answer kind is (Err e) tree journals end = tt

@@ -11,7 +11,7 @@ use Rattle.cw_tree.proofs.Lists.{at_or_before}
 use Rattle.cw_tree.proofs.KeptRuns.{holds}
 use Rattle.cw_tree.proofs.Checks.{each_below, implies, implied}
 use Rattle.cw_record.specs.declared.record_end.RecordEnd.TheVariants.{Finished}
-use Rattle.cw_record.specs.Coherent.{InSeries, entered, Fits, StrandEnded, alone, joined, Follows, StandsAt, IsMemory}
+use Rattle.cw_record.specs.Coherent.{InSeries, entered, IsWanted, StrandEnded, alone, joined, Follows, StandsAt, IsMemory}
 use Rattle.cw_record.proofs.WorkedLaw.{lawful}
 use Rattle.cw_record.specs.WorkedRecord.{Writer, whole, left, right, both, writers, Coherent}
 
@@ -56,7 +56,7 @@ steady : AllBelow Steady 12
 steady = ((((((((((((tt, λ e. (refl, refl)), λ e. absurd (cc e)), λ e. (refl, refl)), λ e. (refl, refl)), λ e. absurd (cc e)), λ e. (refl, (refl, refl))), λ e. (refl, refl)), λ e. (refl, refl)), λ e. absurd (cc e)), λ e. (refl, refl)), λ e. (refl, refl)), λ e. absurd (cc e))
 
 abbrev pub FitsAt : ℕ → Node → Type 0
-FitsAt n x = Fits writers two_blocks before after reached n x.kind x.state
+FitsAt n x = IsWanted writers two_blocks before after reached n x.kind x.state
 
 fits : AllFrom FitsAt two_blocks
 fits = (tt, ((refl, (refl, refl, refl)), (tt, ((refl, (refl, refl)), ((refl, refl), (tt, ((refl, refl), ((refl, refl), ((refl, refl), ((refl, (refl, refl)), ((refl, (refl, refl)), ((refl, refl), tt))))))))))))

@@ -52,7 +52,7 @@ difference cells (Finished memory outputs) (last.Finished values shown) =
 difference cells kept e = Disagree cells (pos (variant kept)) (pos (other_variant kept e))
 
 -- a check's answer on a record
-abbrev pub Checks : Record → Checked → Type 0
-Checks r Agrees = IsReplayed r
-Checks r (Disagree cell kept replayed) =
+abbrev pub IsCheckOf : Record → Checked → Type 0
+IsCheckOf r Agrees = IsReplayed r
+IsCheckOf r (Disagree cell kept replayed) =
     (IsReplayed r → ⊥) × (Disagree cell kept replayed ≡ difference (length (first_memory r.program.cells)) r.end (end_under (job_of r) r.order))

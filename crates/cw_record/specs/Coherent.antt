@@ -53,14 +53,14 @@ module _ {A : Type 0} (s : Strands A) (t : List Node) (before after reached : �
   Closes b state = after b ≡ before b
 
   -- A node is what its strand wants before it, and after it that is answered. A refused access leaves its strand where it was.
-  abbrev pub Fits : ℕ → Kind → BlockState → Type 0
-  Fits n Strand state = Unit {0}
-  Fits n Fork state = (s.want (before n) ≡ want.Fork) × IsForkOf n (children t n)
-  Fits n Block state = (s.want (before n) ≡ want.Begin) × Closes n state
-  Fits n (Read c v) state = (s.want (before n) ≡ want.Load c) × (after n ≡ s.answer (before n) (Value v))
-  Fits n (Write c v) state = (s.want (before n) ≡ want.Store c v) × (after n ≡ s.answer (before n) Nothing)
-  Fits n (Out v) state = (s.want (before n) ≡ want.Out v) × (after n ≡ s.answer (before n) Nothing)
-  Fits n (Tried c) state = IsAccessOf c (s.want (before n)) × (after n ≡ before n)
+  abbrev pub IsWanted : ℕ → Kind → BlockState → Type 0
+  IsWanted n Strand state = Unit {0}
+  IsWanted n Fork state = (s.want (before n) ≡ want.Fork) × IsForkOf n (children t n)
+  IsWanted n Block state = (s.want (before n) ≡ want.Begin) × Closes n state
+  IsWanted n (Read c v) state = (s.want (before n) ≡ want.Load c) × (after n ≡ s.answer (before n) (Value v))
+  IsWanted n (Write c v) state = (s.want (before n) ≡ want.Store c v) × (after n ≡ s.answer (before n) Nothing)
+  IsWanted n (Out v) state = (s.want (before n) ≡ want.Out v) × (after n ≡ s.answer (before n) Nothing)
+  IsWanted n (Tried c) state = IsAccessOf c (s.want (before n)) × (after n ≡ before n)
 
   -- Strand x has come to its end: it is over, and where a fork is the last in it, both strands of that have come to theirs.
   pub data StrandEnded : ℕ → Type 0 where
@@ -78,7 +78,7 @@ module _ {A : Type 0} (s : Strands A) (t : List Node) (before after reached : �
   pub record Follows : Type 0 where
     pub start : before 0 ≡ s.start
     pub series : (n : ℕ) → n < length t → IsTrue (is_strand t n || is_block t n) → InSeries before after (entered n) (children t n) (reached n)
-    pub fits : (n : ℕ) (x : Node) → slice_get t n ≡ Some x → Fits n x.kind x.state
+    pub fits : (n : ℕ) (x : Node) → slice_get t n ≡ Some x → IsWanted n x.kind x.state
     -- behind a fork its strand goes on, or ends its block, only once both strands have ended
     pub joined : (f : ℕ) → f < length t → IsTrue (is_fork t f && (has_later t f || is_committed t (parent_of t f))) → BothEnded f
 

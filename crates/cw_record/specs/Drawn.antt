@@ -1,5 +1,5 @@
--- What one step of a run adds to its tree and to its journals.
-use Rattle.std.specs.Prelude.{ℕ, ℤ, Bool, true, false, List, [], ◌∷◌, ◌++◌, length, slice_get, slice_set, Option, Some, None}
+-- What one worker draws of its run, and what each step adds to it.
+use Rattle.std.specs.Prelude.{ℕ, ℤ, ◌+◌, Bool, true, false, List, [], ◌∷◌, ◌++◌, length, replicate, slice_get, slice_set, Option, Some, None}
 use Rattle.cw_tree.specs.declared.node.Node.{Node}
 use Rattle.cw_tree.specs.declared.node.Kind.{Kind}
 use Rattle.cw_tree.specs.declared.node.Kind.TheVariants.{Strand, Fork, Block, Read, Write, Out}
@@ -9,6 +9,24 @@ use Rattle.cw_tree.specs.Nodes.{parent_of, closed, fresh_node}
 use Rattle.cw_strand.specs.declared.want.Want.{Want}
 use Rattle.cw_strand.specs.declared.want.Want.TheVariants as want
 use Rattle.cw_serial.specs.Wants.{value_at}
+use Rattle.cw_record.specs.declared.drawing.Drawing.{Drawing}
+
+-- a run as it is drawn: its tree, the place where the next node goes, the last stamp, and the journal of each element
+pub record Drawn : Type 0 where
+  pub tree : List Node
+  pub place : ℕ
+  pub clock : ℕ
+  pub journals : List (List Entry)
+
+-- what a drawing shows
+abbrev pub drawn : Drawing → Drawn
+drawn d = record { tree = d.tree; place = d.place; clock = d.clock; journals = d.journals.items }
+
+-- the root strand alone, and an empty journal for each of so many elements
+abbrev pub blank : (elements : ℕ) → Drawn
+blank elements = record { tree = fresh_node 0 Strand 0 ∷ []; place = 0; clock = 0; journals = replicate elements [] }
+
+-- ## Nodes and entries
 
 -- one node more, at place p
 abbrev pub added : List Node → ℕ → Kind → ℕ → List Node
@@ -30,22 +48,49 @@ noted kept c e = with_entry kept c e (slice_get kept c)
 abbrev pub entry : (stamp : ℕ) (wrote : Bool) (value old : ℤ) → Entry
 entry stamp wrote value old = record { mark = record { strand = 0; stamp = stamp }; wrote = wrote; value = value; old = old }
 
--- ## What a want adds, with a stamp, where memory is this
+-- ## What a strand does
 
-abbrev pub tree_after : Want → (memory : List ℤ) → List Node → (place stamp : ℕ) → List Node
-tree_after (want.Load c) memory t p stamp = added t p (Read c (value_at memory c)) stamp
-tree_after (want.Store c v) memory t p stamp = added t p (Write c v) stamp
-tree_after (want.Out v) memory t p stamp = added t p (Out v) stamp
-tree_after want.Begin memory t p stamp = added t p Block stamp
-tree_after want.End memory t p stamp = closed t p Committed stamp
-tree_after w memory t p stamp = t
+-- a node more at the place, with the next stamp
+abbrev pub after_node : Kind → Drawn → Drawn
+after_node kind d = record d { tree = added d.tree d.place kind (d.clock + 1); clock = d.clock + 1 }
 
-abbrev pub place_after : Want → List Node → (place : ℕ) → ℕ
-place_after want.Begin t p = length t
-place_after want.End t p = parent_of t p
-place_after w t p = p
+-- an entry more in the journal of a cell, with the last stamp
+abbrev pub after_entry : (cell : ℕ) (wrote : Bool) (value old : ℤ) → Drawn → Drawn
+after_entry cell wrote value old d = record d { journals = noted d.journals cell (entry d.clock wrote value old) }
 
-abbrev pub journals_after : Want → (memory : List ℤ) → List (List Entry) → (stamp : ℕ) → List (List Entry)
-journals_after (want.Load c) memory kept stamp = noted kept c (entry stamp false (value_at memory c) (value_at memory c))
-journals_after (want.Store c v) memory kept stamp = noted kept c (entry stamp true v (value_at memory c))
-journals_after w memory kept stamp = kept
+abbrev pub after_read : (cell : ℕ) (value : ℤ) → Drawn → Drawn
+after_read cell value d = after_entry cell false value value (after_node (Read cell value) d)
+
+abbrev pub after_write : (cell : ℕ) (value old : ℤ) → Drawn → Drawn
+after_write cell value old d = after_entry cell true value old (after_node (Write cell value) d)
+
+-- The next node goes into the block.
+abbrev pub after_begin : Drawn → Drawn
+after_begin d = record (after_node Block d) { place = length d.tree }
+
+-- The block at the place is committed, and the next node goes behind it.
+abbrev pub after_end : Drawn → Drawn
+after_end d = record d { tree = closed d.tree d.place Committed (d.clock + 1); place = parent_of d.tree d.place; clock = d.clock + 1 }
+
+-- what is drawn of a want that is done, where memory was this
+abbrev pub after : Want → (memory : List ℤ) → Drawn → Drawn
+after (want.Load c) memory d = after_read c (value_at memory c) d
+after (want.Store c v) memory d = after_write c v (value_at memory c) d
+after (want.Out v) memory d = after_node (Out v) d
+after want.Begin memory d = after_begin d
+after want.End memory d = after_end d
+after w memory d = d
+
+-- ## From strand to strand
+
+-- a fork with its left strand, and the next node goes into that
+abbrev pub after_fork : Drawn → Drawn
+after_fork d = record d { tree = forked d.tree d.place (d.clock + 1); place = length d.tree + 1; clock = d.clock + 1 }
+
+-- a strand of a fork, and the next node goes into it
+abbrev pub after_start : (fork : ℕ) → Drawn → Drawn
+after_start fork d = record d { tree = added d.tree fork Strand 0; place = length d.tree }
+
+-- The next node goes behind the fork.
+abbrev pub after_join : (fork : ℕ) → Drawn → Drawn
+after_join fork d = record d { place = parent_of d.tree fork }

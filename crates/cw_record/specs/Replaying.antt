@@ -20,8 +20,8 @@ DoesFrom r m is =
     DoesAll (strands_of (job_of r)) r.tree m is
     × IsSpent (strands_of (job_of r)) r.tree r.conflicts r.limits.aborts r.end (picked (strands_of (job_of r)) m (map (doer r.tree) is))
 
-abbrev pub Does : Record → Type 0
-Does r = DoesFrom r (machine_of (job_of r)) (items r.tree r.conflicts r.limits.aborts r.end)
+abbrev pub ItemsAreDone : Record → Type 0
+ItemsAreDone r = DoesFrom r (machine_of (job_of r)) (items r.tree r.conflicts r.limits.aborts r.end)
 
 abbrev pub WantsTold : Option Conflict → Option Want → Type 0
 WantsTold None w = ⊥

@@ -15,12 +15,11 @@ law_of w = strands_of (job_of w.interpreter)
 abbrev pub want_of : Worker → Want
 want_of w = (law_of w).want (state_of w.strand)
 
--- It goes from strand to strand: what it runs by, memory, outputs and journals stay.
+-- It goes from strand to strand: what it runs by, memory and outputs stay.
 pub record Keeps (old new : Worker) : Type 0 where
   pub interpreter : new.interpreter ≡ old.interpreter
   pub memory : new.memory ≡ old.memory
   pub outputs : new.outputs ≡ old.outputs
-  pub journals : new.drawing.journals ≡ old.drawing.journals
 
 -- One fork more, with this node, whose right strand, in this state, is to come.
 abbrev pub WaitsOnLeft : (old new : List Branch) → (node : ℕ) → StrandState → Type 0

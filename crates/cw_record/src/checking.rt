@@ -6,7 +6,7 @@ ghost use Rattle.cw_record.specs.Order.{ending_strand};
 ghost use Rattle.cw_record.specs.Replay.{SameEnd};
 ghost use Rattle.cw_record.specs.Records.{IsReplayed, job_of};
 ghost use Rattle.cw_record.specs.declared.checking.Checked.TheVariants.{Disagree};
-ghost use Rattle.cw_record.specs.Checking.{Checks, difference, first_difference, other_variant, variant};
+ghost use Rattle.cw_record.specs.Checking.{IsCheckOf, difference, first_difference, other_variant, variant};
 
 use crate::order::ending_strand;
 use crate::replaying::does_all;
@@ -29,7 +29,7 @@ pub enum Checked {
 /// the machine does at each pick what the tree has there, and comes to the same end. More than 4,294,967,295 cells, strands or picks
 /// are answered as want of memory.
 pub fn check(alloc: Global, kept: &Record) -> Result<Checked, OutOfMemory>
-    ensures { IfOk result (λ c. Checks kept.now c) }
+    ensures { IfOk result (λ c. IsCheckOf kept.now c) }
 {
     let program = &kept.program;
     let first = first_memory(alloc, program.cells.as_slice())?;

@@ -1,8 +1,7 @@
-ghost use Rattle.std.specs.Prelude.{◌≡◌, ◌∷◌, ◌+◌, ◌<◌, [], true, false, IfOk, IsTrue, OnOk, length, map, replicate};
-ghost use Rattle.cw_tree.specs.Nodes.{closed, fresh_node, is_block, parent_of};
-ghost use Rattle.cw_tree.specs.declared.node.BlockState.TheVariants.{Committed};
-ghost use Rattle.cw_tree.specs.declared.node.Kind.TheVariants.{Strand, Read, Write, Out, Block};
-ghost use Rattle.cw_record.specs.Drawn.{added, entry, forked, noted};
+ghost use Rattle.std.specs.Prelude.{◌≡◌, ◌+◌, ◌<◌, IfOk, IsTrue, OnOk, length};
+ghost use Rattle.cw_tree.specs.Nodes.{is_block};
+ghost use Rattle.cw_tree.specs.declared.node.Kind.TheVariants.{Out};
+ghost use Rattle.cw_record.specs.Drawn.{after_begin, after_end, after_entry, after_fork, after_join, after_node, after_read, after_start, after_write, blank, drawn};
 
 use cw_base::{OutOfMemory, Seq};
 use cw_tree::{BlockState, Entry, Kind, Mark, Tree};
@@ -20,10 +19,7 @@ pub(crate) struct Drawing {
 impl Drawing {
     /// The root strand alone, and an empty journal for each of so many elements.
     pub(crate) fn begin(alloc: Global, elements: usize) -> Result<Drawing, OutOfMemory>
-        ensures tree { IfOk result (λ d. d.tree ≡ fresh_node 0 Strand 0 ∷ []) }
-        ensures place { IfOk result (λ d. d.place ≡ 0) }
-        ensures clock { IfOk result (λ d. d.clock ≡ 0) }
-        ensures journals { IfOk result (λ d. d.journals.items ≡ replicate elements []) }
+        ensures { IfOk result (λ d. drawn d ≡ blank elements) }
     {
         let mut journals = Vec::with_capacity(alloc, elements)?;
         for _ in 0..elements {
@@ -41,10 +37,7 @@ impl Drawing {
     fn add(&mut self, kind: Kind) -> Result<u32, OutOfMemory>
         requires { self.old.place < length self.old.tree }
         ensures number { IfOk result (λ n. n ≡ length self.old.tree) }
-        ensures clock { OnOk result (self.new.clock ≡ self.old.clock + 1) }
-        ensures tree { OnOk result (self.new.tree ≡ added self.old.tree self.old.place kind self.new.clock) }
-        ensures place { OnOk result (self.new.place ≡ self.old.place) }
-        ensures journals { OnOk result (self.new.journals ≡ self.old.journals) }
+        ensures drawn { OnOk result (drawn self.new ≡ after_node kind (drawn self.old)) }
     {
         let stamp = self.next_stamp()?;
         self.tree.add(self.place, kind, stamp)
@@ -62,15 +55,21 @@ impl Drawing {
         Ok(stamp)
     }
 
-    /// Adds an entry to the journal of an element, where that is there.
-    fn note(&mut self, cell: u32, entry: Entry) -> Result<(), OutOfMemory>
-        ensures journals { OnOk result (self.new.journals.items ≡ noted self.old.journals.items cell entry) }
-        ensures tree { OnOk result (self.new.tree ≡ self.old.tree) }
-        ensures place { OnOk result (self.new.place ≡ self.old.place) }
-        ensures clock { OnOk result (self.new.clock ≡ self.old.clock) }
+    /// Adds an entry of the newest access to the journal of its element, where that is there.
+    fn note(&mut self, cell: u32, wrote: bool, value: i64, old: i64) -> Result<(), OutOfMemory>
+        ensures { OnOk result (drawn self.new ≡ after_entry cell wrote value old (drawn self.old)) }
     {
+        let mark = Mark {
+            strand: 0,
+            stamp: self.clock,
+        };
         if let Some(journal) = self.journals.get_mut(cell as usize) {
-            journal.push(entry)?;
+            journal.push(Entry {
+                mark,
+                wrote,
+                value,
+                old,
+            })?;
         }
         Ok(())
     }
@@ -78,54 +77,25 @@ impl Drawing {
     /// A read of an element, which gave this value.
     pub(crate) fn reads(&mut self, cell: u32, value: i64) -> Result<(), OutOfMemory>
         requires { self.old.place < length self.old.tree }
-        ensures clock { OnOk result (self.new.clock ≡ self.old.clock + 1) }
-        ensures tree { OnOk result
-            (self.new.tree ≡ added self.old.tree self.old.place (Read cell value) self.new.clock) }
-        ensures place { OnOk result (self.new.place ≡ self.old.place) }
-        ensures journals { OnOk result
-            (self.new.journals.items ≡ noted self.old.journals.items cell (entry self.new.clock false value value)) }
+        ensures { OnOk result (drawn self.new ≡ after_read cell value (drawn self.old)) }
     {
         self.add(Kind::Read { cell, value })?;
-        self.note(cell, self.entry(false, value, value))
+        self.note(cell, false, value, value)
     }
 
     /// A write of a value to an element, which had the old one.
     pub(crate) fn writes(&mut self, cell: u32, value: i64, old: i64) -> Result<(), OutOfMemory>
         requires { self.old.place < length self.old.tree }
-        ensures clock { OnOk result (self.new.clock ≡ self.old.clock + 1) }
-        ensures tree { OnOk result
-            (self.new.tree ≡ added self.old.tree self.old.place (Write cell value) self.new.clock) }
-        ensures place { OnOk result (self.new.place ≡ self.old.place) }
-        ensures journals { OnOk result
-            (self.new.journals.items ≡ noted self.old.journals.items cell (entry self.new.clock true value old)) }
+        ensures { OnOk result (drawn self.new ≡ after_write cell value old (drawn self.old)) }
     {
         self.add(Kind::Write { cell, value })?;
-        self.note(cell, self.entry(true, value, old))
-    }
-
-    /// The entry of the newest access.
-    fn entry(&self, wrote: bool, value: i64, old: i64) -> Entry
-        ensures { result ≡ entry self.now.clock wrote value old }
-    {
-        Entry {
-            mark: Mark {
-                strand: 0,
-                stamp: self.clock,
-            },
-            wrote,
-            value,
-            old,
-        }
+        self.note(cell, true, value, old)
     }
 
     /// An output.
     pub(crate) fn outputs(&mut self, value: i64) -> Result<(), OutOfMemory>
         requires { self.old.place < length self.old.tree }
-        ensures clock { OnOk result (self.new.clock ≡ self.old.clock + 1) }
-        ensures tree { OnOk result
-            (self.new.tree ≡ added self.old.tree self.old.place (Out value) self.new.clock) }
-        ensures place { OnOk result (self.new.place ≡ self.old.place) }
-        ensures journals { OnOk result (self.new.journals ≡ self.old.journals) }
+        ensures { OnOk result (drawn self.new ≡ after_node (Out value) (drawn self.old)) }
     {
         self.add(Kind::Out { value })?;
         Ok(())
@@ -134,11 +104,7 @@ impl Drawing {
     /// A block begins: the next node goes into it.
     pub(crate) fn begins(&mut self) -> Result<(), OutOfMemory>
         requires { self.old.place < length self.old.tree }
-        ensures clock { OnOk result (self.new.clock ≡ self.old.clock + 1) }
-        ensures tree { OnOk result
-            (self.new.tree ≡ added self.old.tree self.old.place Block self.new.clock) }
-        ensures place { OnOk result (self.new.place ≡ length self.old.tree) }
-        ensures journals { OnOk result (self.new.journals ≡ self.old.journals) }
+        ensures { OnOk result (drawn self.new ≡ after_begin (drawn self.old)) }
     {
         let block = self.add(Kind::Block)?;
         self.place = block;
@@ -148,11 +114,7 @@ impl Drawing {
     /// The block at the place ends, and is committed.
     pub(crate) fn ends(&mut self) -> Result<(), OutOfMemory>
         requires { IsTrue (is_block self.old.tree self.old.place) }
-        ensures clock { OnOk result (self.new.clock ≡ self.old.clock + 1) }
-        ensures tree { OnOk result
-            (self.new.tree ≡ closed self.old.tree self.old.place Committed self.new.clock) }
-        ensures place { OnOk result (self.new.place ≡ parent_of self.old.tree self.old.place) }
-        ensures journals { OnOk result (self.new.journals ≡ self.old.journals) }
+        ensures { OnOk result (drawn self.new ≡ after_end (drawn self.old)) }
     {
         let stamp = self.next_stamp()?;
         let outer = self.tree.parent(self.place);
@@ -165,10 +127,7 @@ impl Drawing {
     pub(crate) fn forks(&mut self) -> Result<u32, OutOfMemory>
         requires { self.old.place < length self.old.tree }
         ensures fork { IfOk result (λ f. f ≡ length self.old.tree) }
-        ensures clock { OnOk result (self.new.clock ≡ self.old.clock + 1) }
-        ensures tree { OnOk result (self.new.tree ≡ forked self.old.tree self.old.place self.new.clock) }
-        ensures place { OnOk result (self.new.place ≡ length self.old.tree + 1) }
-        ensures journals { OnOk result (self.new.journals ≡ self.old.journals) }
+        ensures drawn { OnOk result (drawn self.new ≡ after_fork (drawn self.old)) }
     {
         let fork = self.add(Kind::Fork)?;
         self.starts(fork)?;
@@ -178,10 +137,7 @@ impl Drawing {
     /// A strand of a fork starts: the next node goes into it.
     pub(crate) fn starts(&mut self, fork: u32) -> Result<(), OutOfMemory>
         requires { fork < length self.old.tree }
-        ensures clock { OnOk result (self.new.clock ≡ self.old.clock) }
-        ensures tree { OnOk result (self.new.tree ≡ added self.old.tree fork Strand 0) }
-        ensures place { OnOk result (self.new.place ≡ length self.old.tree) }
-        ensures journals { OnOk result (self.new.journals ≡ self.old.journals) }
+        ensures { OnOk result (drawn self.new ≡ after_start fork (drawn self.old)) }
     {
         self.place = self.tree.add(fork, Kind::Strand, 0)?;
         Ok(())
@@ -190,7 +146,7 @@ impl Drawing {
     /// Both strands of a fork have ended: the next node goes behind it.
     pub(crate) fn joins(&mut self, fork: u32)
         requires { fork < length self.old.tree }
-        ensures { self.new ≡ record self.old { place = parent_of self.old.tree fork } }
+        ensures { drawn self.new ≡ after_join fork (drawn self.old) }
     {
         self.place = self.tree.parent(fork);
     }

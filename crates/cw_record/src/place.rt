@@ -136,7 +136,7 @@ fn told_by<'c>(
 {
     let last = last_of(tree, strands, strand);
     for conflict in conflicts {
-        if conflict.attempt == budget && names_strand(tree, strands, last, strand, conflict) {
+        if conflict.attempt == budget && tells(tree, strands, last, strand, conflict) {
             return Some(conflict);
         }
     }
@@ -144,7 +144,7 @@ fn told_by<'c>(
 }
 
 // Whether a conflict of the right attempt tells that a strand, with this last node, has spent its budget.
-fn names_strand(tree: &Tree, strands: &[u32], last: u32, strand: u32, conflict: &Conflict) -> bool
+fn tells(tree: &Tree, strands: &[u32], last: u32, strand: u32, conflict: &Conflict) -> bool
     requires strands { strands.now ≡ map (strand_of tree.now) (all_nodes tree.now) }
     requires last { last ≡ last_of tree.now strand }
     ensures { result ≡ tells tree.now conflict.now.attempt strand conflict.now }

@@ -2,7 +2,7 @@ ghost use Rattle.std.specs.Prelude.{◌≡◌, ◌↔◌, ◌<◌, IfOk, IsSomeA
 ghost use Rattle.cw_tree.specs.Nodes.{is_strand};
 ghost use Rattle.cw_record.specs.Order.{ending_strand, node_of, order_of};
 ghost use Rattle.cw_record.specs.Replay.{IsAct, IsItem, IsRefused};
-ghost use Rattle.cw_record.specs.Replaying.{Does, WantsRefused};
+ghost use Rattle.cw_record.specs.Replaying.{ItemsAreDone, WantsRefused};
 
 use crate::items::{Item, items};
 use crate::place::telling;
@@ -17,7 +17,7 @@ use std::alloc::Global;
 pub(crate) fn does_all(alloc: Global, kept: &Record) -> Result<bool, OutOfMemory>
     requires strand { IsTrue (is_strand kept.now.tree (ending_strand kept.now.end)) }
     requires order { kept.now.order ≡ order_of kept.now.tree kept.now.conflicts kept.now.limits.aborts kept.now.end }
-    ensures { IfOk result (λ b. IsTrue b ↔ Does kept.now) }
+    ensures { IfOk result (λ b. IsTrue b ↔ ItemsAreDone kept.now) }
 {
     let tree = &kept.tree;
     // a hint to the prover: the root is a strand, and each other node has a smaller parent

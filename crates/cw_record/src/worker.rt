@@ -1,17 +1,17 @@
-ghost use Rattle.std.specs.Prelude.{◌≡◌, ◌+◌, ◌<◌, ◌++◌, [], ◌∷◌, true, All, IfOk, IsTrue, OnOk, length, map, replicate};
+ghost use Rattle.std.specs.Prelude.{◌≡◌, ◌<◌, ◌++◌, [], ◌∷◌, true, All, IfOk, IsTrue, OnOk, length, map};
 ghost use Rattle.cw_text.specs.Syntax.{tree_of};
 ghost use Rattle.cw_strand.specs.Laws.{params_at};
 ghost use Rattle.cw_strand.specs.Names.{first_memory};
 ghost use Rattle.cw_strand.specs.Strands.{is_over, takes_answer};
 ghost use Rattle.cw_strand.specs.declared.want.Want.TheVariants as Want;
-ghost use Rattle.cw_tree.specs.Nodes.{fresh_node, is_block, parent_of};
+ghost use Rattle.cw_tree.specs.Nodes.{fresh_node, is_block};
 ghost use Rattle.cw_tree.specs.Series.{strand_of};
 ghost use Rattle.cw_tree.specs.declared.node.Kind.TheVariants.{Strand as AStrand};
 ghost use Rattle.cw_serial.specs.Jobs.{Job};
 ghost use Rattle.cw_serial.specs.Programs.{IsProgramOf};
 ghost use Rattle.cw_serial.specs.Room.Strands.{job_of, state_of, strands_of};
 ghost use Rattle.cw_serial.specs.Wants.{answer_to, memory_after, outputs_after};
-ghost use Rattle.cw_record.specs.Drawn.{added, forked, journals_after, place_after, tree_after};
+ghost use Rattle.cw_record.specs.Drawn.{after, after_fork, after_join, after_start, blank, drawn};
 ghost use Rattle.cw_record.specs.Records.{IsRun};
 ghost use Rattle.cw_record.specs.Worked.{Keeps, WaitsOnLeft, law_of, unstarted, want_of};
 ghost use Rattle.cw_record.specs.declared.worker.Branch.TheVariants.{Right as OnRight};
@@ -64,10 +64,7 @@ impl<'a> Worker<'a> {
         ensures job { IfOk result (λ w. job_of w.interpreter ≡ record { program = program.now; words = words.now; limits = limits }) }
         ensures memory { IfOk result (λ w. w.memory.items ≡ first_memory program.now.cells) }
         ensures outputs { IfOk result (λ w. w.outputs.items ≡ []) }
-        ensures tree { IfOk result (λ w. w.drawing.tree ≡ fresh_node 0 AStrand 0 ∷ []) }
-        ensures place { IfOk result (λ w. w.drawing.place ≡ 0) }
-        ensures clock { IfOk result (λ w. w.drawing.clock ≡ 0) }
-        ensures journals { IfOk result (λ w. w.drawing.journals.items ≡ replicate (length w.memory.items) []) }
+        ensures drawing { IfOk result (λ w. drawn w.drawing ≡ blank (length w.memory.items)) }
         ensures strand { IfOk result (λ w. state_of w.strand ≡ (law_of w).start) }
         ensures branches { IfOk result (λ w. w.branches ≡ []) }
     {
@@ -123,13 +120,8 @@ impl<'a> Worker<'a> {
         ensures branches { OnOk result (self.new.branches ≡ self.old.branches) }
         ensures memory { OnOk result (self.new.memory.items ≡ memory_after (want_of self.old) self.old.memory.items) }
         ensures outputs { OnOk result (self.new.outputs.items ≡ outputs_after (want_of self.old) self.old.outputs.items) }
-        ensures clock { OnOk result (self.new.drawing.clock ≡ self.old.drawing.clock + 1) }
-        ensures tree { OnOk result (self.new.drawing.tree
-            ≡ tree_after (want_of self.old) self.old.memory.items self.old.drawing.tree self.old.drawing.place self.new.drawing.clock) }
-        ensures place { OnOk result (self.new.drawing.place
-            ≡ place_after (want_of self.old) self.old.drawing.tree self.old.drawing.place) }
-        ensures journals { OnOk result (self.new.drawing.journals.items
-            ≡ journals_after (want_of self.old) self.old.memory.items self.old.drawing.journals.items self.new.drawing.clock) }
+        ensures drawing { OnOk result (drawn self.new.drawing
+            ≡ after (want_of self.old) self.old.memory.items (drawn self.old.drawing)) }
         ensures strand { OnOk result (state_of self.new.strand
             ≡ (law_of self.old).answer (state_of self.old.strand) (answer_to (want_of self.old) self.old.memory.items)) }
     {
@@ -148,13 +140,8 @@ impl<'a> Worker<'a> {
         ensures branches { OnOk result (self.new.branches ≡ self.old.branches) }
         ensures memory { OnOk result (self.new.memory.items ≡ memory_after (want_of self.old) self.old.memory.items) }
         ensures outputs { OnOk result (self.new.outputs.items ≡ outputs_after (want_of self.old) self.old.outputs.items) }
-        ensures clock { OnOk result (self.new.drawing.clock ≡ self.old.drawing.clock + 1) }
-        ensures tree { OnOk result (self.new.drawing.tree
-            ≡ tree_after (want_of self.old) self.old.memory.items self.old.drawing.tree self.old.drawing.place self.new.drawing.clock) }
-        ensures place { OnOk result (self.new.drawing.place
-            ≡ place_after (want_of self.old) self.old.drawing.tree self.old.drawing.place) }
-        ensures journals { OnOk result (self.new.drawing.journals.items
-            ≡ journals_after (want_of self.old) self.old.memory.items self.old.drawing.journals.items self.new.drawing.clock) }
+        ensures drawing { OnOk result (drawn self.new.drawing
+            ≡ after (want_of self.old) self.old.memory.items (drawn self.old.drawing)) }
     {
         match self.strand.want() {
             Want::Load(element) => {
@@ -185,10 +172,7 @@ impl<'a> Worker<'a> {
         requires there { self.old.drawing.place < length self.old.drawing.tree }
         requires wanted { want_of self.old ≡ Want.Fork }
         ensures keeps { OnOk result (Keeps self.old self.new) }
-        ensures clock { OnOk result (self.new.drawing.clock ≡ self.old.drawing.clock + 1) }
-        ensures tree { OnOk result (self.new.drawing.tree
-            ≡ forked self.old.drawing.tree self.old.drawing.place self.new.drawing.clock) }
-        ensures place { OnOk result (self.new.drawing.place ≡ length self.old.drawing.tree + 1) }
+        ensures drawing { OnOk result (drawn self.new.drawing ≡ after_fork (drawn self.old.drawing)) }
         ensures left { OnOk result (state_of self.new.strand ≡ (law_of self.old).left (state_of self.old.strand)) }
         ensures right { OnOk result (WaitsOnLeft self.old.branches self.new.branches (length self.old.drawing.tree)
             ((law_of self.old).right (state_of self.old.strand))) }
@@ -203,9 +187,7 @@ impl<'a> Worker<'a> {
     fn turn(&mut self, fork: u32, right: Strand<'a>) -> Result<(), OutOfMemory>
         requires { fork < length self.old.drawing.tree }
         ensures keeps { OnOk result (Keeps self.old self.new) }
-        ensures clock { OnOk result (self.new.drawing.clock ≡ self.old.drawing.clock) }
-        ensures tree { OnOk result (self.new.drawing.tree ≡ added self.old.drawing.tree fork AStrand 0) }
-        ensures place { OnOk result (self.new.drawing.place ≡ length self.old.drawing.tree) }
+        ensures drawing { OnOk result (drawn self.new.drawing ≡ after_start fork (drawn self.old.drawing)) }
         ensures strand { OnOk result (self.new.strand ≡ right.entry) }
         ensures branches { OnOk result (self.new.branches ≡ OnRight fork self.old.strand ∷ self.old.branches) }
     {
@@ -219,8 +201,7 @@ impl<'a> Worker<'a> {
         requires there { fork < length self.old.drawing.tree }
         requires ended { is_over (want_of self.old) ≡ true }
         ensures keeps { OnOk result (Keeps self.old self.new) }
-        ensures drawing { OnOk result (self.new.drawing
-            ≡ record self.old.drawing { place = parent_of self.old.drawing.tree fork }) }
+        ensures drawing { OnOk result (drawn self.new.drawing ≡ after_join fork (drawn self.old.drawing)) }
         ensures branches { OnOk result (self.new.branches ≡ self.old.branches) }
         ensures strand { OnOk result (state_of self.new.strand
             ≡ (law_of self.old).joined (state_of self.old.strand) (state_of left.entry)) }
@@ -249,7 +230,7 @@ impl<'a> Worker<'a> {
         requires forks { All (λ f. f < length self.drawing.tree) (unstarted self.branches) }
         ensures tree { IfOk result (λ r. r.drawing.tree
             ≡ self.entry.drawing.tree ++ map (λ f. fresh_node f AStrand 0) (unstarted self.entry.branches)) }
-        ensures journals { IfOk result (λ r. r.drawing.journals ≡ self.entry.drawing.journals) }
+        ensures journals { IfOk result (λ r. r.drawing.journals.items ≡ self.entry.drawing.journals.items) }
         ensures end { IfOk result (λ r. r.end
             ≡ ending.Fault (strand_of self.entry.drawing.tree self.entry.drawing.place) kind) }
     {

@@ -7,7 +7,7 @@ use Rattle.cw_serial.specs.declared.table.Table.{Table}
 use Rattle.cw_serial.specs.StrandTree.{StrandTree}
 use Rattle.cw_serial.specs.Machine.{turns}
 use Rattle.cw_serial.specs.Spots.{turn_to, standing, waiting, spot, IsSettled}
-use Rattle.cw_serial.specs.Held.{IsPlace, Holds, want_at, over_at, Moves, forks, joins, rests, Quiet, ComesTo, IsFront}
+use Rattle.cw_serial.specs.Held.{IsPlace, Holds, want_at, over_at, Moves, forks, joins, rests, Quiet, SettlesTo, IsFront}
 use Rattle.cw_serial.proofs.Deep.{fork_want}
 use Rattle.cw_serial.proofs.Settled.{settled_stays}
 use Rattle.cw_serial.proofs.Replaced.{NoForks, NoJoins, settled_by}
@@ -65,7 +65,7 @@ module _ {S A : Type 0} (s : Strands A) (state : S → A) where
       pub all_settled : IsSettled s tree
       all_settled = settled_by s tree no_forks no_joins
 
-  pub comes_all : (table : Table S) (t : StrandTree A) → ComesTo s state table [] t → Holds state table t × IsSettled s t
+  pub comes_all : (table : Table S) (t : StrandTree A) → SettlesTo s state table [] t → Holds state table t × IsSettled s t
   comes_all table t c =
       let done = all_settled table c.tree c.holds c.quiet in
       let same = sym (settled_stays s c.tree done) ∙ c.comes in
@@ -79,18 +79,18 @@ module _ {S A : Type 0} (s : Strands A) (state : S → A) where
   names_more old new i todo more (rests r e f) = ([], ap (λ (t : Table S). t.names.items) e ∙ sym (append-nil old.names.items))
 
   pub record Settling (old : Table S) (i : ℕ) (now : Table S) (todo : List ℕ) : Type 0 where
-    pub strands : (t : StrandTree A) → ComesTo s state old (i ∷ []) t → ComesTo s state now todo t
+    pub strands : (t : StrandTree A) → SettlesTo s state old (i ∷ []) t → SettlesTo s state now todo t
     pub names : IsFront old.names.items now.names.items
 
   pub settling_first : (old : Table S) (i : ℕ) (todo : List ℕ) → todo ≡ i ∷ [] → Settling old i old todo
-  settling_first old i todo e = record { strands = λ t c. subst (λ ns. ComesTo s state old ns t) (sym e) c; names = front_itself old.names.items }
+  settling_first old i todo e = record { strands = λ t c. subst (λ ns. SettlesTo s state old ns t) (sym e) c; names = front_itself old.names.items }
 
   pub settling_more : IsDeep s → (old mid new : Table S) (i j : ℕ) (now todo more : List ℕ) → now ≡ todo ++ j ∷ [] → Settling old i mid now → Moves s state mid j todo new more → Settling old i new more
   settling_more deep old mid new i j now todo more e g m = record {
-    strands = λ t c. comes_more s state deep mid new j todo more t m (subst (λ ns. ComesTo s state mid ns t) e (g.strands t c));
+    strands = λ t c. comes_more s state deep mid new j todo more t m (subst (λ ns. SettlesTo s state mid ns t) e (g.strands t c));
     names = front_trans old.names.items mid.names.items new.names.items g.names (names_more mid new j todo more m);
   }
 
   pub settling_all : (old new : Table S) (i : ℕ) (todo : List ℕ) → todo ≡ [] → Settling old i new todo
-      → (t : StrandTree A) → ComesTo s state old (i ∷ []) t → Holds state new t × IsSettled s t
-  settling_all old new i todo e g t c = comes_all new t (subst (λ ns. ComesTo s state new ns t) e (g.strands t c))
+      → (t : StrandTree A) → SettlesTo s state old (i ∷ []) t → Holds state new t × IsSettled s t
+  settling_all old new i todo e g t c = comes_all new t (subst (λ ns. SettlesTo s state new ns t) e (g.strands t c))

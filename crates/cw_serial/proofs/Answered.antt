@@ -16,7 +16,7 @@ use Rattle.cw_serial.specs.InMemory.{before_end, want_before_end}
 use Rattle.cw_serial.specs.StrandTree.{StrandTree, stands, at, put}
 use Rattle.cw_serial.specs.Machine.{turns}
 use Rattle.cw_serial.specs.Spots.{turn_to, Spot, standing, waiting, spot, IsSettled}
-use Rattle.cw_serial.specs.Held.{IsPlace, Holds, Answers, ComesTo, strand_in, strand_of, want_of, want_at, over_by, over_at, awaited_of, awaited_at}
+use Rattle.cw_serial.specs.Held.{IsPlace, Holds, Answers, SettlesTo, strand_in, strand_of, want_of, want_at, over_by, over_at, awaited_of, awaited_at}
 use Rattle.cw_serial.proofs.Replaced.{Beside, replaced, spot_beneath, spot_beside, spot_under, at_spot, at_is, put_is, settled_no_forks, settled_no_joins}
 use Rattle.cw_serial.proofs.Numbered.{turns_total, turns_unique, turns_of_left, turns_of_right}
 use Rattle.cw_serial.proofs.Waiting.{want_there, over_there, awaited_there, puts_here, puts_elsewhere}
@@ -171,7 +171,7 @@ module _ {S A : Type 0} (s : Strands A) (state : S → A) (old new : Table S) (i
       absurd (ends_apart s state old tree holds settled n x (ap awaited_of (sym (elsewhere n ne)) ∙ h) (over_elsewhere x.left nl left) (over_elsewhere x.right nr right))
 
   -- the strand that is answered is the only one to be looked at
-  pub answered_comes : ComesTo s state new (i ∷ []) (put s tree q next)
+  pub answered_comes : SettlesTo s state new (i ∷ []) (put s tree q next)
   unfolding now
   answered_comes = record {
     tree = now;

@@ -14,7 +14,7 @@ use Rattle.cw_serial.specs.declared.table.Sides.{Sides}
 use Rattle.cw_serial.specs.declared.table.Row.{Row}
 use Rattle.cw_serial.specs.declared.table.Table.{Table}
 use Rattle.cw_serial.specs.StrandTree.{StrandTree}
-use Rattle.cw_serial.specs.Held.{left_name, right_name, IsNumbered, want_at, over_at, awaited_at, Forks, Joins, Rests, Moves, forks, joins, rests, Quiet, ComesTo}
+use Rattle.cw_serial.specs.Held.{left_name, right_name, IsNumbered, want_at, over_at, awaited_at, Forks, Joins, Rests, Moves, forks, joins, rests, Quiet, SettlesTo}
 use Rattle.cw_serial.proofs.Numbers.{get_beyond}
 use Rattle.cw_serial.proofs.Waiting.{Standing, want_there, want_here, over_there, over_row, over_here, over_wants_none, Awaiting, awaited_there, awaited_here, puts_here, puts_elsewhere}
 use Rattle.cw_serial.proofs.ForkMade.{was, now_waits, now_forks, Which, other, itself, on_left, on_right, which}
@@ -234,7 +234,7 @@ module _ {S A : Type 0} (s : Strands A) (state : S → A) where
 
   -- ## All of it
 
-  pub comes_more : IsDeep s → (old new : Table S) (i : ℕ) (todo later : List ℕ) (t : StrandTree A) → Moves s state old i todo new later → ComesTo s state old (todo ++ i ∷ []) t → ComesTo s state new later t
+  pub comes_more : IsDeep s → (old new : Table S) (i : ℕ) (todo later : List ℕ) (t : StrandTree A) → Moves s state old i todo new later → SettlesTo s state old (todo ++ i ∷ []) t → SettlesTo s state new later t
   comes_more deep old new i todo later t (forks x f e) c =
       let a = after_fork s state deep old new i x f c.tree c.holds in
       record { tree = a.now; holds = a.holds; comes = a.same ∙ c.comes; quiet = subst (Quiet s state new.rows.items) (sym e) (quiet_fork old new i x f c.holds.numbered todo c.quiet) }
@@ -242,4 +242,4 @@ module _ {S A : Type 0} (s : Strands A) (state : S → A) where
       let a = after_join s state old new name.parent j c.tree c.holds in
       record { tree = a.now; holds = a.holds; comes = a.same ∙ c.comes; quiet = subst (Quiet s state new.rows.items) (sym e) (quiet_join old new i name j c.holds.numbered named over todo c.quiet) }
   comes_more deep old new i todo later t (rests r e f) c =
-      subst (λ table. ComesTo s state table later t) (sym e) (record { tree = c.tree; holds = c.holds; comes = c.comes; quiet = subst (Quiet s state old.rows.items) (sym f) (quiet_rest old i todo c.holds.numbered r c.quiet) })
+      subst (λ table. SettlesTo s state table later t) (sym e) (record { tree = c.tree; holds = c.holds; comes = c.comes; quiet = subst (Quiet s state old.rows.items) (sym f) (quiet_rest old i todo c.holds.numbered r c.quiet) })

@@ -15,8 +15,8 @@ use Rattle.cw_serial.specs.StrandTree.{StrandTree, put}
 use Rattle.cw_serial.specs.Wants.{answer_to, memory_after, outputs_after, blocks_after}
 use Rattle.cw_serial.specs.Machine.{Begun, Machine, same_name, turns, may_pick, pick_at, pick}
 use Rattle.cw_serial.specs.Spots.{IsSettled}
-use Rattle.cw_serial.specs.Held.{Holds, IsFront, Answers, ComesTo, strand_of, want_of, want_at}
-use Rattle.cw_serial.specs.InMemory.{AreBegun, begun_after, IsMachine, IsDone, Does, Picks}
+use Rattle.cw_serial.specs.Held.{Holds, IsFront, Answers, SettlesTo, strand_of, want_of, want_at}
+use Rattle.cw_serial.specs.InMemory.{AreBegun, begun_after, IsMachine, IsDone, DoesWant, Picks}
 use Rattle.cw_serial.proofs.Replaced.{at_is, at_spot}
 use Rattle.cw_serial.proofs.Answered.{StandsAt, stands_at, nobody_at, strand_is, answered_comes}
 use Rattle.cw_serial.proofs.Blocks.{AreAlike, begun_more, alike_none, alike_some, blocks_alike}
@@ -54,7 +54,7 @@ module _ (job : Job) (old : Code) (m : Machine StrandState) (is : IsMachine job 
     -- the want was done, the strand answered, and all settled
     pub picked : (given : Given) (mid new : Code) (table : Table Strand) → may_pick m.begun q ≡ true → IsDone w n old given mid → Answers (strands_of (job_of mid.interpreter)) state_of mid.strands n given table
         → new.memory ≡ mid.memory → new.outputs ≡ mid.outputs → new.begun ≡ mid.begun → new.interpreter ≡ mid.interpreter
-        → ((t : StrandTree StrandState) → ComesTo (strands_of (job_of mid.interpreter)) state_of table (n ∷ []) t → Holds state_of new.strands t × IsSettled (strands_of (job_of mid.interpreter)) t)
+        → ((t : StrandTree StrandState) → SettlesTo (strands_of (job_of mid.interpreter)) state_of table (n ∷ []) t → Holds state_of new.strands t × IsSettled (strands_of (job_of mid.interpreter)) t)
         → IsFront table.names.items new.strands.names.items
         → Picks job m (pick s m q) true new
     picked given mid new table may done answers memory outputs begun interpreter settles front =
@@ -65,7 +65,7 @@ module _ (job : Job) (old : Code) (m : Machine StrandState) (is : IsMachine job 
         let (begun_now, some, are) = alike_some old.strands.names.items mid.begun blocks (subst (λ o. AreAlike old.strands.names.items o blocks) done.begun alike) in
         let now : Machine StrandState = after (state_of here.strand) begun_now in
         let strands_are : put s m.strands q (s.answer (state_of answered.strand) given) ≡ now.strands = ap (λ a. put s m.strands q (s.answer a given)) same ∙ ap (λ g. put s m.strands q (s.answer (state_of here.strand) g)) given_is in
-        let (held, settled) = settles now.strands (subst (λ j. ComesTo (strands_of j) state_of table (n ∷ []) now.strands) (sym job_is) (subst (ComesTo s state_of table (n ∷ [])) strands_are (answered_comes s state_of old.strands table n given answered m.strands is.strands is.settled q up))) in
+        let (held, settled) = settles now.strands (subst (λ j. SettlesTo (strands_of j) state_of table (n ∷ []) now.strands) (sym job_is) (subst (SettlesTo s state_of table (n ∷ [])) strands_are (answered_comes s state_of old.strands table n given answered m.strands is.strands is.settled q up))) in
         let picks : pick s m q ≡ Some now = pick_here ∙ (ap (λ b. cond b (option_map (after (state_of here.strand)) blocks) None) may ∙ ap (option_map (after (state_of here.strand))) some) in
         let same_names : table.names.items ≡ old.strands.names.items = ap (λ v. v.items) (answered.back.names ∙ answered.gone.names) in
         subst (λ o. Picks job m o true new) (sym picks) (record {
@@ -86,7 +86,7 @@ module _ (job : Job) (old : Code) (m : Machine StrandState) (is : IsMachine job 
     either false e = refl
 
     -- what it wants cannot be done
-    pub not_done : (mid : Code) → Does w n old None mid → Picks job m (pick s m q) false mid
+    pub not_done : (mid : Code) → DoesWant w n old None mid → Picks job m (pick s m q) false mid
     not_done mid (cannot, same) =
         let none : blocks ≡ None = alike_none old.strands.names.items blocks (subst (λ o. AreAlike old.strands.names.items o blocks) cannot alike) in
         subst (λ o. Picks job m o false mid) (sym (pick_here ∙ either (may_pick m.begun q) none)) (subst (λ c. IsMachine job c m) (sym same) is)

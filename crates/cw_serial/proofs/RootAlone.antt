@@ -12,7 +12,7 @@ use Rattle.cw_serial.specs.declared.table.Table.{Table}
 use Rattle.cw_serial.specs.StrandTree.{stands, goes_on}
 use Rattle.cw_serial.specs.Machine.{turns}
 use Rattle.cw_serial.specs.Spots.{standing, spot}
-use Rattle.cw_serial.specs.Held.{root, IsPlace, Starts, ComesTo, want_at, awaited_at}
+use Rattle.cw_serial.specs.Held.{root, IsPlace, Starts, SettlesTo, want_at, awaited_at}
 use Rattle.cw_serial.proofs.Numbers.{turns_first}
 use Rattle.cw_serial.proofs.Waiting.{want_there, awaited_there}
 use Rattle.cw_serial.proofs.Joining.{place_is}
@@ -59,7 +59,7 @@ module _ {S A : Type 0} (s : Strands A) (state : S → A) (old new : Table S) (s
       let f : Stands strand ≡ Waits = sym starts.place ∙ (ap (λ (v : Row S). v.place) same ∙ w.waits) in
       cc
 
-  pub root_comes : ComesTo s state new (0 ∷ []) (goes_on s 0 a)
+  pub root_comes : SettlesTo s state new (0 ∷ []) (goes_on s 0 a)
   root_comes = record {
     tree = stands 0 a;
     holds = record {

@@ -214,7 +214,7 @@ module _ {S A : Type 0} (s : Strands A) (state : S → A) where
     pub join : (i : ℕ) (x : Sides) → awaited_at rows i ≡ Some x → over_at rows x.left ≡ true → over_at rows x.right ≡ true → Contains todo x.left ⊎ Contains todo x.right
 
   -- The strands in memory are those of a tree that comes to t, once these numbers are looked at.
-  pub record ComesTo (table : Table S) (todo : List ℕ) (t : StrandTree A) : Type 0 where
+  pub record SettlesTo (table : Table S) (todo : List ℕ) (t : StrandTree A) : Type 0 where
     pub tree : StrandTree A
     pub holds : Holds state table tree
     pub comes : settle s tree ≡ t

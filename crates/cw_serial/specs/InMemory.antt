@@ -76,6 +76,6 @@ pub record IsDone (w : Want) (n : ℕ) (old : Code) (given : Given) (new : Code)
   pub strands : new.strands ≡ old.strands
 
 -- a want of that strand was done; or it cannot be done, and nothing changed
-abbrev pub Does : Want → ℕ → Code → Option Given → Code → Type 0
-Does w n old (Some given) new = IsDone w n old given new
-Does w n old None new = (begun_after w n old.begun ≡ None) × (new ≡ old)
+abbrev pub DoesWant : Want → ℕ → Code → Option Given → Code → Type 0
+DoesWant w n old (Some given) new = IsDone w n old given new
+DoesWant w n old None new = (begun_after w n old.begun ≡ None) × (new ≡ old)

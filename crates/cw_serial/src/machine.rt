@@ -38,7 +38,7 @@ impl<'a> Machine<'a> {
     ghost use Rattle.cw_serial.specs.MachineOf.{machine_of};
     ghost use Rattle.cw_serial.specs.Held.{IsFront, started_at};
     ghost use Rattle.cw_serial.specs.Orders.{IsNamed, at_named};
-    ghost use Rattle.cw_serial.specs.InMemory.{IsMachine, names_in, AreNames, Picks, Does, want_before_end};
+    ghost use Rattle.cw_serial.specs.InMemory.{IsMachine, names_in, AreNames, Picks, DoesWant, want_before_end};
 
     /// The machine before the first pick. More than 4,294,967,295 strands, whose numbers no name can give, are answered as want of
     /// memory, here and at each pick.
@@ -177,7 +177,7 @@ impl<'a> Machine<'a> {
 
     /// Does what a strand wants, where that can be done, and answers what the strand is given.
     fn do_want(&mut self, strand: u32, want: Want) -> Result<Option<Given>, OutOfMemory>
-        ensures { IfOk result (λ given. Does want strand self.old given self.new) }
+        ensures { IfOk result (λ given. DoesWant want strand self.old given self.new) }
     {
         match want {
             Want::Load(element) => {

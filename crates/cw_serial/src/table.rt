@@ -141,7 +141,7 @@ impl<'a> Table<Strand<'a>> {
     ghost use Rattle.cw_serial.specs.Room.Strands.{StrandState, job_of, state_of, strands_of};
     ghost use Rattle.cw_serial.specs.StrandTree.{StrandTree, goes_on};
     ghost use Rattle.cw_serial.specs.Spots.{IsSettled};
-    ghost use Rattle.cw_serial.specs.Held.{Answers, answers_by, Moves, ComesTo, Holds, IsFront, want_at, over_at};
+    ghost use Rattle.cw_serial.specs.Held.{Answers, answers_by, Moves, SettlesTo, Holds, IsFront, want_at, over_at};
 
     /// The strand of main alone, with its forks made.
     pub fn of_main(alloc: Global, by: &Interpreter<'a>) -> Result<Table<Strand<'a>>, OutOfMemory>
@@ -207,7 +207,7 @@ impl<'a> Table<Strand<'a>> {
         by: &Interpreter<'a>,
     ) -> Result<(), OutOfMemory>
         ensures strands { OnOk result ((t : StrandTree StrandState) →
-            ComesTo (strands_of (job_of by.now)) state_of self.old (number ∷ []) t →
+            SettlesTo (strands_of (job_of by.now)) state_of self.old (number ∷ []) t →
             Holds state_of self.new t × IsSettled (strands_of (job_of by.now)) t) }
         ensures names { OnOk result (IsFront self.old.names.items self.new.names.items) }
     {

@@ -18,7 +18,7 @@ use Rattle.cw_top.specs.declared.outcome.Note.{Note}
 use Rattle.cw_top.specs.declared.outcome.Note.TheVariants as note
 use Rattle.cw_top.specs.Refusals.{refusal}
 use Rattle.cw_top.specs.Texts.{end_text, finished_text}
-use Rattle.cw_top.specs.Outcome.{Accepts, ComesTo, HasCause, IsMisused, IsRefusedFor, IsRunOf, IsStatus, Writes, WritesEndOfOneMemory, end_of_one_memory, status_of_end}
+use Rattle.cw_top.specs.Outcome.{Accepts, MayEndWith, HasCause, IsMisused, IsRefusedFor, IsRunOf, IsStatus, Writes, WritesEndOfOneMemory, end_of_one_memory, status_of_end}
 
 -- words that are no command come to status 2
 of_none : (kept : Option Record) (status : ℕ) (n : Note) → n ≡ note.Usage → IsStatus kept status n → status ≡ 2
@@ -87,7 +87,7 @@ not_refused : (left : Option (List ℕ)) (n : Note) → IsSomeAnd left (λ bytes
 not_refused None n h why = h
 not_refused (Some bytes) n h why = cc
 
-pub complete : (command : Option Command) (kept : Option Record) (status : ℕ) (n : Note) (left : Option (List ℕ)) (r w : Type 0) → IsStatus kept status n → HasCause command n left r w → IfSome kept (IsRunOf command left) → Accepts command left → (r → ⊥) → (w → ⊥) → ComesTo command status
+pub complete : (command : Option Command) (kept : Option Record) (status : ℕ) (n : Note) (left : Option (List ℕ)) (r w : Type 0) → IsStatus kept status n → HasCause command n left r w → IfSome kept (IsRunOf command left) → Accepts command left → (r → ⊥) → (w → ⊥) → MayEndWith command status
 complete None kept status n left r w is cause run accepted no_r no_w = of_none kept status n cause is
 complete (Some (Run ws ls)) None status note.Nothing left r w is cause run accepted no_r no_w = absurd is
 complete (Some (Run ws ls)) (Some x) status note.Nothing left r w is cause run accepted no_r no_w = ended x.end status run.done.ended is

@@ -172,6 +172,6 @@ IsMisused None left = Unit {0}
 IsMisused (Some (Run words limits)) left = ⊥
 
 -- the statuses that a command comes to, where it accepts the source and neither a read nor a write fails
-abbrev pub ComesTo : Option Command → ℕ → Type 0
-ComesTo None status = status ≡ 2
-ComesTo (Some (Run words limits)) status = (status ≡ 0) ⊎ (status ≡ 6) ⊎ (status ≡ 1)
+abbrev pub MayEndWith : Option Command → ℕ → Type 0
+MayEndWith None status = status ≡ 2
+MayEndWith (Some (Run words limits)) status = (status ≡ 0) ⊎ (status ≡ 6) ⊎ (status ≡ 1)

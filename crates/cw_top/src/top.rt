@@ -6,7 +6,7 @@ ghost use Rattle.cw_top.specs.declared.command.Command.TheVariants.{Run};
 ghost use Rattle.cw_top.specs.declared.reasons.NoRun.TheVariants.{Stopped};
 ghost use Rattle.cw_top.specs.declared.reasons.Stop.TheVariants.{ReadFault};
 ghost use Rattle.cw_top.specs.declared.reasons.NotWritten.TheVariants.{OutOfMemory, WriteFault};
-ghost use Rattle.cw_top.specs.Outcome.{Accepts, ComesTo, HasCause, IsMisused, IsRefusedFor, IsRunOf, IsStatus, ReadsWhole, TakesAtMost, Writes, WritesEndOfOneMemory, most_bytes, most_read, status_of_end};
+ghost use Rattle.cw_top.specs.Outcome.{Accepts, MayEndWith, HasCause, IsMisused, IsRefusedFor, IsRunOf, IsStatus, ReadsWhole, TakesAtMost, Writes, WritesEndOfOneMemory, most_bytes, most_read, status_of_end};
 ghost use Rattle.cw_top.specs.Reasons.{WhyNoRun, note_of};
 ghost use Rattle.cw_top.specs.Texts.{run_text};
 ghost use Rattle.cw_top.specs.Words.{command_in};
@@ -178,7 +178,7 @@ pub fn cwstm<R: Threads + Wait + Sync, S: Source, K: Sink, G: Gate>(
     ensures refused { result.status ≡ 5 → IsRefusedFor result.note (S.left source.old) }
     ensures complete { Accepts (command_in words.now) (S.left source.old)
         → (Rose (S.faults source.old) (S.faults source.new) → ⊥) → (Rose (K.faults sink.old) (K.faults sink.new) → ⊥)
-        → ComesTo (command_in words.now) result.status }
+        → MayEndWith (command_in words.now) result.status }
 
     // What is kept is a run of the command, and one memory does the same.
     ensures run { IfSome result.kept (IsRunOf (command_in words.now) (S.left source.old)) }

@@ -41,8 +41,8 @@ abbrev pub Steps : Interpreter → Work → Outcome → Work → Type 0
 Steps by old o new = step by.program.now.cells (state_with old) ≡ came_to o new
 
 -- This task, which was the nearest, was done, where the cells are these.
-abbrev pub Does : List CellInfo → Work → Task → Outcome → Work → Type 0
-Does cells old t o new = step cells (record (state_with old) { todo = t ∷ tasks_of old }) ≡ came_to o new
+abbrev pub DoesTask : List CellInfo → Work → Task → Outcome → Work → Type 0
+DoesTask cells old t o new = step cells (record (state_with old) { todo = t ∷ tasks_of old }) ≡ came_to o new
 
 -- All was done that the strand does by itself, and then it stands at this want.
 abbrev pub Stands : Interpreter → Work → Want → Work → Type 0

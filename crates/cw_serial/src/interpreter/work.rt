@@ -54,7 +54,7 @@ pub struct Work<'a> {
 }
 
 impl<'a> Work<'a> {
-    ghost use Rattle.cw_serial.specs.Room.Works.{Steps, Does, Stands, came_to, state_with, task_of, tasks_of};
+    ghost use Rattle.cw_serial.specs.Room.Works.{Steps, DoesTask, Stands, came_to, state_with, task_of, tasks_of};
 
     /// What a strand has to do that does a block, with these locals.
     pub fn new(
@@ -113,7 +113,7 @@ impl<'a> Work<'a> {
 
     /// Does a task that was the nearest.
     fn act(&mut self, task: Task<'a>, by: &Interpreter<'_>) -> Result<Outcome, OutOfMemory>
-        ensures { IfOk result (λ o. Does by.now.program.now.cells self.old (task_of task.entry) o self.new) }
+        ensures { IfOk result (λ o. DoesTask by.now.program.now.cells self.old (task_of task.entry) o self.new) }
     {
         match task {
             Task::Value(of) => self.value(of, by),
@@ -132,7 +132,7 @@ impl<'a> Work<'a> {
 
     /// The value of an expression, or what gives it.
     fn value(&mut self, of: &'a Expr, by: &Interpreter<'_>) -> Result<Outcome, OutOfMemory>
-        ensures { IfOk result (λ o. Does by.now.program.now.cells self.old (value (term_of of.now)) o self.new) }
+        ensures { IfOk result (λ o. DoesTask by.now.program.now.cells self.old (value (term_of of.now)) o self.new) }
     {
         match of {
             Expr::Number(n) => self.values.push(*n)?,
@@ -183,7 +183,7 @@ impl<'a> Work<'a> {
 
     /// An operator of one operand takes it.
     fn apply_one(&mut self, op: Op) -> Result<Outcome, OutOfMemory>
-        ensures { IfOk result (λ o. (cells : List CellInfo) → Does cells self.old (apply_one op) o self.new) }
+        ensures { IfOk result (λ o. (cells : List CellInfo) → DoesTask cells self.old (apply_one op) o self.new) }
     {
         let Some(x) = self.values.pop() else {
             return Ok(Outcome::Wants(Want::Done));
@@ -193,7 +193,7 @@ impl<'a> Work<'a> {
 
     /// An operator of two operands takes them.
     fn apply_two(&mut self, op: Op) -> Result<Outcome, OutOfMemory>
-        ensures { IfOk result (λ o. (cells : List CellInfo) → Does cells self.old (apply_two op) o self.new) }
+        ensures { IfOk result (λ o. (cells : List CellInfo) → DoesTask cells self.old (apply_two op) o self.new) }
     {
         let Some(y) = self.values.pop() else {
             return Ok(Outcome::Wants(Want::Done));
@@ -219,7 +219,7 @@ impl<'a> Work<'a> {
 
     /// The first statement is replaced by its parts.
     fn perform(&mut self, block: &'a [Stmt]) -> Result<Outcome, OutOfMemory>
-        ensures { IfOk result (λ o. (cells : List CellInfo) → Does cells self.old (perform (block_of block.now)) o self.new) }
+        ensures { IfOk result (λ o. (cells : List CellInfo) → DoesTask cells self.old (perform (block_of block.now)) o self.new) }
     {
         let [first, rest @ ..] = block else {
             return Ok(Outcome::On);
@@ -279,7 +279,7 @@ impl<'a> Work<'a> {
 
     /// A new local.
     fn bind(&mut self, name: &'a str) -> Result<Outcome, OutOfMemory>
-        ensures { IfOk result (λ o. (cells : List CellInfo) → Does cells self.old (bind name.now) o self.new) }
+        ensures { IfOk result (λ o. (cells : List CellInfo) → DoesTask cells self.old (bind name.now) o self.new) }
     {
         let Some(first) = self.values.pop() else {
             return Ok(Outcome::Wants(Want::Done));
@@ -290,7 +290,7 @@ impl<'a> Work<'a> {
 
     /// A name gets a value.
     fn store_in(&mut self, name: &'a str, by: &Interpreter<'_>) -> Result<Outcome, OutOfMemory>
-        ensures { IfOk result (λ o. Does by.now.program.now.cells self.old (store_in name.now) o self.new) }
+        ensures { IfOk result (λ o. DoesTask by.now.program.now.cells self.old (store_in name.now) o self.new) }
     {
         let Some(value) = self.values.pop() else {
             return Ok(Outcome::Wants(Want::Done));
@@ -307,7 +307,7 @@ impl<'a> Work<'a> {
 
     /// A value is shown.
     fn show(&mut self) -> Outcome
-        ensures { (cells : List CellInfo) → Does cells self.old show result self.new }
+        ensures { (cells : List CellInfo) → DoesTask cells self.old show result self.new }
     {
         match self.values.pop() {
             None => Outcome::Wants(Want::Done),
@@ -317,7 +317,7 @@ impl<'a> Work<'a> {
 
     /// The locals of a block are gone.
     fn forget(&mut self, count: usize) -> Result<Outcome, OutOfMemory>
-        ensures { IfOk result (λ o. (cells : List CellInfo) → Does cells self.old (forget count) o self.new) }
+        ensures { IfOk result (λ o. (cells : List CellInfo) → DoesTask cells self.old (forget count) o self.new) }
     {
         self.locals.forget(count)?;
         Ok(Outcome::On)
@@ -325,7 +325,7 @@ impl<'a> Work<'a> {
 
     /// The innermost scope goes on, or waits for its newest fork.
     fn wait(&mut self) -> Result<Outcome, OutOfMemory>
-        ensures { IfOk result (λ o. (cells : List CellInfo) → Does cells self.old wait o self.new) }
+        ensures { IfOk result (λ o. (cells : List CellInfo) → DoesTask cells self.old wait o self.new) }
     {
         let Some(forks) = self.scopes.pop() else {
             return Ok(Outcome::On);
@@ -341,7 +341,7 @@ impl<'a> Work<'a> {
 
     /// An atomic block ends.
     fn commit(&mut self) -> Outcome
-        ensures { (cells : List CellInfo) → Does cells self.old commit result self.new }
+        ensures { (cells : List CellInfo) → DoesTask cells self.old commit result self.new }
     {
         self.scopes.pop();
         Outcome::Wants(Want::End)
@@ -349,7 +349,7 @@ impl<'a> Work<'a> {
 
     /// The strand has come to its end, and stays there.
     fn finish(&mut self) -> Result<Outcome, OutOfMemory>
-        ensures { IfOk result (λ o. (cells : List CellInfo) → Does cells self.old finish o self.new) }
+        ensures { IfOk result (λ o. (cells : List CellInfo) → DoesTask cells self.old finish o self.new) }
     {
         self.todo.push(Task::Finish)?;
         Ok(Outcome::Wants(Want::Done))

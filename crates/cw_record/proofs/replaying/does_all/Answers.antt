@@ -7,7 +7,7 @@ use Rattle.cw_serial.specs.MachineOf.{machine_of}
 use Rattle.cw_serial.specs.Orders.{IsPlay}
 use Rattle.cw_record.specs.Records.{job_of}
 use Rattle.cw_record.specs.Replay.{IsItem}
-use Rattle.cw_record.specs.Replaying.{Does, WantsRefused}
+use Rattle.cw_record.specs.Replaying.{ItemsAreDone, WantsRefused}
 use Rattle.cw_record.proofs.Replayed.{all, stands_first, all_listed, listed_at, item_there, other_want, no_pick, does_item, all_done}
 use Rattle.cw_record.proofs.replaying.does_all.Goals as goal
 
@@ -67,4 +67,4 @@ returns c =
     let listed = all_listed r c.from_vec-items.ensures c.in_ok-items.ensures c.as_slice.ensures in
     let past : length (all r) ≤ c.loop-place.place = omega (arith, ap length listed, c.len-place-end.ensures) in
     let ends = all_done r c.nodes.ensures.numbered c.requires.order c.requires.strand c.loop-place.play c.loop-place.place past stands c.in_ok-want-2.want (c.in_ok-want-2.ensures.want (job_of r) r.order.names stands.machine stands.is) in
-    IfOk-weaker c.is_spent.result (λ b. IsTrue b ↔ WantsRefused r r.end c.in_ok-want-2.want) (λ b. IsTrue b ↔ Does r) (λ b e. (λ h. ends.0 (e.0 h), λ h. e.1 (ends.1 h))) c.is_spent.ensures
+    IfOk-weaker c.is_spent.result (λ b. IsTrue b ↔ WantsRefused r r.end c.in_ok-want-2.want) (λ b. IsTrue b ↔ ItemsAreDone r) (λ b e. (λ h. ends.0 (e.0 h), λ h. e.1 (ends.1 h))) c.is_spent.ensures

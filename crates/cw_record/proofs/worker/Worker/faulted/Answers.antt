@@ -17,17 +17,17 @@ loop-branch-preserved-after-branch c =
     let rest = rest_there (length c.loop-branch.drawing.tree) c.loop-branch.branches c.pop.new.self c.in-Some.branch c.in-Some.ensures there in
     elim c.match-branch.branch [
       | in-Left+in_ok-starts-in-Left w ↦
-          let is = ap (λ d. d.tree) w.drawing-is ∙ w.in_ok-starts-in-Left.ensures.tree in (
+          let is = ap (λ d. d.tree) w.drawing-is ∙ ap (λ d. d.tree) w.in_ok-starts-in-Left.ensures in (
             ap (λ t. with_strands t (unstarted c.pop.new.self)) is
                 ∙ (one_unstarted c.loop-branch.drawing.tree w.in-Left.fork (unstarted c.pop.new.self)
                 ∙ (ap (λ bs. with_strands c.loop-branch.drawing.tree (unstarted bs)) (sym (c.in-Some.ensures ∙ ap (λ b. b ∷ c.pop.new.self) w.in-Left.is)) ∙ c.loop-branch.invariant.0)),
-            ap (λ d. d.journals) w.drawing-is ∙ (w.in_ok-starts-in-Left.ensures.journals ∙ c.loop-branch.invariant.1),
+            ap (λ d. d.journals.items) w.drawing-is ∙ (ap (λ d. d.journals) w.in_ok-starts-in-Left.ensures ∙ c.loop-branch.invariant.1),
             more_there (length c.loop-branch.drawing.tree) (length c.match-branch.drawing.tree) c.pop.new.self (omega (arith, ap length is, length_more c.loop-branch.drawing.tree (fresh_node w.in-Left.fork Strand 0))) rest,
           )
       | in-Right w ↦ (
         ap (λ d. with_strands d.tree (unstarted c.pop.new.self)) w.drawing-is
             ∙ (ap (λ bs. with_strands c.loop-branch.drawing.tree (unstarted bs)) (sym (c.in-Some.ensures ∙ ap (λ b. b ∷ c.pop.new.self) w.in-Right.is)) ∙ c.loop-branch.invariant.0),
-        ap (λ d. d.journals) w.drawing-is ∙ c.loop-branch.invariant.1,
+        ap (λ d. d.journals.items) w.drawing-is ∙ c.loop-branch.invariant.1,
         more_there (length c.loop-branch.drawing.tree) (length c.match-branch.drawing.tree) c.pop.new.self (omega (arith, ap (λ d. length d.tree) w.drawing-is)) rest,
       )
     ]

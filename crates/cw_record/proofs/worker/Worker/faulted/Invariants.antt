@@ -8,7 +8,7 @@ use Rattle.cw_record.proofs.worker.Worker.faulted.Given as goal
 abbrev pub invariant-loop-branch : goal.invariant-loop-branch
 invariant-loop-branch l =
     (l.drawing.tree ++ map (λ f. fresh_node f Strand 0) (unstarted l.branches) ≡ l.fn.self.drawing.tree ++ map (λ f. fresh_node f Strand 0) (unstarted l.fn.self.branches))
-    × (l.drawing.journals ≡ l.fn.self.drawing.journals)
+    × (l.drawing.journals.items ≡ l.fn.self.drawing.journals.items)
     × All (λ f. f < length l.drawing.tree) (unstarted l.branches)
 
 abbrev pub decreases-loop-branch : goal.decreases-loop-branch

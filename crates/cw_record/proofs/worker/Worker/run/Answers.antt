@@ -1,4 +1,3 @@
-use Rattle.std.proofs.Common.{ap}
 use Rattle.cw_record.specs.Worked.{unstarted}
 use Rattle.cw_record.proofs.Conditions.{wanted_by, over_by, answered_by}
 use Rattle.cw_record.proofs.Leaving.{runs_first}
@@ -9,7 +8,7 @@ use Rattle.cw_record.proofs.worker.Worker.run.Goals as goal
 pub wants-init : goal.wants-init
 wants-init c =
     let e = c.in_ok-worker.ensures in
-    runs_first _ c.in_ok-worker.worker e.job e.memory e.outputs e.tree e.place e.clock e.journals e.strand e.branches
+    runs_first _ c.in_ok-worker.worker e.job e.memory e.outputs e.drawing e.strand e.branches
 
 -- ## A fork
 
@@ -17,17 +16,17 @@ pub fork-requires-clause-wanted : goal.fork-requires-clause-wanted
 fork-requires-clause-wanted c = wanted_by c.wants.worker c.want.ensures c.in-Fork.is
 
 pub fork-requires-clause-there : goal.fork-requires-clause-there
-fork-requires-clause-there c = let (w, r) = c.wants.invariant in r.built.there
+fork-requires-clause-there c = let (w, r) = c.wants.invariant in r.draws.built.there
 
 pub wants-preserved-in-Continue-branch-2 : goal.wants-preserved-in-Continue-branch-2
 wants-preserved-in-Continue-branch-2 c =
     let e = c.in_ok-fork-in-Fork.ensures in
-    (fork_run c.wants.invariant.1 c.requires.named c.requires.params e.keeps (wanted_by c.wants.worker c.want.ensures c.in-Fork.is) e.clock e.tree e.place e.left e.right).0
+    (fork_run c.wants.invariant.1 c.requires.named c.requires.params e.keeps (wanted_by c.wants.worker c.want.ensures c.in-Fork.is) e.drawing e.left e.right).0
 
 pub wants-smaller-in-Continue-branch-2 : goal.wants-smaller-in-Continue-branch-2
 wants-smaller-in-Continue-branch-2 c =
     let e = c.in_ok-fork-in-Fork.ensures in
-    (fork_run c.wants.invariant.1 c.requires.named c.requires.params e.keeps (wanted_by c.wants.worker c.want.ensures c.in-Fork.is) e.clock e.tree e.place e.left e.right).1
+    (fork_run c.wants.invariant.1 c.requires.named c.requires.params e.keeps (wanted_by c.wants.worker c.want.ensures c.in-Fork.is) e.drawing e.left e.right).1
 
 -- ## The end of a strand
 
@@ -47,31 +46,29 @@ join-requires-clause-ended c = over_by c.wants.worker c.want.ensures c.in-Sync.i
 pub wants-preserved-in-Continue-branch-3 : goal.wants-preserved-in-Continue-branch-3
 wants-preserved-in-Continue-branch-3 c =
     let e = c.in_ok-turn-in-Some-Left.ensures in
-    (turn_run c.wants.invariant.1 c.requires.named c.requires.params c.in-Some-Left.ensures (over_by c.wants.worker c.want.ensures c.in-Sync.is) e.keeps c.in-Some-Left.field-0-is e.clock e.tree e.place e.strand e.branches).0
+    (turn_run c.wants.invariant.1 c.requires.named c.requires.params c.in-Some-Left.ensures (over_by c.wants.worker c.want.ensures c.in-Sync.is) e.keeps c.in-Some-Left.field-0-is e.drawing e.strand e.branches).0
 
 pub wants-smaller-in-Continue-branch-3 : goal.wants-smaller-in-Continue-branch-3
 wants-smaller-in-Continue-branch-3 c =
     let e = c.in_ok-turn-in-Some-Left.ensures in
-    (turn_run c.wants.invariant.1 c.requires.named c.requires.params c.in-Some-Left.ensures (over_by c.wants.worker c.want.ensures c.in-Sync.is) e.keeps c.in-Some-Left.field-0-is e.clock e.tree e.place e.strand e.branches).1
+    (turn_run c.wants.invariant.1 c.requires.named c.requires.params c.in-Some-Left.ensures (over_by c.wants.worker c.want.ensures c.in-Sync.is) e.keeps c.in-Some-Left.field-0-is e.drawing e.strand e.branches).1
 
 pub wants-preserved-in-Continue-branch-4 : goal.wants-preserved-in-Continue-branch-4
 wants-preserved-in-Continue-branch-4 c =
     let e = c.in_ok-join-in-Some-Right.ensures in
-    (join_run c.wants.invariant.1 c.requires.named c.requires.params c.in-Some-Right.ensures (over_by c.wants.worker c.want.ensures c.in-Sync.is) e.keeps c.in-Some-Right.field-0-is
-    (ap (λ d. d.clock) e.drawing) (ap (λ d. d.tree) e.drawing) (ap (λ d. d.place) e.drawing) e.branches e.strand).0
+    (join_run c.wants.invariant.1 c.requires.named c.requires.params c.in-Some-Right.ensures (over_by c.wants.worker c.want.ensures c.in-Sync.is) e.keeps c.in-Some-Right.field-0-is e.drawing e.branches e.strand).0
 
 pub wants-smaller-in-Continue-branch-4 : goal.wants-smaller-in-Continue-branch-4
 wants-smaller-in-Continue-branch-4 c =
     let e = c.in_ok-join-in-Some-Right.ensures in
-    (join_run c.wants.invariant.1 c.requires.named c.requires.params c.in-Some-Right.ensures (over_by c.wants.worker c.want.ensures c.in-Sync.is) e.keeps c.in-Some-Right.field-0-is
-    (ap (λ d. d.clock) e.drawing) (ap (λ d. d.tree) e.drawing) (ap (λ d. d.place) e.drawing) e.branches e.strand).1
+    (join_run c.wants.invariant.1 c.requires.named c.requires.params c.in-Some-Right.ensures (over_by c.wants.worker c.want.ensures c.in-Sync.is) e.keeps c.in-Some-Right.field-0-is e.drawing e.branches e.strand).1
 
 -- ## A fault
 
 pub faulted-requires-clause-forks : goal.faulted-requires-clause-forks
 faulted-requires-clause-forks c =
     let (w, r) = c.wants.invariant in
-    to_come_there c.wants.worker.drawing.tree (unstarted c.wants.worker.branches) r.shape
+    to_come_there c.wants.worker.drawing.tree (unstarted c.wants.worker.branches) r.draws.shape
 
 pub returns-in-Fault : goal.returns-in-Fault
 returns-in-Fault c =
@@ -82,18 +79,16 @@ returns-in-Fault c =
 pub act-requires : goal.act-requires
 act-requires c =
     let (w, r) = c.wants.invariant in
-    record { there = r.built.there; answered = answered_by c.wants.worker c.want.ensures c.in-Load.is; block = end_at_block r c.requires.named c.requires.params }
+    record { there = r.draws.built.there; answered = answered_by c.wants.worker c.want.ensures c.in-Load.is; block = end_at_block r c.requires.named c.requires.params }
 
 pub wants-preserved : goal.wants-preserved
 wants-preserved c =
     let e = c.in_ok-act-in-Load.ensures in
     (act_run c.wants.invariant.1 c.requires.named c.requires.params c.act.new.self (answered_by c.wants.worker c.want.ensures c.in-Load.is)
-    (record { interpreter = e.interpreter; branches = e.branches; memory = e.memory; outputs = e.outputs; clock = e.clock; tree = e.tree; place = e.place; journals = e.journals })
-    e.strand).0
+    (record { interpreter = e.interpreter; branches = e.branches; memory = e.memory; outputs = e.outputs; drawing = e.drawing; strand = e.strand })).0
 
 pub wants-smaller : goal.wants-smaller
 wants-smaller c =
     let e = c.in_ok-act-in-Load.ensures in
     (act_run c.wants.invariant.1 c.requires.named c.requires.params c.act.new.self (answered_by c.wants.worker c.want.ensures c.in-Load.is)
-    (record { interpreter = e.interpreter; branches = e.branches; memory = e.memory; outputs = e.outputs; clock = e.clock; tree = e.tree; place = e.place; journals = e.journals })
-    e.strand).1
+    (record { interpreter = e.interpreter; branches = e.branches; memory = e.memory; outputs = e.outputs; drawing = e.drawing; strand = e.strand })).1

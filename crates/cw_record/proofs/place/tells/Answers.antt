@@ -2,7 +2,7 @@ use Rattle.std.proofs.Common.{arith, ap, sym, ◌∙◌, nat_eq, length}
 use Rattle.cw_tree.specs.Series.{strand_of}
 use Rattle.cw_record.proofs.Scans.{table_len, table_at}
 use Rattle.cw_record.proofs.Tells.{tells_block}
-use Rattle.cw_record.proofs.place.names_strand.Goals as goal
+use Rattle.cw_record.proofs.place.tells.Goals as goal
 
 pub bounds-strands-block : goal.bounds-strands-block
 bounds-strands-block c = omega (arith, table_len (strand_of c.args.tree.now) c.args.strands.now (length c.args.tree.now) c.requires.strands, c.in-Some.ensures.there)
