@@ -38,8 +38,8 @@ replayed_variant (last.Fault name kind) = 1
 replayed_variant (last.At name) = 2
 replayed_variant (last.Stuck place) = 4
 
--- The variant that a replay came to. Where that says nothing against the kept end 4 stands for it; of a run whose moves were used up it
--- never does.
+-- The variant that a replay came to, or 4 where that is the variant of the kept end, too, and so tells nothing. Of a run whose moves were
+-- used up it is always 4.
 abbrev pub other_variant : RecordEnd → SerialEnd → ℕ
 other_variant Moves e = 4
 other_variant kept e = if variant kept == replayed_variant e then 4 else replayed_variant e

@@ -1,4 +1,4 @@
--- What a coherent record is: what the record of any run is, also where strands ran at the same time, were refused and rolled back.
+-- What a coherent record is: what the record of any run has to be, also where strands ran at the same time, were refused and rolled back.
 --
 -- Tree, stamps, journals and refusals are as they have to be; and the tree is what the strands of the program did. For that each node has
 -- the state of its strand before it and the one after it, and a strand or block also the state that was reached in it.

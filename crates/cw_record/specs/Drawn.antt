@@ -1,4 +1,4 @@
--- What one worker draws of its run, and what each step adds to it.
+-- What one worker draws of its run, and what each step makes of it.
 use Rattle.std.specs.Prelude.{ℕ, ℤ, ◌+◌, Bool, true, false, List, [], ◌∷◌, ◌++◌, length, replicate, slice_get, slice_set, Option, Some, None}
 use Rattle.cw_tree.specs.declared.node.Node.{Node}
 use Rattle.cw_tree.specs.declared.node.Kind.{Kind}

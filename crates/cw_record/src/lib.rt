@@ -1,10 +1,10 @@
 //! What a run keeps: its tree, its journals, its order and its end; and the run of one worker.
 //! Stands on `cw_base`, `cw_code`, `cw_text`, `cw_strand`, `cw_tree` and `cw_serial`.
 //! Contracts cite `specs/Order.antt` (the order of a record, from `specs/Items.antt` and `specs/Listed.antt`), `specs/Replay.antt` (that
-//! one memory does what a record says), `specs/Checking.antt` (what a check says), `specs/Records.antt` (the run of one worker), and `specs/WorkedRecord.antt` with
-//! `specs/Coherent.antt` (a record that is coherent). Private ones cite `specs/Levels.antt` (how
-//! items are found), `specs/Walked.antt` (what the passes over a tree find), `specs/Drawn.antt` (what a step adds to the tree) and
-//! `specs/Worked.antt` (what one worker holds).
+//! one memory does what a record says), `specs/Checking.antt` (what a check says), `specs/Records.antt` (the run of one worker), and
+//! `specs/WorkedRecord.antt` with `specs/Coherent.antt` (a record that is coherent). Private ones cite `specs/Levels.antt` (how items are
+//! found), `specs/Walked.antt` (what the passes over a tree find), `specs/Replaying.antt` (what a check finds, step by step),
+//! `specs/Drawn.antt` (what each step makes of the tree and the journals) and `specs/Worked.antt` (what one worker holds).
 #![tactic(auto)]
 
 ghost use Rattle.cw_record.specs.WorkedRecord.{Coherent};

@@ -2,9 +2,10 @@
 //! Stands on `cw_base`, `cw_text`, `cw_code`, `cw_strand` and `cw_tree`.
 //! Contracts cite `specs/Jobs.antt` (what is run), `specs/Room/Strands.antt` (its strands, which all else knows by their law alone),
 //! `specs/StrandTree.antt`, `specs/Wants.antt` and `specs/Machine.antt` (the machine, over any strands), `specs/MachineOf.antt` (that of
-//! a job), `specs/Programs.antt` (what a checked program is), `specs/InMemory.antt` with `specs/Held.antt` and `specs/Spots.antt` (what the
-//! machine in memory stands for), and `specs/Orders.antt` (the strands that an order names). Private ones cite `specs/NamingRules`
-//! (names and what items declare), `specs/Named.antt` (names in memory) and the rest of `specs/Room` (work and tasks).
+//! a job), `specs/Forks.antt` (how forks and joins are made), `specs/Programs.antt` (what a checked program is), `specs/InMemory.antt`
+//! with `specs/Held.antt` and `specs/Spots.antt` (what the machine in memory stands for), and `specs/Orders.antt` (the strands that an
+//! order names). Private ones cite `specs/NamingRules` (names and what items declare), `specs/Named.antt` (names in memory) and the rest
+//! of `specs/Room` (work and tasks).
 #![tactic(auto)]
 
 ghost use Rattle.cw_serial.specs.Forks.{ForksAreMade};

@@ -72,11 +72,14 @@ pub record State : Type 0 where
   pub beside : Block
 
 -- One step of a strand: it goes on by itself, or it wants something, and has this state then. From there it goes on once it is
--- answered; as the right strand of the fork that it wants; or, at a sync, as the strand that forked. A strand whose program has a
--- naming fault may have nothing to go on with: then it is done, too.
+-- answered; as the right strand of the fork that it wants; or, at a sync, as the strand that forked.
 pub data Step : Type 0 where
   on : State → Step
   wants : Want → State → Step
+
+-- A strand whose program has a naming fault may have nothing to go on with: then it is done, too, and has nothing left to do.
+abbrev pub gives_up : State → Step
+gives_up s = wants Done (record s { todo = [] })
 
 -- an operator's result, where these operands are left
 abbrev pub result : Result ℤ FaultKind → List ℤ → State → Step
@@ -87,12 +90,12 @@ result (Err k) vs s = wants (Fault k) (record s { values = vs })
 abbrev pub read_name : Option ℤ → Option ℕ → State → Step
 read_name (Some v) c s = on (record s { values = v ∷ s.values })
 read_name None (Some c) s = wants (Load c) (record s { values = pos 0 ∷ s.values })
-read_name None None s = wants Done s
+read_name None None s = gives_up s
 
 abbrev pub write_name : Option ℤ → Option ℕ → List ℕ → ℤ → State → Step
 write_name (Some old) c n v s = on (record s { locals = with_local s.locals n v })
 write_name None (Some c) n v s = wants (Store c v) s
-write_name None None n v s = wants Done s
+write_name None None n v s = gives_up s
 
 abbrev pub to_do : List Task → State → State
 to_do k s = record s { todo = k }
@@ -117,7 +120,7 @@ wait_in (suc n ∷ ns) k s = wants Sync (record s { todo = wait ∷ k; scopes = 
 wait_in ns k s = on (to_do k s)
 
 module _ (cells : List CellInfo) where
-  -- one task, the operands, and what is done after it; after one that lacks an operand the strand is done, with no operand left
+  -- one task, the operands, and what is done after it; at one that lacks an operand the strand gives up, with no operand left
   abbrev pub act : Task → List ℤ → List Task → State → Step
   act (value (number n)) vs k s = on (record s { todo = k; values = n ∷ vs })
   act (value (name w)) vs k s = read_name (local_of s.locals w.name) (element_of cells w.name) (record s { todo = k })
@@ -134,7 +137,7 @@ module _ (cells : List CellInfo) where
   act wait vs k s = wait_in s.scopes k s
   act commit vs k s = wants End (record s { todo = k; scopes = drop 1 s.scopes })
   act finish vs k s = wants Done s
-  act t vs k s = wants Done (record s { todo = k; values = [] })
+  act t vs k s = gives_up (record s { values = [] })
 
   abbrev pub step_of : List Task → State → Step
   step_of [] s = wants Done s

@@ -1,7 +1,7 @@
 -- Worked programs.
 use Rattle.std.specs.Prelude.{ℕ, zero, suc, ◌≡◌, List, [], ◌∷◌, codes, Result, Ok, Err, None, ℤ, pos, unwrap_or}
 use Rattle.cw_text.specs.declared.fault.TextFault.{TextFault}
-use Rattle.cw_text.specs.Syntax.{Declaration, empty}
+use Rattle.cw_text.specs.Syntax.{Declaration}
 use Rattle.cw_text.specs.Rows.{read}
 use Rattle.cw_code.specs.declared.FaultKind.TheVariants.{Overflow}
 use Rattle.cw_strand.specs.declared.naming.NameKind.TheVariants.{Unknown, Twice, NoMain, NotALocal}
@@ -11,7 +11,7 @@ use Rattle.cw_strand.specs.declared.want.Given.{Given}
 use Rattle.cw_strand.specs.declared.want.Given.TheVariants.{Nothing, Value}
 use Rattle.cw_strand.specs.Names as names
 use Rattle.cw_strand.specs.Strands.{Strands}
-use Rattle.cw_strand.specs.Meaning.{Standing, Task, perform, show, wait, finish, strands, body_at}
+use Rattle.cw_strand.specs.Meaning.{Standing, Task, finish, strands, body_at}
 
 abbrev pub tree : List ℕ → List Declaration
 tree text = given (read text) where
@@ -100,4 +100,4 @@ standing text given = let x = after_answers (strands_of_text text) given in (x.w
 abbrev pub Endings : Type 0
 Endings =
     (standing (codes "cell c; fn main() { let x = c; out x * x; }") (Nothing ∷ Value (pos 3) ∷ []) ≡ (Done, finish ∷ []))
-    × (standing (codes "fn main() { out x; }") [] ≡ (Done, show ∷ perform empty ∷ wait ∷ finish ∷ []))
+    × (standing (codes "fn main() { out x; }") [] ≡ (Done, []))

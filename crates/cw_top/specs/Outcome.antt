@@ -103,7 +103,7 @@ abbrev pub IsDoneAs : Command → Record → Type 0
 IsDoneAs (Run words limits) r = IsOfOneWorker r
 
 -- A run of this command: of its program, with its words and limits. One memory does the same in its order. What it did is a
--- computation tree, whose stamps differ and rise along it, and which has each access of each element, in its journal.
+-- computation tree, whose stamps differ and rise along it, and the journal of each element has the element's live accesses.
 pub record IsRunBy (c : Command) (left : Option (List ℕ)) (r : Record) : Type 0 where
   pub runs : Runs c left r.program
   pub program : IsProgramOf (tree_of r.program.ast) r.program

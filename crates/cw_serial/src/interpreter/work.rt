@@ -1,7 +1,7 @@
 ghost use Rattle.std.specs.Prelude.{◌≡◌, List, IfOk, OnOk, IsSome};
 ghost use Rattle.cw_code.specs.declared.CellInfo.{CellInfo};
 ghost use Rattle.cw_text.specs.Syntax.{atomic, spawn, term_of, statement_of, block_of};
-ghost use Rattle.cw_strand.specs.Meaning.{value, apply_one, apply_two, perform, bind, store_in, show, forget, wait, commit, finish, begins, begin_with, read_name, result as outcome_of, local_of, with_local, element_of, in_place};
+ghost use Rattle.cw_strand.specs.Meaning.{value, apply_one, apply_two, perform, bind, store_in, show, forget, wait, commit, finish, begins, begin_with, gives_up, read_name, result as outcome_of, local_of, with_local, element_of, in_place};
 
 use super::Interpreter;
 use super::operators::{one, two};
@@ -175,7 +175,7 @@ impl<'a> Work<'a> {
             return Ok(Outcome::On);
         }
         let Some(element) = by.elements.get(name) else {
-            return Ok(Outcome::Wants(Want::Done));
+            return Ok(self.give_up());
         };
         self.values.push(0)?;
         Ok(Outcome::Wants(Want::Load(element)))
@@ -186,7 +186,7 @@ impl<'a> Work<'a> {
         ensures { IfOk result (λ o. (cells : List CellInfo) → DoesTask cells self.old (apply_one op) o self.new) }
     {
         let Some(x) = self.values.pop() else {
-            return Ok(Outcome::Wants(Want::Done));
+            return Ok(self.give_up());
         };
         self.give(one(op, x))
     }
@@ -196,10 +196,10 @@ impl<'a> Work<'a> {
         ensures { IfOk result (λ o. (cells : List CellInfo) → DoesTask cells self.old (apply_two op) o self.new) }
     {
         let Some(y) = self.values.pop() else {
-            return Ok(Outcome::Wants(Want::Done));
+            return Ok(self.give_up());
         };
         let Some(x) = self.values.pop() else {
-            return Ok(Outcome::Wants(Want::Done));
+            return Ok(self.give_up());
         };
         self.give(two(op, x, y))
     }
@@ -282,7 +282,7 @@ impl<'a> Work<'a> {
         ensures { IfOk result (λ o. (cells : List CellInfo) → DoesTask cells self.old (bind name.now) o self.new) }
     {
         let Some(first) = self.values.pop() else {
-            return Ok(Outcome::Wants(Want::Done));
+            return Ok(self.give_up());
         };
         self.locals.bind(name, first)?;
         Ok(Outcome::On)
@@ -293,14 +293,14 @@ impl<'a> Work<'a> {
         ensures { IfOk result (λ o. DoesTask by.now.program.now.cells self.old (store_in name.now) o self.new) }
     {
         let Some(value) = self.values.pop() else {
-            return Ok(Outcome::Wants(Want::Done));
+            return Ok(self.give_up());
         };
         if self.local(name).is_some() {
             self.assign(name, value)?;
             return Ok(Outcome::On);
         }
         let Some(element) = by.elements.get(name) else {
-            return Ok(Outcome::Wants(Want::Done));
+            return Ok(self.give_up());
         };
         Ok(Outcome::Wants(Want::Store(element, value)))
     }
@@ -310,7 +310,7 @@ impl<'a> Work<'a> {
         ensures { (cells : List CellInfo) → DoesTask cells self.old show result self.new }
     {
         match self.values.pop() {
-            None => Outcome::Wants(Want::Done),
+            None => self.give_up(),
             Some(value) => Outcome::Wants(Want::Out(value)),
         }
     }
@@ -345,6 +345,14 @@ impl<'a> Work<'a> {
     {
         self.scopes.pop();
         Outcome::Wants(Want::End)
+    }
+
+    /// There is nothing to go on with, and nothing is left to do.
+    fn give_up(&mut self) -> Outcome
+        ensures { came_to result self.new ≡ gives_up (state_with self.old) }
+    {
+        'tasks: while self.todo.pop().is_some() {}
+        Outcome::Wants(Want::Done)
     }
 
     /// The strand has come to its end, and stays there.
