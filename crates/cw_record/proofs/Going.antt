@@ -19,7 +19,7 @@ use Rattle.cw_record.specs.declared.worker.Branch.{Branch as Held}
 use Rattle.cw_record.specs.declared.worker.Branch.TheVariants.{Left, Right}
 use Rattle.cw_record.specs.declared.worker.Worker.{Worker}
 use Rattle.cw_record.specs.Drawn.{added, after_fork, after_join, after_start, drawn, forked}
-use Rattle.cw_record.specs.Worked.{Keeps, WaitsOnLeft, law_of, unstarted, want_of}
+use Rattle.cw_record.specs.Worked.{SwitchesStrand, WaitsOnLeft, law_of, unstarted, want_of}
 use Rattle.cw_record.proofs.Building.{IsBuilt, open_items}
 use Rattle.cw_record.proofs.Descending.{Descends, Crossing}
 use Rattle.cw_record.proofs.Doers.{doers_beside, doers_forked}
@@ -33,7 +33,7 @@ use Rattle.cw_record.proofs.Stamped.{stamped_strand, stamped_forked}
 
 module _ (job : Job) where
   -- the worker in memory, from what was drawn
-  runs_from : (code new : Worker) (w u : Working StrandState) → Runs job code w → Keeps code new → u.memory ≡ w.memory → u.outputs ≡ w.outputs → IsAtWork (strands_of job) u → state_of new.strand ≡ u.strand
+  runs_from : (code new : Worker) (w u : Working StrandState) → Runs job code w → SwitchesStrand code new → u.memory ≡ w.memory → u.outputs ≡ w.outputs → IsAtWork (strands_of job) u → state_of new.strand ≡ u.strand
       → Draws job (drawn new.drawing) new.branches u → Runs job new u
   runs_from code new w u r stays memory outputs work strand draws = record {
     job_is = ap job_of stays.interpreter ∙ r.job_is;
@@ -76,7 +76,7 @@ module _ (job : Job) where
     forked_branches old (Left f right ∷ rest) n state h = (right, ap (λ g. Left g right ∷ rest) h.0 ∙ ap (λ xs. Left n right ∷ xs) h.1, h.2)
     forked_branches old _ n state h = absurd h
 
-    fork_leaves_less : (code new : Worker) (w : Working StrandState) → Runs job code w → Keeps code new → (strands_of job).want w.strand ≡ want.Fork → (right : Written) (n : ℕ) → new.branches ≡ Left n right ∷ code.branches
+    fork_leaves_less : (code new : Worker) (w : Working StrandState) → Runs job code w → SwitchesStrand code new → (strands_of job).want w.strand ≡ want.Fork → (right : Written) (n : ℕ) → new.branches ≡ Left n right ∷ code.branches
         → state_of new.strand ≡ (strands_of job).left w.strand → state_of right ≡ (strands_of job).right w.strand → left_to_do new < left_to_do code
     fork_leaves_less code new w r stays f right n is left goes =
         let s = strands_of job in
@@ -87,7 +87,7 @@ module _ (job : Job) where
         let was : left_to_do code ≡ weight (s.depth w.strand) + weights s code.branches = ap (λ l. weight (l.depth (state_of code.strand)) + weights l code.branches) same ∙ ap (λ a. weight (s.depth a) + weights s code.branches) r.strand in
         omega arith
 
-    pub forks_on : (code new : Worker) (w : Working StrandState) (r : Runs job code w) → Keeps code new → want_of code ≡ want.Fork → drawn new.drawing ≡ after_fork (drawn code.drawing) → state_of new.strand ≡ (law_of code).left (state_of code.strand)
+    pub forks_on : (code new : Worker) (w : Working StrandState) (r : Runs job code w) → SwitchesStrand code new → want_of code ≡ want.Fork → drawn new.drawing ≡ after_fork (drawn code.drawing) → state_of new.strand ≡ (law_of code).left (state_of code.strand)
         → WaitsOnLeft code.branches new.branches (length code.drawing.tree) ((law_of code).right (state_of code.strand)) → Runs job new (worker_after_fork (strands_of job) w) × (left_to_do new < left_to_do code)
     forks_on code new w r stays f drawing left right =
         let s = strands_of job in
@@ -103,7 +103,7 @@ module _ (job : Job) where
 
     -- ## The end of a strand
 
-    module _ (code new : Worker) (memory outputs : List ℤ) (c : List (Branch StrandState)) (k n m b : ℕ) (a : StrandState) (over : is_over (want_of code) ≡ true) (stays : Keeps code new) (f : ℕ) (rest : List Held) where
+    module _ (code new : Worker) (memory outputs : List ℤ) (c : List (Branch StrandState)) (k n m b : ℕ) (a : StrandState) (over : is_over (want_of code) ≡ true) (stays : SwitchesStrand code new) (f : ℕ) (rest : List Held) where
       is_at_end : (w : Working StrandState) → Runs job code w → is_over ((strands_of job).want w.strand) ≡ true
       is_at_end w r = ap is_over (sym (wants_same job code w r)) ∙ over
 

@@ -25,7 +25,7 @@ use Rattle.cw_record.specs.declared.worker.Worker.{Worker}
 use Rattle.cw_record.specs.declared.worker.Run.{Run}
 use Rattle.cw_record.specs.declared.drawing.Drawing.{Drawing}
 use Rattle.cw_record.specs.declared.record_end.RecordEnd.{RecordEnd}
-use Rattle.cw_record.specs.Worked.{Keeps, WaitsOnLeft, law_of, unstarted, want_of}
+use Rattle.cw_record.specs.Worked.{SwitchesStrand, WaitsOnLeft, law_of, unstarted, want_of}
 use Rattle.cw_record.proofs.Acting.{Acted, acts_on, act_leaves_less, end_blocks}
 use Rattle.cw_record.proofs.Descending.{Descends}
 use Rattle.cw_record.proofs.Unstarted.{with_strands}
@@ -79,15 +79,15 @@ module _ {job : Job} {code : Worker} {w : Working StrandState} (r : Runs job cod
     pub act_run : (new : Worker) → takes_answer (want_of code) ≡ true → Acted code new → StillRuns job code new
     act_run new answered acted = ((after_act (strands_of job) w, acts_on job closes code new w r answered acted), act_leaves_less job closes deep code new w r answered acted)
 
-    pub fork_run : {new : Worker} → Keeps code new → want_of code ≡ want.Fork → drawn new.drawing ≡ after_fork (drawn code.drawing) → state_of new.strand ≡ (law_of code).left (state_of code.strand)
+    pub fork_run : {new : Worker} → SwitchesStrand code new → want_of code ≡ want.Fork → drawn new.drawing ≡ after_fork (drawn code.drawing) → state_of new.strand ≡ (law_of code).left (state_of code.strand)
         → WaitsOnLeft code.branches new.branches (length code.drawing.tree) ((law_of code).right (state_of code.strand)) → StillRuns job code new
     fork_run {new} stays wanted drawing left right =
         let (runs, less) = forks_on job deep closes code new w r stays wanted drawing left right in
         ((worker_after_fork (strands_of job) w, runs), less)
 
     -- from the end of a strand to the branch that was taken
-    module _ {x : Held} {rest : List Held} (taken : code.branches ≡ x ∷ rest) {new : Worker} (over : is_over (want_of code) ≡ true) (keeps : Keeps (record code { branches = rest }) new) where
-      stays : Keeps code new
+    module _ {x : Held} {rest : List Held} (taken : code.branches ≡ x ∷ rest) {new : Worker} (over : is_over (want_of code) ≡ true) (keeps : SwitchesStrand (record code { branches = rest }) new) where
+      stays : SwitchesStrand code new
       stays = record { interpreter = keeps.interpreter; memory = keeps.memory; outputs = keeps.outputs }
 
       pub turn_run : {f : ℕ} {right : Written} → x ≡ Left f right → drawn new.drawing ≡ after_start f (drawn code.drawing) → new.strand ≡ right → new.branches ≡ Right f code.strand ∷ rest → StillRuns job code new

@@ -48,15 +48,15 @@ module _ {A : Type 0} (s : Strands A) (t : List Node) (before after reached : �
   IsForkOf f cs = ⊥
 
   -- A committed block comes to its end; any other one leaves its strand where it was.
-  abbrev pub Closes : ℕ → BlockState → Type 0
-  Closes b Committed = (s.want (reached b) ≡ want.End) × (after b ≡ s.answer (reached b) Nothing)
-  Closes b state = after b ≡ before b
+  abbrev pub IsClosed : ℕ → BlockState → Type 0
+  IsClosed b Committed = (s.want (reached b) ≡ want.End) × (after b ≡ s.answer (reached b) Nothing)
+  IsClosed b state = after b ≡ before b
 
   -- A node is what its strand wants before it, and after it that is answered. A refused access leaves its strand where it was.
   abbrev pub IsWanted : ℕ → Kind → BlockState → Type 0
   IsWanted n Strand state = Unit {0}
   IsWanted n Fork state = (s.want (before n) ≡ want.Fork) × IsForkOf n (children t n)
-  IsWanted n Block state = (s.want (before n) ≡ want.Begin) × Closes n state
+  IsWanted n Block state = (s.want (before n) ≡ want.Begin) × IsClosed n state
   IsWanted n (Read c v) state = (s.want (before n) ≡ want.Load c) × (after n ≡ s.answer (before n) (Value v))
   IsWanted n (Write c v) state = (s.want (before n) ≡ want.Store c v) × (after n ≡ s.answer (before n) Nothing)
   IsWanted n (Out v) state = (s.want (before n) ≡ want.Out v) × (after n ≡ s.answer (before n) Nothing)
@@ -71,8 +71,8 @@ module _ {A : Type 0} (s : Strands A) (t : List Node) (before after reached : �
   BothEnded f = (l r : ℕ) × (children t f ≡ l ∷ r ∷ []) × StrandEnded l × StrandEnded r
 
   -- a strand can go on behind all that stands right in n
-  abbrev pub IsSettled : ℕ → Type 0
-  IsSettled n = (f : ℕ) → last_child t n ≡ Some f → IsTrue (is_fork t f) → BothEnded f
+  abbrev pub HasNoOpenFork : ℕ → Type 0
+  HasNoOpenFork n = (f : ℕ) → last_child t n ≡ Some f → IsTrue (is_fork t f) → BothEnded f
 
   -- All nodes, aborted attempts included, are what the strands of a program did.
   pub record Follows : Type 0 where
@@ -86,7 +86,7 @@ module _ {A : Type 0} (s : Strands A) (t : List Node) (before after reached : �
   -- what was refused, as it fits; where the moves are, anywhere.
   abbrev pub StandsAt : RecordEnd → Type 0
   StandsAt (Finished memory outputs) = NonePending t × ((x : ℕ) → x < length t → IsTrue (is_strand t x && is_live t x) → StrandEnded x)
-  StandsAt (Fault x kind) = (s.want (reached (place t x)) ≡ want.Fault kind) × IsSettled (place t x)
+  StandsAt (Fault x kind) = (s.want (reached (place t x)) ≡ want.Fault kind) × HasNoOpenFork (place t x)
   StandsAt (Budget x) = Unit {0}
   StandsAt Moves = Unit {0}
 

@@ -16,7 +16,7 @@ abbrev pub want_of : Worker → Want
 want_of w = (law_of w).want (state_of w.strand)
 
 -- It goes from strand to strand: what it runs by, memory and outputs stay.
-pub record Keeps (old new : Worker) : Type 0 where
+pub record SwitchesStrand (old new : Worker) : Type 0 where
   pub interpreter : new.interpreter ≡ old.interpreter
   pub memory : new.memory ≡ old.memory
   pub outputs : new.outputs ≡ old.outputs

@@ -13,7 +13,7 @@ ghost use Rattle.cw_serial.specs.Room.Strands.{job_of, state_of, strands_of};
 ghost use Rattle.cw_serial.specs.Wants.{answer_to, memory_after, outputs_after};
 ghost use Rattle.cw_record.specs.Drawn.{after, after_fork, after_join, after_start, blank, drawn};
 ghost use Rattle.cw_record.specs.Records.{IsRun};
-ghost use Rattle.cw_record.specs.Worked.{Keeps, WaitsOnLeft, law_of, unstarted, want_of};
+ghost use Rattle.cw_record.specs.Worked.{SwitchesStrand, WaitsOnLeft, law_of, unstarted, want_of};
 ghost use Rattle.cw_record.specs.declared.worker.Branch.TheVariants.{Right as OnRight};
 ghost use Rattle.cw_record.specs.declared.record_end.RecordEnd.TheVariants as ending;
 
@@ -171,7 +171,7 @@ impl<'a> Worker<'a> {
     fn fork(&mut self, alloc: Global) -> Result<(), OutOfMemory>
         requires there { self.old.drawing.place < length self.old.drawing.tree }
         requires wanted { want_of self.old ≡ Want.Fork }
-        ensures keeps { OnOk result (Keeps self.old self.new) }
+        ensures keeps { OnOk result (SwitchesStrand self.old self.new) }
         ensures drawing { OnOk result (drawn self.new.drawing ≡ after_fork (drawn self.old.drawing)) }
         ensures left { OnOk result (state_of self.new.strand ≡ (law_of self.old).left (state_of self.old.strand)) }
         ensures right { OnOk result (WaitsOnLeft self.old.branches self.new.branches (length self.old.drawing.tree)
@@ -186,7 +186,7 @@ impl<'a> Worker<'a> {
     /// Goes on with the right strand of a fork, whose left strand has ended.
     fn turn(&mut self, fork: u32, right: Strand<'a>) -> Result<(), OutOfMemory>
         requires { fork < length self.old.drawing.tree }
-        ensures keeps { OnOk result (Keeps self.old self.new) }
+        ensures keeps { OnOk result (SwitchesStrand self.old self.new) }
         ensures drawing { OnOk result (drawn self.new.drawing ≡ after_start fork (drawn self.old.drawing)) }
         ensures strand { OnOk result (self.new.strand ≡ right.entry) }
         ensures branches { OnOk result (self.new.branches ≡ OnRight fork self.old.strand ∷ self.old.branches) }
@@ -200,7 +200,7 @@ impl<'a> Worker<'a> {
     fn join(&mut self, fork: u32, left: Strand<'a>) -> Result<(), OutOfMemory>
         requires there { fork < length self.old.drawing.tree }
         requires ended { is_over (want_of self.old) ≡ true }
-        ensures keeps { OnOk result (Keeps self.old self.new) }
+        ensures keeps { OnOk result (SwitchesStrand self.old self.new) }
         ensures drawing { OnOk result (drawn self.new.drawing ≡ after_join fork (drawn self.old.drawing)) }
         ensures branches { OnOk result (self.new.branches ≡ self.old.branches) }
         ensures strand { OnOk result (state_of self.new.strand

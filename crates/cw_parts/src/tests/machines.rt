@@ -89,3 +89,17 @@ fn an_update_is_lost_step_by_step(rt: HostRuntime) -> Result<(), Fail> {
     assert_eq!(rt; machine.memory(), [1].as_slice());
     Ok(())
 }
+
+// A program that was not checked. Its right strand meets a name of nothing, and both are over before the first pick.
+#[test]
+fn a_strand_without_a_name_stays_over_behind_a_join(rt: HostRuntime) -> Result<(), Fail> {
+    let alloc = rt.alloc();
+    let program = Program {
+        ast: read_program(alloc, b"fn main() { spawn { } x = 1; out 1; }")?,
+        cells: Seq::new(alloc),
+        main: 0,
+    };
+    let machine = Machine::new(alloc, &program, &[], LIMITS)?;
+    assert!(rt; machine.ended());
+    Ok(())
+}
