@@ -1,6 +1,31 @@
-//! Plain types that several layers name: run faults, limits, cells.
+//! What compiled code is: its instructions and their table, the rules that it keeps, its text, and programs; and beside them plain types that
+//! several layers name: run faults, limits, cells.
 //! Stands on `cw_base`.
+//! Contracts cite `specs/Table.antt` (instructions), `specs/Rules.antt` (the rules, as the list of what is broken), `specs/Answers.antt`
+//! (what the verifier answers), `specs/Printed.antt` (texts) and `specs/Programs.antt` (programs). `Rows` tries them.
 #![tactic(auto)]
+
+ghost use Rattle.cw_code.specs.Rows.{Verdicts, Texts};
+
+mod effects;
+mod finding;
+mod instruction;
+mod judging;
+mod print;
+mod program;
+mod situation;
+mod table;
+mod verified;
+
+pub use effects::{Effect, Operator};
+pub use instruction::{Code, CodeFault, CodeKind, Func, Instr};
+pub use print::print_code;
+pub use program::Program;
+pub use table::{Operands, Row, TABLE, effect_at, look_up, row_at};
+pub use verified::{CodeRefusal, Verified, verify};
+
+#[cfg(test)]
+mod tests;
 
 use cw_base::Text;
 
@@ -35,3 +60,9 @@ pub struct CellInfo {
     pub base: u32,
     pub init: i64,
 }
+
+/// What the rules and the text of small pieces of code are.
+pub fn worked_code()
+    ensures verdicts { Verdicts }
+    ensures texts { Texts }
+{}

@@ -9,14 +9,14 @@ use Rattle.std.proofs.lemmas.Bool.{ne_eqb}
 use Rattle.cw_order.specs.declared.ring.Ring.{Ring}
 use Rattle.cw_order.specs.declared.ring.TheConstants.{END}
 use Rattle.cw_order.specs.declared.list.OrderList.TheInside.{Inside}
-use Rattle.cw_order.specs.Order.{after, placed_after}
+use Rattle.cw_order.specs.Order.{put_after, placed_after}
 use Rattle.cw_order.specs.OrderList.{IsKept, free_of}
 use Rattle.cw_order.specs.Links.{walk, first_or, AreLinked, AreApart, Lacks, Rise}
 use Rattle.cw_order.specs.Ring.{IsRing, path, label_of, above_of, elements_of}
 use Rattle.cw_order.proofs.Apart.{lacks-contains, CutAt, cut_at, apart_parts, apart_across, disjoint_there, apart_out, apart_in, lacks_parts}
 use Rattle.cw_order.proofs.Keeping.{elements_are, path_within, place_of}
 use Rattle.cw_order.proofs.Linking.{linked_parts, walk-set, length-walk}
-use Rattle.cw_order.proofs.Placing.{after-cut}
+use Rattle.cw_order.proofs.Placing.{put_after-cut}
 use Rattle.cw_order.proofs.Relinking.{back_lacks, linked_in}
 use Rattle.cw_order.proofs.Rising.{rise_parts, rise_whole}
 use Rattle.cw_order.proofs.Spreading.{read_all, read_all-append, read_all-set}
@@ -27,7 +27,7 @@ above-cut r [] at e l = ap (λ y. cond (nat_eq y 0) END (label_of r y)) e
 above-cut r (y ∷ back) at e l = ap (λ y. cond (nat_eq y 0) END (label_of r y)) e ∙ ap (λ b. cond b END (label_of r y)) (ne_eqb y 0 l.0)
 
 module _ (r r2 : Ring) (xs ys fs : List ℕ) (at e label : ℕ) (ring : IsRing r xs) (has : Contains (path xs) at) (apart : AreApart (path xs ++ e ∷ fs))
-    (places : at < vec_len r.next) (free : e < vec_len r.next) (above : label_of r at < label) (below : label < above_of r at) (is : path ys ≡ after at e (path xs))
+    (places : at < vec_len r.next) (free : e < vec_len r.next) (above : label_of r at < label) (below : label < above_of r at) (is : path ys ≡ put_after at e (path xs))
     (next : r2.next.items ≡ set (set r.next.items e (get_or r.next.items at 0)) at e)
     (previous : r2.previous.items ≡ set (set r.previous.items e at) (get_or r.next.items at 0) e)
     (labels : r2.labels.items ≡ set r.labels.items e label) where
@@ -42,7 +42,7 @@ module _ (r r2 : Ring) (xs ys fs : List ℕ) (at e label : ℕ) (ring : IsRing r
 
   -- the list with the new element
   after_is : path ys ≡ front ++ at ∷ e ∷ back
-  after_is = is ∙ (ap (after at e) cut.whole ∙ after-cut front back at e cut.first)
+  after_is = is ∙ (ap (put_after at e) cut.whole ∙ put_after-cut front back at e cut.first)
 
   old : AreApart (front ++ at ∷ back)
   old = subst AreApart cut.whole ring.apart
@@ -126,11 +126,11 @@ module _ (r r2 : Ring) (xs ys fs : List ℕ) (at e label : ℕ) (ring : IsRing r
   all_apart = apart_after
 
 -- the head, and the list with e placed
-placed_path : (at : Option ℕ) (e : ℕ) (xs : List ℕ) → ForSome at (Contains xs) → Lacks xs 0 → path (placed_after at e xs) ≡ after (unwrap_or at 0) e (path xs)
+placed_path : (at : Option ℕ) (e : ℕ) (xs : List ℕ) → ForSome at (Contains xs) → Lacks xs 0 → path (placed_after at e xs) ≡ put_after (unwrap_or at 0) e (path xs)
 placed_path None e xs has l = refl
 placed_path (Some a) e xs has l =
     let ne : 0 ≢ a = λ z. lacks-contains xs 0 l (subst (Contains xs) (sym z) (has a refl)) in
-    sym (ap (λ b. cond b (0 ∷ e ∷ xs) (0 ∷ after a e xs)) (ne_eqb 0 a ne))
+    sym (ap (λ b. cond b (0 ∷ e ∷ xs) (0 ∷ put_after a e xs)) (ne_eqb 0 a ne))
 
 -- an order list with a new element
 pub record HasInserted (a b : Inside) (at : Option ℕ) : Type 0 where
@@ -188,8 +188,8 @@ inserted a b r at place label place_is kept room has links ring above below next
   at_there : place < vec_len r.next
   at_there = path_within r (elements_of a.ring a.count) place ring (omega (arith, e_there)) at_has
 
-  is : path ys ≡ after place a.free (path xs)
-  is = placed_path at a.free (elements_of a.ring a.count) has ring.apart.0 ∙ ap (λ p. after p a.free (path (elements_of a.ring a.count))) (sym place_is)
+  is : path ys ≡ put_after place a.free (path xs)
+  is = placed_path at a.free (elements_of a.ring a.count) has ring.apart.0 ∙ ap (λ p. put_after p a.free (path (elements_of a.ring a.count))) (sym place_is)
 
   ring2 : IsRing b.ring ys
   ring2 = ring_after r b.ring xs ys fs place a.free label ring at_has apart at_there e_there above below is next previous labels

@@ -3,14 +3,14 @@ use Rattle.std.proofs.Common.{ℕ, zero, suc, ◌+◌, ◌<◌, ◌≡◌, ◌�
 use Rattle.std.specs.List.{Contains}
 use Rattle.std.proofs.lemmas.Bool.{cases_eq, ne_eqb, cases_lt}
 use Rattle.cw_order.specs.Links.{Lacks, Rise}
-use Rattle.cw_order.specs.Order.{after, without, position}
+use Rattle.cw_order.specs.Order.{put_after, without, position}
 use Rattle.cw_order.proofs.Rising.{rise_places}
 use Rattle.cw_order.proofs.Spreading.{read_all}
 
-pub after-cut : (front back : List ℕ) (a e : ℕ) → Lacks front a → after a e (front ++ a ∷ back) ≡ front ++ a ∷ e ∷ back
-after-cut [] back a e l = ap (λ b. cond b (a ∷ e ∷ back) (a ∷ after a e back)) (eq-eqb a a refl)
-after-cut (x ∷ front) back a e l =
-    ap (λ b. cond b (x ∷ e ∷ front ++ a ∷ back) (x ∷ after a e (front ++ a ∷ back))) (ne_eqb x a l.0) ∙ ap (λ z. x ∷ z) (after-cut front back a e l.1)
+pub put_after-cut : (front back : List ℕ) (a e : ℕ) → Lacks front a → put_after a e (front ++ a ∷ back) ≡ front ++ a ∷ e ∷ back
+put_after-cut [] back a e l = ap (λ b. cond b (a ∷ e ∷ back) (a ∷ put_after a e back)) (eq-eqb a a refl)
+put_after-cut (x ∷ front) back a e l =
+    ap (λ b. cond b (x ∷ e ∷ front ++ a ∷ back) (x ∷ put_after a e (front ++ a ∷ back))) (ne_eqb x a l.0) ∙ ap (λ z. x ∷ z) (put_after-cut front back a e l.1)
 
 pub without-lacks : (xs : List ℕ) (e : ℕ) → Lacks xs e → without e xs ≡ xs
 without-lacks [] e l = refl

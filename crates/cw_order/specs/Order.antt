@@ -9,14 +9,14 @@ pub record Order : Type 0 where
   pub room : ℕ
 
 -- the list with e right after a
-abbrev pub after : ℕ → ℕ → List ℕ → List ℕ
-after a e [] = []
-after a e (x ∷ xs) = if x == a then x ∷ e ∷ xs else x ∷ after a e xs
+abbrev pub put_after : ℕ → ℕ → List ℕ → List ℕ
+put_after a e [] = []
+put_after a e (x ∷ xs) = if x == a then x ∷ e ∷ xs else x ∷ put_after a e xs
 
 -- the list with e right after the given element, or first where none is given
 abbrev pub placed_after : Option ℕ → ℕ → List ℕ → List ℕ
 placed_after None e xs = e ∷ xs
-placed_after (Some a) e xs = after a e xs
+placed_after (Some a) e xs = put_after a e xs
 
 -- the list without e
 abbrev pub without : ℕ → List ℕ → List ℕ

@@ -59,6 +59,7 @@ impl OrderList {
     pub fn insert_after(&mut self, at: Option<u32>) -> Result<u32, Full>
         requires { ForSome at (Contains self.old.elements) }
         ensures new { IfOk result (λ e. ¬ Contains self.old.elements e) }
+        ensures low { IfOk result (λ e. e ≤ self.old.room) }
         ensures placed { IfOk result (λ e. self.new.elements ≡ placed_after at e self.old.elements) }
         ensures there { IfOk result (Contains self.new.elements) }
         ensures distinct { IsDistinct nat_eq self.new.elements }
@@ -73,8 +74,7 @@ impl OrderList {
         let at = at.unwrap_or(HEAD);
         let label = self.ring.label_after(at, self.count);
         let element = self.free;
-        self.free = self.ring.next(element);
-        self.ring.link_after(at, element, label);
+        self.free = self.ring.link_after(at, element, label);
         self.count += 1;
         Ok(element)
     }
@@ -97,7 +97,6 @@ impl OrderList {
         ensures order { IsTrue result ↔ (position self.now.elements a < position self.now.elements b) }
         ensures cost { steps.new ≡ steps.old + 1 }
     {
-        steps.tick();
-        self.ring.label(a) < self.ring.label(b)
+        self.ring.is_before(a, b, steps)
     }
 }

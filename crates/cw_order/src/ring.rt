@@ -1,7 +1,9 @@
 ghost use Rattle.std.specs.Prelude.{◌≡◌, ℕ, ◌<◌, All, vec_len};
 
+use crate::Steps;
 use cw_base::OutOfMemory;
 use std::alloc::Global;
+use std::sync::ledger::Ledger;
 
 /// What stands before the first element and after the last one.
 pub(crate) const HEAD: u32 = 0;
@@ -30,7 +32,7 @@ pub(crate) struct Ring {
 }
 
 impl Ring {
-    ghost use Rattle.std.specs.Prelude.{◌≡◌, ◌≤◌, ◌<◌, ◌+◌, ◌-◌, ◌*◌, ◌^◌, ℕ, List, [], vec_len, slice_index, slice_set, IfOk, IfSome};
+    ghost use Rattle.std.specs.Prelude.{◌≡◌, ◌≤◌, ◌<◌, ◌+◌, ◌-◌, ◌*◌, ◌^◌, ◌↔◌, ℕ, List, [], IsTrue, vec_len, slice_index, slice_set, IfOk, IfSome};
     ghost use Rattle.std.specs.List.{Contains};
     ghost use Rattle.cw_order.specs.Links.{walk, spread_over, next_with, previous_with, next_without, previous_without};
     ghost use Rattle.cw_order.specs.Ring.{IsRing, IsRun, label_of, above_of, path, elements_of};
@@ -54,7 +56,19 @@ impl Ring {
         })
     }
 
-    pub(crate) fn next(&self, at: u32) -> u32
+    /// Whether the label of `a` is below that of `b`. Beside the making of a ring, it is the one call that other files have without
+    /// `&mut`, so nothing there learns the order without a tick.
+    pub(crate) fn is_before<L: Ledger>(&self, a: u32, b: u32, steps: &mut Steps<L>) -> bool
+        requires first { a < vec_len self.now.next }
+        requires second { b < vec_len self.now.next }
+        ensures order { IsTrue result ↔ (label_of self.now a < label_of self.now b) }
+        ensures cost { steps.new ≡ steps.old + 1 }
+    {
+        steps.tick();
+        self.label(a) < self.label(b)
+    }
+
+    fn next(&self, at: u32) -> u32
         requires { at < vec_len self.now.next }
         ensures value { result ≡ slice_index self.now.next.items at }
         ensures place { result < vec_len self.now.next }
@@ -70,7 +84,7 @@ impl Ring {
         self.previous[at as usize]
     }
 
-    pub(crate) fn label(&self, at: u32) -> u64
+    fn label(&self, at: u32) -> u64
         requires { at < vec_len self.now.next }
         ensures { result ≡ label_of self.now at }
     {
@@ -107,21 +121,25 @@ impl Ring {
         self.label(at) + self.gap_after(at) / 2
     }
 
-    /// Puts `element` into the ring, right after `at`.
-    pub(crate) fn link_after(&mut self, at: u32, element: u32, label: u64)
+    /// Puts `element` into the ring, right after `at`, and answers the number that it was linked to.
+    pub(crate) fn link_after(&mut self, at: u32, element: u32, label: u64) -> u32
         requires at { at < vec_len self.old.next }
         requires element { element < vec_len self.old.next }
+        ensures was { result ≡ slice_index self.old.next.items element }
+        ensures place { result < vec_len self.old.next }
         ensures next { self.new.next.items ≡ next_with self.old.next.items at element }
         ensures previous { self.new.previous.items
             ≡ previous_with self.old.next.items self.old.previous.items at element }
         ensures labels { self.new.labels.items ≡ slice_set self.old.labels.items element label }
     {
+        let was = self.next(element);
         let next = self.next(at);
         self.next[element as usize] = next;
         self.previous[element as usize] = at;
         self.labels[element as usize] = label;
         self.next[at as usize] = element;
         self.previous[next as usize] = element;
+        was
     }
 
     /// Takes `element` out of the ring, and links it to `next`.

@@ -1,4 +1,7 @@
+mod checks;
+mod grown;
 mod machines;
 mod orders;
 mod texts;
+mod traces;
 mod trees;

@@ -9,32 +9,39 @@ use Rattle.cw_tree.specs.declared.node.Kind.{Kind}
 use Rattle.cw_tree.specs.declared.node.Kind.TheVariants.{Read, Write, Out, Block}
 use Rattle.cw_tree.specs.declared.node.BlockState.TheVariants.{Committed}
 use Rattle.cw_tree.specs.declared.access.Entry.{Entry}
-use Rattle.cw_tree.specs.Nodes.{closed, is_fork_kind, is_strand_kind, is_tried_kind, parent_of}
+use Rattle.std.proofs.lemmas.Bool.{lt-ltb}
+use Rattle.cw_tree.specs.Journals.{fits_cells}
+use Rattle.cw_tree.specs.Nodes.{closed, first_state, is_fork_kind, is_strand_kind, is_tried_kind, parent_of}
 use Rattle.cw_tree.proofs.CellJournals.{HasJournals}
 use Rattle.cw_serial.specs.Jobs.{Job}
 use Rattle.cw_serial.specs.Room.Strands.{StrandState, job_of, state_of, strands_of}
 use Rattle.cw_serial.specs.MachineOf.{machine_of}
 use Rattle.cw_serial.specs.Wants.{value_at, answer_to, memory_after, outputs_after}
 use Rattle.cw_serial.proofs.Branches.{Branch, on_left, on_right}
+use Rattle.cw_serial.proofs.Room.Elements.{NamesThere, WantsThere}
 use Rattle.cw_serial.proofs.Working.{Worker as Working, machine_at, after_act, IsAtWork, reached, acts, own_in, blocks_in}
 use Rattle.cw_serial.proofs.Weights.{weight, weight_falls}
 use Rattle.cw_record.specs.declared.worker.Worker.{Worker}
-use Rattle.cw_record.specs.Drawn.{added, after, drawn, entry, noted}
+use Rattle.cw_record.specs.Drawn.{added, drawn_after, drawn, entry, noted}
 use Rattle.cw_record.specs.Items.{is_act_kind}
 use Rattle.cw_record.specs.Replay.{IsAct}
-use Rattle.cw_record.specs.Worked.{law_of, unstarted, want_of}
+use Rattle.cw_record.specs.Worked.{Acts, law_of, unstarted, want_of}
 use Rattle.cw_record.proofs.Building.{open_items}
 use Rattle.cw_record.proofs.Descending.{Descends}
 use Rattle.cw_record.proofs.GrowingItems.{leaf_built, begin_built, end_built}
 use Rattle.cw_record.proofs.GrowingWays.{way_leaf, way_begin, way_end, way_block}
 use Rattle.cw_record.proofs.GrowingJournals.{has_beside, has_closed}
 use Rattle.cw_record.proofs.NotedJournals.{noted_read, noted_write}
+use Rattle.cw_record.proofs.KeptCells.{fits_more, fits_closed}
+use Rattle.cw_record.proofs.Later.{rising_next, rising_closed}
 use Rattle.cw_record.proofs.Playing.{Plays}
 use Rattle.cw_record.proofs.Running.{Draws, Runs, crossings, draws_by, runs_name, wants_same, law_same, left_to_do, weights}
 use Rattle.cw_record.proofs.RunSteps.{leaf_played, begin_played, end_played}
 use Rattle.cw_record.proofs.Shaped.{shaped_beside, shaped_closed}
 use Rattle.cw_record.proofs.Stamped.{stamped_next}
 use Rattle.cw_record.proofs.ClosedStamps.{stamped_closed}
+use Rattle.cw_record.proofs.States.{DoesAs}
+use Rattle.cw_record.proofs.StepStates.{states_leaf, states_begin, states_end}
 
 -- a block is ended only where one is begun in the strand
 pub end_blocks : {A : Type 0} (c : List (Branch A)) (b : ℕ) → MayWant want.End (own_in c b) → (n : ℕ) × (b ≡ suc n)
@@ -45,14 +52,10 @@ end_blocks (on_right k n o l ∷ c) zero m = absurd m
 
 -- what a want that is done makes of a worker in memory
 pub record Acted (code new : Worker) : Type 0 where
-  pub interpreter : new.interpreter ≡ code.interpreter
-  pub branches : new.branches ≡ code.branches
-  pub memory : new.memory.items ≡ memory_after (want_of code) code.memory.items
-  pub outputs : new.outputs.items ≡ outputs_after (want_of code) code.outputs.items
-  pub drawing : drawn new.drawing ≡ after (want_of code) code.memory.items (drawn code.drawing)
+  pub done : Acts code new
   pub strand : state_of new.strand ≡ (law_of code).answer (state_of code.strand) (answer_to (want_of code) code.memory.items)
 
-module _ (job : Job) (closes : Closes (strands_of job)) where
+module _ (job : Job) (closes : Closes (strands_of job)) (there : WantsThere job) where
   -- after a want, whatever it is
   abbrev after_by : Want → Working StrandState → Working StrandState
   after_by x w = record w {
@@ -68,7 +71,7 @@ module _ (job : Job) (closes : Closes (strands_of job)) where
 
     -- what is drawn, where the want is this one
     abbrev DrawsAfter : Want → Type 0
-    DrawsAfter x = Draws job (after x w.memory (drawn code.drawing)) code.branches (after_by x w)
+    DrawsAfter x = Draws job (drawn_after x w.memory (drawn code.drawing)) code.branches (after_by x w)
 
     module _ (x : Want) (e : (strands_of job).want w.strand ≡ x) (answered : takes_answer x ≡ true) where
       abbrev t : List Node
@@ -87,33 +90,40 @@ module _ (job : Job) (closes : Closes (strands_of job)) where
       same_after u n h = let P : Want → Type 0 = λ v. Plays (strands_of job) u (machine_of job) (open_items u n) (machine_at (strands_of job) (after_by v w)) in subst P e h
 
       -- an access or an output
-      leaf : (k : Kind) (kept : List (List Entry)) → is_act_kind k ≡ true → is_strand_kind k ≡ false → is_fork_kind k ≡ false → is_tried_kind k ≡ false → (is_strand_kind k || is_tried_kind k) ≡ false → blocks_in x w.blocks ≡ w.blocks
+      leaf : (k : Kind) (kept : List (List Entry)) → is_act_kind k ≡ true → is_strand_kind k ≡ false → is_fork_kind k ≡ false → is_tried_kind k ≡ false → (is_strand_kind k || is_tried_kind k) ≡ false → fits_cells (length (first_memory job.program.cells)) k ≡ true → blocks_in x w.blocks ≡ w.blocks
+          → ((d : StrandState) → DoesAs (strands_of job) w.strand ((strands_of job).answer w.strand (answer_to x w.memory)) d k (first_state k)) → (is_strand_kind k || is_fork_kind k) ≡ false
           → IsAct w.memory ((strands_of job).want w.strand) k → HasJournals (added t at k (code.drawing.clock + 1)) (first_memory job.program.cells) (memory_after x w.memory) kept
           → Draws job (record { tree = added t at k (code.drawing.clock + 1); place = at; clock = code.drawing.clock + 1; journals = kept }) code.branches (after_by x w)
-      leaf k kept act strand fork tried stamped blocks is journals =
+      leaf k kept act strand fork tried stamped fits blocks does plain is journals =
           let D : ℕ → Type 0 = λ b. Descends (added t at k (code.drawing.clock + 1)) at (crossings code.branches w.branches) b w.forks in
           record {
             built = leaf_built t at code.drawing.clock r.draws.built k (code.drawing.clock + 1) act next;
             shape = shaped_beside t (unstarted code.branches) r.draws.shape at r.draws.built.there r.draws.built.place k (code.drawing.clock + 1) strand fork tried;
             stamps = stamped_next t at code.drawing.clock r.draws.built r.draws.stamps (code.drawing.clock + 1) next k stamped;
+            rising = rising_next t at code.drawing.clock r.draws.built r.draws.rising k (code.drawing.clock + 1) next;
+            cells = fits_more t (length (first_memory job.program.cells)) r.draws.cells at k (code.drawing.clock + 1) fits;
             branches = r.draws.branches;
             place = subst D (sym blocks) (way_leaf t at code.drawing.clock r.draws.built k (code.drawing.clock + 1) act (crossings code.branches w.branches) w.blocks w.forks r.draws.place);
             journals = journals;
+            states = states_leaf (strands_of job) t at code.drawing.clock r.draws.built code.branches w.strand r.draws.states.0 r.draws.states.1 k (code.drawing.clock + 1) ((strands_of job).answer w.strand (answer_to x w.memory)) plain does;
             played = same_after (added t at k (code.drawing.clock + 1)) at (leaf_played (strands_of job) closes t at code.drawing.clock r.draws.built (machine_of job) w r.work done (runs_name job code w r) r.draws.played k (code.drawing.clock + 1) next act is);
           }
+
+    wanted_there : NamesThere (length (first_memory job.program.cells)) ((strands_of job).want w.strand)
+    wanted_there = there _ _ (reached (strands_of job) r.work)
 
     draws_after : (x : Want) → (strands_of job).want w.strand ≡ x → takes_answer x ≡ true → DrawsAfter x
     draws_after (want.Load c) e d =
         let v = value_at w.memory c in
         let kept = noted code.drawing.journals.items c (entry (code.drawing.clock + 1) false v v) in
-        leaf (want.Load c) e d (Read c v) kept refl refl refl refl refl refl (e, refl)
+        leaf (want.Load c) e d (Read c v) kept refl refl refl refl refl (lt-ltb c (length (first_memory job.program.cells)) (subst (NamesThere (length (first_memory job.program.cells))) e wanted_there)) refl (λ d. (e, refl)) refl (e, refl)
         (noted_read code.drawing.tree code.drawing.place code.drawing.clock r.draws.built (first_memory job.program.cells) w.memory code.drawing.journals.items r.draws.journals c (code.drawing.clock + 1) (omega arith))
     draws_after (want.Store c v) e d =
         let kept = noted code.drawing.journals.items c (entry (code.drawing.clock + 1) true v (value_at w.memory c)) in
-        leaf (want.Store c v) e d (Write c v) kept refl refl refl refl refl refl e
+        leaf (want.Store c v) e d (Write c v) kept refl refl refl refl refl (lt-ltb c (length (first_memory job.program.cells)) (subst (NamesThere (length (first_memory job.program.cells))) e wanted_there)) refl (λ d. (e, refl)) refl e
         (noted_write code.drawing.tree code.drawing.place code.drawing.clock r.draws.built (first_memory job.program.cells) w.memory code.drawing.journals.items r.draws.journals c (code.drawing.clock + 1) (omega arith) v)
     draws_after (want.Out v) e d =
-        leaf (want.Out v) e d (Out v) code.drawing.journals.items refl refl refl refl refl refl e
+        leaf (want.Out v) e d (Out v) code.drawing.journals.items refl refl refl refl refl refl refl (λ d. (e, refl)) refl e
         (has_beside code.drawing.tree code.drawing.place code.drawing.clock r.draws.built (first_memory job.program.cells) w.memory code.drawing.journals.items r.draws.journals code.drawing.place (Out v) (code.drawing.clock + 1) (λ c. refl))
     draws_after want.Begin e d =
         let t = code.drawing.tree in
@@ -125,9 +135,12 @@ module _ (job : Job) (closes : Closes (strands_of job)) where
           built = begin_built t at clock r.draws.built st later;
           shape = shaped_beside t (unstarted code.branches) r.draws.shape at r.draws.built.there r.draws.built.place Block st refl refl refl;
           stamps = stamped_next t at clock r.draws.built r.draws.stamps st later Block refl;
+          rising = rising_next t at clock r.draws.built r.draws.rising Block st later;
+          cells = fits_more t (length (first_memory job.program.cells)) r.draws.cells at Block st refl;
           branches = r.draws.branches;
           place = way_begin t at clock r.draws.built st (crossings code.branches w.branches) w.blocks w.forks r.draws.place;
           journals = has_beside t at clock r.draws.built (first_memory job.program.cells) w.memory code.drawing.journals.items r.draws.journals at Block st (λ c. refl);
+          states = states_begin (strands_of job) t at clock r.draws.built code.branches w.strand r.draws.states.0 r.draws.states.1 st e;
           played = same_after want.Begin e d (added t at Block st) (length t) (begin_played (strands_of job) closes t at clock r.draws.built (machine_of job) w r.work (done want.Begin e d) (runs_name job code w r) r.draws.played st e);
         }
     draws_after want.End e d =
@@ -146,9 +159,12 @@ module _ (job : Job) (closes : Closes (strands_of job)) where
           built = end_built t at clock r.draws.built st block later;
           shape = shaped_closed t (unstarted code.branches) r.draws.shape at Committed st;
           stamps = stamped_closed t at clock r.draws.built r.draws.stamps st later block;
+          rising = rising_closed t at clock r.draws.built r.draws.rising st;
+          cells = fits_closed t (length (first_memory job.program.cells)) r.draws.cells at st;
           branches = r.draws.branches;
           place = subst Q (sym is) (way_end t at clock r.draws.built st cr n w.forks down);
           journals = has_closed t at clock r.draws.built (first_memory job.program.cells) w.memory code.drawing.journals.items r.draws.journals at st;
+          states = states_end (strands_of job) t at clock r.draws.built code.branches w.strand r.draws.states.0 r.draws.states.1 st block e;
           played = same_after want.End e d (closed t at Committed st) (parent_of t at) (end_played (strands_of job) closes t at clock r.draws.built (machine_of job) w r.work (done want.End e d) (runs_name job code w r) r.draws.played st later block e);
         }
     draws_after _ e d = absurd (cc d)
@@ -164,21 +180,21 @@ module _ (job : Job) (closes : Closes (strands_of job)) where
       acted.strand ∙ (ap (λ l. l.answer (state_of code.strand) (answer_to x code.memory.items)) (law_same job code w r) ∙ ap (λ a. (strands_of job).answer a (answer_to x code.memory.items)) r.strand) in
       subst R (sym e)
       (record {
-        job_is = ap job_of acted.interpreter ∙ r.job_is;
-        memory = acted.memory ∙ ap (memory_after x) r.memory;
-        outputs = acted.outputs ∙ ap (outputs_after x) r.outputs;
+        job_is = ap job_of acted.done.interpreter ∙ r.job_is;
+        memory = acted.done.memory ∙ ap (memory_after x) r.memory;
+        outputs = acted.done.outputs ∙ ap (outputs_after x) r.outputs;
         strand = goes_on ∙ ap (λ m. (strands_of job).answer w.strand (answer_to x m)) r.memory;
         work = (let P : Want → Type 0 = λ v. IsAtWork (strands_of job) (after_by v w) in subst P e (acts (strands_of job) closes w r.work done));
-        draws = draws_by (acted.drawing ∙ ap (λ m. after x m (drawn code.drawing)) r.memory) acted.branches (draws_after code w r x e d);
+        draws = draws_by (acted.done.drawing ∙ ap (λ m. drawn_after x m (drawn code.drawing)) r.memory) acted.done.branches (draws_after code w r x e d);
       })
 
   pub act_leaves_less : IsDeep (strands_of job) → (code new : Worker) (w : Working StrandState) → Runs job code w → takes_answer (want_of code) ≡ true → Acted code new → left_to_do new < left_to_do code
   act_leaves_less deep code new w r d acted =
       let l = law_of code in
-      let same : law_of new ≡ l = ap (λ i. strands_of (job_of i)) acted.interpreter in
+      let same : law_of new ≡ l = ap (λ i. strands_of (job_of i)) acted.done.interpreter in
       let given = answer_to (want_of code) code.memory.items in
       let D : Strands StrandState → Type 0 = λ s. IsDeep s in
       let falls : l.depth (l.answer (state_of code.strand) given) < l.depth (state_of code.strand) = (subst D (sym (law_same job code w r)) deep).answer (state_of code.strand) given d in
       let less = weight_falls _ _ _ falls falls in
-      let todo : left_to_do new ≡ weight (l.depth (l.answer (state_of code.strand) given)) + weights l code.branches = (rw (same, acted.strand, acted.branches) refl) in
+      let todo : left_to_do new ≡ weight (l.depth (l.answer (state_of code.strand) given)) + weights l code.branches = (rw (same, acted.strand, acted.done.branches) refl) in
       omega arith

@@ -10,7 +10,7 @@ use Rattle.cw_tree.specs.Accesses.{by_key}
 use Rattle.cw_tree.proofs.Lists.{In}
 use Rattle.cw_tree.proofs.Ancestors.{ancestor_le}
 use Rattle.cw_tree.proofs.Members.{in_below, in_filter}
-use Rattle.cw_record.specs.declared.items.Item.{Item}
+use Rattle.cw_record.specs.declared.items.OrderItem.{OrderItem}
 use Rattle.cw_record.specs.Items.{is_act, is_right_in, key, members, open_member, as_items, last_open, items_in}
 use Rattle.cw_tree.proofs.Keys.{by_key_in}
 use Rattle.cw_record.proofs.NodeKinds.{pending_block}
@@ -34,15 +34,15 @@ member_is t b n h =
 pub sorted_is : (t : List Node) (b : Option ℕ) (n : ℕ) → In n (sorted t b) → IsMember t b n
 sorted_is t b n h = member_is t b n (by_key_in (key t) n (members t b) h)
 
-pub flat_same : (f g : ℕ → List Item) (ns : List ℕ) → ((n : ℕ) → In n ns → f n ≡ g n) → flat_map f ns ≡ flat_map g ns
+pub flat_same : (f g : ℕ → List OrderItem) (ns : List ℕ) → ((n : ℕ) → In n ns → f n ≡ g n) → flat_map f ns ≡ flat_map g ns
 flat_same f g [] h = refl
 flat_same f g (n ∷ ns) h = ap (λ xs. xs ++ flat_map f ns) (h n (inl refl)) ∙ ap (λ xs. g n ++ xs) (flat_same f g ns (λ m i. h m (inr i)))
 
-pub as_items_same : (b : Bool) (n : ℕ) (xs ys : List Item) → (b ≡ true → xs ≡ ys) → as_items b n xs ≡ as_items b n ys
+pub as_items_same : (b : Bool) (n : ℕ) (xs ys : List OrderItem) → (b ≡ true → xs ≡ ys) → as_items b n xs ≡ as_items b n ys
 as_items_same true n xs ys h = ap (as_items true n) (h refl)
 as_items_same false n xs ys h = refl
 
-pub last_open_same : (o : Option ℕ) (f g : Option ℕ → List Item) → ((n : ℕ) → o ≡ Some n → f (Some n) ≡ g (Some n)) → last_open o (f o) ≡ last_open o (g o)
+pub last_open_same : (o : Option ℕ) (f g : Option ℕ → List OrderItem) → ((n : ℕ) → o ≡ Some n → f (Some n) ≡ g (Some n)) → last_open o (f o) ≡ last_open o (g o)
 last_open_same None f g h = refl
 last_open_same (Some n) f g h = ap (last_open (Some n)) (h n refl)
 
@@ -69,8 +69,8 @@ module _ (t : List Node) (p : ℕ) (u : List Node) (q : ℕ) where
   pub items_alike : (at : Option ℕ → Type 0) → AreAlike t p u q at → (k : ℕ) (b : Option ℕ) → at b → items_in u q k b ≡ items_in t p k b
   items_alike at a zero b h = refl
   items_alike at a (suc k) b h =
-      let f : ℕ → List Item = λ n. as_items (is_block u n) n (items_in u q k (Some n)) in
-      let g : ℕ → List Item = λ n. as_items (is_block t n) n (items_in t p k (Some n)) in
+      let f : ℕ → List OrderItem = λ n. as_items (is_block u n) n (items_in u q k (Some n)) in
+      let g : ℕ → List OrderItem = λ n. as_items (is_block t n) n (items_in t p k (Some n)) in
       ap (λ ns. flat_map f ns ++ last_open (open_member u q b) (items_in u q k (open_member u q b))) (a.members b h)
       ∙ ap (λ o. flat_map f (sorted t b) ++ last_open o (items_in u q k o)) (a.opens b h)
       ∙ ap (λ xs. xs ++ last_open (open_member t p b) (items_in u q k (open_member t p b))) (members_alike a.blocks k b (λ n m e. items_alike at a k (Some n) (a.inner b h n m e)))
@@ -88,8 +88,8 @@ module _ (t : List Node) (r : IsRooted t) (root : is_block t 0 ≡ false) (p : �
   pub levels_more : (k : ℕ) (b : Option ℕ) → number b < length t → length t ≤ k + number b → items_in t p (suc k) b ≡ items_in t p k b
   levels_more zero b h le = absurd (omega arith)
   levels_more (suc k) b h le =
-      let f : ℕ → List Item = λ n. as_items (is_block t n) n (items_in t p (suc k) (Some n)) in
-      let g : ℕ → List Item = λ n. as_items (is_block t n) n (items_in t p k (Some n)) in
+      let f : ℕ → List OrderItem = λ n. as_items (is_block t n) n (items_in t p (suc k) (Some n)) in
+      let g : ℕ → List OrderItem = λ n. as_items (is_block t n) n (items_in t p k (Some n)) in
       ap (λ xs. xs ++ last_open (open_member t p b) (items_in t p (suc k) (open_member t p b)))
       (flat_same f g (sorted t b) (λ n i.
       let m = sorted_is t b n i in

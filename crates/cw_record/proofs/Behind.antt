@@ -29,7 +29,7 @@ Over t p (f ∷ fs) = (is_ancestor t f p ≡ true) × Over t f fs
 
 module _ (t : List Node) (r : IsRooted t) where
   -- what is over a node is over all beneath it
-  over_lower : (q p : ℕ) (fs : List ℕ) → p < length t → is_ancestor t q p ≡ true → Over t q fs → Over t p fs
+  pub over_lower : (q p : ℕ) (fs : List ℕ) → p < length t → is_ancestor t q p ≡ true → Over t q fs → Over t p fs
   over_lower q p [] h e o = tt
   over_lower q p (f ∷ fs) h e o = (ancestor_trans t r f q p h o.0 e, o.1)
 

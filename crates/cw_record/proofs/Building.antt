@@ -4,7 +4,7 @@ use Rattle.std.specs.Prelude.{◌||◌, IsTrue}
 use Rattle.cw_tree.specs.declared.node.Node.{Node}
 use Rattle.cw_tree.specs.Nodes.{parent_of, stamp_of, end_of, is_strand, is_fork, is_block, is_pending, is_committed}
 use Rattle.cw_tree.specs.Walks.{IsRooted, is_ancestor}
-use Rattle.cw_record.specs.declared.items.Item.{Item}
+use Rattle.cw_record.specs.declared.items.OrderItem.{OrderItem}
 use Rattle.cw_record.specs.Items.{items_in}
 
 -- The next node of tree t goes to place p, and no stamp or end in it is above the clock.
@@ -28,5 +28,5 @@ pub record IsBuilt (t : List Node) (p clock : ℕ) : Type 0 where
   pub ends : (n : ℕ) → end_of t n ≤ clock
 
 -- the items so far, where the pending blocks above place p are open
-abbrev pub open_items : List Node → ℕ → List Item
+abbrev pub open_items : List Node → ℕ → List OrderItem
 open_items t p = items_in t p (length t) None

@@ -12,7 +12,7 @@ use Rattle.cw_tree.specs.Names.{name_of}
 use Rattle.cw_tree.proofs.Strands.{strand_of_le}
 use Rattle.cw_tree.proofs.Growing.{get_append, length_more, rooted_more, strand_of_grown}
 use Rattle.cw_tree.proofs.Closing.{length_closed, same_closed, strand_of_closed}
-use Rattle.cw_record.specs.declared.items.Item.{Item}
+use Rattle.cw_record.specs.declared.items.OrderItem.{OrderItem}
 use Rattle.cw_record.specs.Order.{node_of}
 use Rattle.cw_record.specs.Drawn.{added, forked}
 use Rattle.cw_record.proofs.Building.{IsBuilt}
@@ -54,7 +54,7 @@ module _ (t : List Node) (p clock : ℕ) (b : IsBuilt t p clock) where
         ap (name_of (forked t p st)) (kept i h) ∙ name_forked t p clock b st (strand_of t (node_of i)) (omega arith));
     kinds = λ n h. ap (option_map (λ x. x.kind)) (get_append (added t p Fork st) (fresh_node (length t) Strand 0 ∷ []) n (omega (arith, length_more t (fresh_node p Fork st))) ∙ get_append t (fresh_node p Fork st ∷ []) n h);
   } where
-    kept : (i : Item) → node_of i < length t → strand_of (forked t p st) (node_of i) ≡ strand_of t (node_of i)
+    kept : (i : OrderItem) → node_of i < length t → strand_of (forked t p st) (node_of i) ≡ strand_of t (node_of i)
     kept i h =
         strand_of_grown (added t p Fork st) (fresh_node (length t) Strand 0 ∷ []) (rooted_more t (fresh_node p Fork st) b.rooted b.there) (node_of i) (omega (arith, length_more t (fresh_node p Fork st)))
         ∙ strand_of_grown t (fresh_node p Fork st ∷ []) b.rooted (node_of i) h

@@ -35,7 +35,7 @@ in_filter p n (x ∷ ns) (inr h) e = in_other n x (filter p ns) (p x) (in_filter
 -- ## The walk
 
 module _ (t : List Node) (r : IsRooted t) where
-  in_children : (n : ℕ) → 0 < n → n < length t → In n (children t (parent_of t n))
+  pub in_children : (n : ℕ) → 0 < n → n < length t → In n (children t (parent_of t n))
   in_children n s h =
       in_filter (is_child t (parent_of t n)) n (all_nodes t) (below_in n (length t) h)
       (and_from (nat_lt 0 n) (nat_eq (parent_of t n) (parent_of t n)) (lt-ltb 0 n s) (eq-eqb (parent_of t n) (parent_of t n) refl))

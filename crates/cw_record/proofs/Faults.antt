@@ -24,11 +24,11 @@ use Rattle.cw_record.proofs.NewMembers.{items_stay}
 
 -- ## The last that passes
 
-last_none : (p : ℕ → Bool) (n : ℕ) → ((m : ℕ) → m < n → p m ≡ false) → last_below p n ≡ None
+pub last_none : (p : ℕ → Bool) (n : ℕ) → ((m : ℕ) → m < n → p m ≡ false) → last_below p n ≡ None
 last_none p zero h = refl
 last_none p (suc n) h = ap (λ b. cond b (Some n) (last_below p n)) (h n (omega arith)) ∙ last_none p n (λ m l. h m (omega arith))
 
-last_is : (p : ℕ → Bool) (k n : ℕ) → k < n → p k ≡ true → ((m : ℕ) → k < m → m < n → p m ≡ false) → last_below p n ≡ Some k
+pub last_is : (p : ℕ → Bool) (k n : ℕ) → k < n → p k ≡ true → ((m : ℕ) → k < m → m < n → p m ≡ false) → last_below p n ≡ Some k
 last_is p k zero h e none = absurd (omega arith)
 last_is p k (suc n) h e none =
     elim (at_or_before k n h) [
@@ -36,7 +36,7 @@ last_is p k (suc n) h e none =
       | inr same ↦ (let P : ℕ → Type 0 = λ m. last_below p (suc m) ≡ Some k in subst P (sym same) (ap (λ b. cond b (Some k) (last_below p k)) e))
     ]
 
-last_same : (p q : ℕ → Bool) (n : ℕ) → ((m : ℕ) → m < n → p m ≡ q m) → last_below p n ≡ last_below q n
+pub last_same : (p q : ℕ → Bool) (n : ℕ) → ((m : ℕ) → m < n → p m ≡ q m) → last_below p n ≡ last_below q n
 last_same p q zero h = refl
 last_same p q (suc n) h = ap (λ b. cond b (Some n) (last_below p n)) (h n (omega arith)) ∙ ap (cond (q n) (Some n)) (last_same p q n (λ m l. h m (omega arith)))
 

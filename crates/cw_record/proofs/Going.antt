@@ -1,11 +1,12 @@
 -- A worker goes from strand to strand.
-use Rattle.std.proofs.Common.{◌≡◌, ℕ, ℤ, suc, ◌+◌, ◌<◌, List, ◌∷◌, length, refl, ap, sym, ◌∙◌, subst, arith, true, false}
+use Rattle.std.proofs.Common.{◌≡◌, ℕ, ℤ, suc, ◌+◌, ◌<◌, ◌≤◌, List, ◌∷◌, length, refl, ap, sym, ◌∙◌, subst, arith, true, false}
 use Rattle.cw_strand.specs.declared.want.Want.TheVariants as want
 use Rattle.cw_strand.specs.Names.{first_memory}
 use Rattle.cw_strand.specs.Strands.{Closes, IsDeep, is_over}
 use Rattle.cw_tree.specs.declared.node.Node.{Node}
-use Rattle.cw_tree.specs.declared.node.Kind.TheVariants.{Strand}
-use Rattle.cw_tree.specs.Nodes.{parent_of}
+use Rattle.cw_tree.specs.declared.node.Kind.TheVariants.{Strand, Fork}
+use Rattle.cw_tree.specs.Nodes.{parent_of, is_fork, fresh_node}
+use Rattle.cw_tree.proofs.Growing.{rooted_more}
 use Rattle.cw_serial.specs.Jobs.{Job}
 use Rattle.cw_serial.specs.declared.interpreter.strand.Strand.{Strand as Written}
 use Rattle.cw_serial.specs.Machine.{Machine}
@@ -14,7 +15,7 @@ use Rattle.cw_serial.specs.MachineOf.{machine_of}
 use Rattle.cw_serial.proofs.Branches.{Branch, on_left, on_right}
 use Rattle.cw_serial.proofs.Weights.{weight, weight_falls, weight_le}
 use Rattle.cw_serial.proofs.Working.{Worker as Working, machine_at, IsAtWork, after_fork as worker_after_fork, forks_off, fork_stays, none_begun, after_turn, turns_right, turn_stays, after_join as worker_after_join, joins_up, join_stays}
-use Rattle.cw_record.specs.declared.items.Item.{Item}
+use Rattle.cw_record.specs.declared.items.OrderItem.{OrderItem}
 use Rattle.cw_record.specs.declared.worker.Branch.{Branch as Held}
 use Rattle.cw_record.specs.declared.worker.Branch.TheVariants.{Left, Right}
 use Rattle.cw_record.specs.declared.worker.Worker.{Worker}
@@ -25,7 +26,13 @@ use Rattle.cw_record.proofs.Descending.{Descends, Crossing}
 use Rattle.cw_record.proofs.Doers.{doers_beside, doers_forked}
 use Rattle.cw_record.proofs.GrowingItems.{fork_built, fork_items, turn_built, turn_items, join_built, join_items}
 use Rattle.cw_record.proofs.GrowingJournals.{has_beside, has_forked}
-use Rattle.cw_record.proofs.GrowingWays.{way_fork, way_turn, way_join, crossed_there, crossed_parent, crossed_strand, crossed_fork}
+use Rattle.cw_record.proofs.GrowingWays.{way_fork, way_turn, way_join, crossed_some, crossed_there, crossed_parent, crossed_strand, crossed_fork}
+use Rattle.cw_record.proofs.KeptCells.{fits_more}
+use Rattle.cw_record.proofs.KnownStates.{Known}
+use Rattle.cw_record.proofs.EndStates.{states_turn, states_join}
+use Rattle.cw_record.proofs.StepStates.{states_fork}
+use Rattle.cw_tree.specs.Series.{children}
+use Rattle.cw_record.proofs.Later.{rising_forked, rising_strand}
 use Rattle.cw_record.proofs.Playing.{SameDoers, Plays, plays_kept}
 use Rattle.cw_record.proofs.Running.{Draws, HoldsBranches, Runs, crossings, draws_by, wants_same, law_same, left_to_do, weights}
 use Rattle.cw_record.proofs.Shaped.{IsShaped, shaped_strand, shaped_forked}
@@ -45,9 +52,9 @@ module _ (job : Job) where
   }
 
   -- the machine that was played to is the same one
-  same_played : (t u : List Node) (m n : Machine StrandState) (is js : List Item) → SameDoers t u → js ≡ is → n ≡ m → Plays (strands_of job) t (machine_of job) is m → Plays (strands_of job) u (machine_of job) js n
+  same_played : (t u : List Node) (m n : Machine StrandState) (is js : List OrderItem) → SameDoers t u → js ≡ is → n ≡ m → Plays (strands_of job) t (machine_of job) is m → Plays (strands_of job) u (machine_of job) js n
   same_played t u m n is js same items machine h =
-      let P : List Item → Type 0 = λ xs. Plays (strands_of job) u (machine_of job) xs n in
+      let P : List OrderItem → Type 0 = λ xs. Plays (strands_of job) u (machine_of job) xs n in
       let Q : Machine StrandState → Type 0 = λ x. Plays (strands_of job) u (machine_of job) is x in
       subst P (sym items) (subst Q (sym machine) (plays_kept (strands_of job) t u same (machine_of job) m is h))
 
@@ -65,9 +72,12 @@ module _ (job : Job) where
           built = fork_built t at code.drawing.clock r.draws.built st later;
           shape = shaped_forked t (unstarted code.branches) r.draws.shape at r.draws.built.there r.draws.built.place st;
           stamps = stamped_forked t at code.drawing.clock r.draws.built r.draws.stamps st later;
+          rising = rising_forked t at code.drawing.clock r.draws.built r.draws.rising st later (rooted_more t (fresh_node at Fork st) r.draws.built.rooted r.draws.built.there);
+          cells = fits_more (added t at Fork st) (length (first_memory job.program.cells)) (fits_more t (length (first_memory job.program.cells)) r.draws.cells at Fork st refl) (length t) Strand 0 refl;
           branches = (stands, r.draws.branches);
           place = way_fork t at code.drawing.clock r.draws.built st (crossings code.branches w.branches) w.blocks w.forks r.draws.place;
           journals = has_forked t at code.drawing.clock r.draws.built (first_memory job.program.cells) w.memory code.drawing.journals.items r.draws.journals st;
+          states = states_fork (strands_of job) t at code.drawing.clock r.draws.built code.branches w.strand r.draws.states.0 r.draws.states.1 st f right stands;
           played = same_played t (forked t at st) (machine_at (strands_of job) w) (machine_at (strands_of job) (worker_after_fork (strands_of job) w)) (open_items t at) _ (doers_forked t at code.drawing.clock r.draws.built st)
               (fork_items t at code.drawing.clock r.draws.built st later) (fork_stays (strands_of job) closes deep w f) r.draws.played;
         }
@@ -134,13 +144,19 @@ module _ (job : Job) where
           let I : ℕ → Type 0 = λ g. IsBuilt (added t g Strand 0) (length t) code.drawing.clock in
           let O : ℕ → Type 0 = λ g. open_items (added t g Strand 0) (length t) ≡ open_items t at in
           let F : List Held → Type 0 = λ xs. IsShaped t (unstarted xs) in
+          let KN : List Held → Type 0 = λ xs. Known (strands_of job) t at xs a in
+          let known : Known (strands_of job) t at (Left f right ∷ rest) a = subst KN was h.draws.states in
+          let KT : StrandState → Type 0 = λ y. Known (strands_of job) (added t f Strand 0) (length t) (Right f code.strand ∷ rest) y in
           let draws : Draws job (after_start f (drawn code.drawing)) (Right f code.strand ∷ rest) u = record {
             built = subst I up (turn_built t at code.drawing.clock h.draws.built on_strand at_fork);
             shape = shaped_strand t f (unstarted rest) (subst F was h.draws.shape);
             stamps = stamped_strand t h.draws.built.rooted h.draws.stamps f there;
+            rising = rising_strand t h.draws.built.rooted h.draws.rising f;
+            cells = fits_more t (length (first_memory job.program.cells)) h.draws.cells f Strand 0 refl;
             branches = (h.strand, held.1);
             place = way_turn t at code.drawing.clock h.draws.built cross (crossings rest c) m down;
             journals = has_beside t at code.drawing.clock h.draws.built (first_memory job.program.cells) memory code.drawing.journals.items h.draws.journals f Strand 0 (λ e. refl);
+            states = subst KT held.0 (states_turn (strands_of job) t at code.drawing.clock h.draws.built f rest a known.0 on_strand (ap (is_fork t) (sym up) ∙ at_fork) (crossed_some t at code.drawing.clock h.draws.built cross (crossings rest c) m down) up o right code.strand known.1 h.strand);
             played = same_played t (added t f Strand 0) (machine_at (strands_of job) x) (machine_at (strands_of job) u) (open_items t at) (open_items (added t f Strand 0) (length t)) (doers_beside t h.draws.built.rooted f Strand 0 there refl)
                 (subst O up (turn_items t at code.drawing.clock h.draws.built on_strand at_fork)) (turn_stays (strands_of job) closes memory outputs c k n m b a o r h.work) h.draws.played;
           } in
@@ -189,13 +205,20 @@ module _ (job : Job) where
           let low = weight_le (s.depth (s.joined a l)) (s.depth a) (deep.joined a l) in
           let todo : left_to_do new ≡ weight (s.depth (s.joined a l)) + weights s rest = (rw (now, becomes, branches) refl) in
           let before : left_to_do code ≡ weight (s.depth a) + (1 + weights s rest) = (rw (same, was, h.strand) refl) in
+          let KN : List Held → Type 0 = λ xs. Known (strands_of job) t at xs a in
+          let known : Known (strands_of job) t at (Right f left ∷ rest) a = subst KN was h.draws.states in
+          let few : (g : ℕ) → is_fork t g ≡ true → length (children t g) ≤ 2 = (λ g e. (let two = h.draws.shape.forks g e in omega arith)) in
+          let KJ : StrandState → Type 0 = λ y. Known (strands_of job) t (parent_of t f) rest ((strands_of job).joined a y) in
           let draws : Draws job (after_join f (drawn code.drawing)) rest u = record {
             built = subst I up (join_built t at code.drawing.clock h.draws.built on_strand at_fork);
             shape = subst F was h.draws.shape;
             stamps = h.draws.stamps;
+            rising = h.draws.rising;
+            cells = h.draws.cells;
             branches = held.1;
             place = way_join t at code.drawing.clock h.draws.built cross (crossings rest c) m down;
             journals = h.draws.journals;
+            states = subst KJ held.0 (states_join (strands_of job) t at code.drawing.clock h.draws.built f rest a known.0 on_strand (ap (is_fork t) (sym up) ∙ at_fork) (crossed_some t at code.drawing.clock h.draws.built cross (crossings rest c) m down) up v left known.1 (few f (ap (is_fork t) (sym up) ∙ at_fork)));
             played = same_played t t (machine_at (strands_of job) x) (machine_at (strands_of job) u) (open_items t at) (open_items t (parent_of t f)) (record { longer = omega arith; doers = λ i j. refl; kinds = λ i j. refl })
                 (subst O up (join_items t at code.drawing.clock h.draws.built on_strand at_fork)) (join_stays (strands_of job) closes memory outputs c k n m b a v o l h.work) h.draws.played;
           } in (

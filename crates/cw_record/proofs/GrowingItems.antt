@@ -9,7 +9,7 @@ use Rattle.cw_tree.specs.declared.node.BlockState.TheVariants.{Committed}
 use Rattle.cw_tree.specs.Nodes.{parent_of, is_strand, is_fork, is_block, is_strand_kind, is_fork_kind, is_block_kind, fresh_node, closed}
 use Rattle.cw_tree.proofs.Growing.{length_more, node_new, number_new}
 use Rattle.cw_tree.proofs.Closing.{node_closed, number_closed}
-use Rattle.cw_record.specs.declared.items.Item.TheVariants.{Begins, Does, Ends}
+use Rattle.cw_record.specs.declared.items.OrderItem.TheVariants.{Begins, Does, Ends}
 use Rattle.cw_record.specs.Items.{is_act_kind, items_in}
 use Rattle.cw_record.proofs.Building.{IsBuilt, open_items}
 use Rattle.cw_record.specs.Drawn.{added}

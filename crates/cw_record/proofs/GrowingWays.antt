@@ -202,6 +202,9 @@ module _ (t : List Node) (p clock : ℕ) (built : IsBuilt t p clock) where
     pub crossed_parent : parent_of t p ≡ x.node
     crossed_parent = d.2
 
+    pub crossed_some : 0 < p
+    crossed_some = d.0
+
     pub crossed_strand : IsTrue (is_strand t p)
     crossed_strand = d.1
 

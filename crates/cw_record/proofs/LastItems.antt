@@ -15,8 +15,8 @@ use Rattle.cw_tree.specs.Walks.{is_ancestor, xparent}
 use Rattle.cw_tree.proofs.Ancestors.{ancestor_past, ancestor_le}
 use Rattle.cw_tree.proofs.Growing.{length_more, node_new}
 use Rattle.cw_tree.proofs.Closing.{length_closed}
-use Rattle.cw_record.specs.declared.items.Item.{Item}
-use Rattle.cw_record.specs.declared.items.Item.TheVariants.{Begins, Does, Ends}
+use Rattle.cw_record.specs.declared.items.OrderItem.{OrderItem}
+use Rattle.cw_record.specs.declared.items.OrderItem.TheVariants.{Begins, Does, Ends}
 use Rattle.cw_record.specs.Items.{is_act, is_act_kind, same_block, is_right_in, key, open_member, as_items, last_open, items_in}
 use Rattle.cw_record.proofs.Building.{open_items}
 use Rattle.cw_record.specs.Drawn.{added}
@@ -61,8 +61,8 @@ module _ (t : List Node) (p c : ℕ) (g : IsGrowing t p c) (kind : Kind) (st : �
     leaf_here : Lengthens t p c g u p h leaf_same leaf_way (Does (length t) ∷ []) h
     leaf_here zero enough = absurd (let low = home_low t p c g in omega arith)
     leaf_here (suc k) enough =
-        let f : ℕ → List Item = λ n. as_items (is_block u n) n (items_in u p k (Some n)) in
-        let before : ℕ → List Item = λ n. as_items (is_block t n) n (items_in t p k (Some n)) in
+        let f : ℕ → List OrderItem = λ n. as_items (is_block u n) n (items_in u p k (Some n)) in
+        let before : ℕ → List OrderItem = λ n. as_items (is_block t n) n (items_in t p k (Some n)) in
         let none : open_member t p h ≡ None = open_home t g.rooted p g.there in
         let new_kind : is_block u (length t) ≡ false = node_new t (fresh_node p kind st) (λ y. is_block_kind y.kind) ∙ act_no_block kind act in
         ap (λ ns. flat_map f ns ++ last_open (open_member u p h) (items_in u p k (open_member u p h))) (sorted_new t g.rooted p g.there kind st act (λ m. let low = key_low t p c g m in omega arith))
@@ -125,8 +125,8 @@ module _ (t : List Node) (p c : ℕ) (g : IsGrowing t p c) (st : ℕ) where
   block_here : Lengthens t p c g w new around block_same block_way (Begins new ∷ []) around
   block_here zero enough = absurd (let low = home_low t p c g in omega arith)
   block_here (suc k) enough =
-      let f : ℕ → List Item = λ n. as_items (is_block w n) n (items_in w new k (Some n)) in
-      let before : ℕ → List Item = λ n. as_items (is_block t n) n (items_in t p k (Some n)) in
+      let f : ℕ → List OrderItem = λ n. as_items (is_block w n) n (items_in w new k (Some n)) in
+      let before : ℕ → List OrderItem = λ n. as_items (is_block t n) n (items_in t p k (Some n)) in
       let none : open_member t p around ≡ None = open_home t g.rooted p g.there in
       let here : open_member w new around ≡ Some new = open_new t g.rooted p g.there Block st around ∙ ap (λ x. cond x (Some new) (open_member t p around)) (same_block_self around) in
       ap (λ ns. flat_map f ns ++ last_open (open_member w new around) (items_in w new k (open_member w new around))) (sorted_old t g.rooted p g.there Block st around refl)
@@ -159,8 +159,8 @@ module _ (t : List Node) (p c : ℕ) (g : IsGrowing t p c) (some : 0 < p) (block
   end_here : Lengthens t p c g v q outer same way (Ends p ∷ []) outer
   end_here zero enough = absurd (let there = g.there in let low = around_less t p c g v q outer same way (Ends p ∷ []) p some there in omega arith)
   end_here (suc k) enough =
-      let f : ℕ → List Item = λ n. as_items (is_block v n) n (items_in v q k (Some n)) in
-      let before : ℕ → List Item = λ n. as_items (is_block t n) n (items_in t p k (Some n)) in
+      let f : ℕ → List OrderItem = λ n. as_items (is_block v n) n (items_in v q k (Some n)) in
+      let before : ℕ → List OrderItem = λ n. as_items (is_block t n) n (items_in t p k (Some n)) in
       let inner : items_in v q k (Some p) ≡ items_in t p k (Some p) =
       items_shut t p c g v q outer same way k (Some p) (around_other t p c g some block st later) (none_inside t p c g some block st later) in
       let is_open = was_open t p c g some block st later in

@@ -9,7 +9,9 @@ use Rattle.cw_strand.specs.Strands.{Closes, is_over, is_fork}
 use Rattle.cw_tree.specs.declared.node.Node.{Node}
 use Rattle.cw_tree.specs.declared.node.Kind.TheVariants.{Strand}
 use Rattle.cw_tree.specs.declared.access.Entry.{Entry}
-use Rattle.cw_tree.specs.Nodes.{is_aborted, fresh_node}
+use Rattle.cw_tree.specs.Nodes.{is_strand, is_aborted, fresh_node}
+use Rattle.cw_tree.specs.Accesses.{is_live}
+use Rattle.std.proofs.lemmas.Bool.{and_from, and_parts}
 use Rattle.cw_tree.specs.Series.{strand_of, place as place_in}
 use Rattle.cw_tree.specs.Names.{name_of}
 use Rattle.cw_tree.proofs.CellJournals.{HasJournals, journals_begin}
@@ -21,28 +23,36 @@ use Rattle.cw_serial.specs.MachineOf.{machine_of}
 use Rattle.cw_serial.proofs.Branches.{Branch, way, plugged}
 use Rattle.cw_serial.proofs.Deep.{goes_over, ended_stands}
 use Rattle.cw_serial.proofs.Working.{Worker as Working, machine_at, starts_work, none_begun, at_here, leftmost_here}
-use Rattle.cw_record.specs.declared.items.Item.{Item}
+use Rattle.cw_record.specs.declared.items.OrderItem.{OrderItem}
 use Rattle.cw_record.specs.declared.record_end.RecordEnd.TheVariants.{Finished, Fault}
 use Rattle.cw_record.specs.declared.worker.Branch.{Branch as Held}
 use Rattle.cw_record.specs.declared.worker.Worker.{Worker}
 use Rattle.cw_record.specs.Drawn.{blank, drawn}
 use Rattle.cw_record.specs.Items.{items}
 use Rattle.cw_record.specs.Order.{node_of}
-use Rattle.cw_record.specs.Records.{IsRun}
+use Rattle.cw_record.specs.Coherent.{IsMemory, HasNoOpenFork}
+use Rattle.cw_record.specs.Records.{IsWorkerRun}
 use Rattle.cw_record.specs.Worked.{law_of, unstarted, want_of}
+use Rattle.cw_record.proofs.AddedStates.{known_root}
 use Rattle.cw_record.proofs.Building.{IsBuilt, open_items}
 use Rattle.cw_record.proofs.Behind.{waiting_over, numbered_at_fault}
 use Rattle.cw_record.proofs.Descending.{Descends}
 use Rattle.cw_record.proofs.Faults.{fault_items}
+use Rattle.cw_record.proofs.FollowedStates.{none_pending, finished_follows, finished_ended, fault_stops}
 use Rattle.cw_record.proofs.GrowingItems.{built_root, root_items}
 use Rattle.cw_record.proofs.GrowingJournals.{same_more, has_unless}
 use Rattle.cw_record.proofs.GrowingWays.{descends_root, way_root}
-use Rattle.cw_record.proofs.NoneAborted.{not_aborted}
-use Rattle.cw_record.proofs.NoneRefused.{none_refused}
-use Rattle.cw_record.proofs.OpenBlocks.{blocks_built, blocks_at_fault}
+use Rattle.cw_record.proofs.KnownStates.{Knows}
+use Rattle.cw_record.proofs.KeptCells.{fits_root, fits_behind, ended_behind}
+use Rattle.cw_record.proofs.Later.{rising_root, journals_ended}
+use Rattle.cw_record.proofs.NoneAborted.{none_aborted, not_aborted}
+use Rattle.cw_record.proofs.NoneRefused.{none_refused, none_roll, all_are_live}
+use Rattle.cw_record.proofs.OpenBlocks.{blocks_built, blocks_at_fault, place_at_fault}
 use Rattle.cw_record.proofs.PendingLast.{last_built, last_behind}
 use Rattle.cw_record.proofs.Playing.{SameDoers, Plays, plays_kept, does_all, goes_depth_first}
 use Rattle.cw_record.proofs.Shaped.{IsShaped, shaped_root, tree_of_shape, to_come_there, shaped_strands}
+use Rattle.cw_record.proofs.ShownItems.{items_shown}
+use Rattle.cw_record.proofs.States.{reached}
 use Rattle.cw_record.proofs.Stamped.{stamped_root, stamped_behind}
 use Rattle.cw_record.proofs.StrandIs.{strand_is}
 use Rattle.cw_record.proofs.Running.{Draws, HoldsBranches, Runs, crossings, draws_by, runs_name, wants_same}
@@ -65,13 +75,16 @@ module _ (job : Job) where
       let root = fresh_node 0 Strand 0 ∷ [] in
       let empty = replicate (length first) [] in
       let w : Working StrandState = record { memory = first; outputs = []; branches = []; forks = 0; blocks = 0; strand = (strands_of job).start } in
-      let I : List Item → Type 0 = λ is. Plays (strands_of job) root (machine_of job) is (machine_at (strands_of job) w) in
+      let I : List OrderItem → Type 0 = λ is. Plays (strands_of job) root (machine_of job) is (machine_at (strands_of job) w) in
       let draws : Draws job (blank (length first)) [] w = record {
         built = built_root;
         shape = shaped_root;
         stamps = stamped_root;
+        rising = rising_root;
+        cells = fits_root (length first);
         branches = tt;
         place = descends_root;
+        states = known_root (strands_of job);
         journals = journals_begin (fresh_node 0 Strand 0) first empty refl (length-replicate (length first) []) (λ c es h. all_empty (length first) c es h);
         played = subst I (sym root_items) refl;
       } in (
@@ -96,7 +109,7 @@ module _ (job : Job) where
 
     pub finished_run : (code : Worker) (memory outputs : List ℤ) (branches : List (Branch StrandState)) (forks blocks : ℕ) (a : StrandState)
         → Runs job code (let w : Working StrandState = record { memory = memory; outputs = outputs; branches = branches; forks = forks; blocks = blocks; strand = a } in w)
-        → is_over (want_of code) ≡ true → code.branches ≡ [] → IsRun job code.drawing.tree code.drawing.journals.items (Finished code.memory.items code.outputs.items)
+        → is_over (want_of code) ≡ true → code.branches ≡ [] → IsWorkerRun job code.drawing.tree code.drawing.journals.items (Finished code.memory.items code.outputs.items)
     finished_run code memory outputs branches forks blocks a r over none =
         let t = code.drawing.tree in
         let w : Working StrandState = record { memory = memory; outputs = outputs; branches = branches; forks = forks; blocks = blocks; strand = a } in
@@ -113,19 +126,39 @@ module _ (job : Job) where
         let stands : ended (strands_of job) m.strands ≡ Some a =
         ap (λ c. ended (strands_of job) (plugged (strands_of job) c (goes_on (strands_of job) forks a))) empty
         ∙ (ap (ended (strands_of job)) (goes_over (strands_of job) forks a o) ∙ ended_stands (strands_of job) forks a o) in
+        let tree = tree_of_shape t (let S : List Held → Type 0 = λ xs. IsShaped t (unstarted xs) in subst S none r.draws.shape) in
+        let x = r.draws.states.0 in
+        let known : Knows (strands_of job) t 0 code.branches a x = (let K : ℕ → Type 0 = λ at. Knows (strands_of job) t at code.branches a x in subst K at_root r.draws.states.1) in
         let blocks = blocks_built t 0 code.drawing.clock (let B : ℕ → Type 0 = λ at. IsBuilt t at code.drawing.clock in subst B at_root r.draws.built) in
         record {
           ended = tt;
-          tree = tree_of_shape t (let S : List Held → Type 0 = λ xs. IsShaped t (unstarted xs) in subst S none r.draws.shape);
+          coherent = λ budget. record {
+            history = record {
+              tree = tree;
+              stamps = r.draws.stamps;
+              pending_last = last_built t code.drawing.place code.drawing.clock r.draws.built;
+              cells = r.draws.cells;
+              journals = r.draws.journals.journals;
+              ended = journals_ended t code.drawing.place code.drawing.clock r.draws.built r.draws.rising r.draws.stamps (length (first_memory job.program.cells));
+              refusals = none_refused t 0 r.draws.shape.untried blocks;
+              rolls_back = none_roll t (none_aborted t 0 blocks);
+            };
+            faulted = tt;
+            spent = tt;
+            memory = (let M : List ℤ → Type 0 = λ values. IsMemory t (first_memory job.program.cells) values in subst M (sym r.memory) (record { len = r.draws.journals.len; each = r.draws.journals.values }));
+            strands = (
+              x.before,
+              x.after,
+              reached (strands_of job) t x,
+              finished_follows (strands_of job) t tree code.branches a x known o,
+              (none_pending t tree.root blocks, (λ n l live. finished_ended (strands_of job) t tree code.branches a x known o n l (and_parts (is_strand t n) (is_live t n) live).0)),
+            );
+          };
+          outputs = λ budget. r.outputs ∙ items_shown (strands_of job) t (machine_of job) m 0 (length t) refl (does_all (strands_of job) t (machine_of job) m (open_items t 0) played);
           numbered = r.draws.built.numbered;
           blocks = blocks;
-          refusals = none_refused t 0 r.draws.shape.untried blocks;
-          stamps = r.draws.stamps;
-          pending_last = last_built t code.drawing.place code.drawing.clock r.draws.built;
           strand = r.draws.built.root;
-          order = λ budget. record { machine = m; picks = goes_depth_first (strands_of job) t (machine_of job) m (open_items t 0) played; stops = (ap is_some stands, sym r.memory, sym r.outputs) };
-          acts = λ budget. does_all (strands_of job) t (machine_of job) m (open_items t 0) played;
-          journals = r.draws.journals.journals;
+          order = λ budget. record { machine = m; picks = goes_depth_first (strands_of job) t (machine_of job) m (open_items t 0) played; acts = does_all (strands_of job) t (machine_of job) m (open_items t 0) played; stops = (ap is_some stands, sym r.memory, sym r.outputs) };
         }
 
     -- ## A fault
@@ -142,7 +175,7 @@ module _ (job : Job) where
         subst P (one_unstarted t f fs) (has_strands u first memory kept fs (same_more t none f Strand 0).none_too (has_unless t none f Strand 0 first memory kept h (λ c. refl)))
 
     pub fault_run : (code : Worker) (w : Working StrandState) → Runs job code w → (kind : FaultKind) → want_of code ≡ want.Fault kind → (t : List Node) → t ≡ with_strands code.drawing.tree (unstarted code.branches)
-        → IsRun job t code.drawing.journals.items (Fault (strand_of code.drawing.tree code.drawing.place) kind)
+        → IsWorkerRun job t code.drawing.journals.items (Fault (strand_of code.drawing.tree code.drawing.place) kind)
     fault_run code w r kind is t grown =
         let old = code.drawing.tree in
         let place = code.drawing.place in
@@ -163,28 +196,46 @@ module _ (job : Job) where
         let named : name_of u x ≡ way w.branches = unstarted_name old r.draws.built.rooted fs low x (omega arith) ∙ runs_name job code w r in
         let listed = λ (budget : ℕ). unstarted_items old r.draws.built.rooted fs low r.draws.built.root [] budget x kind (omega arith) ∙ fault_items old place code.drawing.clock r.draws.built [] budget kind in
         let played : Plays (strands_of job) u (machine_of job) (open_items old place) m = plays_kept (strands_of job) old u same (machine_of job) m (open_items old place) r.draws.played in
-        let played_at = λ (budget : ℕ). (let P : List Item → Type 0 = λ is. Plays (strands_of job) u (machine_of job) is m in subst P (sym (listed budget)) played) in
+        let played_at = λ (budget : ℕ). (let P : List OrderItem → Type 0 = λ is. Plays (strands_of job) u (machine_of job) is m in subst P (sym (listed budget)) played) in
         let shape = shaped_strands fs old r.draws.shape in
         let blocks = blocks_at_fault old place code.drawing.clock r.draws.built fs low in
-        let all : IsRun job u code.drawing.journals.items (Fault x kind) = record {
+        let live = not_aborted old place code.drawing.clock r.draws.built in
+        let strand : is_strand u x ≡ true = unstarted_strand old fs x (omega arith) ∙ strand_is old r.draws.built.rooted r.draws.built.root place there in
+        let waiting = waiting_over old r.draws.built.rooted r.draws.built.root code.branches w.branches r.draws.branches place w.blocks w.forks there r.draws.place in
+        let stop = fault_stops (strands_of job) old place code.drawing.clock r.draws.built code.branches w.strand r.draws.states.0 r.draws.states.1 fs waiting r.draws.shape.to_come shape in
+        let at_place : place_in u x ≡ place = place_at_fault old place code.drawing.clock r.draws.built fs low in
+        let Here : ℕ → Type 0 = λ q. ((strands_of job).want (reached (strands_of job) u stop.states q) ≡ want.Fault kind) × HasNoOpenFork (strands_of job) u stop.states.before stop.states.after (reached (strands_of job) u stop.states) q in
+        let all : IsWorkerRun job u code.drawing.journals.items (Fault x kind) = record {
           ended = tt;
-          tree = tree_of_shape u shape;
-          numbered = numbered_at_fault old place code.drawing.clock r.draws.built fs (waiting_over old r.draws.built.rooted r.draws.built.root code.branches w.branches r.draws.branches place w.blocks w.forks there r.draws.place);
+          coherent = λ budget. record {
+            history = record {
+              tree = tree_of_shape u shape;
+              stamps = stamped_behind old r.draws.built.rooted r.draws.stamps fs low;
+              pending_last = last_behind fs old r.draws.shape (last_built old place code.drawing.clock r.draws.built);
+              cells = fits_behind old (length (first_memory job.program.cells)) r.draws.built.rooted r.draws.cells fs low;
+              journals = (has_strands old (first_memory job.program.cells) w.memory code.drawing.journals.items fs live r.draws.journals).journals;
+              ended = ended_behind old (length (first_memory job.program.cells)) r.draws.built.rooted live (journals_ended old place code.drawing.clock r.draws.built r.draws.rising r.draws.stamps (length (first_memory job.program.cells))) fs low;
+              refusals = none_refused u (place_in u x) shape.untried blocks;
+              rolls_back = none_roll u (none_aborted u (place_in u x) blocks);
+            };
+            faulted = and_from (is_strand u x) (is_live u x) strand (all_are_live u (none_aborted u (place_in u x) blocks) x);
+            spent = tt;
+            memory = tt;
+            strands = (stop.states.before, stop.states.after, reached (strands_of job) u stop.states, stop.follows, subst Here (sym at_place) (ap (strands_of job).want stop.here ∙ wanted, stop.none));
+          };
+          outputs = λ budget. tt;
+          numbered = numbered_at_fault old place code.drawing.clock r.draws.built fs waiting;
           blocks = blocks;
-          refusals = none_refused u (place_in u x) shape.untried blocks;
-          stamps = stamped_behind old r.draws.built.rooted r.draws.stamps fs low;
-          pending_last = last_behind fs old r.draws.shape (last_built old place code.drawing.clock r.draws.built);
-          strand = unstarted_strand old fs x (omega arith) ∙ strand_is old r.draws.built.rooted r.draws.built.root place there;
+          strand = strand;
           order = λ budget. record {
             machine = m;
             picks = goes_depth_first (strands_of job) u (machine_of job) m (items u [] budget (Fault x kind)) (played_at budget);
+            acts = does_all (strands_of job) u (machine_of job) m (items u [] budget (Fault x kind)) (played_at budget);
             stops = (
               leftmost_here (strands_of job) closes w r.work (ap is_fork wanted) (ap is_over wanted) ∙ ap Some (sym named),
               (w.strand, ap (at (strands_of job) m.strands) named ∙ at_here (strands_of job) closes w (ap is_fork wanted) (ap is_over wanted), wanted),
             );
           };
-          acts = λ budget. does_all (strands_of job) u (machine_of job) m (items u [] budget (Fault x kind)) (played_at budget);
-          journals = (has_strands old (first_memory job.program.cells) w.memory code.drawing.journals.items fs (not_aborted old place code.drawing.clock r.draws.built) r.draws.journals).journals;
         } in
-        let P : List Node → Type 0 = λ v. IsRun job v code.drawing.journals.items (Fault x kind) in
+        let P : List Node → Type 0 = λ v. IsWorkerRun job v code.drawing.journals.items (Fault x kind) in
         subst P (sym grown) all

@@ -21,7 +21,7 @@ use Rattle.cw_serial.proofs.Turns.{name_itself}
 use Rattle.cw_serial.specs.Machine.{same_name}
 use Rattle.cw_record.specs.Listed.{once, index_of, without_last, last_turn, names, listed_name, listed_names, number_of}
 use Rattle.cw_record.specs.Walked.{first_named, place_in, AreFirsts}
-use Rattle.cw_record.proofs.There.{node_there}
+use Rattle.cw_tree.proofs.There.{node_there}
 use Rattle.cw_record.proofs.Names.{names_differ, name_strand, name_of_strand, root_strand, without_added, last_added}
 use Rattle.cw_record.proofs.Found.{first_le, first_same, names_same, place_push, place_index, once_push}
 

@@ -17,7 +17,7 @@ use Rattle.cw_record.proofs.Building.{IsBuilt}
 use Rattle.cw_record.specs.Drawn.{added}
 use Rattle.cw_record.proofs.Lists.{each_more}
 use Rattle.cw_record.proofs.NodeKinds.{strand_alone, new_open}
-use Rattle.cw_record.proofs.There.{node_there}
+use Rattle.cw_tree.proofs.There.{node_there}
 
 -- what is true of such a tree wherever the place is, also where it is a fork, an access or an output
 pub record IsGrowing (t : List Node) (p clock : ℕ) : Type 0 where

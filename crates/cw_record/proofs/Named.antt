@@ -15,11 +15,12 @@ use Rattle.cw_tree.specs.Series.{children, walk, depth_first, strand_of}
 use Rattle.cw_tree.specs.Names.{name_of, turn}
 use Rattle.cw_tree.proofs.Lists.{In}
 use Rattle.cw_serial.specs.Machine.{parent_in, with_turn, turns_in, turns}
-use Rattle.cw_record.specs.declared.items.Item.{Item}
+use Rattle.cw_record.specs.declared.items.OrderItem.{OrderItem}
 use Rattle.cw_record.specs.Listed.{once, index_of, without_last, last_turn, names, listed_name, listed_names, number_of}
 use Rattle.cw_record.specs.Order.{node_of, pick_of}
 use Rattle.cw_record.specs.Replay.{doer}
-use Rattle.cw_record.proofs.There.{IsChild, node_there, children_are}
+use Rattle.cw_tree.proofs.There.{node_there}
+use Rattle.cw_record.proofs.There.{IsChild, children_are}
 use Rattle.cw_record.proofs.StrandIs.{strand_is}
 use Rattle.cw_record.proofs.Names.{name_strand, name_other, without_added, last_added}
 use Rattle.cw_record.proofs.DepthFirst.{whole, walk_step}
@@ -132,5 +133,5 @@ module _ (t : List Node) (r : IsRooted t) where
     pub strand_turns : (s : ℕ) → is_strand t s ≡ true → turns (listed_names t) (number_of t s) ≡ Some (name_of t s)
     strand_turns s e = turns_of_strand s (node_there (λ x. is_strand_kind x.kind) t s e) e
 
-    pub item_turns : (i : Item) → node_of i < length t → turns (listed_names t) (pick_of t i) ≡ Some (doer t i)
+    pub item_turns : (i : OrderItem) → node_of i < length t → turns (listed_names t) (pick_of t i) ≡ Some (doer t i)
     item_turns i h = strand_turns (strand_of t (node_of i)) (strand_is t r root (node_of i) h)

@@ -12,7 +12,7 @@ use Rattle.cw_record.specs.Drawn.{added}
 use Rattle.cw_record.specs.Records.{BlocksAround}
 use Rattle.cw_record.proofs.Building.{IsBuilt}
 use Rattle.cw_record.proofs.Faults.{place_is, place_stays}
-use Rattle.cw_record.proofs.There.{node_there}
+use Rattle.cw_tree.proofs.There.{node_there}
 use Rattle.cw_record.proofs.Unstarted.{with_strands, by_strand}
 
 pub blocks_built : (t : List Node) (p clock : ℕ) → IsBuilt t p clock → BlocksAround t p
@@ -49,14 +49,20 @@ module _ (t : List Node) (r : IsRooted t) (f : ℕ) (there : f < length t) (q : 
         node_grown t (x ∷ []) (λ y. is_block_kind y.kind && is_committed_state y.state) n l ∙ b.committed n (sym (same_block n l) ∙ e) (λ over. off (same_over n ∙ over)));
   }
 
--- where strands that never started are added
-pub blocks_at_fault : (t : List Node) (p clock : ℕ) → IsBuilt t p clock → (fs : List ℕ) → All (λ f. f < length t) fs → BlocksAround (with_strands t fs) (place (with_strands t fs) (strand_of t p))
-blocks_at_fault t p clock b fs low =
-    let there = b.there in
-    let q = place t (strand_of t p) in
-    let is : q ≡ p = place_is t p clock b in
-    let start : BlocksAround t q = subst (BlocksAround t) (sym is) (blocks_built t p clock b) in
-    let stays : place (with_strands t fs) (strand_of t p) ≡ q =
-    by_strand (λ u. place u (strand_of t p) ≡ q) (length t) (λ u ru le f l e. place_stays u ru f (omega arith) Strand 0 refl (strand_of t p) ∙ e) fs t b.rooted (omega arith) low refl in
-    subst (BlocksAround (with_strands t fs)) (sym stays)
-    (by_strand (λ u. BlocksAround u q) (length t) (λ u ru le f l e. blocks_more u ru f (omega arith) q (omega (arith, is)) e) fs t b.rooted (omega arith) low start)
+-- ## Where strands that never started are added
+
+module _ (t : List Node) (p clock : ℕ) (b : IsBuilt t p clock) (fs : List ℕ) (low : All (λ f. f < length t) fs) where
+  place_behind : place (with_strands t fs) (strand_of t p) ≡ place t (strand_of t p)
+  place_behind = by_strand (λ u. place u (strand_of t p) ≡ place t (strand_of t p)) (length t) (λ u ru le f l e. place_stays u ru f (omega arith) Strand 0 refl (strand_of t p) ∙ e) fs t b.rooted (omega arith) low refl
+
+  pub place_at_fault : place (with_strands t fs) (strand_of t p) ≡ p
+  place_at_fault = place_behind ∙ place_is t p clock b
+
+  pub blocks_at_fault : BlocksAround (with_strands t fs) (place (with_strands t fs) (strand_of t p))
+  blocks_at_fault =
+      let there = b.there in
+      let q = place t (strand_of t p) in
+      let is : q ≡ p = place_is t p clock b in
+      let start : BlocksAround t q = subst (BlocksAround t) (sym is) (blocks_built t p clock b) in
+      subst (BlocksAround (with_strands t fs)) (sym place_behind)
+      (by_strand (λ u. BlocksAround u q) (length t) (λ u ru le f l e. blocks_more u ru f (omega arith) q (omega (arith, is)) e) fs t b.rooted (omega arith) low start)

@@ -18,7 +18,7 @@ use Rattle.cw_record.proofs.Faults.{pending_over}
 use Rattle.cw_record.proofs.InSeries.{above_less, none_after, before_fork}
 use Rattle.cw_record.proofs.Lists.{each_more}
 use Rattle.cw_record.proofs.Shaped.{IsShaped, shaped_strand}
-use Rattle.cw_record.proofs.There.{node_there}
+use Rattle.cw_tree.proofs.There.{node_there}
 use Rattle.cw_record.proofs.Unstarted.{with_strands}
 use Rattle.cw_record.proofs.Waiting.{one_unstarted}
 

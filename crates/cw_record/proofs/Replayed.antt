@@ -1,6 +1,6 @@
 -- The machine in memory replays the items of a record one by one.
-use Rattle.std.proofs.Common.{◌≡◌, ◌↔◌, ◌+◌, ◌<◌, ◌≤◌, ℕ, ℤ, suc, List, [], ◌∷◌, Bool, true, false, Option, Some, None, drop, length, map, refl, sym, ◌∙◌, ap, subst, arith, option_map}
-use Rattle.std.specs.Prelude.{slice_get, IsSomeAnd, option_and_then, if◌then◌else◌}
+use Rattle.std.proofs.Common.{◌≡◌, ◌↔◌, ◌+◌, ◌<◌, ◌≤◌, ℕ, ℤ, suc, List, [], ◌∷◌, Bool, true, false, Option, Some, None, drop, length, refl, sym, ◌∙◌, ap, subst, arith, option_map}
+use Rattle.std.specs.Prelude.{slice_get, IsSomeAnd, if◌then◌else◌}
 use Rattle.std.proofs.Math.ListN.{drop_of_length-le}
 use Rattle.std.proofs.lemmas.Option.{slice_get-map, slice_get_within, get_or_from_slice_get}
 use Rattle.cw_strand.specs.declared.want.Want.{Want}
@@ -13,7 +13,7 @@ use Rattle.cw_tree.specs.declared.conflict.Conflict.{Conflict}
 use Rattle.cw_tree.specs.Nodes.{is_strand}
 use Rattle.cw_tree.specs.Walks.{IsNumbered}
 use Rattle.cw_tree.specs.Names.{name_of}
-use Rattle.cw_tree.specs.Refusals.{telling}
+use Rattle.cw_tree.specs.Refusals.{victim_of, telling}
 use Rattle.cw_serial.specs.declared.play.Play.{Play}
 use Rattle.cw_serial.specs.Jobs.{Job}
 use Rattle.cw_serial.specs.StrandTree.{at}
@@ -26,13 +26,13 @@ use Rattle.cw_serial.proofs.Played.{drop_at}
 use Rattle.cw_record.specs.declared.record.Record.{Record}
 use Rattle.cw_record.specs.declared.record_end.RecordEnd.{RecordEnd}
 use Rattle.cw_record.specs.declared.record_end.RecordEnd.TheVariants.{Finished, Fault, Budget, Moves}
-use Rattle.cw_record.specs.declared.items.Item.{Item}
-use Rattle.cw_record.specs.declared.items.Item.TheVariants.{Begins, Does, Ends}
+use Rattle.cw_record.specs.declared.items.OrderItem.{OrderItem}
+use Rattle.cw_record.specs.declared.items.OrderItem.TheVariants.{Begins, Does, Ends}
 use Rattle.cw_record.specs.Items.{items}
 use Rattle.cw_record.specs.Listed.{listed_names}
 use Rattle.cw_record.specs.Order.{node_of, pick_of, order_of, ending_strand}
 use Rattle.cw_record.specs.Records.{job_of}
-use Rattle.cw_record.specs.Replay.{doer, IsAct, IsActOf, IsItem, DoesAll, IsRefusedBy, IsRefused, picked, StandsRefused, IsSpent}
+use Rattle.cw_record.specs.Replay.{doer, IsAct, IsActOf, IsItem, DoesAll, IsRefusedBy, IsRefused, StandsRefused, IsSpent}
 use Rattle.cw_record.specs.Replaying.{DoesFrom, WantsTold, WantsRefused}
 use Rattle.cw_record.proofs.ItemsThere.{items_there}
 use Rattle.cw_record.proofs.Named.{strand_turns, item_turns}
@@ -68,21 +68,21 @@ act_of_before : (memory : List ℤ) (w : Want) (o : Option Node) → IsActOf mem
 act_of_before memory w None h = absurd h
 act_of_before memory w (Some x) h = act_before memory w x.kind h
 
-item_before : (t : List Node) (memory : List ℤ) (i : Item) (w : Want) → IsItem t memory w i → is_over w ≡ false
-item_before t memory (Begins b) w h = ap is_over h
-item_before t memory (Does n) w h = act_of_before memory w (slice_get t n) h
-item_before t memory (Ends b) w h = ap is_over h
+item_before : {A : Type 0} (t : List Node) (m : Machine A) (i : OrderItem) (w : Want) → IsItem t m w i → is_over w ≡ false
+item_before t m (Begins b) w h = ap is_over h
+item_before t m (Does n) w h = act_of_before m.memory w (slice_get t n) h
+item_before t m (Ends b) w h = ap is_over h
 
-refused_before : (c : Conflict) (alone : Bool) (w : Want) → IsRefusedBy c alone w → is_over w ≡ false
-refused_before c false w h = ap is_over h
-refused_before c true (want.Load d) h = refl
-refused_before c true (want.Store d v) h = refl
-refused_before c true _ h = absurd h
+refused_before : (cell : ℕ) (victim : Option ℕ) (w : Want) → IsRefusedBy cell victim w → is_over w ≡ false
+refused_before cell (Some v) w h = ap is_over h
+refused_before cell None (want.Load d) h = refl
+refused_before cell None (want.Store d v) h = refl
+refused_before cell None _ h = absurd h
 
 -- ## A record whose order is the right one
 
 module _ (r : Record) where
-  abbrev pub all : List Item
+  abbrev pub all : List OrderItem
   all = items r.tree r.conflicts r.limits.aborts r.end
 
   -- So many items were done, and those that are left are done exactly where all are.
@@ -95,20 +95,20 @@ module _ (r : Record) where
   stands_first play is = record { machine = machine_of (job_of r); is = is; same = (λ h. h, λ h. h) }
 
   -- the list in memory has the items of the record
-  pub all_listed : {xs ys : List Item} {cs : List Conflict} → xs ≡ ys → ys ≡ items r.tree cs r.limits.aborts r.end → cs ≡ r.conflicts → xs ≡ all
+  pub all_listed : {xs ys : List OrderItem} {cs : List Conflict} → xs ≡ ys → ys ≡ items r.tree cs r.limits.aborts r.end → cs ≡ r.conflicts → xs ≡ all
   all_listed same is told = same ∙ (is ∙ ap (λ cs. items r.tree cs r.limits.aborts r.end) told)
 
-  pub listed_at : {xs : List Item} (place : ℕ) (i : Item) → xs ≡ all → slice_get xs place ≡ Some i → slice_get all place ≡ Some i
+  pub listed_at : {xs : List OrderItem} (place : ℕ) (i : OrderItem) → xs ≡ all → slice_get xs place ≡ Some i → slice_get all place ≡ Some i
   listed_at place i listed there = subst (λ is. slice_get is place ≡ Some i) listed there
 
-  pub item_there : (place : ℕ) (i : Item) → slice_get all place ≡ Some i → node_of i < length r.tree
+  pub item_there : (place : ℕ) (i : OrderItem) → slice_get all place ≡ Some i → node_of i < length r.tree
   item_there place i h = subst (λ x. node_of x < length r.tree) (get_or_from_slice_get all place i i h) (items_there r.tree _ _ _ place i (slice_get_within all place i h))
 
   module _ (numbered : IsNumbered r.tree) (order : r.order ≡ order_of r.tree r.conflicts r.limits.aborts r.end) where
     -- ## An item
 
-    module _ (old new : Play) (place : ℕ) (i : Item) (there : slice_get all place ≡ Some i) (name : ℕ) (named : slice_get r.order.list place ≡ Some name) (stands : Stands old place) where
-      abbrev left : List Item
+    module _ (old new : Play) (place : ℕ) (i : OrderItem) (there : slice_get all place ≡ Some i) (name : ℕ) (named : slice_get r.order.list place ≡ Some name) (stands : Stands old place) where
+      abbrev left : List OrderItem
       left = drop (suc place) all
 
       name_is : turns r.order.names name ≡ Some (doer r.tree i)
@@ -122,7 +122,7 @@ module _ (r : Record) where
       rest_is = drop_at all place i there
 
       abbrev IsHere : Want → Type 0
-      IsHere w = IsItem r.tree stands.machine.memory w i
+      IsHere w = IsItem r.tree stands.machine w i
 
       abbrev standing : Option StrandState
       standing = at (strands_of (job_of r)) stands.machine.strands (doer r.tree i)
@@ -133,9 +133,9 @@ module _ (r : Record) where
       -- a strand that wants something else does not do the item
       pub other_want : (w : Option Want) → w ≡ want_before_end (strands_of (job_of r)) (at_named (job_of r) stands.machine (turns r.order.names name)) → (IsSomeAnd w IsHere → ⊥) → DoesFrom r (machine_of (job_of r)) all → ⊥
       other_want w wants none h =
-          let ((a, n, stood, item, picks, rest), spent) = before_item h in
+          let (last, (a, n, stood, item, picks, rest), spent) = before_item h in
           let named_want : want_before_end (strands_of (job_of r)) standing ≡ w = sym (wants ∙ ap (λ o. want_before_end (strands_of (job_of r)) (at_named (job_of r) stands.machine o)) name_is) in
-          none (subst (λ x. IsSomeAnd x IsHere) named_want (some_wants (job_of r) IsHere (item_before r.tree stands.machine.memory i) standing (a, stood, item)))
+          none (subst (λ x. IsSomeAnd x IsHere) named_want (some_wants (job_of r) IsHere (item_before r.tree stands.machine i) standing (a, stood, item)))
 
       picks_named : (moved : Bool) → Plays (job_of r) r.order.names stands.machine (pick_named (strands_of (job_of r)) stands.machine (turns r.order.names name)) moved new → Plays (job_of r) r.order.names stands.machine (pick (strands_of (job_of r)) stands.machine (doer r.tree i)) moved new
       picks_named moved h = subst (λ o. Plays (job_of r) r.order.names stands.machine (pick_named (strands_of (job_of r)) stands.machine o) moved new) name_is h
@@ -143,11 +143,11 @@ module _ (r : Record) where
       -- a strand that cannot be picked does not do it either
       pub no_pick : Plays (job_of r) r.order.names stands.machine (pick_named (strands_of (job_of r)) stands.machine (turns r.order.names name)) false new → DoesFrom r (machine_of (job_of r)) all → ⊥
       no_pick h all_done =
-          let ((a, n, stood, item, picks, rest), spent) = before_item all_done in
+          let (last, (a, n, stood, item, picks, rest), spent) = before_item all_done in
           subst (λ o. Plays (job_of r) r.order.names stands.machine o false new) picks (picks_named false h)
 
       -- one that wants the item, and is picked, does it
-      goes_on : (o : Option (Machine StrandState)) → pick (strands_of (job_of r)) stands.machine (doer r.tree i) ≡ o → Wants (job_of r) IsHere (item_before r.tree stands.machine.memory i) standing → Plays (job_of r) r.order.names stands.machine o true new → Stands new (place + 1)
+      goes_on : (o : Option (Machine StrandState)) → pick (strands_of (job_of r)) stands.machine (doer r.tree i) ≡ o → Wants (job_of r) IsHere (item_before r.tree stands.machine i) standing → Plays (job_of r) r.order.names stands.machine o true new → Stands new (place + 1)
       goes_on None e wants h = absurd h
       goes_on (Some n) e wants h = record {
         machine = n;
@@ -160,29 +160,26 @@ module _ (r : Record) where
         next : suc place ≡ place + 1
         next = omega arith
 
-        spent_at : Option (Machine StrandState) → Type 0
-        spent_at o = IsSpent (strands_of (job_of r)) r.tree r.conflicts r.limits.aborts r.end (option_and_then (λ m. picked (strands_of (job_of r)) m (map (doer r.tree) left)) o)
-
         forth : DoesFrom r stands.machine (i ∷ left) → DoesFrom r n left
-        forth ((a, m, stood, item, picks, rest), spent) =
+        forth (last, (a, m, stood, item, picks, rest), spent) =
             let same : m ≡ n = (let both = sym picks ∙ e in cc) in
-            (subst (λ x. DoesAll (strands_of (job_of r)) r.tree x left) same rest, subst spent_at e spent)
+            (last, subst (λ x. DoesAll (strands_of (job_of r)) r.tree x left last) same rest, spent)
 
         back : DoesFrom r n left → DoesFrom r stands.machine (i ∷ left)
-        back (rest, spent) = ((wants.0, n, wants.1, wants.2, e, rest), subst spent_at (sym e) spent)
+        back (last, rest, spent) = (last, (wants.0, n, wants.1, wants.2, e, rest), spent)
 
       pub does_item : (w : Option Want) → w ≡ want_before_end (strands_of (job_of r)) (at_named (job_of r) stands.machine (turns r.order.names name)) → IsSomeAnd w IsHere
           → Plays (job_of r) r.order.names stands.machine (pick_named (strands_of (job_of r)) stands.machine (turns r.order.names name)) true new → Stands new (place + 1)
       does_item w wants here h =
           let named_want : w ≡ want_before_end (strands_of (job_of r)) standing = wants ∙ ap (λ o. want_before_end (strands_of (job_of r)) (at_named (job_of r) stands.machine o)) name_is in
-          goes_on (pick (strands_of (job_of r)) stands.machine (doer r.tree i)) refl (wants_some (job_of r) IsHere (item_before r.tree stands.machine.memory i) standing (subst (λ x. IsSomeAnd x IsHere) named_want here)) (picks_named true h)
+          goes_on (pick (strands_of (job_of r)) stands.machine (doer r.tree i)) refl (wants_some (job_of r) IsHere (item_before r.tree stands.machine i) standing (subst (λ x. IsSomeAnd x IsHere) named_want here)) (picks_named true h)
 
     -- ## The end
 
     pub all_done : (strand : is_strand r.tree (ending_strand r.end) ≡ true) (play : Play) (place : ℕ) → length all ≤ place → (stands : Stands play place) → (w : Option Want)
         → w ≡ want_before_end (strands_of (job_of r)) (at_named (job_of r) stands.machine (turns r.order.names r.order.last)) → WantsRefused r r.end w ↔ DoesFrom r (machine_of (job_of r)) all
     all_done strand play place past stands w wants =
-        (λ h. stands.same.1 (subst (DoesFrom r stands.machine) (sym none_left) (tt, spent r.end refl h)), λ h. refused r.end refl (subst (DoesFrom r stands.machine) none_left (stands.same.0 h)).1) where
+        (λ h. stands.same.1 (subst (DoesFrom r stands.machine) (sym none_left) (stands.machine, refl, spent r.end refl h)), λ h. by_end (subst (DoesFrom r stands.machine) none_left (stands.same.0 h))) where
           none_left : drop place all ≡ []
           none_left = drop_of_length-le all past
 
@@ -193,22 +190,25 @@ module _ (r : Record) where
           want_is = wants ∙ ap (λ o. want_before_end (strands_of (job_of r)) (at_named (job_of r) stands.machine o)) last_is
 
           Spent : RecordEnd → Type 0
-          Spent e = IsSpent (strands_of (job_of r)) r.tree r.conflicts r.limits.aborts e (Some stands.machine)
+          Spent e = IsSpent (strands_of (job_of r)) r.tree r.conflicts r.limits.aborts e stands.machine
 
           spent : (e : RecordEnd) → r.end ≡ e → WantsRefused r e w → Spent e
           spent (Finished memory outputs) is h = tt
           spent (Fault x kind) is h = tt
           spent Moves is h = tt
           spent (Budget x) is h = by (telling r.tree r.conflicts r.limits.aborts x) h where
-            by : (o : Option Conflict) → WantsTold o w → StandsRefused (strands_of (job_of r)) o (Some stands.machine) (name_of r.tree x)
+            by : (o : Option Conflict) → WantsTold o w → StandsRefused (strands_of (job_of r)) o stands.machine (name_of r.tree x)
             by None g = absurd g
-            by (Some c) g = wants_some (job_of r) (IsRefused c) (refused_before c _) _ (subst (λ v. IsSomeAnd v (IsRefused c)) (want_is ∙ ap (λ e. want_before_end (strands_of (job_of r)) (at (strands_of (job_of r)) stands.machine.strands (name_of r.tree (ending_strand e)))) is) g)
+            by (Some c) g = wants_some (job_of r) (IsRefused c) (refused_before c.cell (victim_of c)) _ (subst (λ v. IsSomeAnd v (IsRefused c)) (want_is ∙ ap (λ e. want_before_end (strands_of (job_of r)) (at (strands_of (job_of r)) stands.machine.strands (name_of r.tree (ending_strand e)))) is) g)
 
           refused : (e : RecordEnd) → r.end ≡ e → Spent e → WantsRefused r e w
           refused (Finished memory outputs) is h = tt
           refused (Fault x kind) is h = tt
           refused Moves is h = tt
           refused (Budget x) is h = by (telling r.tree r.conflicts r.limits.aborts x) h where
-            by : (o : Option Conflict) → StandsRefused (strands_of (job_of r)) o (Some stands.machine) (name_of r.tree x) → WantsTold o w
+            by : (o : Option Conflict) → StandsRefused (strands_of (job_of r)) o stands.machine (name_of r.tree x) → WantsTold o w
             by None g = absurd g
-            by (Some c) g = subst (λ v. IsSomeAnd v (IsRefused c)) (sym (want_is ∙ ap (λ e. want_before_end (strands_of (job_of r)) (at (strands_of (job_of r)) stands.machine.strands (name_of r.tree (ending_strand e)))) is)) (some_wants (job_of r) (IsRefused c) (refused_before c _) _ g)
+            by (Some c) g = subst (λ v. IsSomeAnd v (IsRefused c)) (sym (want_is ∙ ap (λ e. want_before_end (strands_of (job_of r)) (at (strands_of (job_of r)) stands.machine.strands (name_of r.tree (ending_strand e)))) is)) (some_wants (job_of r) (IsRefused c) (refused_before c.cell (victim_of c)) _ g)
+
+          by_end : DoesFrom r stands.machine [] → WantsRefused r r.end w
+          by_end (last, same, at_last) = refused r.end refl (subst (IsSpent (strands_of (job_of r)) r.tree r.conflicts r.limits.aborts r.end) (sym same) at_last)

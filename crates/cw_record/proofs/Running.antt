@@ -1,10 +1,11 @@
 -- One worker in memory goes depth first through a run, and draws its tree.
-use Rattle.std.proofs.Common.{◌≡◌, ℕ, ◌+◌, List, [], ◌∷◌, ◌++◌, refl, ap, sym, ◌∙◌, subst}
+use Rattle.std.proofs.Common.{◌≡◌, ℕ, ◌+◌, List, [], ◌∷◌, ◌++◌, length, refl, ap, sym, ◌∙◌, subst}
 use Rattle.cw_strand.specs.Names.{first_memory}
 use Rattle.cw_strand.specs.Strands.{Strands}
 use Rattle.cw_tree.specs.Series.{strand_of}
 use Rattle.cw_tree.specs.Names.{name_of}
 use Rattle.cw_tree.specs.Shape.{AreStamps}
+use Rattle.cw_tree.specs.Journals.{FitsCells}
 use Rattle.cw_tree.proofs.CellJournals.{HasJournals}
 use Rattle.cw_serial.specs.Jobs.{Job}
 use Rattle.cw_serial.specs.Room.Strands.{StrandState, job_of, state_of, strands_of}
@@ -19,6 +20,8 @@ use Rattle.cw_record.specs.Worked.{law_of, unstarted, want_of}
 use Rattle.cw_record.proofs.Building.{IsBuilt, open_items}
 use Rattle.cw_record.proofs.Descending.{Crossing, way_of, Descends}
 use Rattle.cw_record.proofs.GrowingWays.{strand_down}
+use Rattle.cw_record.proofs.KnownStates.{Known}
+use Rattle.cw_record.proofs.Later.{IsRising}
 use Rattle.cw_record.proofs.Playing.{Plays}
 use Rattle.cw_record.proofs.Shaped.{IsShaped}
 use Rattle.cw_serial.proofs.Weights.{weight}
@@ -59,9 +62,12 @@ pub record Draws (job : Job) (d : Drawn) (xs : List Held) (w : Working StrandSta
   pub built : IsBuilt d.tree d.place d.clock
   pub shape : IsShaped d.tree (unstarted xs)
   pub stamps : AreStamps d.tree
+  pub rising : IsRising d.tree
+  pub cells : FitsCells d.tree (length (first_memory job.program.cells))
   pub branches : HoldsBranches xs w.branches
   pub place : Descends d.tree d.place (crossings xs w.branches) w.blocks w.forks
   pub journals : HasJournals d.tree (first_memory job.program.cells) w.memory d.journals
+  pub states : Known (strands_of job) d.tree d.place xs w.strand
   pub played : Plays (strands_of job) d.tree (machine_of job) (open_items d.tree d.place) (machine_at (strands_of job) w)
 
 -- the same, by equations

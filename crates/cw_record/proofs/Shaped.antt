@@ -21,7 +21,8 @@ use Rattle.cw_record.specs.Walked.{is_child}
 use Rattle.cw_record.proofs.DepthFirst.{no_children}
 use Rattle.cw_record.proofs.Lists.{each_more}
 use Rattle.cw_record.proofs.NodeKinds.{fork_alone}
-use Rattle.cw_record.proofs.There.{node_there, children_are}
+use Rattle.cw_tree.proofs.There.{node_there}
+use Rattle.cw_record.proofs.There.{children_are}
 use Rattle.cw_record.proofs.Unstarted.{with_strands}
 use Rattle.cw_record.proofs.Waiting.{one_unstarted}
 

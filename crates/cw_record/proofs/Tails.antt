@@ -6,8 +6,8 @@ use Rattle.cw_tree.specs.declared.node.Node.{Node}
 use Rattle.cw_tree.specs.Nodes.{is_block, is_pending}
 use Rattle.cw_tree.specs.Walks.{is_ancestor, xparent}
 use Rattle.cw_tree.proofs.Ancestors.{ancestor_le, ancestor_trans}
-use Rattle.cw_record.specs.declared.items.Item.{Item}
-use Rattle.cw_record.specs.declared.items.Item.TheVariants.{Begins}
+use Rattle.cw_record.specs.declared.items.OrderItem.{OrderItem}
+use Rattle.cw_record.specs.declared.items.OrderItem.TheVariants.{Begins}
 use Rattle.cw_record.specs.Items.{open_member, as_items, last_open, items_in}
 use Rattle.cw_record.proofs.NodeKinds.{block_some, pending_no_member}
 use Rattle.cw_record.proofs.Homes.{number, xparent_is, open_aside, open_here}
@@ -57,7 +57,7 @@ module _ (t : List Node) (p c : ℕ) (g : IsGrowing t p c) (u : List Node) (q : 
       let off = member_aside b n m e in
       items_shut k (Some n) (aside n off) (open_aside t g.rooted p n g.there off))
 
-  module _ (tail : List Item) where
+  module _ (tail : List OrderItem) where
     -- at level b the items are those that were, and the tail, where there are levels enough
     abbrev pub Lengthens : Option ℕ → Type 0
     Lengthens b = (k : ℕ) → length t ≤ k + number b → items_in u q k b ≡ items_in t p k b ++ tail
@@ -80,8 +80,8 @@ module _ (t : List Node) (p c : ℕ) (g : IsGrowing t p c) (u : List Node) (q : 
         let le : m ≤ p = ancestor_le t g.rooted m p there over in
         let less = around_less m some (omega arith) in
         let b = xparent t m in
-        let f : ℕ → List Item = λ n. as_items (is_block u n) n (items_in u q k (Some n)) in
-        let before : ℕ → List Item = λ n. as_items (is_block t n) n (items_in t p k (Some n)) in
+        let f : ℕ → List OrderItem = λ n. as_items (is_block u n) n (items_in u q k (Some n)) in
+        let before : ℕ → List OrderItem = λ n. as_items (is_block t n) n (items_in t p k (Some n)) in
         let here : open_member t p b ≡ Some m = open_here t g.rooted p m there e over in
         ap (λ ns. flat_map f ns ++ last_open (open_member u q b) (items_in u q k (open_member u q b))) (s.members b ne)
         ∙ ap (λ o. flat_map f (sorted t b) ++ last_open o (items_in u q k o)) (s.opens b ne ∙ here)

@@ -1,12 +1,11 @@
 -- All listed nodes are nodes of the tree, and all children.
-use Rattle.std.proofs.Common.{◌≡◌, ℕ, zero, suc, ◌<◌, List, [], ◌∷◌, length, get_or, ap, arith, Bool, true, inl, inr, nat_lt, nat_eq}
+use Rattle.std.proofs.Common.{◌≡◌, ℕ, zero, suc, ◌<◌, List, [], ◌∷◌, length, get_or, arith, nat_lt, nat_eq}
 use Rattle.std.specs.Prelude.{All}
 use Rattle.std.specs.List.{filter}
-use Rattle.std.proofs.lemmas.Bool.{and_parts, cases_lt, eqb-true, ltb-true}
-use Rattle.std.proofs.lemmas.Option.{slice_get_past}
+use Rattle.std.proofs.lemmas.Bool.{and_parts, eqb-true, ltb-true}
 use Rattle.std.proofs.lemmas.List.Elements.{All-nil, All-cons, All-same, All-append, All-push, All-weaker, All-filter, filter_passes}
 use Rattle.cw_tree.specs.declared.node.Node.{Node}
-use Rattle.cw_tree.specs.Nodes.{parent_of, passes, is_node, is_pending, below, all_nodes}
+use Rattle.cw_tree.specs.Nodes.{parent_of, is_pending, below, all_nodes}
 use Rattle.cw_tree.specs.Walks.{IsRooted, path}
 use Rattle.cw_tree.specs.Series.{children}
 use Rattle.cw_tree.proofs.Climbs.{path_step, by_parent}
@@ -14,10 +13,6 @@ use Rattle.cw_record.specs.Items.{key}
 use Rattle.cw_record.specs.Levels.{is_member, sorted_members, listed}
 use Rattle.cw_record.specs.Walked.{is_child}
 use Rattle.cw_record.proofs.Sorts.{all_by_key}
-
--- a node that passes a test is there
-pub node_there : (p : Node → Bool) (t : List Node) (n : ℕ) → is_node p t n ≡ true → n < length t
-node_there p t n e = elim (cases_lt n (length t)) [ inl l ↦ l | inr past ↦ absurd (cc (e, ap (passes p) (slice_get_past t n past))) ]
 
 pub all_below : (k : ℕ) → All (λ n. n < k) (below k)
 all_below zero = All-nil (λ n. n < zero)

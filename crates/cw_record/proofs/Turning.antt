@@ -18,6 +18,7 @@ use Rattle.cw_serial.specs.Room.Strands.{StrandState, state_of, strands_of}
 use Rattle.cw_serial.proofs.Branches.{Branch, on_left, on_right}
 use Rattle.cw_serial.specs.Programs.{IsProgramOf}
 use Rattle.cw_serial.proofs.Room.Lawful.{deep_of, lawful_of}
+use Rattle.cw_serial.proofs.Room.Elements.{WantsThere, wants_there}
 use Rattle.cw_serial.proofs.Working.{Worker as Working, own_in, reached, after_act, after_fork as worker_after_fork}
 use Rattle.cw_record.specs.declared.worker.Branch.{Branch as Held}
 use Rattle.cw_record.specs.declared.worker.Branch.TheVariants.{Left, Right}
@@ -30,7 +31,7 @@ use Rattle.cw_record.proofs.Acting.{Acted, acts_on, act_leaves_less, end_blocks}
 use Rattle.cw_record.proofs.Descending.{Descends}
 use Rattle.cw_record.proofs.Unstarted.{with_strands}
 use Rattle.cw_record.specs.Drawn.{after_fork, after_join, after_start, drawn}
-use Rattle.cw_record.specs.Records.{IsRun}
+use Rattle.cw_record.specs.Records.{IsWorkerRun}
 use Rattle.cw_record.specs.declared.record_end.RecordEnd.TheVariants.{Finished, Fault}
 use Rattle.cw_record.proofs.Going.{forks_on, turns_on, joins_on}
 use Rattle.cw_record.proofs.GrowingWays.{crossings_there, way_block}
@@ -74,10 +75,13 @@ module _ {job : Job} {code : Worker} {w : Working StrandState} (r : Runs job cod
     closes : Closes (strands_of job)
     closes = (lawful_of job named params).closes
 
+    there : WantsThere job
+    there = wants_there job named
+
     -- ## A step
 
     pub act_run : (new : Worker) → takes_answer (want_of code) ≡ true → Acted code new → StillRuns job code new
-    act_run new answered acted = ((after_act (strands_of job) w, acts_on job closes code new w r answered acted), act_leaves_less job closes deep code new w r answered acted)
+    act_run new answered acted = ((after_act (strands_of job) w, acts_on job closes there code new w r answered acted), act_leaves_less job closes there deep code new w r answered acted)
 
     pub fork_run : {new : Worker} → SwitchesStrand code new → want_of code ≡ want.Fork → drawn new.drawing ≡ after_fork (drawn code.drawing) → state_of new.strand ≡ (law_of code).left (state_of code.strand)
         → WaitsOnLeft code.branches new.branches (length code.drawing.tree) ((law_of code).right (state_of code.strand)) → StillRuns job code new
@@ -120,19 +124,19 @@ module _ {job : Job} {code : Worker} {w : Working StrandState} (r : Runs job cod
     -- ## What is answered
 
     pub finish_answer : is_over (want_of code) ≡ true → code.branches ≡ [] → (run : Run) → run.drawing ≡ code.drawing → run.end ≡ Finished code.memory.items code.outputs.items
-        → IsRun job run.drawing.tree run.drawing.journals.items run.end
+        → IsWorkerRun job run.drawing.tree run.drawing.journals.items run.end
     finish_answer over none run drawing end =
         let all = finished_run job closes code w.memory w.outputs w.branches w.forks w.blocks w.strand r over none in
-        let D : Drawing → Type 0 = λ d. IsRun job d.tree d.journals.items (Finished code.memory.items code.outputs.items) in
-        let E : RecordEnd → Type 0 = λ e. IsRun job run.drawing.tree run.drawing.journals.items e in
+        let D : Drawing → Type 0 = λ d. IsWorkerRun job d.tree d.journals.items (Finished code.memory.items code.outputs.items) in
+        let E : RecordEnd → Type 0 = λ e. IsWorkerRun job run.drawing.tree run.drawing.journals.items e in
         subst E (sym end) (subst D (sym drawing) all)
 
     pub fault_answer : (kind : FaultKind) → want_of code ≡ want.Fault kind → (result : Result Run OutOfMemory)
         → IfOk result (λ x. x.drawing.tree ≡ with_strands code.drawing.tree (unstarted code.branches)) → IfOk result (λ x. x.drawing.journals.items ≡ code.drawing.journals.items)
-        → IfOk result (λ x. x.end ≡ Fault (strand_of code.drawing.tree code.drawing.place) kind) → IfOk result (λ x. IsRun job x.drawing.tree x.drawing.journals.items x.end)
+        → IfOk result (λ x. x.end ≡ Fault (strand_of code.drawing.tree code.drawing.place) kind) → IfOk result (λ x. IsWorkerRun job x.drawing.tree x.drawing.journals.items x.end)
     fault_answer kind is (Ok x) tree journals end =
         let all = fault_run job closes code w r kind is x.drawing.tree tree in
-        let J : List (List Entry) → Type 0 = λ es. IsRun job x.drawing.tree es (Fault (strand_of code.drawing.tree code.drawing.place) kind) in
-        let E : RecordEnd → Type 0 = λ e. IsRun job x.drawing.tree x.drawing.journals.items e in
+        let J : List (List Entry) → Type 0 = λ es. IsWorkerRun job x.drawing.tree es (Fault (strand_of code.drawing.tree code.drawing.place) kind) in
+        let E : RecordEnd → Type 0 = λ e. IsWorkerRun job x.drawing.tree x.drawing.journals.items e in
         subst E (sym end) (subst J (sym journals) all)
     fault_answer kind is (Err e) tree journals end = tt

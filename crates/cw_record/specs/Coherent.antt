@@ -18,13 +18,13 @@ use Rattle.cw_tree.specs.declared.closed.Halt.{Halt}
 use Rattle.cw_tree.specs.declared.closed.Halt.TheVariants as halt
 use Rattle.cw_tree.specs.Nodes.{parent_of, is_strand, is_fork, is_block, is_committed}
 use Rattle.cw_tree.specs.Series.{children, has_later, place}
-use Rattle.cw_tree.specs.Shape.{IsTree, AreStamps, PendingLast, NonePending}
+use Rattle.cw_tree.specs.Shape.{NonePending}
 use Rattle.cw_tree.specs.Accesses.{is_live, live_accesses, written, cell_value}
-use Rattle.cw_tree.specs.Journals.{AreJournals, FitsCells, JournalsEnded}
-use Rattle.cw_tree.specs.Refusals.{AreRefusals, RollsBack, MayHalt}
+use Rattle.cw_tree.specs.Refusals.{MayFault, MaySpend}
+use Rattle.cw_tree.specs.Histories.{IsHistory}
 use Rattle.cw_record.specs.declared.record_end.RecordEnd.{RecordEnd}
 use Rattle.cw_record.specs.declared.record_end.RecordEnd.TheVariants.{Finished, Fault, Budget, Moves}
-use Rattle.cw_record.specs.declared.items.Item.{Item}
+use Rattle.cw_record.specs.declared.items.OrderItem.{OrderItem}
 use Rattle.cw_record.specs.Items.{items}
 use Rattle.cw_record.specs.Order.{node_of}
 use Rattle.cw_record.specs.Replay.{IsAccessOf}
@@ -42,9 +42,9 @@ module _ {A : Type 0} (s : Strands A) (t : List Node) (before after reached : �
   abbrev pub entered : ℕ → A
   entered n = if is_block t n then s.answer (before n) Nothing else before n
 
-  -- the two strands of a fork, and what they become once both have ended
+  -- the two strands of a fork
   abbrev pub IsForkOf : ℕ → List ℕ → Type 0
-  IsForkOf f (l ∷ r ∷ []) = (before l ≡ s.left (before f)) × (before r ≡ s.right (before f)) × (after f ≡ s.joined (reached r) (reached l))
+  IsForkOf f (l ∷ r ∷ []) = (before l ≡ s.left (before f)) × (before r ≡ s.right (before f))
   IsForkOf f cs = ⊥
 
   -- A committed block comes to its end; any other one leaves its strand where it was.
@@ -62,25 +62,33 @@ module _ {A : Type 0} (s : Strands A) (t : List Node) (before after reached : �
   IsWanted n (Out v) state = (s.want (before n) ≡ want.Out v) × (after n ≡ s.answer (before n) Nothing)
   IsWanted n (Tried c) state = IsAccessOf c (s.want (before n)) × (after n ≡ before n)
 
-  -- Strand x has come to its end: it is over, and where a fork is the last in it, both strands of that have come to theirs.
+  -- Strand x has come to its end: it is over, and where a fork is the last in it, both strands of that have come to theirs, and behind it
+  -- is what they become.
   pub data StrandEnded : ℕ → Type 0 where
     alone : {x : ℕ} → IsTrue (is_over (s.want (reached x))) → ((f : ℕ) → last_child t x ≡ Some f → IsTrue (not (is_fork t f))) → StrandEnded x
-    joined : {x f l r : ℕ} → IsTrue (is_over (s.want (reached x))) → last_child t x ≡ Some f → IsTrue (is_fork t f) → children t f ≡ l ∷ r ∷ [] → StrandEnded l → StrandEnded r → StrandEnded x
+    joined : {x f l r : ℕ} → IsTrue (is_over (s.want (reached x))) → last_child t x ≡ Some f → IsTrue (is_fork t f) → children t f ≡ l ∷ r ∷ []
+        → StrandEnded l → StrandEnded r → after f ≡ s.joined (reached r) (reached l) → StrandEnded x
 
-  abbrev pub BothEnded : ℕ → Type 0
-  BothEnded f = (l r : ℕ) × (children t f ≡ l ∷ r ∷ []) × StrandEnded l × StrandEnded r
+  -- Both strands of a fork have ended, and behind it is what they become. While one of them runs nothing is said of the state behind it.
+  pub record IsJoined (f : ℕ) : Type 0 where
+    pub left : ℕ
+    pub right : ℕ
+    pub strands : children t f ≡ left ∷ right ∷ []
+    pub left_ended : StrandEnded left
+    pub right_ended : StrandEnded right
+    pub behind : after f ≡ s.joined (reached right) (reached left)
 
-  -- a strand can go on behind all that stands right in n
+  -- where the last right in n is a fork, it is joined: its strand can go on
   abbrev pub HasNoOpenFork : ℕ → Type 0
-  HasNoOpenFork n = (f : ℕ) → last_child t n ≡ Some f → IsTrue (is_fork t f) → BothEnded f
+  HasNoOpenFork n = (f : ℕ) → last_child t n ≡ Some f → IsTrue (is_fork t f) → IsJoined f
 
   -- All nodes, aborted attempts included, are what the strands of a program did.
   pub record Follows : Type 0 where
     pub start : before 0 ≡ s.start
     pub series : (n : ℕ) → n < length t → IsTrue (is_strand t n || is_block t n) → InSeries before after (entered n) (children t n) (reached n)
     pub fits : (n : ℕ) (x : Node) → slice_get t n ≡ Some x → IsWanted n x.kind x.state
-    -- behind a fork its strand goes on, or ends its block, only once both strands have ended
-    pub joined : (f : ℕ) → f < length t → IsTrue (is_fork t f && (has_later t f || is_committed t (parent_of t f))) → BothEnded f
+    -- behind a fork its strand goes on, or ends its block, only once it is joined
+    pub joined : (f : ℕ) → f < length t → IsTrue (is_fork t f && (has_later t f || is_committed t (parent_of t f))) → IsJoined f
 
   -- The strand of a fault stands at it. A finished run has no live strand that has not ended. Where a budget is spent the strand stands at
   -- what was refused, as it fits; where the moves are, anywhere.
@@ -106,12 +114,18 @@ shown_node None = []
 shown_node (Some x) = shown_kind x.kind
 
 -- the outputs among these items; the begin and the end of a block are none
-abbrev pub shown : List Node → List Item → List ℤ
+abbrev pub shown : List Node → List OrderItem → List ℤ
 shown t = flat_map (λ i. shown_node (slice_get t (node_of i)))
 
-abbrev pub Leaves : List Node → List Conflict → ℕ → (first : List ℤ) → RecordEnd → Type 0
-Leaves t cs budget first (Finished memory outputs) = IsMemory t first memory × (outputs ≡ shown t (items t cs budget (Finished memory outputs)))
-Leaves t cs budget first e = Unit {0}
+-- A run that finished leaves this memory.
+abbrev pub HasMemory : List Node → (first : List ℤ) → RecordEnd → Type 0
+HasMemory t first (Finished memory outputs) = IsMemory t first memory
+HasMemory t first e = Unit {0}
+
+-- The outputs of a run that finished are those of its output nodes, in its order. This is no part of coherence.
+abbrev pub HasOutputs : List Node → List Conflict → ℕ → RecordEnd → Type 0
+HasOutputs t cs budget (Finished memory outputs) = outputs ≡ shown t (items t cs budget (Finished memory outputs))
+HasOutputs t cs budget e = Unit {0}
 
 -- ## Records
 
@@ -123,14 +137,9 @@ halt_of Moves = None
 
 -- what a record keeps, of a run of these strands over a memory with these first values, in which a strand may have that many attempts
 pub record IsCoherent {A : Type 0} (s : Strands A) (first : List ℤ) (budget : ℕ) (t : List Node) (kept : List (List Entry)) (cs : List Conflict) (e : RecordEnd) : Type 0 where
-  pub tree : IsTree t
-  pub stamps : AreStamps t
-  pub pending_last : PendingLast t
-  pub cells : FitsCells t (length first)
-  pub journals : AreJournals t first kept
-  pub ended : JournalsEnded t (length first)
-  pub refusals : AreRefusals t cs
-  pub rolls_back : RollsBack t cs
-  pub stopped : MayHalt t cs budget (halt_of e)
-  pub leaves : Leaves t cs budget first e
+  pub history : IsHistory t first kept cs
+  -- the strand of a fault, or of a spent budget, is one that may have stopped so
+  pub faulted : MayFault t (halt_of e)
+  pub spent : MaySpend t cs budget (halt_of e)
+  pub memory : HasMemory t first e
   pub strands : (before after reached : ℕ → A) × Follows s t before after reached × StandsAt s t before after reached e

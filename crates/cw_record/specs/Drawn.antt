@@ -73,13 +73,13 @@ abbrev pub after_end : Drawn → Drawn
 after_end d = record d { tree = closed d.tree d.place Committed (d.clock + 1); place = parent_of d.tree d.place; clock = d.clock + 1 }
 
 -- what is drawn of a want that is done, where memory was this
-abbrev pub after : Want → (memory : List ℤ) → Drawn → Drawn
-after (want.Load c) memory d = after_read c (value_at memory c) d
-after (want.Store c v) memory d = after_write c v (value_at memory c) d
-after (want.Out v) memory d = after_node (Out v) d
-after want.Begin memory d = after_begin d
-after want.End memory d = after_end d
-after w memory d = d
+abbrev pub drawn_after : Want → (memory : List ℤ) → Drawn → Drawn
+drawn_after (want.Load c) memory d = after_read c (value_at memory c) d
+drawn_after (want.Store c v) memory d = after_write c v (value_at memory c) d
+drawn_after (want.Out v) memory d = after_node (Out v) d
+drawn_after want.Begin memory d = after_begin d
+drawn_after want.End memory d = after_end d
+drawn_after w memory d = d
 
 -- ## From strand to strand
 

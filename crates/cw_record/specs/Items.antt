@@ -3,7 +3,7 @@
 -- At the root and in each block its members are listed: the accesses and outputs right in it by their stamps, the committed blocks right
 -- in it by the stamps of their ends. A block stands there as its begin, its members and its end. What was rolled back is left out. Where
 -- the run did not finish, the pending blocks above the place of its end are there too: each is the last at its level, and has no end.
-use Rattle.std.specs.Prelude.{ℕ, zero, suc, ◌==◌, ◌&&◌, ◌||◌, Bool, true, false, List, [], ◌∷◌, ◌++◌, length, filter, find, Option, Some, None, if◌then◌else◌}
+use Rattle.std.specs.Prelude.{ℕ, zero, suc, ◌==◌, ◌&&◌, ◌||◌, Bool, true, false, List, [], ◌∷◌, ◌++◌, length, filter, find, Option, Some, None, is_some, if◌then◌else◌}
 use Rattle.std.specs.List.{flat_map}
 use Rattle.std.specs.Option.{option_map_or}
 use Rattle.cw_tree.specs.declared.node.Node.{Node}
@@ -14,11 +14,11 @@ use Rattle.cw_tree.specs.Nodes.{parent_of, stamp_of, end_of, is_node, is_block, 
 use Rattle.cw_tree.specs.Walks.{path, xparent}
 use Rattle.cw_tree.specs.Series.{place}
 use Rattle.cw_tree.specs.Accesses.{by_key}
-use Rattle.cw_tree.specs.Refusals.{telling, refused}
+use Rattle.cw_tree.specs.Refusals.{victim_of, telling, refused}
 use Rattle.cw_record.specs.declared.record_end.RecordEnd.{RecordEnd}
 use Rattle.cw_record.specs.declared.record_end.RecordEnd.TheVariants.{Finished, Fault, Budget, Moves}
-use Rattle.cw_record.specs.declared.items.Item.{Item}
-use Rattle.cw_record.specs.declared.items.Item.TheVariants.{Begins, Does, Ends}
+use Rattle.cw_record.specs.declared.items.OrderItem.{OrderItem}
+use Rattle.cw_record.specs.declared.items.OrderItem.TheVariants.{Begins, Does, Ends}
 
 abbrev pub is_act_kind : Kind → Bool
 is_act_kind (Read c v) = true
@@ -52,17 +52,17 @@ abbrev pub open_member : List Node → ℕ → Option ℕ → Option ℕ
 open_member t p b = find (λ n. is_pending t n && is_right_in t b n) (path t p)
 
 -- a member, where these are the items in it
-abbrev pub as_items : Bool → ℕ → List Item → List Item
+abbrev pub as_items : Bool → ℕ → List OrderItem → List OrderItem
 as_items true n inner = Begins n ∷ inner ++ Ends n ∷ []
 as_items false n inner = Does n ∷ []
 
 -- a pending block that comes last, if there is one
-abbrev pub last_open : Option ℕ → List Item → List Item
+abbrev pub last_open : Option ℕ → List OrderItem → List OrderItem
 last_open None inner = []
 last_open (Some n) inner = Begins n ∷ inner
 
 -- the items in a block, or at the root, to k levels
-abbrev pub items_in : List Node → ℕ → ℕ → Option ℕ → List Item
+abbrev pub items_in : List Node → ℕ → ℕ → Option ℕ → List OrderItem
 items_in t p zero b = []
 items_in t p (suc k) b =
     flat_map (λ n. as_items (is_block t n) n (items_in t p k (Some n))) (by_key (key t) (members t b))
@@ -70,7 +70,7 @@ items_in t p (suc k) b =
 
 -- the place of what a conflict refused: an access itself, or where the block stands
 abbrev pub place_of_refused : List Node → Conflict → ℕ
-place_of_refused t c = if c.victim == 0 then c.asker else parent_of t (refused t c)
+place_of_refused t c = if is_some (victim_of c) then parent_of t (refused t c) else c.asker
 
 -- Where a run came to its end: the pending blocks above this place, and it where it is one, are in the order.
 abbrev pub place_of_end : List Node → List Conflict → ℕ → RecordEnd → ℕ
@@ -80,5 +80,5 @@ place_of_end t cs budget (Budget s) = option_map_or (place_of_refused t) (tellin
 place_of_end t cs budget Moves = 0
 
 -- the items of a run
-abbrev pub items : List Node → List Conflict → ℕ → RecordEnd → List Item
+abbrev pub items : List Node → List Conflict → ℕ → RecordEnd → List OrderItem
 items t cs budget e = items_in t (place_of_end t cs budget e) (length t) None

@@ -6,8 +6,10 @@ pub mod Drawn
 pub mod Walked
 pub mod Replay
 pub mod Worked
-pub mod Records
 pub mod Coherent
+pub mod Records
 pub mod WorkedRecord
+pub mod Scripts
+pub mod WorkedEnds
 pub mod Checking
 pub mod Replaying

@@ -6,12 +6,12 @@ use Rattle.cw_tree.specs.declared.picks.Picks.{Picks}
 use Rattle.cw_tree.specs.Series.{strand_of}
 use Rattle.cw_record.specs.declared.record_end.RecordEnd.{RecordEnd}
 use Rattle.cw_record.specs.declared.record_end.RecordEnd.TheVariants.{Fault, Budget}
-use Rattle.cw_record.specs.declared.items.Item.{Item}
-use Rattle.cw_record.specs.declared.items.Item.TheVariants.{Begins, Does, Ends}
+use Rattle.cw_record.specs.declared.items.OrderItem.{OrderItem}
+use Rattle.cw_record.specs.declared.items.OrderItem.TheVariants.{Begins, Does, Ends}
 use Rattle.cw_record.specs.Items.{items}
 use Rattle.cw_record.specs.Listed.{listed_names, number_of}
 
-abbrev pub node_of : Item → ℕ
+abbrev pub node_of : OrderItem → ℕ
 node_of (Begins n) = n
 node_of (Does n) = n
 node_of (Ends n) = n
@@ -23,7 +23,7 @@ ending_strand (Budget s) = s
 ending_strand _ = 0
 
 -- the pick of an item: the number of the strand that did it
-abbrev pub pick_of : List Node → Item → ℕ
+abbrev pub pick_of : List Node → OrderItem → ℕ
 pick_of t i = number_of t (strand_of t (node_of i))
 
 abbrev pub order_of : List Node → List Conflict → ℕ → RecordEnd → Picks

@@ -1,16 +1,16 @@
 -- What a record holds, and what is true of the run of one worker.
 use Rattle.std.specs.Prelude.{◌≡◌, ℕ, suc, ◌<◌, List, [], map, length, true, Some, IsTrue}
 use Rattle.cw_strand.specs.declared.want.Want.TheVariants.{Fault as AFault}
+use Rattle.cw_strand.specs.Laws.{params_at}
 use Rattle.cw_strand.specs.Names.{first_memory}
+use Rattle.cw_text.specs.Syntax.{tree_of}
 use Rattle.cw_tree.specs.declared.node.Node.{Node}
 use Rattle.cw_tree.specs.declared.access.Entry.{Entry}
 use Rattle.cw_tree.specs.Nodes.{parent_of, is_strand, is_block, is_pending, is_committed}
 use Rattle.cw_tree.specs.Walks.{is_ancestor}
 use Rattle.cw_tree.specs.Names.{name_of}
-use Rattle.cw_tree.specs.Refusals.{AreRefusals}
-use Rattle.cw_tree.specs.Shape.{IsTree, AreStamps, PendingLast}
-use Rattle.cw_tree.specs.Journals.{AreJournals}
 use Rattle.cw_serial.specs.Jobs.{Job}
+use Rattle.cw_serial.specs.Programs.{IsProgramOf}
 use Rattle.cw_serial.specs.Room.Strands.{StrandState, strands_of}
 use Rattle.cw_serial.specs.Machine.{Machine, has_ended}
 use Rattle.cw_serial.specs.StrandTree.{at}
@@ -19,10 +19,11 @@ use Rattle.cw_serial.specs.MachineOf.{machine_of}
 use Rattle.cw_record.specs.declared.record_end.RecordEnd.{RecordEnd}
 use Rattle.cw_record.specs.declared.record_end.RecordEnd.TheVariants.{Finished, Fault, Budget, Moves}
 use Rattle.cw_record.specs.declared.record.Record.{Record}
-use Rattle.cw_record.specs.declared.items.Item.{Item}
+use Rattle.cw_record.specs.declared.items.OrderItem.{OrderItem}
 use Rattle.cw_record.specs.Items.{items, place_of_end}
 use Rattle.cw_record.specs.Order.{ending_strand}
 use Rattle.cw_record.specs.Replay.{doer, DoesAll, Replays}
+use Rattle.cw_record.specs.Coherent.{IsCoherent, HasOutputs}
 
 -- what a record is a run of
 abbrev pub job_of : Record → Job
@@ -31,6 +32,20 @@ job_of r = record { program = r.program; words = r.words; limits = r.limits }
 -- One memory, in the order of the record, does what the record says, and comes to its end.
 abbrev pub IsReplayed : Record → Type 0
 IsReplayed r = Replays (strands_of (job_of r)) (first_memory r.program.cells) r.limits.aborts r.tree r.conflicts r.order r.end
+
+-- what a record keeps is coherent for the strands of its program
+abbrev pub IsCoherentRun : Record → Type 0
+IsCoherentRun r = IsCoherent (strands_of (job_of r)) (first_memory r.program.cells) r.limits.aborts r.tree r.journals r.conflicts r.end
+
+-- A record is coherent for the strands of its program, which is a checked one, and has as many words as main has parameters.
+pub record IsCoherentRecord (r : Record) : Type 0 where
+  pub program : IsProgramOf (tree_of r.program.ast) r.program
+  pub words : length r.words ≡ length (params_at (tree_of r.program.ast) r.program.main)
+  pub coherent : IsCoherentRun r
+
+-- the outputs of a record are those of its output nodes, in its order
+abbrev pub HasItsOutputs : Record → Type 0
+HasItsOutputs r = HasOutputs r.tree r.conflicts r.limits.aborts r.end
 
 -- a run of one worker ends by itself, or at a fault
 abbrev pub HasEnded : RecordEnd → Type 0
@@ -47,10 +62,12 @@ StopsAt job t (Fault x kind) m =
     × ((a : StrandState) × (at (strands_of job) m.strands (name_of t x) ≡ Some a) × ((strands_of job).want a ≡ AFault kind))
 StopsAt job t e m = ⊥
 
--- The order of these items is the depth-first one: the leftmost strand is picked, until there is none, or it stands at a fault.
-pub record GoesThrough (job : Job) (t : List Node) (is : List Item) (e : RecordEnd) : Type 0 where
+-- The order of these items is the depth-first one, in which the leftmost strand is picked, until there is none, or it stands at a fault;
+-- and at each pick the machine does what the tree has there.
+pub record GoesThrough (job : Job) (t : List Node) (is : List OrderItem) (e : RecordEnd) : Type 0 where
   pub machine : Machine StrandState
   pub picks : GoesDepthFirst (strands_of job) (machine_of job) (map (doer t) is) machine
+  pub acts : DoesAll (strands_of job) t (machine_of job) is machine
   pub stops : StopsAt job t e machine
 
 abbrev pub IsDepthFirst : Record → Type 0
@@ -69,16 +86,12 @@ pub record BlocksAround (t : List Node) (q : ℕ) : Type 0 where
 abbrev pub BlocksEnded : List Node → RecordEnd → Type 0
 BlocksEnded t e = BlocksAround t (place_of_end t [] 0 e)
 
--- What one worker leaves: its tree, its journals and its end, whatever the budget.
-pub record IsRun (job : Job) (t : List Node) (kept : List (List Entry)) (e : RecordEnd) : Type 0 where
+-- What one worker leaves: its tree, its journals and its end. It is coherent and has its outputs, whatever the budget.
+pub record IsWorkerRun (job : Job) (t : List Node) (kept : List (List Entry)) (e : RecordEnd) : Type 0 where
   pub ended : HasEnded e
-  pub tree : IsTree t
+  pub coherent : (budget : ℕ) → IsCoherent (strands_of job) (first_memory job.program.cells) budget t kept [] e
+  pub outputs : (budget : ℕ) → HasOutputs t [] budget e
   pub numbered : IsNumberedDepthFirst t
   pub blocks : BlocksEnded t e
-  pub stamps : AreStamps t
-  pub pending_last : PendingLast t
-  pub refusals : AreRefusals t []
   pub strand : IsTrue (is_strand t (ending_strand e))
   pub order : (budget : ℕ) → GoesThrough job t (items t [] budget e) e
-  pub acts : (budget : ℕ) → DoesAll (strands_of job) t (machine_of job) (items t [] budget e)
-  pub journals : AreJournals t (first_memory job.program.cells) kept

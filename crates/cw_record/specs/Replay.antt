@@ -1,5 +1,5 @@
 -- When a record replays: in its order the machine with one memory does what the tree has there, and ends as the record ends.
-use Rattle.std.specs.Prelude.{◌≡◌, ℕ, ℤ, ◌≤◌, ◌==◌, Bool, true, false, IsTrue, List, [], ◌∷◌, length, map, slice_get, Option, Some, None, option_and_then}
+use Rattle.std.specs.Prelude.{◌≡◌, ℕ, ℤ, ◌≤◌, IsTrue, List, [], ◌∷◌, length, slice_get, Option, Some, None}
 use Rattle.cw_strand.specs.declared.want.Want.{Want}
 use Rattle.cw_strand.specs.declared.want.Want.TheVariants as want
 use Rattle.cw_strand.specs.Strands.{Strands}
@@ -12,21 +12,21 @@ use Rattle.cw_tree.specs.declared.conflict.Conflict.{Conflict}
 use Rattle.cw_tree.specs.Nodes.{is_strand}
 use Rattle.cw_tree.specs.Names.{name_of}
 use Rattle.cw_tree.specs.Series.{strand_of}
-use Rattle.cw_tree.specs.Refusals.{telling}
+use Rattle.cw_tree.specs.Refusals.{victim_of, telling}
 use Rattle.cw_serial.specs.declared.ends.SerialEnd.{SerialEnd}
 use Rattle.cw_serial.specs.declared.ends.SerialEnd.TheVariants as last
 use Rattle.cw_serial.specs.StrandTree.{at}
-use Rattle.cw_serial.specs.Machine.{Machine, pick, serial_end, initial}
+use Rattle.cw_serial.specs.Machine.{Machine, pick, shown, initial}
 use Rattle.cw_serial.specs.Wants.{value_at}
 use Rattle.cw_record.specs.declared.record_end.RecordEnd.{RecordEnd}
 use Rattle.cw_record.specs.declared.record_end.RecordEnd.TheVariants.{Finished, Fault, Budget, Moves}
-use Rattle.cw_record.specs.declared.items.Item.{Item}
-use Rattle.cw_record.specs.declared.items.Item.TheVariants.{Begins, Does, Ends}
+use Rattle.cw_record.specs.declared.items.OrderItem.{OrderItem}
+use Rattle.cw_record.specs.declared.items.OrderItem.TheVariants.{Begins, Does, Ends}
 use Rattle.cw_record.specs.Items.{items}
 use Rattle.cw_record.specs.Order.{order_of, node_of, ending_strand}
 
 -- the name of the strand that did an item
-abbrev pub doer : List Node → Item → List Turn
+abbrev pub doer : List Node → OrderItem → List Turn
 doer t i = name_of t (strand_of t (node_of i))
 
 -- a want that is answered from this memory is this node of the tree: the same cell, value and kind
@@ -40,11 +40,11 @@ abbrev pub IsActOf : List ℤ → Want → Option Node → Type 0
 IsActOf memory w None = ⊥
 IsActOf memory w (Some x) = IsAct memory w x.kind
 
--- the want is what the tree has there
-abbrev pub IsItem : List Node → List ℤ → Want → Item → Type 0
-IsItem t memory w (Begins b) = w ≡ want.Begin
-IsItem t memory w (Does n) = IsActOf memory w (slice_get t n)
-IsItem t memory w (Ends b) = w ≡ want.End
+-- the want, which this machine answers, is what the tree has there
+abbrev pub IsItem : {A : Type 0} → List Node → Machine A → Want → OrderItem → Type 0
+IsItem t m w (Begins b) = w ≡ want.Begin
+IsItem t m w (Does n) = IsActOf m.memory w (slice_get t n)
+IsItem t m w (Ends b) = w ≡ want.End
 
 -- the want is a load or a store of cell c
 abbrev pub IsAccessOf : ℕ → Want → Type 0
@@ -52,13 +52,13 @@ IsAccessOf c (want.Load d) = d ≡ c
 IsAccessOf c (want.Store d v) = d ≡ c
 IsAccessOf c w = ⊥
 
-abbrev pub IsRefusedBy : Conflict → (alone : Bool) → Want → Type 0
-IsRefusedBy c true w = IsAccessOf c.cell w
-IsRefusedBy c false w = w ≡ want.Begin
+abbrev pub IsRefusedBy : (cell : ℕ) → (victim : Option ℕ) → Want → Type 0
+IsRefusedBy cell None w = IsAccessOf cell w
+IsRefusedBy cell (Some v) w = w ≡ want.Begin
 
 -- what the conflict refused is wanted again: the victim's begin, or the access itself where there is no victim
 abbrev pub IsRefused : Conflict → Want → Type 0
-IsRefused c = IsRefusedBy c (c.victim == 0)
+IsRefused c = IsRefusedBy c.cell (victim_of c)
 
 -- A run's end and the machine's end under the run's order are the same.
 abbrev pub SameEnd : RecordEnd → Picks → SerialEnd → Type 0
@@ -69,32 +69,30 @@ SameEnd (Budget strand) picks e = e ≡ last.At picks.last
 SameEnd Moves picks e = (place : ℕ) → e ≡ last.Stuck place → length picks.list ≤ place
 
 module _ {A : Type 0} (s : Strands A) where
-  -- at each pick the machine does what the tree has there
-  abbrev pub DoesAll : List Node → Machine A → List Item → Type 0
-  DoesAll t m [] = Unit {0}
-  DoesAll t m (i ∷ is) = (a : A) × (n : Machine A) × (at s m.strands (doer t i) ≡ Some a) × IsItem t m.memory (s.want a) i × (pick s m (doer t i) ≡ Some n) × DoesAll t n is
-
-  -- the machine after picks of strands of these names, where each can be made
-  abbrev pub picked : Machine A → List (List Turn) → Option (Machine A)
-  picked m [] = Some m
-  picked m (p ∷ ps) = option_and_then (λ n. picked n ps) (pick s m p)
+  -- From the one machine to the other: item by item the machine does what the tree has there.
+  abbrev pub DoesAll : List Node → Machine A → List OrderItem → Machine A → Type 0
+  DoesAll t m [] n = m ≡ n
+  DoesAll t m (i ∷ is) n = (a : A) × (o : Machine A) × (at s m.strands (doer t i) ≡ Some a) × IsItem t m (s.want a) i × (pick s m (doer t i) ≡ Some o) × DoesAll t o is n
 
   -- the strand of that name stands at what the conflict refused
-  abbrev pub StandsRefused : Option Conflict → Option (Machine A) → List Turn → Type 0
-  StandsRefused (Some c) (Some m) p = (a : A) × (at s m.strands p ≡ Some a) × IsRefused c (s.want a)
-  StandsRefused c m p = ⊥
+  abbrev pub StandsRefused : Option Conflict → Machine A → List Turn → Type 0
+  StandsRefused None m p = ⊥
+  StandsRefused (Some c) m p = (a : A) × (at s m.strands p ≡ Some a) × IsRefused c (s.want a)
 
   -- a strand that spent its budget stands at what the conflict that tells so refused
-  abbrev pub IsSpent : List Node → List Conflict → ℕ → RecordEnd → Option (Machine A) → Type 0
+  abbrev pub IsSpent : List Node → List Conflict → ℕ → RecordEnd → Machine A → Type 0
   IsSpent t cs budget (Budget x) m = StandsRefused (telling t cs budget x) m (name_of t x)
   IsSpent t cs budget e m = Unit {0}
 
-  -- what one memory, with these first values, does in the order of a run, where the budget is that many attempts
+  -- What one memory, with these first values, does in the order of a run, where the budget is that many attempts: one run of the machine
+  -- does all that the order has, and is where the run came to its end.
   pub record Replays (first : List ℤ) (budget : ℕ) (t : List Node) (cs : List Conflict) (picks : Picks) (e : RecordEnd) : Type 0 where
     -- the strand that the end names is one of the tree
     pub strand : IsTrue (is_strand t (ending_strand e))
     -- the order is that of the tree, the conflicts and the end
     pub order : picks ≡ order_of t cs budget e
-    pub acts : DoesAll t (initial s first) (items t cs budget e)
-    pub end : SameEnd e picks (serial_end s first picks)
-    pub spent : IsSpent t cs budget e (picked (initial s first) (map (doer t) (items t cs budget e)))
+    -- the machine behind the last pick
+    pub machine : Machine A
+    pub acts : DoesAll t (initial s first) (items t cs budget e) machine
+    pub end : SameEnd e picks (shown s machine picks.names picks.last (length picks.list))
+    pub spent : IsSpent t cs budget e machine

@@ -1,5 +1,5 @@
 -- What a check finds of a record whose order is the right one, step by step.
-use Rattle.std.specs.Prelude.{List, map, Option, Some, None, IsSomeAnd}
+use Rattle.std.specs.Prelude.{List, Option, Some, None, IsSomeAnd}
 use Rattle.cw_strand.specs.declared.want.Want.{Want}
 use Rattle.cw_tree.specs.declared.conflict.Conflict.{Conflict}
 use Rattle.cw_tree.specs.Refusals.{telling}
@@ -10,15 +10,16 @@ use Rattle.cw_record.specs.Records.{job_of}
 use Rattle.cw_record.specs.declared.record_end.RecordEnd.{RecordEnd}
 use Rattle.cw_record.specs.declared.record_end.RecordEnd.TheVariants.{Budget}
 use Rattle.cw_record.specs.declared.record.Record.{Record}
-use Rattle.cw_record.specs.declared.items.Item.{Item}
+use Rattle.cw_record.specs.declared.items.OrderItem.{OrderItem}
 use Rattle.cw_record.specs.Items.{items}
-use Rattle.cw_record.specs.Replay.{doer, DoesAll, IsRefused, picked, IsSpent}
+use Rattle.cw_record.specs.Replay.{DoesAll, IsRefused, IsSpent}
 
 -- from this machine on, the items are done, and then a strand that spent its budget stands at what was refused
-abbrev pub DoesFrom : Record → Machine StrandState → List Item → Type 0
+abbrev pub DoesFrom : Record → Machine StrandState → List OrderItem → Type 0
 DoesFrom r m is =
-    DoesAll (strands_of (job_of r)) r.tree m is
-    × IsSpent (strands_of (job_of r)) r.tree r.conflicts r.limits.aborts r.end (picked (strands_of (job_of r)) m (map (doer r.tree) is))
+    (n : Machine StrandState)
+    × DoesAll (strands_of (job_of r)) r.tree m is n
+    × IsSpent (strands_of (job_of r)) r.tree r.conflicts r.limits.aborts r.end n
 
 abbrev pub ItemsAreDone : Record → Type 0
 ItemsAreDone r = DoesFrom r (machine_of (job_of r)) (items r.tree r.conflicts r.limits.aborts r.end)

@@ -2,10 +2,12 @@
 use Rattle.std.specs.Prelude.{◌≡◌, ℕ, List, [], ◌∷◌}
 use Rattle.cw_strand.specs.declared.want.Want.{Want}
 use Rattle.cw_strand.specs.Strands.{Strands}
+use Rattle.cw_serial.specs.Wants.{memory_after, outputs_after}
 use Rattle.cw_serial.specs.Room.Strands.{StrandState, job_of, state_of, strands_of}
 use Rattle.cw_record.specs.declared.worker.Branch.{Branch}
 use Rattle.cw_record.specs.declared.worker.Branch.TheVariants.{Left, Right}
 use Rattle.cw_record.specs.declared.worker.Worker.{Worker}
+use Rattle.cw_record.specs.Drawn.{drawn, drawn_after}
 
 -- the law of the strands that it runs
 abbrev pub law_of : Worker → Strands StrandState
@@ -20,6 +22,14 @@ pub record SwitchesStrand (old new : Worker) : Type 0 where
   pub interpreter : new.interpreter ≡ old.interpreter
   pub memory : new.memory ≡ old.memory
   pub outputs : new.outputs ≡ old.outputs
+
+-- It did what its strand wants, in memory, outputs and drawing: what it runs by and the waiting strands stay.
+pub record Acts (old new : Worker) : Type 0 where
+  pub interpreter : new.interpreter ≡ old.interpreter
+  pub branches : new.branches ≡ old.branches
+  pub memory : new.memory.items ≡ memory_after (want_of old) old.memory.items
+  pub outputs : new.outputs.items ≡ outputs_after (want_of old) old.outputs.items
+  pub drawing : drawn new.drawing ≡ drawn_after (want_of old) old.memory.items (drawn old.drawing)
 
 -- One fork more, with this node, whose right strand, in this state, is to come.
 abbrev pub WaitsOnLeft : (old new : List Branch) → (node : ℕ) → StrandState → Type 0

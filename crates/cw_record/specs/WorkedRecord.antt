@@ -7,7 +7,7 @@ use Rattle.cw_strand.specs.Strands.{Strands, IsLawful}
 use Rattle.cw_tree.specs.WorkedRun.{two_blocks, two_writes, refused_write}
 use Rattle.cw_record.specs.declared.record_end.RecordEnd.{RecordEnd}
 use Rattle.cw_record.specs.declared.record_end.RecordEnd.TheVariants.{Finished}
-use Rattle.cw_record.specs.Coherent.{IsCoherent}
+use Rattle.cw_record.specs.Coherent.{IsCoherent, HasOutputs}
 
 -- main before its fork, each strand of that after so many answers, and main behind it
 pub data Writer : Type 0 where
@@ -64,9 +64,13 @@ writers = record {
 abbrev pub IsRecord : RecordEnd → Type 0
 IsRecord e = IsCoherent writers (pos 0 ∷ []) 2 two_blocks (two_writes ∷ []) (refused_write ∷ []) e
 
--- Its strands keep the law, and it is coherent. Not with another memory, nor with an output that nobody made.
+abbrev pub HasThese : RecordEnd → Type 0
+HasThese e = HasOutputs two_blocks (refused_write ∷ []) 2 e
+
+-- Its strands keep the law, and it is coherent, with its outputs. Not with another memory, nor with an output that nobody made.
 pub record Coherent : Type 0 where
   pub lawful : IsLawful writers
   pub holds : IsRecord (Finished (pos 2 ∷ []) [])
   pub memory : IsRecord (Finished (pos 1 ∷ []) []) → ⊥
-  pub outputs : IsRecord (Finished (pos 2 ∷ []) (pos 2 ∷ [])) → ⊥
+  pub outputs : HasThese (Finished (pos 2 ∷ []) [])
+  pub other_outputs : HasThese (Finished (pos 2 ∷ []) (pos 2 ∷ [])) → ⊥

@@ -54,6 +54,8 @@ fn replays(alloc: Global, kept: &Record, end: &SerialEnd) -> Result<bool, OutOfM
     requires { end.now ≡ end_under (job_of kept.now) kept.now.order }
     ensures { IfOk result (λ b. IsTrue b ↔ IsReplayed kept.now) }
 {
+    // a hint to the prover: the root is a strand, and each other node has a smaller parent
+    let _ = kept.tree.nodes();
     if !names_strand(&kept.tree, &kept.end) || !is_same_end(&kept.end, &kept.order, end) {
         return Ok(false);
     }

@@ -2,11 +2,13 @@
 //! Stands on `cw_base`, `cw_code`, `cw_text`, `cw_strand`, `cw_tree` and `cw_serial`.
 //! Contracts cite `specs/Order.antt` (the order of a record, from `specs/Items.antt` and `specs/Listed.antt`), `specs/Replay.antt` (that
 //! one memory does what a record says), `specs/Checking.antt` (what a check says), `specs/Records.antt` (the run of one worker), and
-//! `specs/WorkedRecord.antt` with `specs/Coherent.antt` (a record that is coherent). Private ones cite `specs/Levels.antt` (how items are
+//! `specs/Coherent.antt` (what a coherent record is), `specs/WorkedRecord.antt` and `specs/WorkedEnds.antt` (small records that are, the
+//! latter of strands of `specs/Scripts.antt`). Private ones cite `specs/Levels.antt` (how items are
 //! found), `specs/Walked.antt` (what the passes over a tree find), `specs/Replaying.antt` (what a check finds, step by step),
 //! `specs/Drawn.antt` (what each step makes of the tree and the journals) and `specs/Worked.antt` (what one worker holds).
 #![tactic(auto)]
 
+ghost use Rattle.cw_record.specs.WorkedEnds.{Ends};
 ghost use Rattle.cw_record.specs.WorkedRecord.{Coherent};
 
 mod checking;
@@ -24,7 +26,7 @@ mod strands;
 mod worker;
 
 pub use checking::{Checked, check};
-pub use items::Item;
+pub use items::OrderItem;
 pub use order::order_of;
 pub use record::{Record, depth_first};
 pub use record_end::RecordEnd;
@@ -32,4 +34,9 @@ pub use record_end::RecordEnd;
 /// A small record is coherent, and is not where one thing is changed.
 pub fn worked_record()
     ensures coherent { Coherent }
+{}
+
+/// Small records that came to each end that is not main's own are coherent, and are not where one thing is changed.
+pub fn worked_ends()
+    ensures { Ends }
 {}

@@ -5,7 +5,7 @@ ghost use Rattle.cw_record.specs.Listed.{number_of};
 ghost use Rattle.cw_record.specs.Order.{ending_strand, node_of, order_of, pick_of};
 
 use crate::RecordEnd;
-use crate::items::{Item, items};
+use crate::items::{OrderItem, items};
 use crate::listed::Listed;
 use cw_base::{OutOfMemory, Seq};
 use cw_tree::{Conflict, Picks, Tree};
@@ -53,7 +53,7 @@ fn picks(
     alloc: Global,
     tree: &Tree,
     listed: &Listed,
-    items: &[Item],
+    items: &[OrderItem],
 ) -> Result<Seq<u32>, OutOfMemory>
     requires numbers { listed.now.numbers.items
         ≡ map (λ n. number_of tree.now (strand_of tree.now n)) (all_nodes tree.now) }

@@ -1,12 +1,8 @@
 ghost use Rattle.std.specs.Prelude.{◌≡◌, [], IfOk};
 ghost use Rattle.cw_strand.specs.Laws.{params_at};
-ghost use Rattle.cw_strand.specs.Names.{first_memory};
 ghost use Rattle.cw_text.specs.Syntax.{tree_of};
-ghost use Rattle.cw_tree.specs.Journals.{AreJournals};
-ghost use Rattle.cw_tree.specs.Refusals.{AreRefusals};
-ghost use Rattle.cw_tree.specs.Shape.{IsTree, AreStamps, PendingLast};
 ghost use Rattle.cw_serial.specs.Programs.{IsProgramOf};
-ghost use Rattle.cw_record.specs.Records.{BlocksEnded, HasEnded, IsReplayed, IsDepthFirst, IsNumberedDepthFirst};
+ghost use Rattle.cw_record.specs.Records.{BlocksEnded, HasEnded, HasItsOutputs, IsCoherentRun, IsReplayed, IsDepthFirst, IsNumberedDepthFirst};
 
 use crate::worker::Worker;
 use crate::{RecordEnd, order_of};
@@ -45,15 +41,12 @@ pub fn depth_first(
     ensures limits { IfOk result (λ r. r.limits ≡ limits) }
     ensures conflicts { IfOk result (λ r. r.conflicts ≡ []) }
     ensures ended { IfOk result (λ r. HasEnded r.end) }
-    ensures tree { IfOk result (λ r. IsTree r.tree) }
+    ensures coherent { IfOk result (λ r. IsCoherentRun r) }
+    ensures outputs { IfOk result (λ r. HasItsOutputs r) }
     ensures depth_first { IfOk result (λ r. IsDepthFirst r) }
     ensures replays { IfOk result (λ r. IsReplayed r) }
     ensures numbered { IfOk result (λ r. IsNumberedDepthFirst r.tree) }
     ensures blocks { IfOk result (λ r. BlocksEnded r.tree r.end) }
-    ensures stamps { IfOk result (λ r. AreStamps r.tree) }
-    ensures pending_last { IfOk result (λ r. PendingLast r.tree) }
-    ensures refusals { IfOk result (λ r. AreRefusals r.tree r.conflicts) }
-    ensures journals { IfOk result (λ r. AreJournals r.tree (first_memory r.program.cells) r.journals) }
 {
     let run = Worker::run(alloc, &program, words.as_slice(), limits)?;
     let conflicts = Seq::new(alloc);

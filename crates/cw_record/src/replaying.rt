@@ -1,10 +1,12 @@
 ghost use Rattle.std.specs.Prelude.{◌≡◌, ◌↔◌, ◌<◌, IfOk, IsSomeAnd, IsTrue, length};
 ghost use Rattle.cw_tree.specs.Nodes.{is_strand};
+ghost use Rattle.cw_serial.specs.Machine.{Machine};
+ghost use Rattle.cw_serial.specs.Room.Strands.{StrandState};
 ghost use Rattle.cw_record.specs.Order.{ending_strand, node_of, order_of};
 ghost use Rattle.cw_record.specs.Replay.{IsAct, IsItem, IsRefused};
 ghost use Rattle.cw_record.specs.Replaying.{ItemsAreDone, WantsRefused};
 
-use crate::items::{Item, items};
+use crate::items::{OrderItem, items};
 use crate::place::telling;
 use crate::{Record, RecordEnd};
 use cw_base::{OutOfMemory, Seq};
@@ -46,15 +48,15 @@ pub(crate) fn does_all(alloc: Global, kept: &Record) -> Result<bool, OutOfMemory
     is_spent(alloc, kept, want)
 }
 
-/// Whether a want is what the tree has at an item, where memory is this.
-fn is_item(tree: &Tree, memory: &[i64], want: Option<Want>, item: Item) -> bool
+/// Whether a want is what the tree has at an item, where the machine has this memory.
+fn is_item(tree: &Tree, memory: &[i64], want: Option<Want>, item: OrderItem) -> bool
     requires { node_of item < length tree.now }
-    ensures { IsTrue result ↔ IsSomeAnd want (λ w. IsItem tree.now memory.now w item) }
+    ensures { (m : Machine StrandState) → m.memory ≡ memory.now → IsTrue result ↔ IsSomeAnd want (λ w. IsItem tree.now m w item) }
 {
     match item {
-        Item::Begins(_) => want == Some(Want::Begin),
-        Item::Ends(_) => want == Some(Want::End),
-        Item::Does(node) => is_act(memory, want, &tree.node(node).kind),
+        OrderItem::Begins(_) => want == Some(Want::Begin),
+        OrderItem::Ends(_) => want == Some(Want::End),
+        OrderItem::Does(node) => is_act(memory, want, &tree.node(node).kind),
     }
 }
 

@@ -10,10 +10,10 @@ ghost use Rattle.cw_tree.specs.declared.node.Kind.TheVariants.{Strand as AStrand
 ghost use Rattle.cw_serial.specs.Jobs.{Job};
 ghost use Rattle.cw_serial.specs.Programs.{IsProgramOf};
 ghost use Rattle.cw_serial.specs.Room.Strands.{job_of, state_of, strands_of};
-ghost use Rattle.cw_serial.specs.Wants.{answer_to, memory_after, outputs_after};
-ghost use Rattle.cw_record.specs.Drawn.{after, after_fork, after_join, after_start, blank, drawn};
-ghost use Rattle.cw_record.specs.Records.{IsRun};
-ghost use Rattle.cw_record.specs.Worked.{SwitchesStrand, WaitsOnLeft, law_of, unstarted, want_of};
+ghost use Rattle.cw_serial.specs.Wants.{answer_to};
+ghost use Rattle.cw_record.specs.Drawn.{after_fork, after_join, after_start, blank, drawn};
+ghost use Rattle.cw_record.specs.Records.{IsWorkerRun};
+ghost use Rattle.cw_record.specs.Worked.{Acts, SwitchesStrand, WaitsOnLeft, law_of, unstarted, want_of};
 ghost use Rattle.cw_record.specs.declared.worker.Branch.TheVariants.{Right as OnRight};
 ghost use Rattle.cw_record.specs.declared.record_end.RecordEnd.TheVariants as ending;
 
@@ -91,7 +91,7 @@ impl<'a> Worker<'a> {
     ) -> Result<Run, OutOfMemory>
         requires named { IsProgramOf (tree_of program.now.ast) program.now }
         requires params { params_at (tree_of program.now.ast) program.now.main ≡ [] }
-        ensures { IfOk result (λ r. IsRun (record { program = program.now; words = words.now; limits = limits })
+        ensures { IfOk result (λ r. IsWorkerRun (record { program = program.now; words = words.now; limits = limits })
             r.drawing.tree r.drawing.journals.items r.end) }
     {
         let mut worker = Worker::begin(alloc, program, words, limits)?;
@@ -116,12 +116,7 @@ impl<'a> Worker<'a> {
         requires there { self.old.drawing.place < length self.old.drawing.tree }
         requires answered { takes_answer (want_of self.old) ≡ true }
         requires block { want_of self.old ≡ Want.End → IsTrue (is_block self.old.drawing.tree self.old.drawing.place) }
-        ensures interpreter { OnOk result (self.new.interpreter ≡ self.old.interpreter) }
-        ensures branches { OnOk result (self.new.branches ≡ self.old.branches) }
-        ensures memory { OnOk result (self.new.memory.items ≡ memory_after (want_of self.old) self.old.memory.items) }
-        ensures outputs { OnOk result (self.new.outputs.items ≡ outputs_after (want_of self.old) self.old.outputs.items) }
-        ensures drawing { OnOk result (drawn self.new.drawing
-            ≡ after (want_of self.old) self.old.memory.items (drawn self.old.drawing)) }
+        ensures acts { OnOk result (Acts self.old self.new) }
         ensures strand { OnOk result (state_of self.new.strand
             ≡ (law_of self.old).answer (state_of self.old.strand) (answer_to (want_of self.old) self.old.memory.items)) }
     {
@@ -135,13 +130,8 @@ impl<'a> Worker<'a> {
         requires answered { takes_answer (want_of self.old) ≡ true }
         requires block { want_of self.old ≡ Want.End → IsTrue (is_block self.old.drawing.tree self.old.drawing.place) }
         ensures given { IfOk result (λ g. g ≡ answer_to (want_of self.old) self.old.memory.items) }
-        ensures interpreter { OnOk result (self.new.interpreter ≡ self.old.interpreter) }
+        ensures acts { OnOk result (Acts self.old self.new) }
         ensures strand { OnOk result (self.new.strand ≡ self.old.strand) }
-        ensures branches { OnOk result (self.new.branches ≡ self.old.branches) }
-        ensures memory { OnOk result (self.new.memory.items ≡ memory_after (want_of self.old) self.old.memory.items) }
-        ensures outputs { OnOk result (self.new.outputs.items ≡ outputs_after (want_of self.old) self.old.outputs.items) }
-        ensures drawing { OnOk result (drawn self.new.drawing
-            ≡ after (want_of self.old) self.old.memory.items (drawn self.old.drawing)) }
     {
         match self.strand.want() {
             Want::Load(element) => {

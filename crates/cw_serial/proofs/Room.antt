@@ -1,4 +1,5 @@
 pub mod Lawful
+pub mod Elements
 pub mod Bodies
 pub mod DoneTasks
 pub mod StandingWork

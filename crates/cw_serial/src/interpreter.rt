@@ -19,9 +19,9 @@ pub use strand::Strand;
 /// language so far: `main` has no parameters, and fuel and size are not counted.
 #[derive(Drop)]
 pub struct Interpreter<'a> {
-    pub program: &'a Program,
-    pub words: &'a [i64],
-    pub limits: Limits,
+    program: &'a Program,
+    words: &'a [i64],
+    limits: Limits,
     elements: Elements<'a>,
     ghost known: { HasElements elements program.now.cells },
 }

@@ -1,3 +1,4 @@
+pub mod Elements
 pub mod FitTasks
 pub mod Forking
 pub mod Lawful

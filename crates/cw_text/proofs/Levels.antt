@@ -2,12 +2,12 @@
 use Rattle.std.proofs.Common.{◌≡◌, ℕ, zero, suc, ◌+◌, ◌<◌, ◌≤◌, max, List, ◌∷◌, ◌∙◌, subst, inl, inr, arith}
 use Rattle.std.proofs.lemmas.Bool.{cases_lt}
 use Rattle.cw_text.specs.declared.ast.Op.{Op}
-use Rattle.cw_text.specs.declared.mark.Mark.TheVariants as m
-use Rattle.cw_text.specs.Lexemes.{Lexemes, comes, mark}
+use Rattle.cw_text.specs.declared.terminal.Terminal.TheVariants as m
+use Rattle.cw_text.specs.Lexemes.{Lexemes, comes, terminal}
 use Rattle.cw_text.specs.Syntax.{Term, binary, unary, height}
 use Rattle.cw_text.specs.Grammar.{Symbol, Values, a_term, act, closing, comparison, comparison_of, expr, join, lifted, operand, pending, product_of, products, read, read_from, sum_of, sums}
-use Rattle.cw_text.specs.Printed.{mark_of, tightness}
-use Rattle.cw_text.proofs.Operators.{NotNext, takes_product, takes_sum, takes_comparison, takes_prefix, skips_products, skips_sums, skips_comparison, product_of-mark_of, sum_of-mark_of, comparison_of-mark_of, no_sum}
+use Rattle.cw_text.specs.Printed.{terminal_of, tightness}
+use Rattle.cw_text.proofs.Operators.{NotNext, takes_product, takes_sum, takes_comparison, takes_prefix, skips_products, skips_sums, skips_comparison, product_of-terminal_of, sum_of-terminal_of, comparison_of-terminal_of, no_sum}
 use Rattle.cw_text.proofs.Steps.{read-expr, read-join, read-lifted, taken_open}
 
 -- the symbols of an expression, and those that are left once it was read
@@ -62,16 +62,16 @@ looser {more} {e} {xs} {ys} n (suc t) within ends r =
 
 -- ## Operators and brackets
 
-pub in_brackets : {more l j : ℕ} {e : Term} {xs ys : Lexemes} → Reads more 0 e xs (comes (mark m.ParenClose) j ys) → Reads (more + 1) 3 e (comes (mark m.ParenOpen) l xs) ys
+pub in_brackets : {more l j : ℕ} {e : Term} {xs ys : Lexemes} → Reads more 0 e xs (comes (terminal m.ParenClose) j ys) → Reads (more + 1) 3 e (comes (terminal m.ParenOpen) l xs) ys
 in_brackets {l = l} {j = j} {e = e} {xs = xs} {ys = ys} r = record {
   reading = λ k vs low.
-      taken_open (expr ∷ closing m.ParenClose ∷ k) vs l (comes (mark m.ParenOpen) l xs) (omega arith)
+      taken_open (expr ∷ closing m.ParenClose ∷ k) vs l (comes (terminal m.ParenOpen) l xs) (omega arith)
       ∙ read-expr (closing m.ParenClose ∷ k) vs xs
       ∙ r.reading (closing m.ParenClose ∷ k) vs (omega arith)
-      ∙ taken_open k (a_term e ∷ vs) j (comes (mark m.ParenClose) j ys) (omega arith);
+      ∙ taken_open k (a_term e ∷ vs) j (comes (terminal m.ParenClose) j ys) (omega arith);
 }
 
-pub of_one : {more l : ℕ} {e : Term} {xs ys : Lexemes} (o : Op) → tightness o ≡ 3 → height (unary o e) ≤ 200 → Reads more 3 e xs ys → Reads (more + 1) 3 (unary o e) (comes (mark (mark_of o)) l xs) ys
+pub of_one : {more l : ℕ} {e : Term} {xs ys : Lexemes} (o : Op) → tightness o ≡ 3 → height (unary o e) ≤ 200 → Reads more 3 e xs ys → Reads (more + 1) 3 (unary o e) (comes (terminal (terminal_of o)) l xs) ys
 of_one {l = l} {e = e} {xs = xs} {ys = ys} o prefix high r = record {
   reading = λ k vs low.
       takes_prefix o l k vs xs prefix (omega arith)
@@ -81,12 +81,12 @@ of_one {l = l} {e = e} {xs = xs} {ys = ys} o prefix high r = record {
 
 -- an operator between its operands
 pub of_two : {more l : ℕ} {e f : Term} {xs ys zs : Lexemes} (o : Op) (t : ℕ) → tightness o ≡ t → t < 3 → height (binary o e f) ≤ 200 → Ends t zs →
-    Reads more (max 1 t) e xs (comes (mark (mark_of o)) l ys) → Reads more (t + 1) f ys zs → Reads more t (binary o e f) xs zs
+    Reads more (max 1 t) e xs (comes (terminal (terminal_of o)) l ys) → Reads more (t + 1) f ys zs → Reads more t (binary o e f) xs zs
 of_two {l = l} {e = e} {f = f} {ys = ys} {zs = zs} o zero is two high ends a b = record {
   reading = λ k vs low.
       a.reading (comparison ∷ k) vs low
-      ∙ skips_sums (comparison ∷ k) (a_term e ∷ vs) (comes (mark (mark_of o)) l ys) (no_sum o is)
-      ∙ takes_comparison (mark_of o) o l k (a_term e ∷ vs) ys (comparison_of-mark_of o is) (omega arith)
+      ∙ skips_sums (comparison ∷ k) (a_term e ∷ vs) (comes (terminal (terminal_of o)) l ys) (no_sum o is)
+      ∙ takes_comparison (terminal_of o) o l k (a_term e ∷ vs) ys (comparison_of-terminal_of o is) (omega arith)
       ∙ b.reading (act (join o) ∷ read_from l ∷ k) (a_term e ∷ vs) low
       ∙ skips_sums (act (join o) ∷ read_from l ∷ k) (a_term f ∷ a_term e ∷ vs) zs ends.1
       ∙ read-join o l e f k vs zs high;
@@ -94,7 +94,7 @@ of_two {l = l} {e = e} {f = f} {ys = ys} {zs = zs} o zero is two high ends a b =
 of_two {l = l} {e = e} {f = f} {ys = ys} {zs = zs} o (suc zero) is two high ends a b = record {
   reading = λ k vs low.
       a.reading k vs low
-      ∙ takes_sum (mark_of o) o l k (a_term e ∷ vs) ys (sum_of-mark_of o is) (omega arith)
+      ∙ takes_sum (terminal_of o) o l k (a_term e ∷ vs) ys (sum_of-terminal_of o is) (omega arith)
       ∙ b.reading (act (join o) ∷ read_from l ∷ sums ∷ k) (a_term e ∷ vs) low
       ∙ skips_products (act (join o) ∷ read_from l ∷ sums ∷ k) (a_term f ∷ a_term e ∷ vs) zs ends
       ∙ read-join o l e f (sums ∷ k) vs zs high;
@@ -102,7 +102,7 @@ of_two {l = l} {e = e} {f = f} {ys = ys} {zs = zs} o (suc zero) is two high ends
 of_two {l = l} {e = e} {f = f} {ys = ys} {zs = zs} o (suc (suc zero)) is two high ends a b = record {
   reading = λ k vs low.
       a.reading k vs low
-      ∙ takes_product (mark_of o) o l k (a_term e ∷ vs) ys (product_of-mark_of o is) (omega arith)
+      ∙ takes_product (terminal_of o) o l k (a_term e ∷ vs) ys (product_of-terminal_of o is) (omega arith)
       ∙ b.reading (act (join o) ∷ read_from l ∷ products ∷ k) (a_term e ∷ vs) low
       ∙ read-join o l e f (products ∷ k) vs zs high;
 }

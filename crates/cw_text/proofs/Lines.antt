@@ -1,10 +1,10 @@
 -- Of the lines of tokens, only those of names have a part in what is read.
 use Rattle.std.proofs.Common.{◌≡◌, ℕ, ◌+◌, nat_lt, cond, Bool, true, false, List, [], ◌∷◌, ◌++◌, Option, Some, None, Result, Ok, Err, refl, ap, sym, ◌∙◌}
 use Rattle.cw_text.specs.declared.fault.TextFault.{TextFault}
-use Rattle.cw_text.specs.declared.mark.Mark.TheVariants as m
-use Rattle.cw_text.specs.Lexemes.{Token, Lexemes, end_on, comes, mark, name as a_name, end}
+use Rattle.cw_text.specs.declared.terminal.Terminal.TheVariants as m
+use Rattle.cw_text.specs.Lexemes.{Token, Lexemes, end_on, comes, terminal, name as a_name, end}
 use Rattle.cw_text.specs.Syntax.{Declaration}
-use Rattle.cw_text.specs.Grammar.{Symbol, Values, State, Next, take, skip, refuse, act, after, block, cell_init, closing, comparison, comparison_of, declared, expr, feed, go_on, infix_by, operand_by, init, items, lift, lifted, newest_height, opened, operand, pending, product_of, products, program_in, program_of, read, read_from, rest_of_expr, stmts, sum_of, sums, then_read}
+use Rattle.cw_text.specs.Grammar.{Symbol, Values, State, Next, take, skip, refuse, act, expansion, block, cell_init, closing, comparison, comparison_of, declared, expr, feed, go_on, infix_by, operand_by, init, items, lift, lifted, newest_height, opened, operand, pending, product_of, products, program_in, program_of, read, read_from, rest_of_expr, stmts, sum_of, sums, then_read}
 use Rattle.cw_text.specs.Printed.{only_name_lines}
 
 -- ## Symbols without their lines
@@ -55,30 +55,30 @@ SameLine t i l = Unit {0}
 
 operand_by-plain : (k : List Symbol) (t : Token) (i l : ℕ) → SameLine t i l → plain_next (operand_by k t i) ≡ plain_next (operand_by k t l)
 operand_by-plain k (a_name n) i l same = ap (λ l. plain_next (operand_by k (a_name n) l)) same
-operand_by-plain k (mark m.ParenOpen) i l same = refl
-operand_by-plain k (mark m.Minus) i l same = refl
-operand_by-plain k (mark m.Bang) i l same = refl
-operand_by-plain k (mark a) i l same = refl
+operand_by-plain k (terminal m.ParenOpen) i l same = refl
+operand_by-plain k (terminal m.Minus) i l same = refl
+operand_by-plain k (terminal m.Bang) i l same = refl
+operand_by-plain k (terminal a) i l same = refl
 operand_by-plain k t i l same = refl
 
-after-plain : (s : Symbol) (t : Token) (i l : ℕ) → SameLine t i l → plain_next (after s t i) ≡ plain_next (after s t l)
-after-plain s (a_name n) i l same = ap (λ l. plain_next (after s (a_name n) l)) same
-after-plain expr t i l same = operand_by-plain rest_of_expr t i l same
-after-plain operand t i l same = operand_by-plain [] t i l same
-after-plain products (mark a) i l same = elim (product_of a) as (λ o. plain_next (infix_by o [] (products ∷ []) i) ≡ plain_next (infix_by o [] (products ∷ []) l)) [ None ↦ refl | Some o ↦ refl ]
-after-plain sums (mark a) i l same = elim (sum_of a) as (λ o. plain_next (infix_by o (products ∷ []) (sums ∷ []) i) ≡ plain_next (infix_by o (products ∷ []) (sums ∷ []) l)) [ None ↦ refl | Some o ↦ refl ]
-after-plain comparison (mark a) i l same = elim (comparison_of a) as (λ o. plain_next (infix_by o (products ∷ sums ∷ []) [] i) ≡ plain_next (infix_by o (products ∷ sums ∷ []) [] l)) [ None ↦ refl | Some o ↦ refl ]
-after-plain items (mark m.Cell) i l same = refl
-after-plain items t i l same = refl
-after-plain cell_init (mark m.Assign) i l same = refl
-after-plain cell_init t i l same = refl
-after-plain init (mark m.Minus) i l same = refl
-after-plain init t i l same = refl
-after-plain block (mark m.BraceOpen) i l same = refl
-after-plain block t i l same = refl
-after-plain stmts (mark m.Let) i l same = refl
-after-plain stmts t i l same = refl
-after-plain s t i l same = refl
+expansion-plain : (s : Symbol) (t : Token) (i l : ℕ) → SameLine t i l → plain_next (expansion s t i) ≡ plain_next (expansion s t l)
+expansion-plain s (a_name n) i l same = ap (λ l. plain_next (expansion s (a_name n) l)) same
+expansion-plain expr t i l same = operand_by-plain rest_of_expr t i l same
+expansion-plain operand t i l same = operand_by-plain [] t i l same
+expansion-plain products (terminal a) i l same = elim (product_of a) as (λ o. plain_next (infix_by o [] (products ∷ []) i) ≡ plain_next (infix_by o [] (products ∷ []) l)) [ None ↦ refl | Some o ↦ refl ]
+expansion-plain sums (terminal a) i l same = elim (sum_of a) as (λ o. plain_next (infix_by o (products ∷ []) (sums ∷ []) i) ≡ plain_next (infix_by o (products ∷ []) (sums ∷ []) l)) [ None ↦ refl | Some o ↦ refl ]
+expansion-plain comparison (terminal a) i l same = elim (comparison_of a) as (λ o. plain_next (infix_by o (products ∷ sums ∷ []) [] i) ≡ plain_next (infix_by o (products ∷ sums ∷ []) [] l)) [ None ↦ refl | Some o ↦ refl ]
+expansion-plain items (terminal m.Cell) i l same = refl
+expansion-plain items t i l same = refl
+expansion-plain cell_init (terminal m.Assign) i l same = refl
+expansion-plain cell_init t i l same = refl
+expansion-plain init (terminal m.Minus) i l same = refl
+expansion-plain init t i l same = refl
+expansion-plain block (terminal m.BraceOpen) i l same = refl
+expansion-plain block t i l same = refl
+expansion-plain stmts (terminal m.Let) i l same = refl
+expansion-plain stmts t i l same = refl
+expansion-plain s t i l same = refl
 
 guard-plain : (b c : Bool) (f g : TextFault) (r q : Result State TextFault) → b ≡ c → plain_state r ≡ plain_state q → plain_state (cond b (Err f) r) ≡ plain_state (cond c (Err g) q)
 guard-plain true true f g r q same h = refl
@@ -107,7 +107,7 @@ feed-plain [] vs t i l same = refl
 feed-plain (act f ∷ k) vs t i l same = feed-plain k (f vs) t i l same
 feed-plain (lifted o j ∷ k) vs t i l same = guard-plain (nat_lt 200 (newest_height (lift o vs))) _ _ _ _ _ refl (feed-plain k (lift o vs) t i l same)
 feed-plain (read_from j ∷ k) vs t i l same = guard-plain (nat_lt 200 (newest_height vs)) _ _ _ _ _ refl (feed-plain k vs t i l same)
-feed-plain (s ∷ k) vs t i l same = go_on-plain (after s t i) (after s t l) k vs i l (feed (plain k) vs t i) (feed k vs t l) (after-plain s t i l same) (feed-plain k vs t i l same)
+feed-plain (s ∷ k) vs t i l same = go_on-plain (expansion s t i) (expansion s t l) k vs i l (feed (plain k) vs t i) (feed k vs t l) (expansion-plain s t i l same) (feed-plain k vs t i l same)
 
 same_line : (t : Token) (l : ℕ) → SameLine t l l
 same_line (a_name n) l = refl

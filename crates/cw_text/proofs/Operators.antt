@@ -3,70 +3,70 @@ use Rattle.std.proofs.Common.{◌≡◌, ℕ, ◌+◌, ◌≤◌, List, ◌∷�
 use Rattle.std.proofs.lemmas.Bool.{le-ltb}
 use Rattle.cw_text.specs.declared.ast.Op.{Op}
 use Rattle.cw_text.specs.declared.ast.Op.TheVariants as op
-use Rattle.cw_text.specs.declared.mark.Mark.{Mark}
-use Rattle.cw_text.specs.Lexemes.{Lexemes, end_on, comes, mark}
+use Rattle.cw_text.specs.declared.terminal.Terminal.{Terminal}
+use Rattle.cw_text.specs.Lexemes.{Lexemes, end_on, comes, terminal}
 use Rattle.cw_text.specs.Grammar.{Symbol, Values, act, comparison, comparison_of, join, lifted, operand, pending, product_of, products, read, read_from, sum_of, sums}
-use Rattle.cw_text.specs.Printed.{mark_of, tightness}
+use Rattle.cw_text.specs.Printed.{terminal_of, tightness}
 
 -- the next token is no operator of this kind
-abbrev pub NotNext : (Mark → Option Op) → Lexemes → Type 0
+abbrev pub NotNext : (Terminal → Option Op) → Lexemes → Type 0
 NotNext f (end_on l) = Unit {0}
-NotNext f (comes (mark a) l xs) = f a ≡ None
+NotNext f (comes (terminal a) l xs) = f a ≡ None
 NotNext f (comes t l xs) = Unit {0}
 
-pub takes_product : (a : Mark) (o : Op) (l : ℕ) (k : List Symbol) (vs : Values) (xs : Lexemes) → product_of a ≡ Some o → pending k ≤ 200 →
-    read (products ∷ k) vs (comes (mark a) l xs) ≡ read (operand ∷ act (join o) ∷ read_from l ∷ products ∷ k) vs xs
+pub takes_product : (a : Terminal) (o : Op) (l : ℕ) (k : List Symbol) (vs : Values) (xs : Lexemes) → product_of a ≡ Some o → pending k ≤ 200 →
+    read (products ∷ k) vs (comes (terminal a) l xs) ≡ read (operand ∷ act (join o) ∷ read_from l ∷ products ∷ k) vs xs
 takes_product a o l k vs xs h low = rw (h, le-ltb 200 (pending k) low) refl
 
-pub takes_sum : (a : Mark) (o : Op) (l : ℕ) (k : List Symbol) (vs : Values) (xs : Lexemes) → sum_of a ≡ Some o → pending k ≤ 200 →
-    read (sums ∷ k) vs (comes (mark a) l xs) ≡ read (operand ∷ products ∷ act (join o) ∷ read_from l ∷ sums ∷ k) vs xs
+pub takes_sum : (a : Terminal) (o : Op) (l : ℕ) (k : List Symbol) (vs : Values) (xs : Lexemes) → sum_of a ≡ Some o → pending k ≤ 200 →
+    read (sums ∷ k) vs (comes (terminal a) l xs) ≡ read (operand ∷ products ∷ act (join o) ∷ read_from l ∷ sums ∷ k) vs xs
 takes_sum a o l k vs xs h low = rw (h, le-ltb 200 (pending k) low) refl
 
-pub takes_comparison : (a : Mark) (o : Op) (l : ℕ) (k : List Symbol) (vs : Values) (xs : Lexemes) → comparison_of a ≡ Some o → pending k ≤ 200 →
-    read (comparison ∷ k) vs (comes (mark a) l xs) ≡ read (operand ∷ products ∷ sums ∷ act (join o) ∷ read_from l ∷ k) vs xs
+pub takes_comparison : (a : Terminal) (o : Op) (l : ℕ) (k : List Symbol) (vs : Values) (xs : Lexemes) → comparison_of a ≡ Some o → pending k ≤ 200 →
+    read (comparison ∷ k) vs (comes (terminal a) l xs) ≡ read (operand ∷ products ∷ sums ∷ act (join o) ∷ read_from l ∷ k) vs xs
 takes_comparison a o l k vs xs h low = rw (h, le-ltb 200 (pending k) low) refl
 
 pub takes_prefix : (o : Op) (l : ℕ) (k : List Symbol) (vs : Values) (xs : Lexemes) → tightness o ≡ 3 → pending k + 1 ≤ 200 →
-    read (operand ∷ k) vs (comes (mark (mark_of o)) l xs) ≡ read (operand ∷ lifted o l ∷ k) vs xs
+    read (operand ∷ k) vs (comes (terminal (terminal_of o)) l xs) ≡ read (operand ∷ lifted o l ∷ k) vs xs
 takes_prefix op.Neg l k vs xs h low = rw (le-ltb 200 (pending k + 1) low) refl
 takes_prefix op.Not l k vs xs h low = rw (le-ltb 200 (pending k + 1) low) refl
 takes_prefix o l k vs xs h low = absurd (omega arith)
 
 pub skips_products : (k : List Symbol) (vs : Values) (xs : Lexemes) → NotNext product_of xs → read (products ∷ k) vs xs ≡ read k vs xs
 skips_products k vs (end_on l) h = refl
-skips_products k vs (comes (mark a) l xs) h = rw h refl
+skips_products k vs (comes (terminal a) l xs) h = rw h refl
 skips_products k vs (comes t l xs) h = refl
 
 pub skips_sums : (k : List Symbol) (vs : Values) (xs : Lexemes) → NotNext sum_of xs → read (sums ∷ k) vs xs ≡ read k vs xs
 skips_sums k vs (end_on l) h = refl
-skips_sums k vs (comes (mark a) l xs) h = rw h refl
+skips_sums k vs (comes (terminal a) l xs) h = rw h refl
 skips_sums k vs (comes t l xs) h = refl
 
 pub skips_comparison : (k : List Symbol) (vs : Values) (xs : Lexemes) → NotNext comparison_of xs → read (comparison ∷ k) vs xs ≡ read k vs xs
 skips_comparison k vs (end_on l) h = refl
-skips_comparison k vs (comes (mark a) l xs) h = rw h refl
+skips_comparison k vs (comes (terminal a) l xs) h = rw h refl
 skips_comparison k vs (comes t l xs) h = refl
 
--- ## The mark of an operator
+-- ## The terminal of an operator
 
-pub product_of-mark_of : (o : Op) → tightness o ≡ 2 → product_of (mark_of o) ≡ Some o
-product_of-mark_of op.Mul h = refl
-product_of-mark_of o h = absurd (omega arith)
+pub product_of-terminal_of : (o : Op) → tightness o ≡ 2 → product_of (terminal_of o) ≡ Some o
+product_of-terminal_of op.Mul h = refl
+product_of-terminal_of o h = absurd (omega arith)
 
-pub sum_of-mark_of : (o : Op) → tightness o ≡ 1 → sum_of (mark_of o) ≡ Some o
-sum_of-mark_of op.Add h = refl
-sum_of-mark_of op.Sub h = refl
-sum_of-mark_of o h = absurd (omega arith)
+pub sum_of-terminal_of : (o : Op) → tightness o ≡ 1 → sum_of (terminal_of o) ≡ Some o
+sum_of-terminal_of op.Add h = refl
+sum_of-terminal_of op.Sub h = refl
+sum_of-terminal_of o h = absurd (omega arith)
 
-pub comparison_of-mark_of : (o : Op) → tightness o ≡ 0 → comparison_of (mark_of o) ≡ Some o
-comparison_of-mark_of op.Add h = absurd (omega arith)
-comparison_of-mark_of op.Sub h = absurd (omega arith)
-comparison_of-mark_of op.Mul h = absurd (omega arith)
-comparison_of-mark_of op.Neg h = absurd (omega arith)
-comparison_of-mark_of op.Not h = absurd (omega arith)
-comparison_of-mark_of o h = refl
+pub comparison_of-terminal_of : (o : Op) → tightness o ≡ 0 → comparison_of (terminal_of o) ≡ Some o
+comparison_of-terminal_of op.Add h = absurd (omega arith)
+comparison_of-terminal_of op.Sub h = absurd (omega arith)
+comparison_of-terminal_of op.Mul h = absurd (omega arith)
+comparison_of-terminal_of op.Neg h = absurd (omega arith)
+comparison_of-terminal_of op.Not h = absurd (omega arith)
+comparison_of-terminal_of o h = refl
 
-pub no_sum : (o : Op) → tightness o ≡ 0 → sum_of (mark_of o) ≡ None
+pub no_sum : (o : Op) → tightness o ≡ 0 → sum_of (terminal_of o) ≡ None
 no_sum op.Add h = absurd (omega arith)
 no_sum op.Sub h = absurd (omega arith)
 no_sum op.Neg h = absurd (omega arith)

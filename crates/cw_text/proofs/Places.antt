@@ -4,7 +4,7 @@ use Rattle.std.proofs.Math.Seq.{take-add, drop-length}
 use Rattle.std.proofs.lemmas.Bool.{cases_lt}
 use Rattle.std.proofs.lemmas.List.{drop-drop}
 use Rattle.std.proofs.lemmas.List.Sums.{sum_by-append}
-use Rattle.cw_text.specs.declared.mark.Mark.{Mark}
+use Rattle.cw_text.specs.declared.terminal.Terminal.{Terminal}
 use Rattle.cw_text.specs.Lexemes.{Front, gap, found, width, front, begun_by, lexemes, lexemes_from, Lexemes}
 use Rattle.cw_text.specs.Text.{line_of}
 use Rattle.cw_text.specs.Places.{Follow, over, past, first}
@@ -12,29 +12,29 @@ use Rattle.cw_text.proofs.Fronts.{front_width}
 use Rattle.cw_text.proofs.Passing.{begun, passed, newlines_in}
 
 -- what is left at a place
-abbrev left_at : (words : List Mark) (text : List ℕ) (place : ℕ) → Lexemes
+abbrev left_at : (words : List Terminal) (text : List ℕ) (place : ℕ) → Lexemes
 left_at words text place = lexemes_from words (line_of place text) 0 (drop place text)
 
 line_of_sum : (text : List ℕ) (place n : ℕ) → line_of place text + newlines_in (take n (drop place text)) ≡ line_of (place + n) text
 line_of_sum text place n = omega (arith, ap newlines_in (take-add place n text), sum_by-append (λ x. cond (x == 10) 1 0) (take place text) (take n (drop place text)))
 
-left_after : (words : List Mark) (text : List ℕ) (place n : ℕ) → lexemes_from words (line_of place text) n (drop place text) ≡ left_at words text (place + n)
+left_after : (words : List Terminal) (text : List ℕ) (place n : ℕ) → lexemes_from words (line_of place text) n (drop place text) ≡ left_at words text (place + n)
 left_after words text place n =
     passed words (line_of place text) n (drop place text)
     ∙ ap (λ l. lexemes_from words l 0 (drop n (drop place text))) (line_of_sum text place n)
     ∙ ap (λ rest. lexemes_from words (line_of (place + n) text) 0 rest) (drop-drop n place text)
 
 -- the front that stands at a place, and what is left behind it
-step : (words : List Mark) (text : List ℕ) (place : ℕ) (f : Front) → place < length text → front words (drop place text) ≡ f →
+step : (words : List Terminal) (text : List ℕ) (place : ℕ) (f : Front) → place < length text → front words (drop place text) ≡ f →
     Follow words text (place + width f) (left_at words text (place + width f)) → Follow words text place (begun_by f (line_of place text) (left_at words text (place + width f)))
 step words text place (gap n) within is more = past within is more
 step words text place (found t n) within is more = first within is more
 
-at_end : (words : List Mark) (text : List ℕ) → Follow words text (length text) (left_at words text (length text))
+at_end : (words : List Terminal) (text : List ℕ) → Follow words text (length text) (left_at words text (length text))
 at_end words text = subst (λ rest. Follow words text (length text) (lexemes_from words (line_of (length text) text) 0 rest)) (sym (drop-length text)) over
 
 -- inside a text, where it is so from each place behind on, from which at most k bytes are left
-inside : (words : List Mark) (text : List ℕ) (k place : ℕ) → place < length text → length text ≤ place + suc k →
+inside : (words : List Terminal) (text : List ℕ) (k place : ℕ) → place < length text → length text ≤ place + suc k →
     ((behind : ℕ) → behind ≤ length text → length text ≤ behind + k → Follow words text behind (left_at words text behind)) →
     Follow words text place (left_at words text place)
 inside words text k place within bound goes_on =
@@ -48,7 +48,7 @@ inside words text k place within bound goes_on =
     (sym (begun words line rest some ∙ ap (λ xs. begun_by f line xs) (left_after words text place (width f))))
     (step words text place f within refl more)
 
-follow_from : (words : List Mark) (text : List ℕ) (k place : ℕ) → place ≤ length text → length text ≤ place + k → Follow words text place (left_at words text place)
+follow_from : (words : List Terminal) (text : List ℕ) (k place : ℕ) → place ≤ length text → length text ≤ place + k → Follow words text place (left_at words text place)
 follow_from words text zero place within bound = let e : length text ≡ place = omega arith in subst (λ p. Follow words text p (left_at words text p)) e (at_end words text)
 follow_from words text (suc k) place within bound =
     elim (cases_lt place (length text)) [
@@ -56,5 +56,5 @@ follow_from words text (suc k) place within bound =
       | inr more ↦ let e : length text ≡ place = omega arith in subst (λ p. Follow words text p (left_at words text p)) e (at_end words text)
     ]
 
-pub follow : (words : List Mark) (text : List ℕ) → Follow words text 0 (lexemes words text)
+pub follow : (words : List Terminal) (text : List ℕ) → Follow words text 0 (lexemes words text)
 follow words text = follow_from words text (length text) 0 (omega arith) (omega arith)

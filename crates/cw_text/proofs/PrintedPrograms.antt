@@ -1,8 +1,8 @@
 -- The tokens of a program are read as that program.
 use Rattle.std.proofs.Common.{◌≡◌, ℕ, zero, suc, ◌<◌, ◌≤◌, List, [], ◌∷◌, ◌++◌, refl, sym, ◌∙◌, ap, arith, ℤ, pos, negsuc, Ok, append-nil, append_assoc, codes, lit≤, lit<}
 use Rattle.std.proofs.lemmas.List.Elements.{All-head, All-tail}
-use Rattle.cw_text.specs.declared.mark.Mark.TheVariants as m
-use Rattle.cw_text.specs.Lexemes.{Lexemes, end_on, comes, mark, name as a_name}
+use Rattle.cw_text.specs.declared.terminal.Terminal.TheVariants as m
+use Rattle.cw_text.specs.Lexemes.{Lexemes, end_on, comes, terminal, name as a_name}
 use Rattle.cw_text.specs.Syntax.{Term, Statement, declare, assign, out, atomic, spawn, sync, Block, empty, first, with_statement, Declaration, cell, func}
 use Rattle.cw_text.specs.Grammar.{Symbol, Values, a_term, a_word, a_block, an_init, declared, act, push, block, cell_done, closing, exactly, expr, func_done, items, let_done, assign_done, out_done, atomic_done, spawn_done, sync_done, pending, program_in, program_of, read, stmts, word, word_at}
 use Rattle.cw_text.specs.Printed.{before, sign, in_braces, term_tokens, statement_tokens, statements_tokens, declaration_tokens, tokens, printed, IsReadableTerm, IsReadableStatement, IsReadableBlock, IsReadableDeclaration, IsReadable}
@@ -13,7 +13,7 @@ use Rattle.cw_text.proofs.Steps.{read-act, read-expr, taken_open}
 value_read : (e : Term) (k : List Symbol) (vs : Values) (xs : Lexemes) → pending k ≤ 200 → IsReadableTerm (pending k) e →
     read (expr ∷ exactly m.Semicolon ∷ k) vs (before (term_tokens 0 e ++ sign m.Semicolon) xs) ≡ read k (a_term e ∷ vs) xs
 value_read e k vs xs low h =
-    let over = comes (mark m.Semicolon) 1 xs in
+    let over = comes (terminal m.Semicolon) 1 xs in
     let whole = term_read 0 e over (omega arith) h.formed h.low (refl, refl, refl) in
     ap (read (expr ∷ exactly m.Semicolon ∷ k) vs) (before-append (term_tokens 0 e) (sign m.Semicolon) xs)
     ∙ read-expr (exactly m.Semicolon ∷ k) vs (before (term_tokens 0 e) over)
@@ -22,9 +22,9 @@ value_read e k vs xs low h =
 
 -- a value that is put into a name: `= e ;`
 put_read : (e : Term) (k : List Symbol) (vs : Values) (xs : Lexemes) → pending k ≤ 200 → IsReadableTerm (pending k) e →
-    read (exactly m.Assign ∷ expr ∷ exactly m.Semicolon ∷ k) vs (comes (mark m.Assign) 1 (before (term_tokens 0 e ++ sign m.Semicolon) xs)) ≡ read k (a_term e ∷ vs) xs
+    read (exactly m.Assign ∷ expr ∷ exactly m.Semicolon ∷ k) vs (comes (terminal m.Assign) 1 (before (term_tokens 0 e ++ sign m.Semicolon) xs)) ≡ read k (a_term e ∷ vs) xs
 put_read e k vs xs low h =
-    taken_open (expr ∷ exactly m.Semicolon ∷ k) vs 1 (comes (mark m.Assign) 1 (before (term_tokens 0 e ++ sign m.Semicolon) xs)) low
+    taken_open (expr ∷ exactly m.Semicolon ∷ k) vs 1 (comes (terminal m.Assign) 1 (before (term_tokens 0 e ++ sign m.Semicolon) xs)) low
     ∙ value_read e k vs xs low h
 
 -- a block with the statements of another one behind its own
@@ -45,11 +45,11 @@ block_read : (b : Block) (k : List Symbol) (vs : Values) (xs : Lexemes) → pend
     ((ys : Lexemes) → read (stmts ∷ closing m.BraceClose ∷ k) (a_block empty ∷ vs) (before (statements_tokens b) ys) ≡ read (stmts ∷ closing m.BraceClose ∷ k) (a_block (joined empty b) ∷ vs) ys) →
     read (block ∷ k) vs (before (in_braces (statements_tokens b)) xs) ≡ read k (a_block b ∷ vs) xs
 block_read b k vs xs room inside =
-    let close = comes (mark m.BraceClose) 1 xs in
+    let close = comes (terminal m.BraceClose) 1 xs in
     let left = stmts ∷ closing m.BraceClose ∷ k in
     let inner = before (statements_tokens b) close in
-    ap (λ ys. read (block ∷ k) vs (comes (mark m.BraceOpen) 1 ys)) (before-append (statements_tokens b) (sign m.BraceClose) xs)
-    ∙ taken_open (act (push (a_block empty)) ∷ left) vs 1 (comes (mark m.BraceOpen) 1 inner) (omega arith)
+    ap (λ ys. read (block ∷ k) vs (comes (terminal m.BraceOpen) 1 ys)) (before-append (statements_tokens b) (sign m.BraceClose) xs)
+    ∙ taken_open (act (push (a_block empty)) ∷ left) vs 1 (comes (terminal m.BraceOpen) 1 inner) (omega arith)
     ∙ read-act (push (a_block empty)) left vs inner
     ∙ inside close
     ∙ ap (λ c. read left (a_block c ∷ vs) close) (joined_empty b)
@@ -61,7 +61,7 @@ mutual
   statement_read (declare w e) b k vs xs low h =
       let value = before (sign m.Assign ++ term_tokens 0 e ++ sign m.Semicolon) xs in
       let left = exactly m.Assign ∷ expr ∷ exactly m.Semicolon ∷ act let_done ∷ stmts ∷ k in
-      taken_open (word ∷ left) (a_block b ∷ vs) 1 (comes (mark m.Let) 1 (comes (a_name w.name) w.line value)) low
+      taken_open (word ∷ left) (a_block b ∷ vs) 1 (comes (terminal m.Let) 1 (comes (a_name w.name) w.line value)) low
       ∙ taken_open (act (push (a_word w)) ∷ left) (a_block b ∷ vs) w.line (comes (a_name w.name) w.line value) low
       ∙ read-act (push (a_word w)) left (a_block b ∷ vs) value
       ∙ put_read e (act let_done ∷ stmts ∷ k) (a_word w ∷ a_block b ∷ vs) xs low h
@@ -75,21 +75,21 @@ mutual
       ∙ read-act assign_done (stmts ∷ k) (a_term e ∷ a_word w ∷ a_block b ∷ vs) xs
   statement_read (out e) b k vs xs low h =
       let value = before (term_tokens 0 e ++ sign m.Semicolon) xs in
-      taken_open (expr ∷ exactly m.Semicolon ∷ act out_done ∷ stmts ∷ k) (a_block b ∷ vs) 1 (comes (mark m.Out) 1 value) low
+      taken_open (expr ∷ exactly m.Semicolon ∷ act out_done ∷ stmts ∷ k) (a_block b ∷ vs) 1 (comes (terminal m.Out) 1 value) low
       ∙ value_read e (act out_done ∷ stmts ∷ k) (a_block b ∷ vs) xs low h
       ∙ read-act out_done (stmts ∷ k) (a_term e ∷ a_block b ∷ vs) xs
   statement_read (atomic c) b k vs xs low h =
-      taken_open (block ∷ act atomic_done ∷ stmts ∷ k) (a_block b ∷ vs) 1 (comes (mark m.Atomic) 1 (before (in_braces (statements_tokens c)) xs)) low
+      taken_open (block ∷ act atomic_done ∷ stmts ∷ k) (a_block b ∷ vs) 1 (comes (terminal m.Atomic) 1 (before (in_braces (statements_tokens c)) xs)) low
       ∙ block_read c (act atomic_done ∷ stmts ∷ k) (a_block b ∷ vs) xs h.0 (λ ys. statements_read c empty (closing m.BraceClose ∷ act atomic_done ∷ stmts ∷ k) (a_block b ∷ vs) ys (omega arith) h.1)
       ∙ read-act atomic_done (stmts ∷ k) (a_block c ∷ a_block b ∷ vs) xs
   statement_read (spawn c) b k vs xs low h =
-      taken_open (block ∷ act spawn_done ∷ stmts ∷ k) (a_block b ∷ vs) 1 (comes (mark m.Spawn) 1 (before (in_braces (statements_tokens c)) xs)) low
+      taken_open (block ∷ act spawn_done ∷ stmts ∷ k) (a_block b ∷ vs) 1 (comes (terminal m.Spawn) 1 (before (in_braces (statements_tokens c)) xs)) low
       ∙ block_read c (act spawn_done ∷ stmts ∷ k) (a_block b ∷ vs) xs h.0 (λ ys. statements_read c empty (closing m.BraceClose ∷ act spawn_done ∷ stmts ∷ k) (a_block b ∷ vs) ys (omega arith) h.1)
       ∙ read-act spawn_done (stmts ∷ k) (a_block c ∷ a_block b ∷ vs) xs
   statement_read sync b k vs xs low h =
-      let end = comes (mark m.Semicolon) 1 xs in
+      let end = comes (terminal m.Semicolon) 1 xs in
       let left = act sync_done ∷ stmts ∷ k in
-      taken_open (exactly m.Semicolon ∷ left) (a_block b ∷ vs) 1 (comes (mark m.Sync) 1 end) low
+      taken_open (exactly m.Semicolon ∷ left) (a_block b ∷ vs) 1 (comes (terminal m.Sync) 1 end) low
       ∙ taken_open left (a_block b ∷ vs) 1 end low
       ∙ read-act sync_done (stmts ∷ k) (a_block b ∷ vs) xs
 

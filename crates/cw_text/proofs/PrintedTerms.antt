@@ -4,12 +4,12 @@ use Rattle.std.proofs.lemmas.Bool.{ltb-false}
 use Rattle.cw_text.specs.declared.ast.Op.{Op}
 use Rattle.cw_text.specs.declared.ast.Op.TheVariants as op
 use Rattle.cw_text.specs.declared.ast.Word.{Word}
-use Rattle.cw_text.specs.declared.mark.Mark.{Mark}
-use Rattle.cw_text.specs.declared.mark.Mark.TheVariants as m
-use Rattle.cw_text.specs.Lexemes.{Lexemes, comes, mark, name as a_name, number as a_number}
+use Rattle.cw_text.specs.declared.terminal.Terminal.{Terminal}
+use Rattle.cw_text.specs.declared.terminal.Terminal.TheVariants as m
+use Rattle.cw_text.specs.Lexemes.{Lexemes, comes, terminal, name as a_name, number as a_number}
 use Rattle.cw_text.specs.Syntax.{Term, number, name, unary, binary, height}
 use Rattle.cw_text.specs.Grammar.{a_term, act, push}
-use Rattle.cw_text.specs.Printed.{Placed, before, sign, mark_of, tightness, of_left, of_right, bracketed, term_tokens, IsWellFormed, most_open}
+use Rattle.cw_text.specs.Printed.{Placed, before, sign, terminal_of, tightness, of_left, of_right, bracketed, term_tokens, IsWellFormed, most_open}
 use Rattle.cw_text.proofs.Levels.{Reads, Reads-more, Ends, ends_tighter, looser, in_brackets, of_one, of_two}
 use Rattle.cw_text.proofs.Steps.{read-act, taken_open}
 
@@ -32,20 +32,20 @@ name_read w xs = record {
 }
 
 -- what comes behind the left operand does not belong to it
-ends_left : (o : Op) (xs : Lexemes) → Ends (of_left o) (comes (mark (mark_of o)) 1 xs)
+ends_left : (o : Op) (xs : Lexemes) → Ends (of_left o) (comes (terminal (terminal_of o)) 1 xs)
 ends_left op.Mul xs = tt
 ends_left op.Neg xs = tt
 ends_left op.Not xs = tt
 ends_left o xs = refl
 
-bracketed_before : (ps : List Placed) (xs : Lexemes) → before (bracketed true ps) xs ≡ comes (mark m.ParenOpen) 1 (before ps (comes (mark m.ParenClose) 1 xs))
-bracketed_before ps xs = ap (comes (mark m.ParenOpen) 1) (before-append ps (sign m.ParenClose) xs)
+bracketed_before : (ps : List Placed) (xs : Lexemes) → before (bracketed true ps) xs ≡ comes (terminal m.ParenOpen) 1 (before ps (comes (terminal m.ParenClose) 1 xs))
+bracketed_before ps xs = ap (comes (terminal m.ParenOpen) 1) (before-append ps (sign m.ParenClose) xs)
 
 -- An expression that is read without brackets is read where it has those that it needs.
 in_place : (more n t : ℕ) (e : Term) (ps : List Placed) (xs : Lexemes) (b : Bool) → nat_lt t n ≡ b → n ≤ 3 → t ≤ 3 → Ends n xs →
     ((zs : Lexemes) → Ends t zs → Reads more t e (before ps zs) zs) → Reads (more + cond b 1 0) n e (before (bracketed b ps) xs) xs
 in_place more n t e ps xs true looser_than within low ends bare =
-    let close = comes (mark m.ParenClose) 1 xs in
+    let close = comes (terminal m.ParenClose) 1 xs in
     let closed : Ends 0 close = (refl, refl, refl) in
     let inner = looser 0 t (omega arith) closed (bare close (ends_tighter 0 t close (omega arith) closed)) in
     subst (λ zs. Reads (more + 1) n e zs xs) (sym (bracketed_before ps xs)) (looser n 3 within ends (in_brackets inner))
@@ -53,7 +53,7 @@ in_place more n t e ps xs false tight within low ends bare =
     let enough = ltb-false t n tight in
     Reads-more more (more + 0) (omega arith) (looser n t enough ends (bare xs (ends_tighter n t xs enough ends)))
 
-infix_before : (ps qs : List Placed) (a : Mark) (xs : Lexemes) → before (ps ++ sign a ++ qs) xs ≡ before ps (comes (mark a) 1 (before qs xs))
+infix_before : (ps qs : List Placed) (a : Terminal) (xs : Lexemes) → before (ps ++ sign a ++ qs) xs ≡ before ps (comes (terminal a) 1 (before qs xs))
 infix_before ps qs a xs = before-append (ps ++ sign a) qs xs ∙ before-append ps (sign a) (before qs xs)
 
 pub term_read : (n : ℕ) (e : Term) (xs : Lexemes) → n ≤ 3 → IsWellFormed e → height e ≤ 200 → Ends n xs → Reads (most_open n e) n e (before (term_tokens n e) xs) xs
@@ -65,10 +65,10 @@ term_read n (binary o l r) xs within formed low ends =
     let most = max (most_open (of_left o) l) (most_open (of_right o) r) in
     let left = λ (ys : Lexemes).
     Reads-more (most_open (of_left o) l) most (omega arith)
-    (term_read (of_left o) l (comes (mark (mark_of o)) 1 ys) (omega arith) formed.1 (omega arith) (ends_left o ys)) in
+    (term_read (of_left o) l (comes (terminal (terminal_of o)) 1 ys) (omega arith) formed.1 (omega arith) (ends_left o ys)) in
     let right = λ (zs : Lexemes) (closed : Ends (tightness o) zs).
     Reads-more (most_open (of_right o) r) most (omega arith)
     (term_read (of_right o) r zs (omega arith) formed.2 (omega arith) (ends_tighter (tightness o) (of_right o) zs (omega arith) closed)) in
     in_place most n (tightness o) (binary o l r) _ xs (nat_lt (tightness o) n) refl within (omega arith) ends
-    (λ zs closed. subst (λ xs. Reads most (tightness o) (binary o l r) xs zs) (sym (infix_before (term_tokens (of_left o) l) (term_tokens (of_right o) r) (mark_of o) zs))
+    (λ zs closed. subst (λ xs. Reads most (tightness o) (binary o l r) xs zs) (sym (infix_before (term_tokens (of_left o) l) (term_tokens (of_right o) r) (terminal_of o) zs))
     (of_two o (tightness o) refl formed.0 low closed (left (before (term_tokens (of_right o) r) zs)) (right zs closed)))

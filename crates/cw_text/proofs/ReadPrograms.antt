@@ -8,8 +8,8 @@ use Rattle.std.specs.Str.Lossy.{utf8_valid_len}
 use Rattle.cw_text.specs.Text.{program}
 use Rattle.cw_text.specs.declared.fault.TextFault.{TextFault}
 use Rattle.cw_text.specs.declared.fault.TextKind.TheVariants.{BadNumber}
-use Rattle.cw_text.specs.declared.mark.Mark.{Mark}
-use Rattle.cw_text.specs.Lexemes.{Token, Front, gap, found, front, begun_by, width, lexemes_from, lexemes, line_after, keywords, signs, sign_front, word_token, number_token, value_of_digits, begins_by, spelling, is_blank, is_letter, is_word, after_digits, Lexemes, end_on, comes, mark, number as a_number, bad, end}
+use Rattle.cw_text.specs.declared.terminal.Terminal.{Terminal}
+use Rattle.cw_text.specs.Lexemes.{Token, Front, gap, found, front, begun_by, width, lexemes_from, lexemes, line_after, keywords, signs, sign_front, word_token, number_token, value_of_digits, begins_by, spelling, is_blank, is_letter, is_word, after_digits, Lexemes, end_on, comes, terminal, number as a_number, bad, end}
 use Rattle.std.specs.Str.{bytes_eq}
 use Rattle.cw_text.specs.Syntax.{Declaration}
 use Rattle.cw_text.specs.Grammar.{Symbol, Values, State, declared, feed, items, program_in, program_of, read, then_read}
@@ -56,9 +56,9 @@ abbrev IsSmall : Front → Type 0
 IsSmall (gap n) = Unit {0}
 IsSmall (found t n) = Fits t
 
-word_small : (ks : List Mark) (text : List ℕ) → Fits (word_token ks text)
+word_small : (ks : List Terminal) (text : List ℕ) → Fits (word_token ks text)
 word_small [] text = tt
-word_small (k ∷ ks) text = cond_both (bytes_eq (spelling k) text) (mark k) (word_token ks text) Fits (λ _. tt) (λ _. word_small ks text)
+word_small (k ∷ ks) text = cond_both (bytes_eq (spelling k) text) (terminal k) (word_token ks text) Fits (λ _. tt) (λ _. word_small ks text)
 
 neither : (a b : Bool) → (a || b) ≡ false → b ≡ false
 neither false b h = h
@@ -70,11 +70,11 @@ number_small digits rest =
     let value = value_of_digits digits in
     cond_both (runs_on || nat_le (2 ^ 63) value) (bad BadNumber) (a_number value) Fits (λ _. tt) (λ h. leb-false (2 ^ 63) value (neither runs_on (nat_le (2 ^ 63) value) h))
 
-sign_small : (ss : List Mark) (text : List ℕ) → IsSmall (sign_front ss text)
+sign_small : (ss : List Terminal) (text : List ℕ) → IsSmall (sign_front ss text)
 sign_small [] text = tt
-sign_small (s ∷ ss) text = cond_both (starts_with nat_eq text (spelling s)) (found (mark s) (length (spelling s))) (sign_front ss text) IsSmall (λ _. tt) (λ _. sign_small ss text)
+sign_small (s ∷ ss) text = cond_both (starts_with nat_eq text (spelling s)) (found (terminal s) (length (spelling s))) (sign_front ss text) IsSmall (λ _. tt) (λ _. sign_small ss text)
 
-front_small : (ks : List Mark) (text : List ℕ) → IsSmall (front ks text)
+front_small : (ks : List Terminal) (text : List ℕ) → IsSmall (front ks text)
 front_small ks [] = tt
 front_small ks (c ∷ cs) =
     cond_both (is_blank c) _ _ IsSmall (λ _. tt)
@@ -87,7 +87,7 @@ begun_small (gap n) l xs small rest = rest
 begun_small (found (a_number v) n) l xs small rest = (small, rest)
 begun_small (found t n) l xs small rest = rest
 
-lexemes_small : (ks : List Mark) (line taken : ℕ) (text : List ℕ) → HasSmallNumbers (lexemes_from ks line taken text)
+lexemes_small : (ks : List Terminal) (line taken : ℕ) (text : List ℕ) → HasSmallNumbers (lexemes_from ks line taken text)
 lexemes_small ks line taken [] = tt
 lexemes_small ks line (suc n) (c ∷ cs) = lexemes_small ks (line_after c line) n cs
 lexemes_small ks line zero (c ∷ cs) =

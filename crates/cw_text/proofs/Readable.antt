@@ -3,8 +3,8 @@ use Rattle.std.proofs.Common.{◌≡◌, ℕ, ◌+◌, ◌<◌, ◌≤◌, max, 
 use Rattle.std.proofs.lemmas.Bool.{le-ltb}
 use Rattle.std.proofs.lemmas.Bool.Decides.{nat_tests}
 use Rattle.cw_text.specs.declared.ast.Op.{Op}
-use Rattle.cw_text.specs.declared.mark.Mark.{Mark}
-use Rattle.cw_text.specs.declared.mark.Mark.TheVariants as m
+use Rattle.cw_text.specs.declared.terminal.Terminal.{Terminal}
+use Rattle.cw_text.specs.declared.terminal.Terminal.TheVariants as m
 use Rattle.cw_text.specs.Syntax.{Term, Statement, number, name, unary, binary, Block, empty, first, with_statement, height}
 use Rattle.cw_text.specs.Grammar.{product_of, sum_of, comparison_of}
 use Rattle.cw_text.specs.Printed.{IsReadableStatement, most_open, tightness, of_left, of_right, IsWellFormed, IsReadableTerm, IsReadableBlock}
@@ -60,18 +60,18 @@ pub readable_binary : {around : ℕ} {e f : Term} (o : Op) (t : ℕ) → tightne
 readable_binary {around} {e} {f} o t is two low =
     subst (λ t. IsReadableAt (max 1 t) around e → IsReadableAt (t + 1) around f → IsReadableAt t around (binary o e f)) is (readable_operands o (omega arith) low)
 
--- ## Operators by their marks
+-- ## Operators by their terminals
 
-pub product_tightness : (a : Mark) (o : Op) → product_of a ≡ Some o → tightness o ≡ 2
+pub product_tightness : (a : Terminal) (o : Op) → product_of a ≡ Some o → tightness o ≡ 2
 product_tightness m.Star o h = cc
 product_tightness a o h = cc
 
-pub sum_tightness : (a : Mark) (o : Op) → sum_of a ≡ Some o → tightness o ≡ 1
+pub sum_tightness : (a : Terminal) (o : Op) → sum_of a ≡ Some o → tightness o ≡ 1
 sum_tightness m.Plus o h = cc
 sum_tightness m.Minus o h = cc
 sum_tightness a o h = cc
 
-pub comparison_tightness : (a : Mark) (o : Op) → comparison_of a ≡ Some o → tightness o ≡ 0
+pub comparison_tightness : (a : Terminal) (o : Op) → comparison_of a ≡ Some o → tightness o ≡ 0
 comparison_tightness m.EqEq o h = cc
 comparison_tightness a o h = cc
 

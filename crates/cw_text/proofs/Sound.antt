@@ -8,13 +8,13 @@ use Rattle.cw_text.specs.declared.ast.Op.TheVariants as op
 use Rattle.cw_text.specs.declared.ast.Word.{Word}
 use Rattle.cw_text.specs.declared.fault.TextFault.{TextFault}
 use Rattle.cw_text.specs.declared.fault.TextKind.TheVariants.{Unexpected}
-use Rattle.cw_text.specs.declared.mark.Mark.{Mark}
-use Rattle.cw_text.specs.declared.mark.Mark.TheVariants as m
-use Rattle.cw_text.specs.Lexemes.{Token, mark, name as a_name, number as a_number, bad, end}
+use Rattle.cw_text.specs.declared.terminal.Terminal.{Terminal}
+use Rattle.cw_text.specs.declared.terminal.Terminal.TheVariants as m
+use Rattle.cw_text.specs.Lexemes.{Token, terminal, name as a_name, number as a_number, bad, end}
 use Rattle.std.specs.Str.{bytes_eq}
 use Rattle.std.specs.Cmp.Lexicographic.{same_text}
 use Rattle.cw_text.specs.Syntax.{Term, Statement, declare, assign, out, atomic, spawn, sync, cell, func, number, name, unary, binary, Block, empty, with_statement}
-use Rattle.cw_text.specs.Grammar.{Symbol, Values, State, a_term, a_word, a_block, an_init, declared, act, block, cell_init, cell_done, func_done, let_done, assign_done, out_done, atomic_done, spawn_done, sync_done, closing, comparison, exactly, expr, feed, init, items, lift, lifted, main_word, negated, newest_height, operand, pending, products, read_from, stmts, sums, go_on, infix_by, opened, operand_by, take, refuse, rest_of_expr, same_mark, join, push, product_of, sum_of, comparison_of, with_init, word, word_at}
+use Rattle.cw_text.specs.Grammar.{Symbol, Values, State, a_term, a_word, a_block, an_init, declared, act, block, cell_init, cell_done, func_done, let_done, assign_done, out_done, atomic_done, spawn_done, sync_done, closing, comparison, exactly, expr, feed, init, items, lift, lifted, main_word, negated, newest_height, operand, pending, products, read_from, stmts, sums, go_on, infix_by, opened, operand_by, take, refuse, rest_of_expr, same_terminal, join, push, product_of, sum_of, comparison_of, with_init, word, word_at}
 use Rattle.cw_text.specs.Printed.{IsReadableDeclaration, IsReadableStatement, IsReadableBlock, IsReadable}
 use Rattle.cw_text.proofs.Readable.{IsReadableAt, readable_looser, readable_bracketed, readable_unary, readable_binary, product_tightness, sum_tightness, comparison_tightness, readable_with, whole}
 
@@ -74,17 +74,17 @@ unless b t f r h = cond_both b (Err f) r (Leads t) (λ _. tt) h
 opened_leads : (k : List Symbol) (vs : Values) (t : Token) (l : ℕ) → (pending k ≤ 200 → Leads t (Ok (k, vs))) → Leads t (opened k vs l)
 opened_leads k vs t l h = unless (nat_lt 200 (pending k)) t _ (Ok (k, vs)) (λ few. h (ltb-false 200 (pending k) few))
 
-only_leads : (same : Bool) (k : List Symbol) (vs : Values) (a : Mark) (l : ℕ) (rest : Result State TextFault) → Sound k vs →
-    Leads (mark a) (go_on (cond same (take []) (refuse Unexpected)) k vs l rest)
-only_leads true k vs a l rest sound = opened_leads k vs (mark a) l (λ _. sound)
+only_leads : (same : Bool) (k : List Symbol) (vs : Values) (a : Terminal) (l : ℕ) (rest : Result State TextFault) → Sound k vs →
+    Leads (terminal a) (go_on (cond same (take []) (refuse Unexpected)) k vs l rest)
+only_leads true k vs a l rest sound = opened_leads k vs (terminal a) l (λ _. sound)
 only_leads false k vs a l rest sound = tt
 
-infix_leads : (found : Option Op) (right following k : List Symbol) (vs : Values) (a : Mark) (l : ℕ) (rest : Result State TextFault) →
+infix_leads : (found : Option Op) (right following k : List Symbol) (vs : Values) (a : Terminal) (l : ℕ) (rest : Result State TextFault) →
     ((o : Op) → found ≡ Some o → Sound ((operand ∷ right ++ act (join o) ∷ read_from l ∷ following) ++ k) vs) →
-    Leads (mark a) rest → Leads (mark a) (go_on (infix_by found right following l) k vs l rest)
+    Leads (terminal a) rest → Leads (terminal a) (go_on (infix_by found right following l) k vs l rest)
 infix_leads None right following k vs a l rest taken skipped = skipped
 infix_leads (Some o) right following k vs a l rest taken skipped =
-    opened_leads ((operand ∷ right ++ act (join o) ∷ read_from l ∷ following) ++ k) vs (mark a) l (λ low. taken o refl)
+    opened_leads ((operand ∷ right ++ act (join o) ∷ read_from l ∷ following) ++ k) vs (terminal a) l (λ low. taken o refl)
 
 operand_leads : (ss k : List Symbol) (vs : Values) (t : Token) (l : ℕ) (rest : Result State TextFault) → Fits t →
     Goes 3 (pending (ss ++ k)) (Sound (ss ++ k)) vs → Leads t (go_on (operand_by ss t l) k vs l rest)
@@ -94,16 +94,16 @@ operand_leads ss k vs (a_number n) l rest fits sound =
 operand_leads ss k vs (a_name n) l rest fits sound =
     opened_leads (act (push (a_term (name (word_at n l)))) ∷ (ss ++ k)) vs (a_name n) l
     (λ low. sound (name (word_at n l)) (record { formed = tt; low = lit≤ tt; shallow = omega arith }))
-operand_leads ss k vs (mark m.ParenOpen) l rest fits sound =
-    opened_leads (expr ∷ closing m.ParenClose ∷ (ss ++ k)) vs (mark m.ParenOpen) l
+operand_leads ss k vs (terminal m.ParenOpen) l rest fits sound =
+    opened_leads (expr ∷ closing m.ParenClose ∷ (ss ++ k)) vs (terminal m.ParenOpen) l
     (λ low e h. sound e (readable_bracketed h))
-operand_leads ss k vs (mark m.Minus) l rest fits sound =
-    opened_leads (operand ∷ lifted op.Neg l ∷ (ss ++ k)) vs (mark m.Minus) l
+operand_leads ss k vs (terminal m.Minus) l rest fits sound =
+    opened_leads (operand ∷ lifted op.Neg l ∷ (ss ++ k)) vs (terminal m.Minus) l
     (λ low e h high. sound (unary op.Neg e) (readable_unary op.Neg refl high h))
-operand_leads ss k vs (mark m.Bang) l rest fits sound =
-    opened_leads (operand ∷ lifted op.Not l ∷ (ss ++ k)) vs (mark m.Bang) l
+operand_leads ss k vs (terminal m.Bang) l rest fits sound =
+    opened_leads (operand ∷ lifted op.Not l ∷ (ss ++ k)) vs (terminal m.Bang) l
     (λ low e h high. sound (unary op.Not e) (readable_unary op.Not refl high h))
-operand_leads ss k vs (mark a) l rest fits sound = tt
+operand_leads ss k vs (terminal a) l rest fits sound = tt
 operand_leads ss k vs (bad b) l rest fits sound = tt
 operand_leads ss k vs end l rest fits sound = tt
 
@@ -127,71 +127,71 @@ step [] vs t l fits sound = tt
 step (act f ∷ k) vs t l fits sound = step k (f vs) t l fits sound
 step (lifted o j ∷ k) vs t l fits sound = unless (nat_lt 200 (newest_height (lift o vs))) t _ _ (λ few. step k (lift o vs) t l fits (sound (ltb-false 200 (newest_height (lift o vs)) few)))
 step (read_from j ∷ k) vs t l fits sound = unless (nat_lt 200 (newest_height vs)) t _ _ (λ few. step k vs t l fits (sound (ltb-false 200 (newest_height vs) few)))
-step (exactly a ∷ k) vs (mark b) l fits sound = only_leads (same_mark a b) k vs b l _ sound
+step (exactly a ∷ k) vs (terminal b) l fits sound = only_leads (same_terminal a b) k vs b l _ sound
 step (exactly a ∷ k) vs t l fits sound = tt
-step (closing a ∷ k) vs (mark b) l fits sound = only_leads (same_mark a b) k vs b l _ sound
+step (closing a ∷ k) vs (terminal b) l fits sound = only_leads (same_terminal a b) k vs b l _ sound
 step (closing a ∷ k) vs t l fits sound = tt
 step (word ∷ k) vs (a_name n) l fits sound = opened_leads (act (push (a_word (word_at n l))) ∷ k) vs (a_name n) l (λ low. sound (word_at n l))
 step (word ∷ k) vs t l fits sound = tt
 step (main_word ∷ k) vs (a_name n) l fits sound = main_leads (bytes_eq n (codes "main")) n k vs l _ refl sound
 step (main_word ∷ k) vs t l fits sound = tt
 step (init ∷ k) vs (a_number n) l fits sound = opened_leads (act (with_init (pos n)) ∷ k) vs (a_number n) l (λ low. sound (pos n) fits)
-step (init ∷ k) vs (mark m.Minus) l fits sound = opened_leads (negated ∷ k) vs (mark m.Minus) l (λ low. sound)
+step (init ∷ k) vs (terminal m.Minus) l fits sound = opened_leads (negated ∷ k) vs (terminal m.Minus) l (λ low. sound)
 step (init ∷ k) vs t l fits sound = tt
 step (negated ∷ k) vs (a_number n) l fits sound = opened_leads (act (with_init (neg_ℤ (pos n))) ∷ k) vs (a_number n) l (λ low. sound (neg_ℤ (pos n)) (rw nat_abs-neg fits))
 step (negated ∷ k) vs t l fits sound = tt
-step (cell_init ∷ k) vs (mark m.Assign) l fits sound = opened_leads (init ∷ k) vs (mark m.Assign) l (λ low. sound.1)
+step (cell_init ∷ k) vs (terminal m.Assign) l fits sound = opened_leads (init ∷ k) vs (terminal m.Assign) l (λ low. sound.1)
 step (cell_init ∷ k) vs t l fits sound = step k vs t l fits sound.0
 step (operand ∷ k) vs t l fits sound = operand_leads [] k vs t l _ fits sound
 step (expr ∷ k) vs t l fits sound = operand_leads rest_of_expr k vs t l _ fits (λ e h.
     (readable_looser 2 3 (lit≤ tt) h, λ e h. (readable_looser 1 2 (lit≤ tt) h, λ e h. (h, sound))))
-step (products ∷ k) (a_term e ∷ vs) (mark a) l fits sound =
+step (products ∷ k) (a_term e ∷ vs) (terminal a) l fits sound =
     infix_leads (product_of a) [] (products ∷ []) k (a_term e ∷ vs) a l _
     (λ o is f h high. (readable_binary o 2 (product_tightness a o is) (lit< tt) high sound.0 h, sound.1))
-    (step k (a_term e ∷ vs) (mark a) l tt (sound.1 e sound.0))
+    (step k (a_term e ∷ vs) (terminal a) l tt (sound.1 e sound.0))
 step (products ∷ k) (a_term e ∷ vs) t l fits sound = step k (a_term e ∷ vs) t l fits (sound.1 e sound.0)
 step (products ∷ k) vs t l fits sound = absurd sound
-step (sums ∷ k) (a_term e ∷ vs) (mark a) l fits sound =
+step (sums ∷ k) (a_term e ∷ vs) (terminal a) l fits sound =
     infix_leads (sum_of a) (products ∷ []) (sums ∷ []) k (a_term e ∷ vs) a l _
     (λ o is f h. (readable_looser 2 3 (lit≤ tt) h, λ f h high. (readable_binary o 1 (sum_tightness a o is) (lit< tt) high sound.0 h, sound.1)))
-    (step k (a_term e ∷ vs) (mark a) l tt (sound.1 e sound.0))
+    (step k (a_term e ∷ vs) (terminal a) l tt (sound.1 e sound.0))
 step (sums ∷ k) (a_term e ∷ vs) t l fits sound = step k (a_term e ∷ vs) t l fits (sound.1 e sound.0)
 step (sums ∷ k) vs t l fits sound = absurd sound
-step (comparison ∷ k) (a_term e ∷ vs) (mark a) l fits sound =
+step (comparison ∷ k) (a_term e ∷ vs) (terminal a) l fits sound =
     infix_leads (comparison_of a) (products ∷ sums ∷ []) [] k (a_term e ∷ vs) a l _
     (λ o is f h. (readable_looser 2 3 (lit≤ tt) h, λ f h. (readable_looser 1 2 (lit≤ tt) h, λ f h high. sound.1 (binary o e f) (readable_binary o 0 (comparison_tightness a o is) (lit< tt) high sound.0 h))))
-    (step k (a_term e ∷ vs) (mark a) l tt (sound.1 e (readable_looser 0 1 (lit≤ tt) sound.0)))
+    (step k (a_term e ∷ vs) (terminal a) l tt (sound.1 e (readable_looser 0 1 (lit≤ tt) sound.0)))
 step (comparison ∷ k) (a_term e ∷ vs) t l fits sound = step k (a_term e ∷ vs) t l fits (sound.1 e (readable_looser 0 1 (lit≤ tt) sound.0))
 step (comparison ∷ k) vs t l fits sound = absurd sound
-step (block ∷ k) vs (mark m.BraceOpen) l fits sound = opened_leads (act (push (a_block empty)) ∷ stmts ∷ closing m.BraceClose ∷ k) vs (mark m.BraceOpen) l (λ low. (tt, λ b h. sound b (omega arith) h))
+step (block ∷ k) vs (terminal m.BraceOpen) l fits sound = opened_leads (act (push (a_block empty)) ∷ stmts ∷ closing m.BraceClose ∷ k) vs (terminal m.BraceOpen) l (λ low. (tt, λ b h. sound b (omega arith) h))
 step (block ∷ k) vs t l fits sound = tt
-step (stmts ∷ k) (a_block b ∷ vs) (mark m.Let) l fits sound =
-    opened_leads (word ∷ exactly m.Assign ∷ expr ∷ exactly m.Semicolon ∷ act let_done ∷ stmts ∷ k) (a_block b ∷ vs) (mark m.Let) l
+step (stmts ∷ k) (a_block b ∷ vs) (terminal m.Let) l fits sound =
+    opened_leads (word ∷ exactly m.Assign ∷ expr ∷ exactly m.Semicolon ∷ act let_done ∷ stmts ∷ k) (a_block b ∷ vs) (terminal m.Let) l
     (λ low w e h. more_sound k vs b (declare w e) sound (whole h))
-step (stmts ∷ k) (a_block b ∷ vs) (mark m.Out) l fits sound =
-    opened_leads (expr ∷ exactly m.Semicolon ∷ act out_done ∷ stmts ∷ k) (a_block b ∷ vs) (mark m.Out) l
+step (stmts ∷ k) (a_block b ∷ vs) (terminal m.Out) l fits sound =
+    opened_leads (expr ∷ exactly m.Semicolon ∷ act out_done ∷ stmts ∷ k) (a_block b ∷ vs) (terminal m.Out) l
     (λ low e h. more_sound k vs b (out e) sound (whole h))
 step (stmts ∷ k) (a_block b ∷ vs) (a_name n) l fits sound =
     opened_leads (act (push (a_word (word_at n l))) ∷ exactly m.Assign ∷ expr ∷ exactly m.Semicolon ∷ act assign_done ∷ stmts ∷ k) (a_block b ∷ vs) (a_name n) l
     (λ low e h. more_sound k vs b (assign (word_at n l) e) sound (whole h))
-step (stmts ∷ k) (a_block b ∷ vs) (mark m.Atomic) l fits sound =
-    opened_leads (block ∷ act atomic_done ∷ stmts ∷ k) (a_block b ∷ vs) (mark m.Atomic) l
+step (stmts ∷ k) (a_block b ∷ vs) (terminal m.Atomic) l fits sound =
+    opened_leads (block ∷ act atomic_done ∷ stmts ∷ k) (a_block b ∷ vs) (terminal m.Atomic) l
     (λ low c room h. more_sound k vs b (atomic c) sound (room, h))
-step (stmts ∷ k) (a_block b ∷ vs) (mark m.Spawn) l fits sound =
-    opened_leads (block ∷ act spawn_done ∷ stmts ∷ k) (a_block b ∷ vs) (mark m.Spawn) l
+step (stmts ∷ k) (a_block b ∷ vs) (terminal m.Spawn) l fits sound =
+    opened_leads (block ∷ act spawn_done ∷ stmts ∷ k) (a_block b ∷ vs) (terminal m.Spawn) l
     (λ low c room h. more_sound k vs b (spawn c) sound (room, h))
-step (stmts ∷ k) (a_block b ∷ vs) (mark m.Sync) l fits sound =
-    opened_leads (exactly m.Semicolon ∷ act sync_done ∷ stmts ∷ k) (a_block b ∷ vs) (mark m.Sync) l
+step (stmts ∷ k) (a_block b ∷ vs) (terminal m.Sync) l fits sound =
+    opened_leads (exactly m.Semicolon ∷ act sync_done ∷ stmts ∷ k) (a_block b ∷ vs) (terminal m.Sync) l
     (λ low. more_sound k vs b sync sound tt)
 step (stmts ∷ k) (a_block b ∷ vs) t l fits sound = step k (a_block b ∷ vs) t l fits (sound.1 b sound.0)
 step (stmts ∷ k) vs t l fits sound = absurd sound
-step (items ∷ []) (declared ds ∷ []) (mark m.Cell) l fits sound =
-    opened_leads (word ∷ act (push (an_init (pos 0))) ∷ cell_init ∷ exactly m.Semicolon ∷ act cell_done ∷ items ∷ []) (declared ds ∷ []) (mark m.Cell) l
+step (items ∷ []) (declared ds ∷ []) (terminal m.Cell) l fits sound =
+    opened_leads (word ∷ act (push (an_init (pos 0))) ∷ cell_init ∷ exactly m.Semicolon ∷ act cell_done ∷ items ∷ []) (declared ds ∷ []) (terminal m.Cell) l
     (λ low w.
     let one = λ (z : ℤ) (h : nat_abs z < 2 ^ 63). All-push IsReadableDeclaration ds (cell w.name w.line 0 z) sound (refl, h) in
     (one (pos 0) (lit< tt), one))
-step (items ∷ []) (declared ds ∷ []) (mark m.Fn) l fits sound =
-    opened_leads (main_word ∷ exactly m.ParenOpen ∷ closing m.ParenClose ∷ block ∷ act func_done ∷ items ∷ []) (declared ds ∷ []) (mark m.Fn) l
+step (items ∷ []) (declared ds ∷ []) (terminal m.Fn) l fits sound =
+    opened_leads (main_word ∷ exactly m.ParenOpen ∷ closing m.ParenClose ∷ block ∷ act func_done ∷ items ∷ []) (declared ds ∷ []) (terminal m.Fn) l
     (λ low j b _ h. All-push IsReadableDeclaration ds (func (codes "main") j [] b) sound (refl, refl, h))
 step (items ∷ []) (declared ds ∷ []) end l fits sound = (refl, sound)
 step (items ∷ []) (declared ds ∷ []) t l fits sound = tt

@@ -4,15 +4,15 @@ use Rattle.std.proofs.lemmas.Bool.{le-ltb, lt-ltb}
 use Rattle.cw_text.specs.declared.ast.Op.{Op}
 use Rattle.cw_text.specs.declared.ast.Stmt.{Stmt}
 use Rattle.cw_text.specs.declared.fault.TextKind.TheVariants.{TooDeep}
-use Rattle.cw_text.specs.declared.mark.Mark.TheVariants as m
+use Rattle.cw_text.specs.declared.terminal.Terminal.TheVariants as m
 use Rattle.cw_text.specs.Cursor.{rest_of}
-use Rattle.cw_text.specs.Lexemes.{Lexemes, end_on, comes, number, name, mark, bad, end}
+use Rattle.cw_text.specs.Lexemes.{Lexemes, end_on, comes, number, name, terminal, bad, end}
 use Rattle.cw_text.specs.Syntax.{Term, binary, block_of, first, height, statement_of, unary, with_statement}
 use Rattle.cw_text.specs.Grammar.{Symbol, Values, a_term, read, pending, lifted, fault, act, join, read_from, operand, expr, products, sums, comparison, closing, exactly}
 use Rattle.cw_text.specs.Parser.{taken, GoesOn}
 use Rattle.cw_text.specs.declared.fault.TextFault.{TextFault}
 use Rattle.cw_text.specs.declared.fault.TextRefusal.{TextRefusal}
-use Rattle.cw_text.specs.declared.mark.Mark.{Mark}
+use Rattle.cw_text.specs.declared.terminal.Terminal.{Terminal}
 
 -- with at most 200 open a token is taken
 pub taken_open : (k : List Symbol) (vs : Values) (l : ℕ) (xs : Lexemes) → pending k ≤ 200 → taken k vs l xs ≡ read k vs (rest_of xs)
@@ -51,19 +51,19 @@ pub read-expr : (k : List Symbol) (vs : Values) (xs : Lexemes) → read (expr �
 read-expr k vs (end_on l) = refl
 read-expr k vs (comes (number n) l xs) = refl
 read-expr k vs (comes (name n) l xs) = refl
-read-expr k vs (comes (mark m.ParenOpen) l xs) = refl
-read-expr k vs (comes (mark m.Minus) l xs) = refl
-read-expr k vs (comes (mark m.Bang) l xs) = refl
-read-expr k vs (comes (mark a) l xs) = refl
+read-expr k vs (comes (terminal m.ParenOpen) l xs) = refl
+read-expr k vs (comes (terminal m.Minus) l xs) = refl
+read-expr k vs (comes (terminal m.Bang) l xs) = refl
+read-expr k vs (comes (terminal a) l xs) = refl
 read-expr k vs (comes (bad b) l xs) = refl
 read-expr k vs (comes end l xs) = refl
 
--- the end of a bracket is one mark
-pub read-closing : (a : Mark) (k : List Symbol) (vs : Values) (xs : Lexemes) → read (closing a ∷ k) vs xs ≡ read (exactly a ∷ k) vs xs
+-- the end of a bracket is one terminal
+pub read-closing : (a : Terminal) (k : List Symbol) (vs : Values) (xs : Lexemes) → read (closing a ∷ k) vs xs ≡ read (exactly a ∷ k) vs xs
 read-closing a k vs (end_on l) = refl
 read-closing a k vs (comes (number n) l xs) = refl
 read-closing a k vs (comes (name n) l xs) = refl
-read-closing a k vs (comes (mark b) l xs) = refl
+read-closing a k vs (comes (terminal b) l xs) = refl
 read-closing a k vs (comes (bad b) l xs) = refl
 read-closing a k vs (comes end l xs) = refl
 

@@ -7,7 +7,7 @@ use Rattle.cw_text.specs.Parser.{ahead}
 use Rattle.cw_text.specs.Syntax.{block_of, declaration_of, term_of}
 use Rattle.cw_text.specs.declared.ast.Item.{Item}
 use Rattle.cw_text.specs.declared.ast.Stmt.{Stmt}
-use Rattle.cw_text.specs.declared.mark.Mark.TheVariants as m
+use Rattle.cw_text.specs.declared.terminal.Terminal.TheVariants as m
 use Rattle.cw_text.specs.declared.expr.Measured.{Measured}
 use Rattle.cw_text.specs.declared.parser.Parser.{Parser}
 

@@ -8,7 +8,7 @@ use Rattle.cw_text.specs.Lexemes as lexemes
 abbrev pub lexeme_of : Token → lexemes.Token
 lexeme_of (token.Name n) = lexemes.name n.bytes.now
 lexeme_of (token.Number n) = lexemes.number n.value
-lexeme_of (token.Mark m) = lexemes.mark m
+lexeme_of (token.Terminal m) = lexemes.terminal m
 lexeme_of (token.Bad k) = lexemes.bad k
 lexeme_of token.End = lexemes.end
 

@@ -3,7 +3,7 @@
 -- Tokens are read one by one. What may still come is a list of symbols of the grammar, the nearest first: a token
 -- takes the nearest symbol that it may begin, and nothing may stand for the symbols before that one. A token that
 -- the nearest symbol does not allow is the first fault. What has been read is a list of values, the newest first;
--- the symbol `act` makes a tree of the newest ones. `after` is the grammar: what may come in place of a symbol
+-- the symbol `act` makes a tree of the newest ones. `expansion` is the grammar: what may come in place of a symbol
 -- once a token was read.
 use Rattle.std.specs.Prelude.{ℕ, ◌+◌, Bool, List, [], ◌∷◌, ◌++◌, Option, Some, None, Result, Ok, Err, if◌then◌else◌, nat_lt, codes, ℤ, pos, neg_ℤ}
 use Rattle.cw_text.specs.declared.ast.Op.{Op}
@@ -12,10 +12,10 @@ use Rattle.cw_text.specs.declared.ast.Word.{Word}
 use Rattle.cw_text.specs.declared.fault.TextKind.{TextKind}
 use Rattle.cw_text.specs.declared.fault.TextKind.TheVariants.{Unexpected, TooDeep}
 use Rattle.cw_text.specs.declared.fault.TextFault.{TextFault}
-use Rattle.cw_text.specs.declared.mark.Mark.{Mark}
-use Rattle.cw_text.specs.declared.mark.Mark.TheVariants as m
+use Rattle.cw_text.specs.declared.terminal.Terminal.{Terminal}
+use Rattle.cw_text.specs.declared.terminal.Terminal.TheVariants as m
 use Rattle.cw_text.specs.Syntax.{Term, number, name, unary, binary, Statement, declare, assign, out, atomic, spawn, sync, Block, empty, Declaration, cell, func, with_statement, height}
-use Rattle.cw_text.specs.Lexemes.{Token, Lexemes, end_on, comes, name as a_name, number as a_number, mark, bad, end, spelling}
+use Rattle.cw_text.specs.Lexemes.{Token, Lexemes, end_on, comes, name as a_name, number as a_number, terminal, bad, end, spelling}
 use Rattle.std.specs.Str.{bytes_eq}
 
 -- what has been read
@@ -35,9 +35,9 @@ pub data Symbol : Type 0 where
   block stmts : Symbol
   expr operand products sums comparison : Symbol
   word : Symbol
-  exactly : Mark → Symbol
+  exactly : Terminal → Symbol
   -- the end of a bracket
-  closing : Mark → Symbol
+  closing : Terminal → Symbol
   -- makes a tree of the newest values
   act : (Values → Values) → Symbol
   -- the operand before was that of an operator, which stands on this line
@@ -110,8 +110,8 @@ newest_height vs = 0
 
 -- ## The grammar
 
-abbrev pub same_mark : Mark → Mark → Bool
-same_mark a b = bytes_eq (spelling a) (spelling b)
+abbrev pub same_terminal : Terminal → Terminal → Bool
+same_terminal a b = bytes_eq (spelling a) (spelling b)
 
 abbrev pub word_at : List ℕ → ℕ → Word
 word_at n l = record { name = n; line = l }
@@ -121,26 +121,26 @@ abbrev pub why : Token → TextKind
 why (bad k) = k
 why t = Unexpected
 
--- that mark, and nothing else
-abbrev pub only : Mark → Mark → Next
-only a b = if same_mark a b then take [] else refuse Unexpected
+-- that terminal, and nothing else
+abbrev pub only : Terminal → Terminal → Next
+only a b = if same_terminal a b then take [] else refuse Unexpected
 
 -- the operators of each kind
-abbrev pub prefix_of : Mark → Option Op
+abbrev pub prefix_of : Terminal → Option Op
 prefix_of m.Minus = Some op.Neg
 prefix_of m.Bang = Some op.Not
 prefix_of a = None
 
-abbrev pub product_of : Mark → Option Op
+abbrev pub product_of : Terminal → Option Op
 product_of m.Star = Some op.Mul
 product_of a = None
 
-abbrev pub sum_of : Mark → Option Op
+abbrev pub sum_of : Terminal → Option Op
 sum_of m.Plus = Some op.Add
 sum_of m.Minus = Some op.Sub
 sum_of a = None
 
-abbrev pub comparison_of : Mark → Option Op
+abbrev pub comparison_of : Terminal → Option Op
 comparison_of m.EqEq = Some op.Eq
 comparison_of m.BangEq = Some op.Ne
 comparison_of m.Less = Some op.Lt
@@ -166,51 +166,51 @@ rest_of_expr = products ∷ sums ∷ comparison ∷ []
 abbrev pub operand_by : List Symbol → Token → ℕ → Next
 operand_by k (a_number n) l = take (act (push (a_term (number (pos n)))) ∷ k)
 operand_by k (a_name n) l = take (act (push (a_term (name (word_at n l)))) ∷ k)
-operand_by k (mark m.ParenOpen) l = take (expr ∷ closing m.ParenClose ∷ k)
-operand_by k (mark a) l = prefix_by (prefix_of a) k l
+operand_by k (terminal m.ParenOpen) l = take (expr ∷ closing m.ParenClose ∷ k)
+operand_by k (terminal a) l = prefix_by (prefix_of a) k l
 operand_by k t l = refuse (why t)
 
-abbrev pub after : Symbol → Token → ℕ → Next
-after word (a_name n) l = take (act (push (a_word (word_at n l))) ∷ [])
-after word t l = refuse (why t)
+abbrev pub expansion : Symbol → Token → ℕ → Next
+expansion word (a_name n) l = take (act (push (a_word (word_at n l))) ∷ [])
+expansion word t l = refuse (why t)
 -- so far the only function is main
-after main_word (a_name n) l = if bytes_eq n (codes "main") then take (act (push (a_word (word_at n l))) ∷ []) else refuse Unexpected
-after main_word t l = refuse (why t)
-after (exactly a) (mark b) l = only a b
-after (exactly a) t l = refuse (why t)
-after (closing a) (mark b) l = only a b
-after (closing a) t l = refuse (why t)
-after items (mark m.Cell) l = take (word ∷ act (push (an_init (pos 0))) ∷ cell_init ∷ exactly m.Semicolon ∷ act cell_done ∷ items ∷ [])
-after items (mark m.Fn) l = take (main_word ∷ exactly m.ParenOpen ∷ closing m.ParenClose ∷ block ∷ act func_done ∷ items ∷ [])
-after items end l = take []
-after items t l = refuse (why t)
-after cell_init (mark m.Assign) l = take (init ∷ [])
-after cell_init t l = skip
-after init (mark m.Minus) l = take (negated ∷ [])
-after init (a_number n) l = take (act (with_init (pos n)) ∷ [])
-after init t l = refuse (why t)
-after negated (a_number n) l = take (act (with_init (neg_ℤ (pos n))) ∷ [])
-after negated t l = refuse (why t)
-after block (mark m.BraceOpen) l = take (act (push (a_block empty)) ∷ stmts ∷ closing m.BraceClose ∷ [])
-after block t l = refuse (why t)
-after stmts (mark m.Let) l = take (word ∷ exactly m.Assign ∷ expr ∷ exactly m.Semicolon ∷ act let_done ∷ stmts ∷ [])
-after stmts (mark m.Out) l = take (expr ∷ exactly m.Semicolon ∷ act out_done ∷ stmts ∷ [])
-after stmts (a_name n) l = take (act (push (a_word (word_at n l))) ∷ exactly m.Assign ∷ expr ∷ exactly m.Semicolon ∷ act assign_done ∷ stmts ∷ [])
-after stmts (mark m.Atomic) l = take (block ∷ act atomic_done ∷ stmts ∷ [])
-after stmts (mark m.Spawn) l = take (block ∷ act spawn_done ∷ stmts ∷ [])
-after stmts (mark m.Sync) l = take (exactly m.Semicolon ∷ act sync_done ∷ stmts ∷ [])
-after stmts t l = skip
-after expr t l = operand_by rest_of_expr t l
-after operand t l = operand_by [] t l
-after products (mark a) l = infix_by (product_of a) [] (products ∷ []) l
-after products t l = skip
-after sums (mark a) l = infix_by (sum_of a) (products ∷ []) (sums ∷ []) l
-after sums t l = skip
-after comparison (mark a) l = infix_by (comparison_of a) (products ∷ sums ∷ []) [] l
-after comparison t l = skip
-after (act f) t l = skip
-after (lifted o k) t l = skip
-after (read_from k) t l = skip
+expansion main_word (a_name n) l = if bytes_eq n (codes "main") then take (act (push (a_word (word_at n l))) ∷ []) else refuse Unexpected
+expansion main_word t l = refuse (why t)
+expansion (exactly a) (terminal b) l = only a b
+expansion (exactly a) t l = refuse (why t)
+expansion (closing a) (terminal b) l = only a b
+expansion (closing a) t l = refuse (why t)
+expansion items (terminal m.Cell) l = take (word ∷ act (push (an_init (pos 0))) ∷ cell_init ∷ exactly m.Semicolon ∷ act cell_done ∷ items ∷ [])
+expansion items (terminal m.Fn) l = take (main_word ∷ exactly m.ParenOpen ∷ closing m.ParenClose ∷ block ∷ act func_done ∷ items ∷ [])
+expansion items end l = take []
+expansion items t l = refuse (why t)
+expansion cell_init (terminal m.Assign) l = take (init ∷ [])
+expansion cell_init t l = skip
+expansion init (terminal m.Minus) l = take (negated ∷ [])
+expansion init (a_number n) l = take (act (with_init (pos n)) ∷ [])
+expansion init t l = refuse (why t)
+expansion negated (a_number n) l = take (act (with_init (neg_ℤ (pos n))) ∷ [])
+expansion negated t l = refuse (why t)
+expansion block (terminal m.BraceOpen) l = take (act (push (a_block empty)) ∷ stmts ∷ closing m.BraceClose ∷ [])
+expansion block t l = refuse (why t)
+expansion stmts (terminal m.Let) l = take (word ∷ exactly m.Assign ∷ expr ∷ exactly m.Semicolon ∷ act let_done ∷ stmts ∷ [])
+expansion stmts (terminal m.Out) l = take (expr ∷ exactly m.Semicolon ∷ act out_done ∷ stmts ∷ [])
+expansion stmts (a_name n) l = take (act (push (a_word (word_at n l))) ∷ exactly m.Assign ∷ expr ∷ exactly m.Semicolon ∷ act assign_done ∷ stmts ∷ [])
+expansion stmts (terminal m.Atomic) l = take (block ∷ act atomic_done ∷ stmts ∷ [])
+expansion stmts (terminal m.Spawn) l = take (block ∷ act spawn_done ∷ stmts ∷ [])
+expansion stmts (terminal m.Sync) l = take (exactly m.Semicolon ∷ act sync_done ∷ stmts ∷ [])
+expansion stmts t l = skip
+expansion expr t l = operand_by rest_of_expr t l
+expansion operand t l = operand_by [] t l
+expansion products (terminal a) l = infix_by (product_of a) [] (products ∷ []) l
+expansion products t l = skip
+expansion sums (terminal a) l = infix_by (sum_of a) (products ∷ []) (sums ∷ []) l
+expansion sums t l = skip
+expansion comparison (terminal a) l = infix_by (comparison_of a) (products ∷ sums ∷ []) [] l
+expansion comparison t l = skip
+expansion (act f) t l = skip
+expansion (lifted o k) t l = skip
+expansion (read_from k) t l = skip
 
 -- ## Reading
 
@@ -243,7 +243,7 @@ feed [] vs t l = fault (why t) l
 feed (act f ∷ k) vs t l = feed k (f vs) t l
 feed (lifted o begun ∷ k) vs t l = if nat_lt 200 (newest_height (lift o vs)) then fault TooDeep begun else feed k (lift o vs) t l
 feed (read_from begun ∷ k) vs t l = if nat_lt 200 (newest_height vs) then fault TooDeep begun else feed k vs t l
-feed (s ∷ k) vs t l = let rest = feed k vs t l in go_on (after s t l) k vs l rest
+feed (s ∷ k) vs t l = let rest = feed k vs t l in go_on (expansion s t l) k vs l rest
 
 abbrev pub then_read : Result State TextFault → (List Symbol → Values → Result Values TextFault) → Result Values TextFault
 then_read (Ok s) go = go s.0 s.1

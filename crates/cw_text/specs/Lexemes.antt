@@ -5,13 +5,13 @@ use Rattle.std.specs.List.{starts_with}
 use Rattle.std.specs.Str.{bytes_eq}
 use Rattle.cw_text.specs.declared.fault.TextKind.{TextKind}
 use Rattle.cw_text.specs.declared.fault.TextKind.TheVariants.{BadChar, BadNumber}
-use Rattle.cw_text.specs.declared.mark.Mark.{Mark}
-use Rattle.cw_text.specs.declared.mark.Mark.TheVariants as m
+use Rattle.cw_text.specs.declared.terminal.Terminal.{Terminal}
+use Rattle.cw_text.specs.declared.terminal.Terminal.TheVariants as m
 
 pub data Token : Type 0 where
   name : List ℕ → Token
   number : ℕ → Token
-  mark : Mark → Token
+  terminal : Terminal → Token
   bad : TextKind → Token
   end : Token
 
@@ -35,7 +35,7 @@ abbrev pub is_blank : ℕ → Bool
 is_blank c = c == 32 || c == 9 || c == 13 || c == 10
 
 -- how a word or a sign is spelled
-abbrev pub spelling : Mark → List ℕ
+abbrev pub spelling : Terminal → List ℕ
 spelling m.Cell = codes "cell"
 spelling m.Fn = codes "fn"
 spelling m.Let = codes "let"
@@ -69,22 +69,22 @@ spelling m.LessEq = codes "<="
 spelling m.Greater = codes ">"
 spelling m.GreaterEq = codes ">="
 
-abbrev pub keywords : List Mark
+abbrev pub keywords : List Terminal
 keywords = m.Cell ∷ m.Fn ∷ m.Let ∷ m.Out ∷ m.If ∷ m.Else ∷ m.While ∷ m.Atomic ∷ m.Spawn ∷ m.Sync ∷ m.Return ∷ []
 
 -- the longer signs stand before those that begin them
-abbrev pub signs : List Mark
+abbrev pub signs : List Terminal
 signs = m.EqEq ∷ m.BangEq ∷ m.LessEq ∷ m.GreaterEq ∷ m.BraceOpen ∷ m.BraceClose ∷ m.ParenOpen ∷ m.ParenClose ∷ m.SquareOpen ∷ m.SquareClose ∷ m.Comma ∷ m.Semicolon ∷ m.Assign ∷ m.Plus ∷ m.Minus ∷ m.Star ∷ m.Slash ∷ m.Percent ∷ m.Bang ∷ m.Less ∷ m.Greater ∷ []
 
 -- the keyword, or else a name
-abbrev pub word_token : List Mark → List ℕ → Token
+abbrev pub word_token : List Terminal → List ℕ → Token
 word_token [] text = name text
-word_token (k ∷ ks) text = if bytes_eq (spelling k) text then mark k else word_token ks text
+word_token (k ∷ ks) text = if bytes_eq (spelling k) text then terminal k else word_token ks text
 
 -- the first sign of the list with which the text begins
-abbrev pub sign_front : List Mark → List ℕ → Front
+abbrev pub sign_front : List Terminal → List ℕ → Front
 sign_front [] text = found (bad BadChar) 1
-sign_front (s ∷ ss) text = if starts_with nat_eq text (spelling s) then found (mark s) (length (spelling s)) else sign_front ss text
+sign_front (s ∷ ss) text = if starts_with nat_eq text (spelling s) then found (terminal s) (length (spelling s)) else sign_front ss text
 
 abbrev pub value_of_digits : List ℕ → ℕ
 value_of_digits ds = fold (λ n d. 10 * n + (d - 48)) 0 ds
@@ -101,7 +101,7 @@ abbrev pub after_digits : List ℕ → List ℕ
 after_digits [] = []
 after_digits (c ∷ cs) = if is_ascii_digit c then after_digits cs else c ∷ cs
 
-abbrev pub front : (words : List Mark) → List ℕ → Front
+abbrev pub front : (words : List Terminal) → List ℕ → Front
 front ks [] = gap 0
 front ks (c ∷ cs) =
     if is_blank c then gap 1
@@ -122,11 +122,11 @@ begun_by (gap n) line xs = xs
 begun_by (found t n) line xs = comes t line xs
 
 -- the lexemes of a text, whose first bytes, so many, belong to what came before
-abbrev pub lexemes_from : (words : List Mark) (line taken : ℕ) → List ℕ → Lexemes
+abbrev pub lexemes_from : (words : List Terminal) (line taken : ℕ) → List ℕ → Lexemes
 lexemes_from ks line taken [] = end_on line
 lexemes_from ks line (suc n) (c ∷ cs) = lexemes_from ks (line_after c line) n cs
 lexemes_from ks line zero (c ∷ cs) =
     begun_by (front ks (c ∷ cs)) line (lexemes_from ks (line_after c line) (width (front ks (c ∷ cs)) - 1) cs)
 
-abbrev pub lexemes : (words : List Mark) → List ℕ → Lexemes
+abbrev pub lexemes : (words : List Terminal) → List ℕ → Lexemes
 lexemes ks text = lexemes_from ks 1 0 text

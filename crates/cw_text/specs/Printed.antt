@@ -4,10 +4,10 @@ use Rattle.std.specs.List.{flat_map, join_by}
 use Rattle.cw_text.specs.declared.ast.Op.{Op}
 use Rattle.cw_text.specs.declared.ast.Op.TheVariants as op
 use Rattle.cw_text.specs.declared.ast.Word.{Word}
-use Rattle.cw_text.specs.declared.mark.Mark.{Mark}
-use Rattle.cw_text.specs.declared.mark.Mark.TheVariants as m
+use Rattle.cw_text.specs.declared.terminal.Terminal.{Terminal}
+use Rattle.cw_text.specs.declared.terminal.Terminal.TheVariants as m
 use Rattle.cw_text.specs.Syntax.{Term, number, name, unary, binary, Statement, declare, assign, out, atomic, spawn, sync, Block, empty, first, Declaration, cell, func, height}
-use Rattle.cw_text.specs.Lexemes.{Token, Lexemes, end_on, comes, name as a_name, number as a_number, mark}
+use Rattle.cw_text.specs.Lexemes.{Token, Lexemes, end_on, comes, name as a_name, number as a_number, terminal}
 
 -- a token and its line
 abbrev pub Placed : Type 0
@@ -25,8 +25,8 @@ named n l = (a_name n, l) ∷ []
 abbrev pub word_tokens : Word → List Placed
 word_tokens w = named w.name w.line
 
-abbrev pub sign : Mark → List Placed
-sign a = (mark a, 1) ∷ []
+abbrev pub sign : Terminal → List Placed
+sign a = (terminal a, 1) ∷ []
 
 abbrev pub number_tokens : ℤ → List Placed
 number_tokens (pos n) = (a_number n, 1) ∷ []
@@ -34,18 +34,18 @@ number_tokens (negsuc n) = sign m.Minus ++ (a_number (suc n), 1) ∷ []
 
 -- ## Expressions
 
-abbrev pub mark_of : Op → Mark
-mark_of op.Add = m.Plus
-mark_of op.Sub = m.Minus
-mark_of op.Mul = m.Star
-mark_of op.Neg = m.Minus
-mark_of op.Not = m.Bang
-mark_of op.Eq = m.EqEq
-mark_of op.Ne = m.BangEq
-mark_of op.Lt = m.Less
-mark_of op.Le = m.LessEq
-mark_of op.Gt = m.Greater
-mark_of op.Ge = m.GreaterEq
+abbrev pub terminal_of : Op → Terminal
+terminal_of op.Add = m.Plus
+terminal_of op.Sub = m.Minus
+terminal_of op.Mul = m.Star
+terminal_of op.Neg = m.Minus
+terminal_of op.Not = m.Bang
+terminal_of op.Eq = m.EqEq
+terminal_of op.Ne = m.BangEq
+terminal_of op.Lt = m.Less
+terminal_of op.Le = m.LessEq
+terminal_of op.Gt = m.Greater
+terminal_of op.Ge = m.GreaterEq
 
 -- how tightly an operator binds: a comparison 0, a sum 1, a product 2, an operator of one operand 3
 abbrev pub tightness : Op → ℕ
@@ -71,8 +71,8 @@ bracketed false ps = ps
 abbrev pub term_tokens : ℕ → Term → List Placed
 term_tokens n (number z) = number_tokens z
 term_tokens n (name w) = word_tokens w
-term_tokens n (unary o e) = sign (mark_of o) ++ term_tokens 3 e
-term_tokens n (binary o l r) = bracketed (nat_lt (tightness o) n) (term_tokens (of_left o) l ++ sign (mark_of o) ++ term_tokens (of_right o) r)
+term_tokens n (unary o e) = sign (terminal_of o) ++ term_tokens 3 e
+term_tokens n (binary o l r) = bracketed (nat_lt (tightness o) n) (term_tokens (of_left o) l ++ sign (terminal_of o) ++ term_tokens (of_right o) r)
 
 -- ## Statements and items
 

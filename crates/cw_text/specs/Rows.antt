@@ -2,14 +2,14 @@
 use Rattle.std.specs.Prelude.{Result, ◌++◌, pos, negsuc, replicate, ℕ, zero, suc, ◌≡◌, List, [], ◌∷◌, codes, Ok, Err}
 use Rattle.std.specs.List.{flat_map}
 use Rattle.cw_text.specs.Syntax.{Declaration, func, cell, Block, empty, first, declare, assign, out, atomic, spawn, sync, binary, name, number, unary}
-use Rattle.cw_text.specs.Lexemes.{end_on, comes, name as a_name, number as a_number, mark, bad, lexemes, keywords}
+use Rattle.cw_text.specs.Lexemes.{end_on, comes, name as a_name, number as a_number, terminal, bad, lexemes, keywords}
 use Rattle.cw_text.specs.Grammar.{program_of}
 use Rattle.cw_text.specs.declared.fault.TextKind.{TextKind}
 use Rattle.cw_text.specs.declared.fault.TextKind.TheVariants.{BadChar, BadNumber, Unexpected, TooDeep}
 use Rattle.cw_text.specs.declared.fault.TextFault.{TextFault}
 use Rattle.cw_text.specs.declared.ast.Op.TheVariants as op
 use Rattle.cw_text.specs.declared.ast.Word.{Word}
-use Rattle.cw_text.specs.declared.mark.Mark.TheVariants as m
+use Rattle.cw_text.specs.declared.terminal.Terminal.TheVariants as m
 
 abbrev pub read : List ℕ → Result (List Declaration) TextFault
 read text = program_of (lexemes keywords text)
@@ -24,7 +24,7 @@ word text = record { name = text; line = 1 }
 abbrev pub Tokens : Type 0
 Tokens =
     lexemes keywords (codes "fn main() { x >= 12; }\n// y\n@")
-    ≡ comes (mark m.Fn) 1 (comes (a_name (codes "main")) 1 (comes (mark m.ParenOpen) 1 (comes (mark m.ParenClose) 1 (comes (mark m.BraceOpen) 1 (comes (a_name (codes "x")) 1 (comes (mark m.GreaterEq) 1 (comes (a_number 12) 1 (comes (mark m.Semicolon) 1 (comes (mark m.BraceClose) 1 (comes (bad BadChar) 3 (end_on 3)))))))))))
+    ≡ comes (terminal m.Fn) 1 (comes (a_name (codes "main")) 1 (comes (terminal m.ParenOpen) 1 (comes (terminal m.ParenClose) 1 (comes (terminal m.BraceOpen) 1 (comes (a_name (codes "x")) 1 (comes (terminal m.GreaterEq) 1 (comes (a_number 12) 1 (comes (terminal m.Semicolon) 1 (comes (terminal m.BraceClose) 1 (comes (bad BadChar) 3 (end_on 3)))))))))))
 
 abbrev pub Programs : Type 0
 Programs =

@@ -2,7 +2,7 @@
 use Rattle.std.specs.Prelude.{◌≡◌, ℕ, ◌+◌, List, length, take, Result, Ok, Err, if◌then◌else◌, nat_lt, ◌==◌, count_by}
 use Rattle.std.specs.Str.Lossy.{utf8_valid_len}
 use Rattle.cw_text.specs.declared.ast.Ast.{Ast}
-use Rattle.cw_text.specs.declared.mark.Mark.{Mark}
+use Rattle.cw_text.specs.declared.terminal.Terminal.{Terminal}
 use Rattle.cw_text.specs.declared.fault.TextKind.TheVariants.{TooLong, NotUtf8}
 use Rattle.cw_text.specs.declared.fault.TextFault.{TextFault}
 use Rattle.cw_text.specs.declared.fault.TextRefusal.{TextRefusal}
@@ -17,7 +17,7 @@ line_of place text = count_by (λ c. c == 10) (take place text) + 1
 
 -- The program that a text of at most so many bytes spells, under these keywords, or the text's first fault: its
 -- length comes first, then its characters, then its tokens.
-abbrev pub reading : (words : List Mark) (most : ℕ) → List ℕ → Result (List Declaration) TextFault
+abbrev pub reading : (words : List Terminal) (most : ℕ) → List ℕ → Result (List Declaration) TextFault
 reading words most text =
     if nat_lt most (length text) then fault TooLong 0
     else (if nat_lt (utf8_valid_len text) (length text) then fault NotUtf8 (line_of (utf8_valid_len text) text)

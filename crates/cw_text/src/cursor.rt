@@ -4,14 +4,14 @@ ghost use Rattle.cw_text.specs.Lexemes.{keywords, lexemes, lexemes_from};
 use crate::letters::{Letters, Whole};
 use crate::scan::{Front, newlines, read_front};
 use crate::spelling::KEYWORDS;
-use crate::{Mark, TextKind};
+use crate::{Terminal, TextKind};
 
 /// A token of a text. `Bad` is none, for this reason.
 #[derive(Clone, Copy)]
 pub enum Token<'a> {
     Name(Letters<'a>),
     Number(Whole),
-    Mark(Mark),
+    Terminal(Terminal),
     Bad(TextKind),
     End,
 }

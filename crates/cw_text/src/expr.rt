@@ -4,12 +4,12 @@ ghost use Rattle.cw_text.specs.Grammar.{Symbol, Values, a_term, act, closing, co
 ghost use Rattle.cw_text.specs.Lexemes.{Lexemes};
 ghost use Rattle.cw_text.specs.Parser.{Begins, GoesOn, Parses, Skips, ahead, taken};
 ghost use Rattle.cw_text.specs.Syntax.{height as height_of, term_of};
-ghost use Rattle.cw_text.specs.declared.mark.Mark.TheVariants as Mark;
+ghost use Rattle.cw_text.specs.declared.terminal.Terminal.TheVariants as Terminal;
 
 use crate::cursor::Token;
-use crate::mark::{comparison_of, prefix_of, product_of, sum_of};
 use crate::parser::{DEEPEST, Parser, refusal};
-use crate::{Expr, Mark, Op, TextKind, TextRefusal};
+use crate::terminal::{comparison_of, prefix_of, product_of, sum_of};
+use crate::{Expr, Op, Terminal, TextKind, TextRefusal};
 use std::alloc::Global;
 
 /// An expression that is not too high, and its height.
@@ -44,8 +44,8 @@ impl<'a> Parser<'a> {
                 expr: Expr::Name(self.word_of(letters)?),
                 height: 1,
             }),
-            Token::Mark(Mark::ParenOpen) => self.bracketed(),
-            Token::Mark(mark) => match prefix_of(mark) {
+            Token::Terminal(Terminal::ParenOpen) => self.bracketed(),
+            Token::Terminal(terminal) => match prefix_of(terminal) {
                 Some(op) => self.prefixed(op),
                 None => Err(self.unexpected()),
             },
@@ -90,12 +90,12 @@ impl<'a> Parser<'a> {
         ensures shorter { OnOk result (count_of (ahead self.new) < count_of (rest_of (ahead self.old))) }
         ensures read { (k : List Symbol) (vs : Values) → pending k ≡ self.old.depth →
             let line = self.old.cursor.line in
-            GoesOn result (taken (expr ∷ closing Mark.ParenClose ∷ k) vs line (ahead self.old))
+            GoesOn result (taken (expr ∷ closing Terminal.ParenClose ∷ k) vs line (ahead self.old))
             (λ e. read k (a_term (term_of e.expr) ∷ vs)) (ahead self.new) }
     {
         self.enter()?;
         let inner = self.expr()?;
-        self.expect(Mark::ParenClose)?;
+        self.expect(Terminal::ParenClose)?;
         self.depth -= 1;
         Ok(inner)
     }
@@ -169,7 +169,7 @@ impl<'a> Parser<'a> {
         ensures none { IfNone result (Skips self.now products) }
     {
         match self.cursor.token {
-            Token::Mark(mark) => product_of(mark),
+            Token::Terminal(terminal) => product_of(terminal),
             _ => None,
         }
     }
@@ -181,7 +181,7 @@ impl<'a> Parser<'a> {
         ensures none { IfNone result (Skips self.now sums) }
     {
         match self.cursor.token {
-            Token::Mark(mark) => sum_of(mark),
+            Token::Terminal(terminal) => sum_of(terminal),
             _ => None,
         }
     }
@@ -193,7 +193,7 @@ impl<'a> Parser<'a> {
         ensures none { IfNone result (Skips self.now comparison) }
     {
         match self.cursor.token {
-            Token::Mark(mark) => comparison_of(mark),
+            Token::Terminal(terminal) => comparison_of(terminal),
             _ => None,
         }
     }

@@ -3,11 +3,11 @@ ghost use Rattle.cw_text.specs.Cursor.{count_of, rest_of};
 ghost use Rattle.cw_text.specs.Grammar.{Symbol, Values, a_word, act, an_init, block, cell_done, cell_init, closing, declared, exactly, func_done, init, items, main_word, negated, pending, push, read, word};
 ghost use Rattle.cw_text.specs.Parser.{GoesOn, ahead, item_read};
 ghost use Rattle.cw_text.specs.Syntax.{Declaration, declaration_of};
-ghost use Rattle.cw_text.specs.declared.mark.Mark.TheVariants as Mark;
+ghost use Rattle.cw_text.specs.declared.terminal.Terminal.TheVariants as Terminal;
 
 use crate::cursor::Token;
 use crate::parser::Parser;
-use crate::{Item, Mark, TextRefusal, Word};
+use crate::{Item, Terminal, TextRefusal, Word};
 
 impl<'a> Parser<'a> {
     /// The next cell or function, unless the text ends here.
@@ -22,8 +22,8 @@ impl<'a> Parser<'a> {
             (item_read k vs ds) (ahead self.new) }
     {
         match self.cursor.token {
-            Token::Mark(Mark::Cell) => Ok(Some(self.cell()?)),
-            Token::Mark(Mark::Fn) => Ok(Some(self.function()?)),
+            Token::Terminal(Terminal::Cell) => Ok(Some(self.cell()?)),
+            Token::Terminal(Terminal::Fn) => Ok(Some(self.function()?)),
             Token::End => Ok(None),
             _ => Err(self.unexpected()),
         }
@@ -36,14 +36,14 @@ impl<'a> Parser<'a> {
         ensures same { OnOk result (self.new.depth ≡ self.old.depth) }
         ensures shorter { OnOk result (count_of (ahead self.new) < count_of (rest_of (ahead self.old))) }
         ensures read { (k : List Symbol) (vs : Values) (ds : List Declaration) → pending k ≡ self.old.depth →
-            let parts = word ∷ act (push (an_init (pos 0))) ∷ cell_init ∷ exactly Mark.Semicolon ∷ act cell_done ∷ k in
+            let parts = word ∷ act (push (an_init (pos 0))) ∷ cell_init ∷ exactly Terminal.Semicolon ∷ act cell_done ∷ k in
             GoesOn result (read parts (declared ds ∷ vs) (rest_of (ahead self.old)))
             (λ i. read k (declared (ds ++ declaration_of i ∷ []) ∷ vs)) (ahead self.new) }
     {
         self.cursor.advance();
         let Word { name, line } = self.word()?;
         let init = self.initial_value()?;
-        self.expect(Mark::Semicolon)?;
+        self.expect(Terminal::Semicolon)?;
         Ok(Item::Cell {
             name,
             line,
@@ -62,7 +62,7 @@ impl<'a> Parser<'a> {
             (λ n. read k (an_init n ∷ vs)) (ahead self.new) }
     {
         match self.cursor.token {
-            Token::Mark(Mark::Assign) => {
+            Token::Terminal(Terminal::Assign) => {
                 self.cursor.advance();
                 Ok(self.signed()?)
             }
@@ -84,7 +84,7 @@ impl<'a> Parser<'a> {
                 self.cursor.advance();
                 Ok(number.value as i64)
             }
-            Token::Mark(Mark::Minus) => {
+            Token::Terminal(Terminal::Minus) => {
                 self.cursor.advance();
                 Ok(self.negated()?)
             }
@@ -117,14 +117,14 @@ impl<'a> Parser<'a> {
         ensures same { OnOk result (self.new.depth ≡ self.old.depth) }
         ensures shorter { OnOk result (count_of (ahead self.new) < count_of (rest_of (ahead self.old))) }
         ensures read { (k : List Symbol) (vs : Values) (ds : List Declaration) → pending k ≡ self.old.depth →
-            let parts = main_word ∷ exactly Mark.ParenOpen ∷ closing Mark.ParenClose ∷ block ∷ act func_done ∷ k in
+            let parts = main_word ∷ exactly Terminal.ParenOpen ∷ closing Terminal.ParenClose ∷ block ∷ act func_done ∷ k in
             GoesOn result (read parts (declared ds ∷ vs) (rest_of (ahead self.old)))
             (λ i. read k (declared (ds ++ declaration_of i ∷ []) ∷ vs)) (ahead self.new) }
     {
         self.cursor.advance();
         let Word { name, line } = self.main_word()?;
-        self.expect(Mark::ParenOpen)?;
-        self.expect(Mark::ParenClose)?;
+        self.expect(Terminal::ParenOpen)?;
+        self.expect(Terminal::ParenClose)?;
         let body = self.block()?;
         Ok(Item::Func {
             name,

@@ -8,7 +8,7 @@
 #![tactic(auto)]
 
 ghost use Rattle.std.specs.Prelude.{ℕ, List, ◌≡◌};
-ghost use Rattle.cw_text.specs.declared.mark.Mark.{Mark};
+ghost use Rattle.cw_text.specs.declared.terminal.Terminal.{Terminal};
 ghost use Rattle.cw_text.specs.Lexemes.{Lexemes, lexemes};
 ghost use Rattle.cw_text.specs.Places.{Follow};
 ghost use Rattle.cw_text.specs.Grammar.{program_of};
@@ -24,16 +24,16 @@ mod expr;
 mod fault;
 mod item;
 mod letters;
-mod mark;
 mod parser;
 mod scan;
 mod spelling;
 mod stmt;
+mod terminal;
 mod text;
 
 pub use ast::{Ast, Expr, Item, Op, Stmt, Word};
 pub use fault::{TextFault, TextKind, TextRefusal};
-pub use mark::Mark;
+pub use terminal::Terminal;
 pub use text::read_program;
 
 /// Worked texts.
@@ -47,7 +47,7 @@ pub fn worked_texts()
 
 /// The tokens of a text follow each other without a hole, and a line is 1 and the number of newlines before it.
 pub fn tokens_follow()
-    ensures { (words : List Mark) (text : List ℕ) → Follow words text 0 (lexemes words text) }
+    ensures { (words : List Terminal) (text : List ℕ) → Follow words text 0 (lexemes words text) }
 {}
 
 /// Reading undoes printing: a tree's tokens read as that tree, with its lines, if it can be read at all. The tree of

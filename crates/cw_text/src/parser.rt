@@ -6,7 +6,7 @@ ghost use Rattle.cw_text.specs.Text.{Reads};
 
 use crate::cursor::{Cursor, Token};
 use crate::letters::Letters;
-use crate::{Ast, Mark, TextFault, TextKind, TextRefusal, Word};
+use crate::{Ast, Terminal, TextFault, TextKind, TextRefusal, Word};
 use cw_base::{OutOfMemory, Text};
 use std::alloc::Global;
 
@@ -53,17 +53,17 @@ impl<'a> Parser<'a> {
         Ok(())
     }
 
-    /// Takes this mark.
-    pub(crate) fn expect(&mut self, mark: Mark) -> Result<(), TextRefusal>
+    /// Takes this terminal.
+    pub(crate) fn expect(&mut self, terminal: Terminal) -> Result<(), TextRefusal>
         ensures same { OnOk result (self.new.depth ≡ self.old.depth) }
         ensures shorter { OnOk result (count_of (ahead self.new) < count_of (ahead self.old)) }
         ensures read { (k : List Symbol) (vs : Values) → pending k ≤ 200 →
-            GoesOn result (read (exactly mark ∷ k) vs (ahead self.old))
+            GoesOn result (read (exactly terminal ∷ k) vs (ahead self.old))
             (λ _. read k vs) (ahead self.new) }
     {
         let token = self.cursor.token;
         match token {
-            Token::Mark(found) if found == mark => {
+            Token::Terminal(found) if found == terminal => {
                 self.cursor.advance();
                 Ok(())
             }

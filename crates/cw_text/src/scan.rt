@@ -9,7 +9,7 @@ ghost use Rattle.cw_text.specs.Lexemes.{found, sign_front, front};
 use crate::cursor::Token;
 use crate::letters::{Letters, Whole};
 use crate::spelling::{SIGNS, spelling};
-use crate::{Mark, TextKind};
+use crate::{Terminal, TextKind};
 
 /// What a text begins with, and how many bytes it takes: a gap or a token.
 #[derive(Clone, Copy)]
@@ -70,13 +70,13 @@ fn line_len(text: &[u8]) -> usize
 }
 
 // The keyword that a word is, or else a name.
-fn word_token<'a>(words: &[Mark], word: &'a [u8]) -> Token<'a>
+fn word_token<'a>(words: &[Terminal], word: &'a [u8]) -> Token<'a>
     requires { AllPass is_word word.now }
     ensures { lexeme_of result ≡ word_token words.now word.now }
 {
-    for mark in words {
-        if spelling(*mark) == word {
-            return Token::Mark(*mark);
+    for terminal in words {
+        if spelling(*terminal) == word {
+            return Token::Terminal(*terminal);
         }
     }
     Token::Name(Letters { bytes: word })
@@ -114,20 +114,20 @@ fn number_token(digits: &[u8], rest: &[u8]) -> Token<'static>
 }
 
 // The first of these signs with which a text begins.
-fn sign_front(signs: &[Mark], text: &[u8]) -> Front<'static>
+fn sign_front(signs: &[Terminal], text: &[u8]) -> Front<'static>
     ensures { front_of result ≡ sign_front signs.now text.now }
 {
-    for mark in signs {
-        let spelling = spelling(*mark);
+    for terminal in signs {
+        let spelling = spelling(*terminal);
         if text.starts_with(spelling) {
-            return Front::Found(Token::Mark(*mark), spelling.len());
+            return Front::Found(Token::Terminal(*terminal), spelling.len());
         }
     }
     Front::Found(Token::Bad(TextKind::BadChar), 1)
 }
 
 // The word that a text begins with.
-fn word_front<'a>(words: &[Mark], text: &'a [u8]) -> Front<'a>
+fn word_front<'a>(words: &[Terminal], text: &'a [u8]) -> Front<'a>
     ensures { let word = take_while is_word text.now in
         front_of result ≡ found (word_token words.now word) (length word) }
 {
@@ -146,7 +146,7 @@ fn number_front(text: &[u8]) -> Front<'static>
 
 /// What a text begins with, where these words are keywords.
 #[tactic(auto, using(crate::proofs::Fronts::word_is_front, crate::proofs::Fronts::number_is_front))]
-pub fn read_front<'a>(words: &[Mark], text: &'a [u8]) -> Front<'a>
+pub fn read_front<'a>(words: &[Terminal], text: &'a [u8]) -> Front<'a>
     ensures { front_of result ≡ front words.now text.now }
 {
     match text {

@@ -3,12 +3,12 @@ ghost use Rattle.cw_text.specs.Cursor.{count_of, rest_of};
 ghost use Rattle.cw_text.specs.Grammar.{Symbol, Values, a_block, a_term, a_word, act, assign_done, atomic_done, block, exactly, expr, let_done, out_done, pending, push, read, spawn_done, stated, stmts, sync_done, word, word_at};
 ghost use Rattle.cw_text.specs.Parser.{GoesOn, Parses, ahead, statement_read};
 ghost use Rattle.cw_text.specs.Syntax.{block_of, statement_of, term_of};
-ghost use Rattle.cw_text.specs.declared.mark.Mark.TheVariants as Mark;
+ghost use Rattle.cw_text.specs.declared.terminal.Terminal.TheVariants as Terminal;
 
 use crate::cursor::Token;
 use crate::letters::Letters;
 use crate::parser::Parser;
-use crate::{Expr, Mark, Stmt, TextRefusal};
+use crate::{Expr, Stmt, Terminal, TextRefusal};
 
 impl<'a> Parser<'a> {
     /// Statements in braces.
@@ -22,14 +22,14 @@ impl<'a> Parser<'a> {
             (λ b. push (a_block (block_of b.items))) (ahead self.old) (ahead self.new) }
     {
         match self.cursor.token {
-            Token::Mark(Mark::BraceOpen) => self.enter()?,
+            Token::Terminal(Terminal::BraceOpen) => self.enter()?,
             _ => return Err(self.unexpected()),
         }
         let mut body = Vec::new(self.alloc);
         while let Some(statement) = self.statement()? {
             body.push(statement)?;
         }
-        self.expect(Mark::BraceClose)?;
+        self.expect(Terminal::BraceClose)?;
         self.depth -= 1;
         Ok(body)
     }
@@ -47,11 +47,11 @@ impl<'a> Parser<'a> {
             GoesOn result (read (stmts ∷ k) vs (ahead self.old)) (statement_read k vs) (ahead self.new) }
     {
         match self.cursor.token {
-            Token::Mark(Mark::Let) => Ok(Some(self.let_statement()?)),
-            Token::Mark(Mark::Out) => Ok(Some(self.out_statement()?)),
-            Token::Mark(Mark::Atomic) => Ok(Some(self.atomic_statement()?)),
-            Token::Mark(Mark::Spawn) => Ok(Some(self.spawn_statement()?)),
-            Token::Mark(Mark::Sync) => Ok(Some(self.sync_statement()?)),
+            Token::Terminal(Terminal::Let) => Ok(Some(self.let_statement()?)),
+            Token::Terminal(Terminal::Out) => Ok(Some(self.out_statement()?)),
+            Token::Terminal(Terminal::Atomic) => Ok(Some(self.atomic_statement()?)),
+            Token::Terminal(Terminal::Spawn) => Ok(Some(self.spawn_statement()?)),
+            Token::Terminal(Terminal::Sync) => Ok(Some(self.sync_statement()?)),
             Token::Name(letters) => Ok(Some(self.assignment(letters)?)),
             _ => Ok(None),
         }
@@ -63,7 +63,7 @@ impl<'a> Parser<'a> {
         ensures same { OnOk result (self.new.depth ≡ self.old.depth) }
         ensures shorter { OnOk result (count_of (ahead self.new) < count_of (rest_of (ahead self.old))) }
         ensures read { Parses result self.old.depth
-            (word ∷ exactly Mark.Assign ∷ expr ∷ exactly Mark.Semicolon ∷ act let_done ∷ [])
+            (word ∷ exactly Terminal.Assign ∷ expr ∷ exactly Terminal.Semicolon ∷ act let_done ∷ [])
             (λ s. stated (statement_of s)) (rest_of (ahead self.old)) (ahead self.new) }
     {
         self.cursor.advance();
@@ -77,12 +77,12 @@ impl<'a> Parser<'a> {
         requires { self.old.depth ≤ 200 }
         ensures same { OnOk result (self.new.depth ≡ self.old.depth) }
         ensures shorter { OnOk result (count_of (ahead self.new) < count_of (rest_of (ahead self.old))) }
-        ensures read { Parses result self.old.depth (expr ∷ exactly Mark.Semicolon ∷ act out_done ∷ [])
+        ensures read { Parses result self.old.depth (expr ∷ exactly Terminal.Semicolon ∷ act out_done ∷ [])
             (λ s. stated (statement_of s)) (rest_of (ahead self.old)) (ahead self.new) }
     {
         self.cursor.advance();
         let value = self.expr()?;
-        self.expect(Mark::Semicolon)?;
+        self.expect(Terminal::Semicolon)?;
         Ok(Stmt::Out(value.expr))
     }
 
@@ -121,11 +121,11 @@ impl<'a> Parser<'a> {
         requires { self.old.depth ≤ 200 }
         ensures same { OnOk result (self.new.depth ≡ self.old.depth) }
         ensures shorter { OnOk result (count_of (ahead self.new) < count_of (rest_of (ahead self.old))) }
-        ensures read { Parses result self.old.depth (exactly Mark.Semicolon ∷ act sync_done ∷ [])
+        ensures read { Parses result self.old.depth (exactly Terminal.Semicolon ∷ act sync_done ∷ [])
             (λ s. stated (statement_of s)) (rest_of (ahead self.old)) (ahead self.new) }
     {
         self.cursor.advance();
-        self.expect(Mark::Semicolon)?;
+        self.expect(Terminal::Semicolon)?;
         Ok(Stmt::Sync)
     }
 
@@ -137,7 +137,7 @@ impl<'a> Parser<'a> {
         ensures shorter { OnOk result (count_of (ahead self.new) < count_of (rest_of (ahead self.old))) }
         ensures read { let name = word_at letters.entry.bytes.now self.old.cursor.line in
             Parses result self.old.depth
-            (act (push (a_word name)) ∷ exactly Mark.Assign ∷ expr ∷ exactly Mark.Semicolon ∷ act assign_done ∷ [])
+            (act (push (a_word name)) ∷ exactly Terminal.Assign ∷ expr ∷ exactly Terminal.Semicolon ∷ act assign_done ∷ [])
             (λ s. stated (statement_of s)) (rest_of (ahead self.old)) (ahead self.new) }
     {
         let name = self.word_of(letters)?;
@@ -150,12 +150,12 @@ impl<'a> Parser<'a> {
         requires { self.old.depth ≤ 200 }
         ensures same { OnOk result (self.new.depth ≡ self.old.depth) }
         ensures shorter { OnOk result (count_of (ahead self.new) < count_of (ahead self.old)) }
-        ensures read { Parses result self.old.depth (exactly Mark.Assign ∷ expr ∷ exactly Mark.Semicolon ∷ [])
+        ensures read { Parses result self.old.depth (exactly Terminal.Assign ∷ expr ∷ exactly Terminal.Semicolon ∷ [])
             (λ e. push (a_term (term_of e))) (ahead self.old) (ahead self.new) }
     {
-        self.expect(Mark::Assign)?;
+        self.expect(Terminal::Assign)?;
         let value = self.expr()?;
-        self.expect(Mark::Semicolon)?;
+        self.expect(Terminal::Semicolon)?;
         Ok(value.expr)
     }
 }

@@ -5,6 +5,7 @@ use Rattle.cw_code.specs.declared.CellInfo.{CellInfo}
 use Rattle.cw_code.specs.declared.Limits.{Limits}
 use Rattle.cw_tree.specs.declared.node.Node.{Node}
 use Rattle.cw_tree.specs.declared.picks.Picks.{Picks}
+use Rattle.cw_tree.specs.Shape.{IsTree}
 use Rattle.cw_serial.specs.declared.ends.SerialEnd.{SerialEnd}
 use Rattle.cw_serial.specs.declared.ends.SerialEnd.TheVariants as last
 use Rattle.cw_record.specs.declared.record.Record.{Record}
@@ -12,6 +13,7 @@ use Rattle.cw_record.specs.declared.record_end.RecordEnd.{RecordEnd}
 use Rattle.cw_record.specs.declared.record_end.RecordEnd.TheVariants.{Finished, Fault, Budget, Moves}
 use Rattle.cw_record.specs.Records.{HasEnded, IsReplayed}
 use Rattle.cw_record.specs.Replay.{SameEnd}
+use Rattle.cw_record.proofs.OneRun.{same_end}
 use Rattle.cw_top.specs.declared.command.Command.{Command}
 use Rattle.cw_top.specs.declared.command.Command.TheVariants.{Run}
 use Rattle.cw_top.specs.declared.outcome.Note.{Note}
@@ -105,15 +107,15 @@ at_zero cells t (Fault x k) picks s old new is same written = cc
 at_zero cells t (Budget x) picks s old new is same written = cc
 at_zero cells t Moves picks s old new is same written = cc
 
-of_replay : (ws : List ℤ) (ls : Limits) (r : Record) (old new : Option (List ℕ)) → 0 ≡ status_of_end r.end → IsReplayed r → Writes (Some (Run ws ls)) (Some r) note.Nothing old new → WritesEndOfOneMemory (Some (Run ws ls)) r old new
-of_replay ws ls r old new is replays written =
-    let (memory, outputs, finishes, told) = at_zero r.program.cells r.tree r.end r.order (end_of_one_memory r) old new is replays.end written in
+of_replay : (ws : List ℤ) (ls : Limits) (r : Record) (old new : Option (List ℕ)) → 0 ≡ status_of_end r.end → IsTree r.tree → IsReplayed r → Writes (Some (Run ws ls)) (Some r) note.Nothing old new → WritesEndOfOneMemory (Some (Run ws ls)) r old new
+of_replay ws ls r old new is tree replays written =
+    let (memory, outputs, finishes, told) = at_zero r.program.cells r.tree r.end r.order (end_of_one_memory r) old new is (same_end r tree.rooted tree.root replays) written in
     record { memory = memory; outputs = outputs; finishes = finishes; written = told }
 
 pub finished : (command : Option Command) (kept : Option Record) (status : ℕ) (n : Note) (left old new : Option (List ℕ)) → IsStatus kept status n → IfSome kept (IsRunOf command left) → Writes command kept n old new → status ≡ 0 → IsSomeAnd kept (λ r. WritesEndOfOneMemory command r old new)
 finished command None status note.Nothing left old new is run written zero = absurd is
 finished None (Some r) status note.Nothing left old new is run written zero = absurd run
-finished (Some (Run ws ls)) (Some r) status note.Nothing left old new is run written zero = of_replay ws ls r old new (sym zero ∙ is) run.replays written
+finished (Some (Run ws ls)) (Some r) status note.Nothing left old new is run written zero = of_replay ws ls r old new (sym zero ∙ is) run.coherent.coherent.history.tree run.replays written
 finished command kept status note.Usage left old new (none, is) run written zero = cc
 finished command kept status note.Memory left old new (none, is) run written zero = cc
 finished command kept status note.Read left old new (none, is) run written zero = cc

@@ -4,20 +4,14 @@ use Rattle.std.specs.Prelude.{◌≡◌, ◌≤◌, ◌⊎◌, ℕ, ℤ, List, [
 use Rattle.cw_io.specs.Outside.{Takes, Appends, AppendsFront, RunsDry}
 use Rattle.cw_code.specs.declared.CellInfo.{CellInfo}
 use Rattle.cw_code.specs.declared.Limits.{Limits}
-use Rattle.cw_text.specs.Syntax.{tree_of}
-use Rattle.cw_strand.specs.Names.{first_memory}
-use Rattle.cw_tree.specs.Refusals.{AreRefusals}
-use Rattle.cw_tree.specs.Shape.{IsTree, AreStamps, PendingLast}
-use Rattle.cw_tree.specs.Journals.{AreJournals}
 use Rattle.cw_record.specs.declared.record.Record.{Record}
 use Rattle.cw_record.specs.declared.record_end.RecordEnd.{RecordEnd}
 use Rattle.cw_record.specs.declared.record_end.RecordEnd.TheVariants.{Finished, Fault, Budget, Moves}
 use Rattle.cw_serial.specs.declared.ends.SerialEnd.{SerialEnd}
 use Rattle.cw_serial.specs.declared.ends.SerialEnd.TheVariants as last
 use Rattle.cw_serial.specs.declared.program.Program.{Program}
-use Rattle.cw_serial.specs.Programs.{IsProgramOf}
 use Rattle.cw_serial.specs.MachineOf.{end_under}
-use Rattle.cw_record.specs.Records.{job_of, BlocksEnded, HasEnded, IsReplayed, IsDepthFirst, IsNumberedDepthFirst}
+use Rattle.cw_record.specs.Records.{job_of, BlocksEnded, HasEnded, HasItsOutputs, IsCoherentRecord, IsReplayed, IsDepthFirst, IsNumberedDepthFirst}
 use Rattle.cw_top.specs.declared.command.Command.{Command}
 use Rattle.cw_top.specs.declared.command.Command.TheVariants.{Run}
 use Rattle.cw_top.specs.declared.outcome.Note.{Note}
@@ -96,25 +90,21 @@ pub record IsOfOneWorker (r : Record) : Type 0 where
   pub ended : HasEnded r.end
   pub numbered : IsNumberedDepthFirst r.tree
   pub blocks : BlocksEnded r.tree r.end
-  pub pending_last : PendingLast r.tree
 
 -- how a command's run is done
 abbrev pub IsDoneAs : Command → Record → Type 0
 IsDoneAs (Run words limits) r = IsOfOneWorker r
 
--- A run of this command: of its program, with its words and limits. One memory does the same in its order. What it did is a
--- computation tree, whose stamps differ and rise along it, and the journal of each element has the element's live accesses.
+-- A run of this command: of its program, with its words and limits. Its record is coherent and has its outputs, and one memory does the
+-- same in its order.
 pub record IsRunBy (c : Command) (left : Option (List ℕ)) (r : Record) : Type 0 where
   pub runs : Runs c left r.program
-  pub program : IsProgramOf (tree_of r.program.ast) r.program
   pub words : r.words ≡ words_of c
   pub limits : r.limits ≡ limits_of c
   pub done : IsDoneAs c r
+  pub coherent : IsCoherentRecord r
+  pub outputs : HasItsOutputs r
   pub replays : IsReplayed r
-  pub tree : IsTree r.tree
-  pub stamps : AreStamps r.tree
-  pub journals : AreJournals r.tree (first_memory r.program.cells) r.journals
-  pub refusals : AreRefusals r.tree r.conflicts
 
 -- Only a command leaves a run, and it is its own.
 abbrev pub IsRunOf : Option Command → (left : Option (List ℕ)) → Record → Type 0

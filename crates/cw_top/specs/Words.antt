@@ -1,5 +1,5 @@
 -- Which words are a command, and what they say. So far there is one, `run`, without words and options of its own.
-use Rattle.std.specs.Prelude.{List, [], ◌∷◌, ℕ, Option, Some, None, codes, if◌then◌else◌, map, string_bytes, String}
+use Rattle.std.specs.Prelude.{◌≡◌, List, [], ◌∷◌, ℕ, Option, Some, None, codes, if◌then◌else◌, map, string_bytes, String}
 use Rattle.std.specs.declared.alloc.Global.{Global}
 use Rattle.std.specs.Str.{bytes_eq}
 use Rattle.cw_code.specs.declared.Limits.{Limits}
@@ -19,6 +19,11 @@ run_with (w ∷ ws) = None
 abbrev pub command_of : List (List ℕ) → Option Command
 command_of [] = None
 command_of (name ∷ words) = if bytes_eq name (codes "run") then run_with words else None
+
+-- A run has as many words as a program may ask for: so far that is none.
+abbrev pub HasNoWords : Option Command → Type 0
+HasNoWords None = Unit {0}
+HasNoWords (Some (Run words limits)) = words ≡ []
 
 -- the command that these words are, which come behind the program's name, if they are one
 abbrev pub command_in : List (String Global) → Option Command

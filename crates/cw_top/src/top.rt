@@ -9,7 +9,7 @@ ghost use Rattle.cw_top.specs.declared.reasons.NotWritten.TheVariants.{OutOfMemo
 ghost use Rattle.cw_top.specs.Outcome.{Accepts, MayEndWith, HasCause, IsMisused, IsRefusedFor, IsRunOf, IsStatus, ReadsWhole, TakesAtMost, Writes, WritesEndOfOneMemory, most_bytes, most_read, status_of_end};
 ghost use Rattle.cw_top.specs.Reasons.{WhyNoRun, note_of};
 ghost use Rattle.cw_top.specs.Texts.{run_text};
-ghost use Rattle.cw_top.specs.Words.{command_in};
+ghost use Rattle.cw_top.specs.Words.{HasNoWords, command_in};
 
 use crate::command::{Command, command_of};
 use crate::reading::program_from;
@@ -41,6 +41,7 @@ fn run_of<S: Source>(
     limits: Limits,
     source: &mut S,
 ) -> Result<Record, NoRun>
+    requires { words ≡ [] }
     ensures later { S.faults source.old ≤ S.faults source.new }
     ensures kept { (IsErrOf result (Stopped ReadFault) → ⊥) → S.faults source.new ≡ S.faults source.old }
     ensures why { IfErr result (λ n. WhyNoRun n (Rose (S.faults source.old) (S.faults source.new)) (S.left source.old)) }
@@ -93,6 +94,7 @@ fn ran<S: Source, K: Sink>(
     source: &mut S,
     sink: &mut K,
 ) -> Reply
+    requires { words ≡ [] }
     ensures read_later { S.faults source.old ≤ S.faults source.new }
     ensures write_later { K.faults sink.old ≤ K.faults sink.new }
     ensures read_kept { (result.status ≡ 3 → ⊥) → S.faults source.new ≡ S.faults source.old }
@@ -131,6 +133,7 @@ fn answer<S: Source, K: Sink>(
     source: &mut S,
     sink: &mut K,
 ) -> Reply
+    requires { HasNoWords command }
     ensures read_later { S.faults source.old ≤ S.faults source.new }
     ensures write_later { K.faults sink.old ≤ K.faults sink.new }
     ensures read_kept { (result.status ≡ 3 → ⊥) → S.faults source.new ≡ S.faults source.old }

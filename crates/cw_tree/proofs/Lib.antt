@@ -1,5 +1,6 @@
 pub mod Climbs
 pub mod Ancestors
+pub mod Upward
 pub mod Meets
 pub mod Victims
 pub mod Lists
@@ -15,7 +16,10 @@ pub mod PassUp
 pub mod Sides
 pub mod Turns
 pub mod Checks
+pub mod KeptParts
 pub mod KeptRuns
+pub mod There
+pub mod ChainRows
 pub mod Parting
 pub mod Members
 pub mod Kept
@@ -30,3 +34,9 @@ pub mod LiveAccesses
 pub mod Entries
 pub mod CellJournals
 pub mod NewStrands
+pub mod Nearest
+pub mod Chains
+pub mod ChainsChange
+pub mod Stamps
+pub mod Stacks
+pub mod VictimsAt

@@ -1,6 +1,6 @@
 -- The accesses of a cell: which are live, the chain that they make, and the cell's value.
 -- Where they outlive a numbering of the tree they are named by their stamps.
-use Rattle.std.specs.Prelude.{ℕ, ℤ, ◌&&◌, Bool, true, false, not, nat_le, IsTrue, List, [], ◌∷◌, map, filter, slice_get, Option, Some, None, unwrap_or, if◌then◌else◌}
+use Rattle.std.specs.Prelude.{◌≡◌, ℕ, ℤ, ◌&&◌, Bool, true, false, not, nat_le, IsTrue, List, [], ◌∷◌, map, filter, slice_get, Option, Some, None, unwrap_or, All, if◌then◌else◌}
 use Rattle.std.specs.List.{list_all}
 use Rattle.cw_tree.specs.declared.node.Node.{Node}
 use Rattle.cw_tree.specs.declared.node.Kind.{Kind}
@@ -62,6 +62,11 @@ IsChain t [] = Unit {0}
 IsChain t (u ∷ []) = Unit {0}
 IsChain t (u ∷ v ∷ us) = IsTrue (lets_follow t (nua t u) (nua t v)) × IsChain t (v ∷ us)
 
--- the same of the accesses with these stamps
-abbrev pub IsChainOf : List Node → List ℕ → Type 0
-IsChainOf t stamps = IsChain t (map (λ s. unwrap_or (with_stamp t s) 0) stamps)
+-- an access of cell c has this stamp
+abbrev pub HasAccess : List Node → ℕ → ℕ → Type 0
+HasAccess t c s = (n : ℕ) × IsTrue (touches t c n) × (stamp_of t n ≡ s)
+
+-- stamps of accesses of cell c, which make a chain
+pub record IsChainOf (t : List Node) (c : ℕ) (stamps : List ℕ) : Type 0 where
+  pub accesses : All (HasAccess t c) stamps
+  pub chain : IsChain t (map (λ s. unwrap_or (with_stamp t s) 0) stamps)

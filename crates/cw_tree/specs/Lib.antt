@@ -8,6 +8,10 @@ pub mod Accesses
 pub mod Shape
 pub mod Journals
 pub mod Refusals
+pub mod Histories
+pub mod Stacks
 pub mod Laws
+pub mod ChainLaws
 pub mod Rows
 pub mod WorkedRun
+pub mod VictimsAt

@@ -1,5 +1,5 @@
 -- Refused accesses: what a conflict tells, and how the conflicts of a run and its rolled-back blocks go together.
-use Rattle.std.specs.Prelude.{◌≡◌, ℕ, ◌<◌, ◌≤◌, ◌==◌, ◌&&◌, ◌||◌, Bool, false, not, nat_lt, IsTrue, List, [], ◌∷◌, ◌++◌, map, length, filter, find, Option, Some, None, MatchOption, unwrap_or, All, if◌then◌else◌}
+use Rattle.std.specs.Prelude.{◌≡◌, ℕ, ◌<◌, ◌≤◌, ◌==◌, ◌&&◌, ◌||◌, Bool, false, not, IsTrue, List, [], ◌∷◌, ◌++◌, map, length, filter, find, Option, Some, None, option_map, is_some, unwrap_or, All, if◌then◌else◌}
 use Rattle.std.specs.List.{list_any}
 use Rattle.std.specs.Option.{option_map_or}
 use Rattle.std.specs.List.Sorted.{IsStrictlyIncreasing}
@@ -11,7 +11,7 @@ use Rattle.cw_tree.specs.Nodes.{stamp_of, end_of, is_strand, is_block, is_pendin
 use Rattle.cw_tree.specs.Walks.{path, above, is_above, outermost}
 use Rattle.cw_tree.specs.Series.{strand_of, last_of, has_later, parallel, is_before, depth_first}
 use Rattle.cw_tree.specs.Attempts.{attempt_of}
-use Rattle.cw_tree.specs.Accesses.{is_live}
+use Rattle.cw_tree.specs.Accesses.{is_live, HasAccess}
 
 -- ## One conflict
 
@@ -19,10 +19,9 @@ use Rattle.cw_tree.specs.Accesses.{is_live}
 abbrev pub outermost_apart : List Node → ℕ → ℕ → Option ℕ
 outermost_apart t u v = outermost (λ m. is_block t m && not (is_above t m u)) (above t v)
 
--- the begin stamp of a block, or 0
-abbrev pub stamp_or_none : List Node → Option ℕ → ℕ
-stamp_or_none t None = 0
-stamp_or_none t (Some b) = stamp_of t b
+-- the begin stamp of the block that has to roll back for a conflict, if one has to: in the conflict the number 0 stands for none
+abbrev pub victim_of : Conflict → Option ℕ
+victim_of c = if c.victim == 0 then None else Some c.victim
 
 -- what conflict c tells of access u, the last of the cell, and block b, which stood in the way
 pub record IsRefusal (t : List Node) (c : Conflict) (u b : ℕ) : Type 0 where
@@ -30,11 +29,11 @@ pub record IsRefusal (t : List Node) (c : Conflict) (u b : ℕ) : Type 0 where
   pub asker : IsTrue (tries t c.cell c.asker)
   pub parallel : IsTrue (parallel t u c.asker)
   pub block : IsTrue (is_block t b && is_above t b u && not (is_above t b c.asker)) × (stamp_of t b ≡ c.block)
-  pub victim : stamp_or_none t (outermost_apart t u c.asker) ≡ c.victim
+  pub victim : victim_of c ≡ option_map (stamp_of t) (outermost_apart t u c.asker)
   pub attempt : c.attempt ≡ attempt_of t c.asker (outermost_apart t u c.asker)
   pub chain_len : (1 ≤ length c.chain) × (length c.chain ≤ 8)
   pub chain_rises : IsStrictlyIncreasing c.chain
-  pub chain_accesses : All (λ s. (n : ℕ) × IsTrue (touches t c.cell n) × (stamp_of t n ≡ s)) c.chain
+  pub chain_accesses : All (HasAccess t c.cell) c.chain
   pub chain_last : (xs : List ℕ) × (c.chain ≡ xs ++ c.last ∷ [])
   -- there was a moment for it: what is before the asker came before what is after the block, and the last access before what is after the asker
   pub before_after_block : (n m : ℕ) → n < length t → m < length t → IsTrue (is_before t n c.asker) → IsTrue (is_before t b m) → 0 < stamp_of t m → (stamp_of t n < stamp_of t m) × (end_of t n < stamp_of t m)
@@ -48,7 +47,7 @@ IsRecorded t c = (u b : ℕ) × IsRefusal t c u b
 
 -- block b is the victim of a conflict
 abbrev pub is_victim : List Node → List Conflict → ℕ → Bool
-is_victim t cs b = is_block t b && list_any (λ c. c.victim == stamp_of t b) cs
+is_victim t cs b = is_block t b && list_any (λ c. option_map_or (λ v. v == stamp_of t b) (victim_of c) false) cs
 
 -- the refused accesses, their conflicts and the blocks that were rolled back for them
 pub record AreRefusals (t : List Node) (cs : List Conflict) : Type 0 where
@@ -60,7 +59,7 @@ pub record AreRefusals (t : List Node) (cs : List Conflict) : Type 0 where
 
 -- n is a refused access whose conflict has a victim
 abbrev pub leads_back : List Conflict → ℕ → Bool
-leads_back cs n = list_any (λ c. (c.asker == n) && nat_lt 0 c.victim) cs
+leads_back cs n = list_any (λ c. (c.asker == n) && is_some (victim_of c)) cs
 
 -- a strand that rolls back goes on with nothing else until it comes to the victim's place
 pub record RollsBack (t : List Node) (cs : List Conflict) : Type 0 where
@@ -69,10 +68,14 @@ pub record RollsBack (t : List Node) (cs : List Conflict) : Type 0 where
 
 -- ## Where a run stopped
 
--- the conflict tells that strand s has spent its budget: its victim was begun in s, or it has none and its asker is the last node of s
+-- what was refused stands in strand s: this victim was begun in s, or there is none and the asker is the last node of s
+abbrev pub is_refused_in : List Node → (s asker : ℕ) → (victim : Option ℕ) → Bool
+is_refused_in t s asker None = last_of t s == asker
+is_refused_in t s asker (Some v) = option_map_or (λ b. strand_of t b == s) (block_with_stamp t v) false
+
+-- the conflict tells that strand s has spent its budget
 abbrev pub tells : List Node → ℕ → ℕ → Conflict → Bool
-tells t budget s c =
-    (c.attempt == budget) && (if c.victim == 0 then last_of t s == c.asker else option_map_or (λ n. strand_of t n == s) (block_with_stamp t c.victim) false)
+tells t budget s c = (c.attempt == budget) && is_refused_in t s c.asker (victim_of c)
 
 -- the first conflict that tells so
 abbrev pub telling : List Node → List Conflict → ℕ → ℕ → Option Conflict
@@ -80,14 +83,23 @@ telling t cs budget s = find (tells t budget s) cs
 
 -- the block or the access that a conflict refused
 abbrev pub refused : List Node → Conflict → ℕ
-refused t c = if c.victim == 0 then c.asker else unwrap_or (block_with_stamp t c.victim) 0
+refused t c = option_map_or (λ v. unwrap_or (block_with_stamp t v) 0) (victim_of c) c.asker
 
--- strand s has spent its budget where a conflict tells so: that block is pending, or that access is the last, and no block above was rolled back
-abbrev pub Spent : List Node → List Conflict → ℕ → ℕ → Type 0
-Spent t cs budget s = MatchOption (telling t cs budget s) ⊥ (λ c. IsTrue (is_live t (refused t c) && (is_tried t (refused t c) || is_pending t (refused t c))))
+-- what a conflict refused may be the end of a run: that block is pending, or that access is the last, and no block above was rolled back
+abbrev pub may_be_last : List Node → Conflict → Bool
+may_be_last t c = is_live t (refused t c) && (is_tried t (refused t c) || is_pending t (refused t c))
 
--- a run may have stopped so
-abbrev pub MayHalt : List Node → List Conflict → ℕ → Option Halt → Type 0
-MayHalt t cs budget (Some (Fault s kind)) = IsTrue (is_strand t s && is_live t s)
-MayHalt t cs budget (Some (Budget s)) = Spent t cs budget s
-MayHalt t cs budget _ = Unit {0}
+-- A strand of the tree has spent its budget, where a conflict tells so.
+pub record Spent (t : List Node) (cs : List Conflict) (budget s : ℕ) : Type 0 where
+  pub strand : IsTrue (is_strand t s)
+  pub told : IsTrue (option_map_or (may_be_last t) (telling t cs budget s) false)
+
+-- a run may have stopped so, where it was at a fault: that is one of a strand, and no block above was rolled back
+abbrev pub MayFault : List Node → Option Halt → Type 0
+MayFault t (Some (Fault s kind)) = IsTrue (is_strand t s && is_live t s)
+MayFault t halt = Unit {0}
+
+-- a run may have stopped so, where it was because a strand spent its budget
+abbrev pub MaySpend : List Node → List Conflict → ℕ → Option Halt → Type 0
+MaySpend t cs budget (Some (Budget s)) = Spent t cs budget s
+MaySpend t cs budget halt = Unit {0}

@@ -9,7 +9,7 @@ use Rattle.cw_tree.specs.Nodes.{with_stamp, block_with_stamp, closed}
 use Rattle.cw_tree.specs.Walks.{path, above, lca, xparent, nua, conflict, victim}
 use Rattle.cw_tree.specs.Series.{strand_of, place, last_of, children, has_later, parallel, is_before, depth_first}
 use Rattle.cw_tree.specs.Attempts.{block_attempt, access_attempt}
-use Rattle.cw_tree.specs.Accesses.{is_live, by_key, live_accesses, written, read, cell_value, IsChain, IsChainOf}
+use Rattle.cw_tree.specs.Accesses.{IsChainOf, is_live, by_key, live_accesses, written, read, cell_value, IsChain}
 use Rattle.cw_tree.specs.Names.{fork_number, is_right, name_of, name_text}
 
 -- a node that is no block, with its parent, what it is, and its stamp
@@ -197,7 +197,12 @@ Values =
     × (cell_value (pos 7) [] ≡ pos 7)
     × (cell_value (pos 0) (Some (pos 1) ∷ None ∷ Some (pos 2) ∷ None ∷ []) ≡ pos 2)
     × IsChain tried_often (3 ∷ 8 ∷ 13 ∷ 14 ∷ [])
-    × IsChainOf tried_often (2 ∷ 3 ∷ 10 ∷ 11 ∷ [])
     × (IsChain tried_often (14 ∷ 3 ∷ []) → ⊥)
     × (IsChain inside (5 ∷ 7 ∷ []) → ⊥)
     × IsChain inside (7 ∷ 5 ∷ [])
+
+-- the same by stamps; not with a stamp that no access has, or that one of another cell has
+pub record Chains : Type 0 where
+  pub holds : IsChainOf tried_often 0 (2 ∷ 3 ∷ 10 ∷ 11 ∷ [])
+  pub unknown : IsChainOf tried_often 0 (2 ∷ 99 ∷ []) → ⊥
+  pub other_cell : IsChainOf tried_often 1 (2 ∷ []) → ⊥

@@ -1,14 +1,14 @@
 -- A small run: two strands, each with a block that writes one cell. The second strand's inner block is refused, its outer
 -- block is rolled back, and both are done again. Each part of what is kept holds of it, and breaks where one thing is changed.
-use Rattle.std.specs.Prelude.{ℕ, ℤ, List, [], ◌∷◌, Some, None, true, false, pos}
+use Rattle.std.specs.Prelude.{ℕ, ℤ, List, [], ◌∷◌, true, false, pos}
 use Rattle.cw_tree.specs.declared.node.Node.{Node}
 use Rattle.cw_tree.specs.declared.node.Kind.TheVariants.{Strand, Fork, Write, Read, Tried}
 use Rattle.cw_tree.specs.declared.access.Entry.{Entry}
 use Rattle.cw_tree.specs.declared.conflict.Conflict.{Conflict}
-use Rattle.cw_tree.specs.declared.closed.Halt.TheVariants.{Budget}
-use Rattle.cw_tree.specs.Shape.{IsTree, AreStamps, PendingLast, NonePending}
-use Rattle.cw_tree.specs.Journals.{IsJournal, AreJournals, FitsCells, EndedBetween, JournalsEnded}
-use Rattle.cw_tree.specs.Refusals.{IsRefusal, AreRefusals, RollsBack, Spent, MayHalt}
+use Rattle.cw_tree.specs.Shape.{IsTree, AreStamps, NonePending}
+use Rattle.cw_tree.specs.Journals.{IsJournal, FitsCells, EndedBetween}
+use Rattle.cw_tree.specs.Refusals.{IsRefusal, AreRefusals, Spent}
+use Rattle.cw_tree.specs.Histories.{IsHistory}
 use Rattle.cw_tree.specs.Rows.{plain, committed, aborted, apart}
 
 abbrev pub two_blocks : List Node
@@ -25,27 +25,15 @@ entry column stamp value old = record { mark = record { strand = column; stamp =
 abbrev pub two_writes : List Entry
 two_writes = entry 1 3 (pos 1) (pos 0) ∷ entry 2 11 (pos 2) (pos 1) ∷ []
 
--- all that is said of tree, journals and conflicts
-pub record Holds : Type 0 where
-  pub tree : IsTree two_blocks
-  pub stamps : AreStamps two_blocks
-  pub pending_last : PendingLast two_blocks
+-- the run that finished
+pub record AllHold : Type 0 where
+  pub history : IsHistory two_blocks (pos 0 ∷ []) (two_writes ∷ []) (refused_write ∷ [])
   pub none_pending : NonePending two_blocks
-  pub cells : FitsCells two_blocks 1
-  pub journals : AreJournals two_blocks (pos 0 ∷ []) (two_writes ∷ [])
-  pub ended : JournalsEnded two_blocks 1
-  pub refusals : AreRefusals two_blocks (refused_write ∷ [])
-  pub rolls_back : RollsBack two_blocks (refused_write ∷ [])
-  pub halt : MayHalt two_blocks (refused_write ∷ []) 2 None
 
 -- the run that stops at that conflict, with a budget of 1, in the second strand
 pub record Stops : Type 0 where
-  pub tree : IsTree apart
-  pub stamps : AreStamps apart
-  pub pending_last : PendingLast apart
-  pub refusals : AreRefusals apart (refused_write ∷ [])
-  pub rolls_back : RollsBack apart (refused_write ∷ [])
-  pub halt : MayHalt apart (refused_write ∷ []) 1 (Some (Budget 5))
+  pub history : IsHistory apart (pos 0 ∷ []) ((entry 1 3 (pos 1) (pos 0) ∷ []) ∷ []) (refused_write ∷ [])
+  pub spent : Spent apart (refused_write ∷ []) 1 5
 
 -- a fork with one strand, and a block that ends before what is in it
 abbrev pub one_strand : List Node
@@ -72,3 +60,4 @@ pub record Breaks : Type 0 where
   pub twice : AreRefusals two_blocks (refused_write ∷ refused_write ∷ []) → ⊥
   pub other_strand : Spent apart (refused_write ∷ []) 1 2 → ⊥
   pub other_budget : Spent apart (refused_write ∷ []) 2 5 → ⊥
+  pub other_cell : FitsCells two_blocks 0 → ⊥

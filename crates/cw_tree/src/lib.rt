@@ -2,17 +2,20 @@
 //! what strands are called.
 //! Stands on `cw_base` and `cw_code`.
 //! Contracts cite `specs/Nodes.antt` (nodes), `specs/Walks.antt` (what stands above a node), `specs/Names.antt` (names of strands) and
-//! `specs/ForkCounts.antt` (how forks are counted). `Series`, `Attempts`, `Accesses`, `Shape`, `Journals` and `Refusals` there hold what
-//! the layers above say of a tree, its accesses and its conflicts; `Laws`, `Rows` and `WorkedRun` try them.
+//! `specs/ForkCounts.antt` (how forks are counted). `Series`, `Attempts`, `Accesses`, `Shape`, `Journals`, `Refusals` and `Histories`
+//! there hold what the layers above say of a tree, its accesses and its conflicts, and `Stacks` the accesses of a cell with their
+//! entries; `Laws` and `ChainLaws` are laws on them, `VictimsAt` says who falls for an access at a place, `Rows` and `WorkedRun` try
+//! them.
 #![tactic(auto)]
 
 ghost use Rattle.cw_tree.specs.Laws.{SeriesOrParallel};
-ghost use Rattle.cw_tree.specs.Rows.{Ancestors, Conflicts, Orders, Names, Texts, Attempts, Places, Values};
-ghost use Rattle.cw_tree.specs.WorkedRun.{Holds, Stops, Breaks};
+ghost use Rattle.cw_tree.specs.Rows.{Ancestors, Conflicts, Orders, Names, Texts, Attempts, Places, Values, Chains};
+ghost use Rattle.cw_tree.specs.WorkedRun.{AllHold, Stops, Breaks};
 
 mod access;
 mod closed;
 mod conflict;
+mod laws;
 mod node;
 mod picks;
 mod tree;
@@ -20,6 +23,9 @@ mod tree;
 pub use access::{Entry, Mark};
 pub use closed::{Closed, Halt};
 pub use conflict::Conflict;
+pub use laws::{
+    chains_by_stamps, chains_stay, conflicts_at_places, stacks_stay, victims_at_places,
+};
 pub use node::{BlockState, Kind, Node};
 pub use picks::{Name, Picks, Turn};
 pub use tree::Tree;
@@ -39,11 +45,12 @@ pub fn worked_trees()
     ensures attempts { Attempts }
     ensures places { Places }
     ensures values { Values }
+    ensures chains { Chains }
 {}
 
 /// What is kept of a small run meets all that is said of it, and does not where one thing is changed.
 pub fn worked_run()
-    ensures holds { Holds }
+    ensures holds { AllHold }
     ensures stops { Stops }
     ensures breaks { Breaks }
 {}

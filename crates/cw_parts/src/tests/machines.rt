@@ -28,37 +28,47 @@ fn program(alloc: Global, text: &str) -> Result<Program, Fail> {
     Ok(checked(alloc, read_program(alloc, text.as_bytes())?)?)
 }
 
+// Picks of these numbers, where the root forks once.
+fn picks_of(alloc: Global, list: &[u32]) -> Result<Picks, Fail> {
+    let names = [name(0, 0, false), name(0, 1, false), name(0, 1, true)];
+    Ok(Picks {
+        names: Seq::from_vec(names.to_vec(alloc)?),
+        list: Seq::from_vec(list.to_vec(alloc)?),
+        last: 0,
+    })
+}
+
+fn shown(alloc: Global, end: &SerialEnd) -> Result<String, Fail> {
+    Ok(match end {
+        SerialEnd::Finished { memory, .. } => {
+            let memory = memory.as_slice();
+            format!(in alloc; "Finished {memory:?}")?
+        }
+        SerialEnd::Stuck { place } => format!(in alloc; "Stuck {place}")?,
+        _ => String::new(alloc),
+    })
+}
+
 #[test]
 fn picks_lead_to_ends(rt: HostRuntime) -> Result<(), Fail> {
     let alloc = rt.alloc();
+    let program = program(alloc, BOTH)?;
     let table: [(&[u32], &str); 3] = [
         (&[0, 1, 2, 1, 2, 0], "Finished [1]"),
         (&[0, 1, 1, 2, 2, 0], "Finished [2]"),
         (&[0, 1, 0], "Stuck 2"),
     ];
     for (list, wanted) in table {
-        let mut names = Seq::new(alloc);
-        names.push(name(0, 0, false))?;
-        names.push(name(0, 1, false))?;
-        names.push(name(0, 1, true))?;
-        let list = Seq::from_vec(list.to_vec(alloc)?);
-        let picks = Picks {
-            names,
-            list,
-            last: 0,
-        };
-        let end = serial(alloc, &program(alloc, BOTH)?, &[], LIMITS, &picks)?;
-        let shown = match &end {
-            SerialEnd::Finished { memory, .. } => {
-                let memory = memory.as_slice();
-                format!(in alloc; "Finished {memory:?}")?
-            }
-            SerialEnd::Stuck { place } => format!(in alloc; "Stuck {place}")?,
-            _ => String::new(alloc),
-        };
-        assert_eq!(rt; shown.as_str(), wanted);
+        let end = serial(alloc, &program, &[], LIMITS, &picks_of(alloc, list)?)?;
+        assert_eq!(rt; shown(alloc, &end)?.as_str(), wanted);
     }
     Ok(())
+}
+
+// What each of the three strands stands at.
+fn standing(alloc: Global, machine: &Machine<'_>) -> Result<String, Fail> {
+    let wants = [machine.at(0), machine.at(1), machine.at(2)];
+    Ok(format!(in alloc; "{wants:?}")?)
 }
 
 #[test]
@@ -69,23 +79,18 @@ fn an_update_is_lost_step_by_step(rt: HostRuntime) -> Result<(), Fail> {
     let names = [name(0, 0, false), name(0, 1, false), name(0, 1, true)];
     assert_eq!(rt; machine.names(), &names[..1]);
     let table: [(u32, &str); 6] = [
-        (0, "None Some(Load(0)) Some(Load(0)) "),
-        (1, "None Some(Store(0, 1)) Some(Load(0)) "),
-        (2, "None Some(Store(0, 1)) Some(Store(0, 1)) "),
-        (1, "None None Some(Store(0, 1)) "),
-        (2, "Some(End) None None "),
-        (0, "None None None "),
+        (0, "[None, Some(Load(0)), Some(Load(0))]"),
+        (1, "[None, Some(Store(0, 1)), Some(Load(0))]"),
+        (2, "[None, Some(Store(0, 1)), Some(Store(0, 1))]"),
+        (1, "[None, None, Some(Store(0, 1))]"),
+        (2, "[Some(End), None, None]"),
+        (0, "[None, None, None]"),
     ];
     for (strand, wanted) in table {
         assert!(rt; machine.pick(&program, strand)?);
-        assert_eq!(rt; machine.names(), names.as_slice());
-        let mut standing = String::new(alloc);
-        for number in 0..3 {
-            let want = machine.at(number);
-            standing.push_str(format!(in alloc; "{want:?} ")?.as_str())?;
-        }
-        assert_eq!(rt; standing.as_str(), wanted);
+        assert_eq!(rt; standing(alloc, &machine)?.as_str(), wanted);
     }
+    assert_eq!(rt; machine.names(), names.as_slice());
     assert_eq!(rt; machine.memory(), [1].as_slice());
     Ok(())
 }

@@ -1,80 +1,74 @@
+use super::grown::grown;
 use cw_base::OutOfMemory;
 use cw_tree::{BlockState, Kind, Tree, Turn};
 use std::alloc::Global;
 use std::test::Fail;
 
-// A strand that begins a block and forks in it; the left strand begins another and writes, and the right one is refused.
+// A strand that begins a block and forks in it; the left strand begins another, writes and forks, and the right one is refused.
 #[test]
 fn a_refused_access_has_no_victim_in_one_block(rt: HostRuntime) -> Result<(), Fail> {
-    let mut tree = Tree::new(rt.alloc())?;
-    let outer = tree.add(0, Kind::Block, 1)?;
-    let fork = tree.add(outer, Kind::Fork, 2)?;
-    let left = tree.add(fork, Kind::Strand, 0)?;
-    let right = tree.add(fork, Kind::Strand, 0)?;
-    let inner = tree.add(left, Kind::Block, 3)?;
-    let write = tree.add(inner, Kind::Write { cell: 0, value: 1 }, 4)?;
-    let tried = tree.add(right, Kind::Tried { cell: 0 }, 0)?;
-    assert_eq!(rt; (outer, fork, left, right), (1, 2, 3, 4));
-    assert_eq!(rt; (inner, write, tried), (5, 6, 7));
-    assert_eq!(rt; tree.nua(write), Some(inner));
-    assert_eq!(rt; tree.nua(inner), Some(outer));
-    assert_eq!(rt; tree.xparent(tried), Some(outer));
-    assert_eq!(rt; tree.xparent(outer), None);
-    assert_eq!(rt; tree.lca(write, tried), fork);
-    assert!(rt;
-        tree.ancestor(outer, tried) && tree.ancestor(write, write) && !tree.ancestor(inner, tried)
-    );
-    assert!(rt; tree.conflict_plain(write, tried));
-    assert_eq!(rt; tree.victim_plain(write, tried), None);
-    let deeper = tree.add(inner, Kind::Fork, 5)?;
-    tree.add(deeper, Kind::Strand, 0)?;
-    let far = tree.add(deeper, Kind::Strand, 0)?;
-    assert_eq!(rt; tree.name(0)?.as_str(), "0");
-    assert_eq!(rt; tree.name(right)?.as_str(), "0.1r");
-    assert_eq!(rt; tree.name(far)?.as_str(), "0.1l.1r");
+    let nodes = vec![in rt.alloc();
+        (0, Kind::Block, 1),
+        (1, Kind::Fork, 2),
+        (2, Kind::Strand, 0),
+        (2, Kind::Strand, 0),
+        (3, Kind::Block, 3),
+        (5, Kind::Write { cell: 0, value: 1 }, 4),
+        (4, Kind::Tried { cell: 0 }, 0),
+    ]?;
+    let tree = grown(rt.alloc(), nodes, &[])?;
+    assert_eq!(rt; tree.nodes().len(), 8);
+    assert_eq!(rt; [tree.nua(6), tree.nua(5)], [Some(5), Some(1)]);
+    assert_eq!(rt; [tree.xparent(7), tree.xparent(1)], [Some(1), None]);
+    assert_eq!(rt; tree.lca(6, 7), 2);
+    assert!(rt; tree.ancestor(1, 7) && tree.ancestor(6, 6) && !tree.ancestor(5, 7));
+    assert!(rt; tree.conflict_plain(6, 7));
+    assert_eq!(rt; tree.victim_plain(6, 7), None);
     Ok(())
 }
 
 // The same cell is written in a block of the left strand, and the right one is refused in the inner of two blocks.
 #[test]
 fn the_outermost_block_of_the_asker_is_the_victim(rt: HostRuntime) -> Result<(), Fail> {
-    let mut tree = Tree::new(rt.alloc())?;
-    tree.add(0, Kind::Fork, 1)?;
-    tree.add(1, Kind::Strand, 0)?;
-    tree.add(1, Kind::Strand, 0)?;
-    tree.add(2, Kind::Block, 2)?;
-    tree.add(4, Kind::Write { cell: 0, value: 1 }, 3)?;
-    tree.add(3, Kind::Block, 4)?;
-    tree.add(6, Kind::Block, 5)?;
-    tree.add(7, Kind::Tried { cell: 0 }, 0)?;
+    let nodes = vec![in rt.alloc();
+        (0, Kind::Fork, 1),
+        (1, Kind::Strand, 0),
+        (1, Kind::Strand, 0),
+        (2, Kind::Block, 2),
+        (4, Kind::Write { cell: 0, value: 1 }, 3),
+        (3, Kind::Block, 4),
+        (6, Kind::Block, 5),
+        (7, Kind::Tried { cell: 0 }, 0),
+    ]?;
+    let mut tree = grown(rt.alloc(), nodes, &[])?;
+    assert!(rt; tree.nodes().len() == 9 && tree.is_block(4));
     assert!(rt; tree.conflict_plain(5, 8));
     assert_eq!(rt; tree.victim_plain(5, 8), Some(6));
     tree.close(4, BlockState::Committed, 6);
     assert!(rt; !tree.conflict_plain(5, 8));
     assert_eq!(rt; tree.nua(5), None);
-    assert_eq!(rt; tree.nodes().len(), 9);
     Ok(())
 }
 
 // A block with a fork is rolled back; its next attempt forks, is committed, and the strand forks once more.
-fn tried_again(alloc: Global) -> Result<Tree, OutOfMemory> {
-    let mut tree = Tree::new(alloc)?;
-    tree.add(0, Kind::Block, 1)?;
-    tree.add(1, Kind::Fork, 2)?;
-    tree.add(2, Kind::Strand, 0)?;
-    tree.add(2, Kind::Strand, 0)?;
-    tree.close(1, BlockState::Aborted, 3);
-    tree.add(0, Kind::Block, 4)?;
-    tree.add(5, Kind::Fork, 5)?;
-    tree.add(6, Kind::Strand, 0)?;
-    tree.add(6, Kind::Strand, 0)?;
-    tree.close(5, BlockState::Committed, 6);
-    tree.add(0, Kind::Fork, 7)?;
-    tree.add(9, Kind::Strand, 0)?;
-    tree.add(10, Kind::Fork, 8)?;
-    tree.add(11, Kind::Strand, 0)?;
-    tree.add(11, Kind::Strand, 0)?;
-    Ok(tree)
+fn tried_again(alloc: Global) -> Result<Tree, Fail> {
+    let nodes = vec![in alloc;
+        (0, Kind::Block, 1),
+        (1, Kind::Fork, 2),
+        (2, Kind::Strand, 0),
+        (2, Kind::Strand, 0),
+        (0, Kind::Block, 4),
+        (5, Kind::Fork, 5),
+        (6, Kind::Strand, 0),
+        (6, Kind::Strand, 0),
+        (0, Kind::Fork, 7),
+        (9, Kind::Strand, 0),
+        (10, Kind::Fork, 8),
+        (11, Kind::Strand, 0),
+        (11, Kind::Strand, 0),
+    ]?;
+    let ends = [(1, BlockState::Aborted, 3), (5, BlockState::Committed, 6)];
+    grown(alloc, nodes, &ends)
 }
 
 // The name of a node, where it is a strand.

@@ -6,7 +6,7 @@ use Rattle.cw_text.specs.declared.ast.Stmt.{Stmt}
 use Rattle.cw_text.specs.Syntax.{statement_of, block_of}
 use Rattle.cw_strand.specs.Names.{Scope, find, a_local, declared_new, scope_after, in_statement, in_block, in_params, with_params}
 use Rattle.cw_serial.specs.declared.naming.visible.Visible.{Visible}
-use Rattle.cw_serial.specs.NamingRules.Visible.{Keeps}
+use Rattle.cw_serial.specs.NamingRules.Visible.{StaysVisible}
 
 -- the item of a loop is the first of those that are left
 pub item_first : {X : Type 0} (xs : List X) (i : ℕ) (x : X) → i < length xs → x ≡ get_or xs i x → drop i xs ≡ x ∷ drop (i + 1) xs
@@ -26,5 +26,5 @@ module _ (g : Scope) (ws : List Word) (i : ℕ) (w : Word) (lt : i < length ws) 
 
 -- ## What stays visible
 
-pub keeps_more : (u v w : Visible) → Keeps u v → Keeps v w → Keeps u w
+pub keeps_more : (u v w : Visible) → StaysVisible u v → StaysVisible v w → StaysVisible u w
 keeps_more u v w (xs, a) (ys, b) = (ys ++ xs, b ∙ rw (a, append_assoc) refl)

@@ -10,5 +10,5 @@ abbrev pub visible_in : Visible → Scope
 visible_in v = map (λ x. (x.0, thing_of x.1)) v.locals ++ v.items.now
 
 -- What was visible still is, beneath some locals more.
-abbrev pub Keeps : Visible → Visible → Type 0
-Keeps old new = (inner : List (List ℕ × Thing)) × (new ≡ record old { locals = inner ++ old.locals })
+abbrev pub StaysVisible : Visible → Visible → Type 0
+StaysVisible old new = (inner : List (List ℕ × Thing)) × (new ≡ record old { locals = inner ++ old.locals })

@@ -12,8 +12,8 @@ use std::alloc::Global;
 #[derive(Drop)]
 pub struct Strand<'a> {
     /// From where it goes on.
-    pub work: Work<'a>,
-    pub want: Want,
+    work: Work<'a>,
+    want: Want,
 }
 
 #[tactic(auto, unfolding(crate::specs::Room::Strands::strands_of, crate::specs::Room::Strands::state_of))]

@@ -6,7 +6,7 @@ ghost use Rattle.cw_strand.specs.Names.{find, used, in_term, in_statement, scope
 ghost use Rattle.cw_serial.specs.Programs.{Checks};
 ghost use Rattle.cw_serial.specs.NamingRules.Items.{is_main};
 ghost use Rattle.cw_serial.specs.NamingRules.Scopes.{Finds};
-ghost use Rattle.cw_serial.specs.NamingRules.Visible.{Keeps, visible_in};
+ghost use Rattle.cw_serial.specs.NamingRules.Visible.{StaysVisible, visible_in};
 
 use super::items::{Declared, declared_new};
 use super::scope::{Scope, Thing};
@@ -52,7 +52,7 @@ fn in_term(visible: &Visible<'_>, term: &Expr) -> Result<(), NameFault>
 fn in_statement<'a>(visible: &mut Visible<'a>, statement: &'a Stmt) -> Result<(), NameRefusal>
     ensures exact { Finds result (in_statement (visible_in visible.old) (statement_of statement.now)) }
     ensures visible { OnOk result (visible_in visible.new ≡ scope_after (statement_of statement.now) (visible_in visible.old)) }
-    ensures outer { OnOk result (Keeps visible.old visible.new) }
+    ensures outer { OnOk result (StaysVisible visible.old visible.new) }
 {
     match statement {
         Stmt::Let { name, value } => {

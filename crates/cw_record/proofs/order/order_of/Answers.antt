@@ -5,11 +5,11 @@ use Rattle.cw_tree.specs.declared.picks.Picks.{Picks}
 use Rattle.cw_tree.specs.Nodes.{is_strand_kind}
 use Rattle.cw_tree.specs.Series.{strand_of}
 use Rattle.cw_tree.proofs.Lists.{get_map_below}
-use Rattle.cw_record.specs.declared.items.Item.{Item}
+use Rattle.cw_record.specs.declared.items.OrderItem.{OrderItem}
 use Rattle.cw_record.specs.Items.{items, place_of_end}
 use Rattle.cw_record.specs.Listed.{listed_names, number_of}
 use Rattle.cw_record.specs.Order.{ending_strand, pick_of}
-use Rattle.cw_record.proofs.There.{node_there}
+use Rattle.cw_tree.proofs.There.{node_there}
 use Rattle.cw_record.proofs.ItemsThere.{OfTree, items_there}
 use Rattle.cw_record.proofs.Listing.{numbers_length, number_is}
 use Rattle.cw_record.proofs.order.order_of.Goals as goal
@@ -17,7 +17,7 @@ use Rattle.cw_record.proofs.order.order_of.Goals as goal
 pub picks-requires-clause-there : goal.picks-requires-clause-there
 picks-requires-clause-there c =
     let t = c.args.tree.now in
-    let P : List Item → Type 0 = All (OfTree t) in
+    let P : List OrderItem → Type 0 = All (OfTree t) in
     subst P (sym (c.as_slice.ensures.value ∙ c.in_ok-items.ensures)) (items_there t (place_of_end t c.args.conflicts.now c.args.aborts c.args.end.now) (length t) None)
 
 pub index-last-requires : goal.index-last-requires

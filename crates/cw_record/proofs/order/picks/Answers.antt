@@ -2,7 +2,7 @@ use Rattle.std.proofs.Common.{◌≡◌, ◌<◌, [], ◌∷◌, ◌++◌, lengt
 use Rattle.std.proofs.lemmas.List.{map_more}
 use Rattle.cw_tree.specs.Series.{strand_of}
 use Rattle.cw_tree.proofs.Lists.{get_map_below}
-use Rattle.cw_record.specs.declared.items.Item.TheVariants.{Begins}
+use Rattle.cw_record.specs.declared.items.OrderItem.TheVariants.{Begins}
 use Rattle.cw_record.specs.Listed.{number_of}
 use Rattle.cw_record.specs.Order.{pick_of}
 use Rattle.cw_record.proofs.Listing.{numbers_length}

@@ -1,4 +1,4 @@
-use Rattle.std.proofs.Common.{arith, ap, sym, ◌∙◌, nat_eq, length}
+use Rattle.std.proofs.Common.{arith, ap, sym, ◌∙◌, nat_eq, length, Some}
 use Rattle.cw_tree.specs.Series.{strand_of}
 use Rattle.cw_record.proofs.Scans.{table_len, table_at}
 use Rattle.cw_record.proofs.Tells.{tells_block}
@@ -11,4 +11,4 @@ pub returns-in-Some : goal.returns-in-Some
 returns-in-Some c =
     let t = c.args.tree.now in
     ap (λ k. nat_eq k c.args.strand) (table_at (strand_of t) c.args.strands.now (length t) c.in-Some.block c.requires.strands c.in-Some.ensures.there)
-    ∙ sym (tells_block t c.args.strand c.in-Some.block c.args.conflict.now c.if-conflict-eq0.false c.in-Some.ensures.result)
+    ∙ sym (tells_block t c.args.strand c.args.conflict.now (Some c.in-Some.block) c.if-conflict-eq0.false c.in-Some.ensures.result)

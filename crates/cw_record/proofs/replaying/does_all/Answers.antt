@@ -1,12 +1,11 @@
 use Rattle.std.proofs.Common.{◌≡◌, ◌≤◌, ℤ, List, sym, ap, subst, length, arith}
-use Rattle.std.specs.Prelude.{◌↔◌, IsSomeAnd, IsTrue}
+use Rattle.std.specs.Prelude.{◌↔◌, IsTrue}
 use Rattle.std.proofs.lemmas.Result.{IfOk-weaker}
 use Rattle.cw_tree.specs.declared.picks.Name.{Name}
 use Rattle.cw_serial.specs.Jobs.{Job}
 use Rattle.cw_serial.specs.MachineOf.{machine_of}
 use Rattle.cw_serial.specs.Orders.{IsPlay}
 use Rattle.cw_record.specs.Records.{job_of}
-use Rattle.cw_record.specs.Replay.{IsItem}
 use Rattle.cw_record.specs.Replaying.{ItemsAreDone, WantsRefused}
 use Rattle.cw_record.proofs.Replayed.{all, stands_first, all_listed, listed_at, item_there, other_want, no_pick, does_item, all_done}
 use Rattle.cw_record.proofs.replaying.does_all.Goals as goal
@@ -33,7 +32,7 @@ returns-then-not-is_item c =
     let memory : c.memory.result.now ≡ stands.machine.memory = sym (c.memory.ensures (job_of r) r.order.names stands.machine (c.in_ok-want.ensures.same (job_of r) r.order.names stands.machine stands.is)) in (
       λ h. absurd (cc h),
       λ h. absurd (other_want r c.nodes.ensures.numbered c.requires.order c.loop-place.play c.at.new.self c.loop-place.place item there c.at-name.result.now c.at-name.ensures stands c.in_ok-want.want (c.in_ok-want.ensures.want (job_of r) r.order.names stands.machine stands.is)
-          (λ here. let yes = c.is_item.ensures.1 (subst (λ m. IsSomeAnd c.in_ok-want.want (λ w. IsItem r.tree m w item)) (sym memory) here) in let no = c.if-not-is_item.true in cc) h),
+          (λ here. let yes = (c.is_item.ensures stands.machine (sym memory)).1 here in let no = c.if-not-is_item.true in cc) h),
     )
 
 pub returns-then-not-branch : goal.returns-then-not-branch
@@ -56,7 +55,7 @@ loop-place-preserved c =
     let there = listed_at r c.loop-place.place c.at-in-loop-place.result.now (all_listed r c.from_vec-items.ensures c.in_ok-items.ensures c.as_slice.ensures) c.at-in-loop-place.ensures in
     let is = c.in_ok-want.ensures.same (job_of r) r.order.names stands.machine stands.is in
     let memory : c.memory.result.now ≡ stands.machine.memory = sym (c.memory.ensures (job_of r) r.order.names stands.machine is) in
-    let here = subst (λ m. IsSomeAnd c.in_ok-want.want (λ w. IsItem r.tree m w item)) memory (c.is_item.ensures.0 c.if-not-is_item.false) in
+    let here = (c.is_item.ensures stands.machine (sym memory)).0 c.if-not-is_item.false in
     does_item r c.nodes.ensures.numbered c.requires.order c.loop-place.play c.pick.new.self c.loop-place.place item there c.at-name.result.now c.at-name.ensures stands c.in_ok-want.want
     (c.in_ok-want.ensures.want (job_of r) r.order.names stands.machine stands.is) here ((rw c.if-not-branch.false at c.in_ok-pick.ensures) (job_of r) r.order.names stands.machine is)
 

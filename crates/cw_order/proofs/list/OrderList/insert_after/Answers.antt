@@ -37,8 +37,8 @@ label_after-label-requires-clause-place c =
 pub label_after-label-requires-clause-there : goal.label_after-label-requires-clause-there
 label_after-label-requires-clause-there c = has_place c
 
-pub link_after-requires-clause-at : goal.link_after-requires-clause-at
-link_after-requires-clause-at c =
+pub link_after-self-inside-requires-clause-at : goal.link_after-self-inside-requires-clause-at
+link_after-self-inside-requires-clause-at c =
     let old = c.self.inside in
     let xs = elements_of old.ring old.count in
     let r = c.label_after-label.new.self in
@@ -46,15 +46,15 @@ link_after-requires-clause-at c =
     let there : 0 < vec_len r.next = omega (arith, c.self.invariant.there, ap length c.label_after-label.ensures.next, r.next.ok.0, old.ring.next.ok.0) in
     path_within r xs c.unwrap_or-at.result c.label_after-label.ensures.ring there (subst (Contains (path xs)) (sym c.unwrap_or-at.ensures) (place_of c.args.at xs has))
 
-is_inserted : (c : goal.After-self-2-1) → HasInserted c.self.inside (record { ring = c.link_after.new.self; room = c.self.inside.room; count = c.self.inside.count + 1; free = c.next-self-inside.result }) c.args.at
+is_inserted : (c : goal.After-self-2-1) → HasInserted c.self.inside (record { ring = c.link_after-self-inside.new.self; room = c.self.inside.room; count = c.self.inside.count + 1; free = c.link_after-self-inside.result }) c.args.at
 is_inserted c =
     let old = c.self.inside in
     let below = kept_below c.self.inside c.args.self.now c.self.view_is c.self.invariant c.if-is_full.ensures.1 in
     let room : old.count ≢ old.room = omega (arith, below) in
     let has : ForSome c.args.at (Contains (elements_of old.ring old.count)) = subst (λ o. ForSome c.args.at (Contains o.elements)) (sym c.self.view_is) c.requires in
-    inserted old (record { ring = c.link_after.new.self; room = old.room; count = old.count + 1; free = c.next-self-inside.result }) c.label_after-label.new.self c.args.at c.unwrap_or-at.result c.label_after-label.result
+    inserted old (record { ring = c.link_after-self-inside.new.self; room = old.room; count = old.count + 1; free = c.link_after-self-inside.result }) c.label_after-label.new.self c.args.at c.unwrap_or-at.result c.label_after-label.result
     c.unwrap_or-at.ensures c.self.invariant room has c.label_after-label.ensures.next c.label_after-label.ensures.ring c.label_after-label.ensures.above c.label_after-label.ensures.below
-    c.link_after.ensures.next c.link_after.ensures.previous c.link_after.ensures.labels refl refl c.next-self-inside.ensures.value
+    c.link_after-self-inside.ensures.next c.link_after-self-inside.ensures.previous c.link_after-self-inside.ensures.labels refl refl c.link_after-self-inside.ensures.was
 
 pub invariant_of-self : goal.invariant_of-self
 invariant_of-self c = (is_inserted c).kept
@@ -78,7 +78,7 @@ returns-clause-distinct c = kept_distinct _ (is_inserted c).kept
 
 pub returns-clause-few : goal.returns-clause-few
 returns-clause-few c =
-    let new = kept_length (record { ring = c.link_after.new.self; room = c.self.inside.room; count = c.self.inside.count + 1; free = c.next-self-inside.result }) in
+    let new = kept_length (record { ring = c.link_after-self-inside.new.self; room = c.self.inside.room; count = c.self.inside.count + 1; free = c.link_after-self-inside.result }) in
     omega (arith, new, (is_inserted c).kept.few)
 
 pub returns-clause-full : goal.returns-clause-full

@@ -85,10 +85,10 @@ pub wants-preserved : goal.wants-preserved
 wants-preserved c =
     let e = c.in_ok-act-in-Load.ensures in
     (act_run c.wants.invariant.1 c.requires.named c.requires.params c.act.new.self (answered_by c.wants.worker c.want.ensures c.in-Load.is)
-    (record { interpreter = e.interpreter; branches = e.branches; memory = e.memory; outputs = e.outputs; drawing = e.drawing; strand = e.strand })).0
+    (record { done = e.acts; strand = e.strand })).0
 
 pub wants-smaller : goal.wants-smaller
 wants-smaller c =
     let e = c.in_ok-act-in-Load.ensures in
     (act_run c.wants.invariant.1 c.requires.named c.requires.params c.act.new.self (answered_by c.wants.worker c.want.ensures c.in-Load.is)
-    (record { interpreter = e.interpreter; branches = e.branches; memory = e.memory; outputs = e.outputs; drawing = e.drawing; strand = e.strand })).1
+    (record { done = e.acts; strand = e.strand })).1

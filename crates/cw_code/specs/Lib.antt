@@ -1,0 +1,6 @@
+pub mod Table
+pub mod Rules
+pub mod Answers
+pub mod Printed
+pub mod Programs
+pub mod Rows

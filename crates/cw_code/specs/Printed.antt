@@ -1,0 +1,30 @@
+-- The text of code: a line for each instruction, with its place, its name and the operands of its row, single spaces between them.
+use Rattle.std.specs.Prelude.{ℕ, ◌+◌, List, [], ◌∷◌, ◌++◌, All, Option, Some, None, IsSome}
+use Rattle.std.specs.Fmt.{decimal, signed_decimal}
+use Rattle.cw_code.specs.declared.instruction.Instr.{Instr}
+use Rattle.cw_code.specs.declared.table.Row.{Row}
+use Rattle.cw_code.specs.declared.table.Operands.{Operands}
+use Rattle.cw_code.specs.Table.{none, one, two, row_at, effect_name}
+
+-- so many operands, each after a space
+abbrev pub operands : Operands → Instr → List ℕ
+operands none i = []
+operands one i = 32 ∷ signed_decimal i.a
+operands two i = 32 ∷ (signed_decimal i.a ++ 32 ∷ decimal i.b)
+
+-- an instruction by its row, after a space
+abbrev pub instruction_text : Option Row → Instr → List ℕ
+instruction_text None i = []
+instruction_text (Some r) i = 32 ∷ (effect_name r.effect ++ operands r.operands i)
+
+abbrev pub line : ℕ → Instr → List ℕ
+line p i = decimal p ++ (instruction_text (row_at i.op) i ++ 10 ∷ [])
+
+-- the lines of instructions that stand from a place on
+abbrev pub lines_from : ℕ → List Instr → List ℕ
+lines_from p [] = []
+lines_from p (i ∷ is) = line p i ++ lines_from (p + 1) is
+
+-- each operation is in the table
+abbrev pub AreKnown : List Instr → Type 0
+AreKnown is = All (λ i. IsSome (row_at i.op)) is

@@ -1,0 +1,21 @@
+-- Programs: their code, their cells and where they begin.
+use Rattle.std.specs.Prelude.{◌≡◌, ℕ, zero, suc, ◌+◌, ◌<◌, List, [], ◌∷◌, length}
+use Rattle.cw_code.specs.declared.CellInfo.{CellInfo}
+use Rattle.cw_code.specs.declared.instruction.Code.{Code}
+
+-- how many elements a cell has: a plain one has one
+abbrev pub elements : CellInfo → ℕ
+elements c = count c.len where
+  count : ℕ → ℕ
+  count zero = 1
+  count (suc n) = suc n
+
+-- the elements of cells have the numbers from one on, in order, up to another; the base of each cell is the number of its first element
+abbrev pub AreNumbered : ℕ → List CellInfo → ℕ → Type 0
+AreNumbered first [] past = first ≡ past
+AreNumbered first (c ∷ cs) past = (c.base ≡ first) × AreNumbered (first + elements c) cs past
+
+-- main is a function of the code, and the elements of the cells are numbered from 0 up to as many cells as the code may name
+pub record IsProgram (code : Code) (cells : List CellInfo) (main : ℕ) : Type 0 where
+  pub main_there : main < length code.funcs
+  pub numbered : AreNumbered 0 cells code.cells

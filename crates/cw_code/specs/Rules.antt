@@ -1,0 +1,272 @@
+-- The rules of code, by places.
+use Rattle.std.specs.Prelude.{ℕ, zero, suc, ◌+◌, ◌-◌, ◌<◌, ◌≤◌, ◌≡◌, ◌⊎◌, Bool, true, false, not, ◌&&◌, ◌||◌, List, [], ◌∷◌, ◌++◌, length, replicate, Option, Some, None, ℤ, pos, negsuc, slice_get, slice_set, slice_index_or, Contains, if◌then◌else◌, nat_lt, nat_le, ◌==◌}
+use Rattle.cw_code.specs.declared.instruction.CodeKind.{CodeKind}
+use Rattle.cw_code.specs.declared.instruction.CodeKind.TheVariants.{Underflow, Uneven, JumpOut, NoEnd}
+use Rattle.cw_code.specs.declared.instruction.CodeFault.{CodeFault}
+use Rattle.cw_code.specs.declared.instruction.Instr.{Instr}
+use Rattle.cw_code.specs.declared.instruction.Func.{Func}
+use Rattle.cw_code.specs.declared.instruction.Code.{Code}
+use Rattle.cw_code.specs.declared.situation.Situation.{Situation}
+use Rattle.cw_code.specs.declared.situation.Known.{Known}
+use Rattle.cw_code.specs.Table.{Effect, local, set, load, load_at, store, store_at, jump, jump_zero, call, ret, begin, end, fork, done, tick, effect_at, taken, left_there}
+
+-- a natural number, or none
+abbrev pub natural : ℤ → Option ℕ
+natural (pos n) = Some n
+natural (negsuc n) = None
+
+abbrev pub effect_of : Instr → Option Effect
+effect_of i = effect_at i.op
+
+-- ## Numbers and targets
+
+-- fewer than so many
+abbrev pub below : ℤ → ℕ → Bool
+below (pos n) count = nat_lt n count
+below (negsuc n) count = false
+
+-- so many cells from this one on
+abbrev pub cells_below : ℤ → ℕ → ℕ → Bool
+cells_below (pos n) len count = nat_lt n count && nat_le (n + len) count
+cells_below (negsuc n) len count = false
+
+abbrev pub inside : Func → ℕ → Bool
+inside f p = nat_le f.start p && nat_lt p f.end
+
+abbrev pub ticks : Option Effect → Bool
+ticks (Some tick) = true
+ticks e = false
+
+abbrev pub is_tick : Option Instr → Bool
+is_tick None = false
+is_tick (Some i) = ticks (effect_of i)
+
+-- a place of the function further on, or a tick
+abbrev pub is_target : Code → Func → ℕ → ℤ → Bool
+is_target c f p (pos q) = inside f q && (nat_lt p q || is_tick (slice_get c.instrs q))
+is_target c f p (negsuc n) = false
+
+abbrev pub when : Bool → CodeKind → ℕ → List CodeFault
+when true k p = record { kind = k; at = p } ∷ []
+when false k p = []
+
+-- an operand that names nothing
+abbrev pub operand_faults : Code → Func → ℕ → Instr → Option Effect → List CodeFault
+operand_faults c f p i None = when true Underflow p
+operand_faults c f p i (Some local) = when (not (below i.a f.locals)) Underflow p
+operand_faults c f p i (Some set) = when (not (below i.a f.locals)) Underflow p
+operand_faults c f p i (Some load) = when (not (below i.a c.cells)) JumpOut p
+operand_faults c f p i (Some store) = when (not (below i.a c.cells)) JumpOut p
+operand_faults c f p i (Some load_at) = when (not (cells_below i.a i.b c.cells)) JumpOut p
+operand_faults c f p i (Some store_at) = when (not (cells_below i.a i.b c.cells)) JumpOut p
+operand_faults c f p i (Some jump) = when (not (is_target c f p i.a)) JumpOut p
+operand_faults c f p i (Some jump_zero) = when (not (is_target c f p i.a)) JumpOut p
+operand_faults c f p i (Some fork) = when (not (is_target c f p i.a)) JumpOut p
+operand_faults c f p i (Some call) = when (not (below i.a (length c.funcs))) JumpOut p
+operand_faults c f p i e = []
+
+-- ## What stands at a place
+
+abbrev pub params_of : Option Func → ℕ
+params_of None = 0
+params_of (Some f) = f.params
+
+-- how many parameters the function has that a call names
+abbrev pub called : Code → ℤ → ℕ
+called c (negsuc n) = 0
+called c (pos n) = params_of (slice_get c.funcs n)
+
+abbrev pub pops : Code → Instr → Option Effect → ℕ
+pops c i None = 0
+pops c i (Some e) = taken e (called c i.a)
+
+abbrev pub pushes : Option Effect → ℕ
+pushes None = 0
+pushes (Some e) = left_there e
+
+abbrev pub at_start : Situation
+at_start = record { height = 0; blocks = 0; forks = 0 }
+
+abbrev pub blocks_after : Option Effect → ℕ → ℕ
+blocks_after (Some begin) n = n + 1
+blocks_after (Some end) n = n - 1
+blocks_after e n = n
+
+abbrev pub forks_after : Option Effect → ℕ → ℕ
+forks_after (Some done) n = n - 1
+forks_after e n = n
+
+abbrev pub passed : Code → Instr → Option Effect → Situation → Situation
+passed c i e s = record { height = s.height - pops c i e + pushes e; blocks = blocks_after e s.blocks; forks = forks_after e s.forks }
+
+-- what goes on at the place after a fork is a forked part
+abbrev pub onwards : Code → Instr → Option Effect → Situation → Situation
+onwards c i (Some fork) s = record { height = s.height; blocks = s.blocks; forks = s.forks + 1 }
+onwards c i e s = passed c i e s
+
+abbrev pub jumps : Option Effect → Bool
+jumps (Some jump) = true
+jumps (Some jump_zero) = true
+jumps (Some fork) = true
+jumps e = false
+
+-- after it the place behind it is not gone on with
+abbrev pub never_passed : Option Effect → Bool
+never_passed (Some jump) = true
+never_passed (Some ret) = true
+never_passed (Some done) = true
+never_passed e = false
+
+abbrev pub if_inside : Func → Option ℕ → Option ℕ
+if_inside f None = None
+if_inside f (Some q) = if inside f q then Some q else None
+
+-- the place of the function behind an instruction, where that is gone on with, and the one that it names as its target
+abbrev pub next_of : Func → ℕ → Option Effect → Option ℕ
+next_of f p e = if never_passed e then None else if_inside f (Some (p + 1))
+
+abbrev pub target_of : Func → Instr → Option Effect → Option ℕ
+target_of f i e = if jumps e then if_inside f (natural i.a) else None
+
+-- by the number of the place in the function
+abbrev pub Places : Type 0
+Places = List (Option Known)
+
+-- of several ways into a place, the one from the smallest place counts
+abbrev pub offered : ℕ → Situation → Option Known → Option Known
+offered p s None = Some (record { from = p; situation = s })
+offered p s (Some k) = if nat_le p k.from then Some (record { from = p; situation = s }) else Some k
+
+abbrev pub give : Func → Option ℕ → ℕ → Situation → Places → Places
+give f None p s t = t
+give f (Some q) p s t =
+    if nat_le q f.start then t else slice_set t (q - f.start) (offered p s (slice_index_or t (q - f.start) None))
+
+-- a place at which something stands gives it on
+abbrev pub visit : Code → Func → ℕ → Option Instr → Option Known → Places → Places
+visit c f p None k t = t
+visit c f p (Some i) None t = t
+visit c f p (Some i) (Some k) t =
+    let e = effect_of i in
+    give f (target_of f i e) p (passed c i e k.situation) (give f (next_of f p e) p (onwards c i e k.situation) t)
+
+-- the first so many places of the function, in their order
+abbrev pub pass : Code → Func → ℕ → Places → Places
+pass c f zero t = t
+pass c f (suc n) t =
+    let before = pass c f n t in
+    visit c f (f.start + n) (slice_get c.instrs (f.start + n)) (slice_index_or before n None) before
+
+-- again and again
+abbrev pub passes : Code → Func → ℕ → ℕ → Places → Places
+passes c f size zero t = t
+passes c f size (suc n) t = pass c f size (passes c f size n t)
+
+abbrev pub begun : Func → ℕ → Places
+begun f zero = []
+begun f (suc n) = Some (record { from = f.start; situation = at_start }) ∷ replicate n None
+
+abbrev pub size_of : Func → ℕ
+size_of f = f.end - f.start
+
+-- What stands at the places of a function: each place gives what it leaves to the places where it leads, as often as
+-- there are places, and as often again for what smaller places gave late.
+abbrev pub places : Code → Func → Places
+places c f = passes c f (size_of f) (size_of f + size_of f) (begun f (size_of f))
+
+abbrev pub situation_of : Option Known → Option Situation
+situation_of None = None
+situation_of (Some k) = Some k.situation
+
+abbrev pub known_at : Func → Places → ℕ → Option Situation
+known_at f t p = situation_of (slice_index_or t (p - f.start) None)
+
+-- ## What is broken
+
+abbrev pub is_border : Option Effect → Bool
+is_border (Some begin) = true
+is_border (Some end) = true
+is_border (Some fork) = true
+is_border (Some done) = true
+is_border e = false
+
+-- what may not be around an instruction
+abbrev pub is_torn : Option Effect → Situation → Bool
+is_torn (Some ret) s = not (s.blocks == 0) || not (s.forks == 0)
+is_torn (Some end) s = s.blocks == 0
+is_torn (Some done) s = s.forks == 0
+is_torn e s = false
+
+abbrev pub same : Option Situation → Situation → Bool
+same None t = false
+same (Some s) t = (s.height == t.height) && ((s.blocks == t.blocks) && (s.forks == t.forks))
+
+-- a way into a place, with what comes by it
+abbrev pub uneven_faults : Func → Places → Option ℕ → Situation → List CodeFault
+uneven_faults f t None s = []
+uneven_faults f t (Some q) s = when (not (same (known_at f t q) s)) Uneven q
+
+abbrev pub situation_faults : Code → Func → Places → ℕ → Instr → Option Effect → Situation → List CodeFault
+situation_faults c f t p i e s =
+    when (nat_lt s.height (pops c i e)) Underflow p
+    ++ (when (is_border e && not (s.height == 0)) Uneven p
+    ++ (when (is_torn e s) Uneven p
+    ++ (when (not (never_passed e) && (p + 1 == f.end)) NoEnd p
+    ++ (uneven_faults f t (next_of f p e) (onwards c i e s) ++ uneven_faults f t (target_of f i e) (passed c i e s)))))
+
+abbrev pub faults_at : Code → Func → Places → ℕ → Option Instr → Option Situation → List CodeFault
+faults_at c f t p None s = []
+faults_at c f t p (Some i) None = operand_faults c f p i (effect_of i)
+faults_at c f t p (Some i) (Some s) = operand_faults c f p i (effect_of i) ++ situation_faults c f t p i (effect_of i) s
+
+-- at the first so many places of the function
+abbrev pub place_faults : Code → Func → Places → ℕ → List CodeFault
+place_faults c f t zero = []
+place_faults c f t (suc n) =
+    place_faults c f t n ++ faults_at c f t (f.start + n) (slice_get c.instrs (f.start + n)) (known_at f t (f.start + n))
+
+-- a function that lies where the one before it ended
+abbrev pub is_laid : Code → ℕ → Func → Bool
+is_laid c at f = (f.start == at) && (nat_le f.start f.end && nat_le f.end (length c.instrs))
+
+abbrev pub head_faults : Code → ℕ → Func → List CodeFault
+head_faults c at f =
+    when (nat_lt f.locals f.params) Underflow f.start
+    ++ (when (not (is_laid c at f)) JumpOut f.start ++ when (nat_le f.end f.start) NoEnd f.start)
+
+-- functions behind a place; the places of a function are examined where it and all before it lie as they should
+abbrev pub faults_from : Code → Bool → ℕ → List Func → List CodeFault
+faults_from c laid at [] = when (nat_lt at (length c.instrs)) JumpOut at
+faults_from c laid at (f ∷ fs) =
+    let well = laid && is_laid c at f in
+    head_faults c at f ++ ((if well then place_faults c f (places c f) (size_of f) else []) ++ faults_from c well f.end fs)
+
+-- each rule that is broken, and where
+abbrev pub faults : Code → List CodeFault
+faults c = faults_from c true 0 c.funcs
+
+abbrev pub number_of : CodeKind → ℕ
+number_of Underflow = 1
+number_of Uneven = 2
+number_of JumpOut = 3
+number_of NoEnd = 4
+
+abbrev pub Before : CodeFault → CodeFault → Type 0
+Before a b = (a.at < b.at) ⊎ ((a.at ≡ b.at) × (number_of a.kind ≤ number_of b.kind))
+
+-- the one of two faults that comes first, by place and at one place by kind
+abbrev pub precedes : CodeFault → CodeFault → Bool
+precedes a b = nat_lt a.at b.at || ((a.at == b.at) && nat_le (number_of a.kind) (number_of b.kind))
+
+abbrev pub earlier : Option CodeFault → CodeFault → Option CodeFault
+earlier None g = Some g
+earlier (Some f) g = if precedes f g then Some f else Some g
+
+abbrev pub earliest : Option CodeFault → List CodeFault → Option CodeFault
+earliest o [] = o
+earliest o (g ∷ gs) = earliest (earlier o g) gs
+
+-- the first fault by place, and at one place by kind
+pub record IsFirst (c : Code) (fault : CodeFault) : Type 0 where
+  pub broken : Contains (faults c) fault
+  pub least : (other : CodeFault) → Contains (faults c) other → Before fault other

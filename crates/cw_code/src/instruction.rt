@@ -1,0 +1,64 @@
+ghost use Rattle.std.specs.Prelude.{◌≡◌, slice_get};
+
+use cw_base::Seq;
+
+/// An instruction: its number in the table, counted from 1, and its operands.
+#[derive(Clone, Copy, PartialEq, Eq, Debug)]
+pub struct Instr {
+    pub op: u8,
+    pub a: i64,
+    pub b: u32,
+}
+
+/// A function: how many parameters and locals it has, the place where it starts, and the place behind its last one.
+#[derive(Clone, Copy, PartialEq, Eq, Debug)]
+pub struct Func {
+    pub params: u32,
+    pub locals: u32,
+    pub start: u32,
+    pub end: u32,
+}
+
+/// Compiled code: how many cells it may name, its functions, and the instructions at its places.
+#[derive(Drop)]
+pub struct Code {
+    pub cells: u32,
+    pub funcs: Seq<Func>,
+    pub instrs: Seq<Instr>,
+}
+
+impl Code {
+    /// The instruction at a place.
+    pub fn instr(&self, place: u32) -> Option<Instr>
+        ensures { result ≡ slice_get self.now.instrs place }
+    {
+        self.instrs.as_slice().get(place as usize).copied()
+    }
+
+    /// The function with a number.
+    pub fn func(&self, number: u64) -> Option<Func>
+        ensures { result ≡ slice_get self.now.funcs number }
+    {
+        self.funcs.as_slice().get(number as usize).copied()
+    }
+}
+
+/// What is wrong at a place of code.
+#[derive(Clone, Copy, PartialEq, Eq, Debug)]
+pub enum CodeKind {
+    /// An operand or a local is missing, or the instruction is none.
+    Underflow = 1,
+    /// Two ways into the place bring different heights or depths, or what is around it may not be there.
+    Uneven = 2,
+    /// A target, a function or a cell is not there, or a function does not lie behind the one before it.
+    JumpOut = 3,
+    /// The end of a function can be passed, or it is empty.
+    NoEnd = 4,
+}
+
+/// What is wrong, and at which place.
+#[derive(Clone, Copy, PartialEq, Eq, Debug)]
+pub struct CodeFault {
+    pub kind: CodeKind,
+    pub at: u32,
+}

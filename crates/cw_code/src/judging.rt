@@ -1,0 +1,331 @@
+ghost use Rattle.std.specs.Prelude.{◌≡◌, ◌+◌, ◌<◌, ◌^◌, length, slice_get, Some, IfOk};
+ghost use Rattle.cw_code.specs.Rules.{earlier, earliest, when, number_of, below, cells_below, inside, is_target, is_tick, operand_faults, effect_of, called, pops, passed, onwards, never_passed, jumps, is_border, is_torn, next_of, target_of, if_inside, natural};
+ghost use Rattle.cw_code.specs.Table.{effect_at, taken, left_there};
+
+use crate::effects::Effect;
+use crate::instruction::{Code, CodeFault, CodeKind, Func, Instr};
+use crate::situation::Situation;
+use crate::table;
+use cw_base::OutOfMemory;
+
+/// The number of a kind, by which kinds at one place come.
+fn number(kind: CodeKind) -> u8
+    ensures { result ≡ number_of kind }
+{
+    kind as u8
+}
+
+/// The first of two faults.
+fn first_of(best: Option<CodeFault>, fault: CodeFault) -> Option<CodeFault>
+    ensures { result ≡ earlier best fault }
+{
+    match best {
+        None => Some(fault),
+        Some(b) => {
+            if b.at < fault.at || b.at == fault.at && number(b.kind) <= number(fault.kind) {
+                Some(b)
+            } else {
+                Some(fault)
+            }
+        }
+    }
+}
+
+/// The first fault so far.
+pub fn note(best: Option<CodeFault>, broken: bool, kind: CodeKind, at: u32) -> Option<CodeFault>
+    ensures { result ≡ earliest best (when broken kind at) }
+{
+    if broken {
+        first_of(best, CodeFault { kind, at })
+    } else {
+        best
+    }
+}
+
+/// Whether a number names one of so many.
+pub fn is_below(a: i64, count: usize) -> bool
+    ensures { result ≡ below a count }
+{
+    match u64::try_from(a) {
+        Ok(n) => n < count as u64,
+        Err(_) => false,
+    }
+}
+
+/// Whether so many from a number on are among so many.
+pub fn are_below(a: i64, len: u32, count: u32) -> bool
+    ensures { result ≡ cells_below a len count }
+{
+    match u64::try_from(a) {
+        Ok(n) => n < count as u64 && n + len as u64 <= count as u64,
+        Err(_) => false,
+    }
+}
+
+/// Whether a place is one of the function.
+pub fn lies_inside(func: &Func, place: u32) -> bool
+    ensures { result ≡ inside func.now place }
+{
+    func.start <= place && place < func.end
+}
+
+/// Whether there is a `tick`.
+fn stands_tick(instr: Option<Instr>) -> bool
+    ensures { result ≡ is_tick instr }
+{
+    match instr {
+        None => false,
+        Some(instr) => match table::effect_at(instr.op) {
+            Some(Effect::Tick) => true,
+            _ => false,
+        },
+    }
+}
+
+/// Whether a number is a place of the function further on, or a `tick` of it.
+pub fn has_target(code: &Code, func: &Func, place: u32, a: i64) -> bool
+    ensures { result ≡ is_target code.now func.now place a }
+{
+    match u64::try_from(a) {
+        Ok(n) => {
+            if n < func.end as u64 {
+                let target = n as u32;
+                lies_inside(func, target) && (place < target || stands_tick(code.instr(target)))
+            } else {
+                false
+            }
+        }
+        Err(_) => false,
+    }
+}
+
+/// What is broken of the operands of an instruction.
+pub fn operand(
+    best: Option<CodeFault>,
+    code: &Code,
+    func: &Func,
+    place: u32,
+    instr: Instr,
+    effect: Option<Effect>,
+) -> Option<CodeFault>
+    ensures { result ≡ earliest best (operand_faults code.now func.now place instr effect) }
+{
+    let effect = match effect {
+        None => return note(best, true, CodeKind::Underflow, place),
+        Some(effect) => effect,
+    };
+    match effect {
+        Effect::Local | Effect::Set => note(
+            best,
+            !is_below(instr.a, func.locals as usize),
+            CodeKind::Underflow,
+            place,
+        ),
+        Effect::Load | Effect::Store => note(
+            best,
+            !is_below(instr.a, code.cells as usize),
+            CodeKind::JumpOut,
+            place,
+        ),
+        Effect::LoadAt | Effect::StoreAt => note(
+            best,
+            !are_below(instr.a, instr.b, code.cells),
+            CodeKind::JumpOut,
+            place,
+        ),
+        Effect::Jump | Effect::JumpZero | Effect::Fork => note(
+            best,
+            !has_target(code, func, place, instr.a),
+            CodeKind::JumpOut,
+            place,
+        ),
+        Effect::Call => note(
+            best,
+            !is_below(instr.a, code.funcs.len()),
+            CodeKind::JumpOut,
+            place,
+        ),
+        _ => best,
+    }
+}
+
+/// How many numbers an effect takes, where a call takes so many.
+fn takes(effect: Effect, params: u32) -> u32
+    ensures { result ≡ taken effect params }
+{
+    match effect {
+        Effect::Set
+        | Effect::LoadAt
+        | Effect::Store
+        | Effect::Lift(_)
+        | Effect::JumpZero
+        | Effect::Ret
+        | Effect::Drop
+        | Effect::Out => 1,
+        Effect::StoreAt | Effect::Join(_) => 2,
+        Effect::Call => params,
+        _ => 0,
+    }
+}
+
+/// How many numbers an effect leaves.
+fn leaves(effect: Effect) -> u32
+    ensures { result ≡ left_there effect }
+{
+    match effect {
+        Effect::Push
+        | Effect::Local
+        | Effect::Load
+        | Effect::LoadAt
+        | Effect::Lift(_)
+        | Effect::Join(_)
+        | Effect::Call => 1,
+        _ => 0,
+    }
+}
+
+/// How many parameters the function has that a call names.
+fn params(code: &Code, a: i64) -> u32
+    ensures { result ≡ called code.now a }
+{
+    match u64::try_from(a) {
+        Ok(n) => match code.func(n) {
+            Some(func) => func.params,
+            None => 0,
+        },
+        Err(_) => 0,
+    }
+}
+
+/// What an instruction pops.
+pub fn popped(code: &Code, instr: Instr, effect: Option<Effect>) -> u32
+    ensures { result ≡ pops code.now instr effect }
+{
+    match effect {
+        None => 0,
+        Some(e) => takes(e, params(code, instr.a)),
+    }
+}
+
+/// What an instruction leaves of what stands at it. A height or a depth that is beyond all numbers is want of memory.
+pub fn after(
+    code: &Code,
+    instr: Instr,
+    effect: Option<Effect>,
+    situation: &Situation,
+) -> Result<Situation, OutOfMemory>
+    ensures { IfOk result (λ t. t ≡ passed code.now instr effect situation.now) }
+{
+    let pushed = match effect {
+        None => 0,
+        Some(e) => leaves(e),
+    };
+    Ok(Situation {
+        height: situation
+            .height
+            .saturating_sub(popped(code, instr, effect) as u64)
+            .checked_add(pushed as u64)
+            .ok_or(OutOfMemory)?,
+        blocks: match effect {
+            Some(Effect::Begin) => situation.blocks.checked_add(1).ok_or(OutOfMemory)?,
+            Some(Effect::End) => situation.blocks.saturating_sub(1),
+            _ => situation.blocks,
+        },
+        forks: match effect {
+            Some(Effect::Done) => situation.forks.saturating_sub(1),
+            _ => situation.forks,
+        },
+    })
+}
+
+/// What stands at the place behind an instruction.
+pub fn ahead(
+    code: &Code,
+    instr: Instr,
+    effect: Option<Effect>,
+    situation: &Situation,
+) -> Result<Situation, OutOfMemory>
+    ensures { IfOk result (λ t. t ≡ onwards code.now instr effect situation.now) }
+{
+    match effect {
+        Some(Effect::Fork) => Ok(Situation {
+            height: situation.height,
+            blocks: situation.blocks,
+            forks: situation.forks.checked_add(1).ok_or(OutOfMemory)?,
+        }),
+        _ => after(code, instr, effect, situation),
+    }
+}
+
+/// Whether the place behind an instruction is not gone on with.
+pub fn is_left(effect: Option<Effect>) -> bool
+    ensures { result ≡ never_passed effect }
+{
+    match effect {
+        Some(Effect::Jump) | Some(Effect::Ret) | Some(Effect::Done) => true,
+        _ => false,
+    }
+}
+
+/// Whether an instruction has a target.
+pub fn is_jump(effect: Option<Effect>) -> bool
+    ensures { result ≡ jumps effect }
+{
+    match effect {
+        Some(Effect::Jump) | Some(Effect::JumpZero) | Some(Effect::Fork) => true,
+        _ => false,
+    }
+}
+
+/// Whether an instruction needs an empty stack.
+pub fn borders(effect: Option<Effect>) -> bool
+    ensures { result ≡ is_border effect }
+{
+    match effect {
+        Some(Effect::Begin) | Some(Effect::End) | Some(Effect::Fork) | Some(Effect::Done) => true,
+        _ => false,
+    }
+}
+
+/// Whether a block or a forked part is around an instruction that may not be, or is not around one that needs it.
+pub fn tears(effect: Option<Effect>, situation: &Situation) -> bool
+    ensures { result ≡ is_torn effect situation.now }
+{
+    match effect {
+        Some(Effect::Ret) => situation.blocks != 0 || situation.forks != 0,
+        Some(Effect::End) => situation.blocks == 0,
+        Some(Effect::Done) => situation.forks == 0,
+        _ => false,
+    }
+}
+
+/// The place behind an instruction, where that is gone on with and in the function.
+pub fn next(func: &Func, place: u32, effect: Option<Effect>) -> Option<u32>
+    requires { place < func.now.end }
+    ensures { result ≡ next_of func.now place effect }
+{
+    if !is_left(effect) && place + 1 < func.end && func.start <= place + 1 {
+        Some(place + 1)
+    } else {
+        None
+    }
+}
+
+/// The target of an instruction, where it has one and that is in the function.
+pub fn target(func: &Func, instr: Instr, effect: Option<Effect>) -> Option<u32>
+    ensures { result ≡ target_of func.now instr effect }
+{
+    if !is_jump(effect) {
+        return None;
+    }
+    match u64::try_from(instr.a) {
+        Ok(n) => {
+            if n < func.end as u64 && lies_inside(func, n as u32) {
+                Some(n as u32)
+            } else {
+                None
+            }
+        }
+        Err(_) => None,
+    }
+}

@@ -1,0 +1,5 @@
+use Rattle.cw_record.proofs.WorkedEnds.{ends}
+use Rattle.cw_record.proofs.worked_ends.Goals as goal
+
+pub returns : goal.returns
+returns c = ends

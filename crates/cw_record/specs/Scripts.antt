@@ -1,0 +1,56 @@
+-- Strands for small records: each does what its script says, whatever it is answered.
+use Rattle.std.specs.Prelude.{ℕ, ◌+◌}
+use Rattle.cw_strand.specs.declared.want.Want.{Want}
+use Rattle.cw_strand.specs.declared.want.Want.TheVariants.{Fork, Sync, Done}
+use Rattle.cw_strand.specs.Strands.{Strands}
+
+pub data Script : Type 0 where
+  -- nothing is left
+  done : Script
+  -- a right strand at its end, and what is done behind the fork
+  sync : Script → Script
+  -- a want, and what is done behind it
+  act : Want → Script → Script
+  -- the two strands of a fork; what is done behind it stands behind the right one
+  fork : (left right : Script) → Script
+
+abbrev pub wants_of : Script → Want
+wants_of done = Done
+wants_of (sync x) = Sync
+wants_of (act w x) = w
+wants_of (fork l r) = Fork
+
+abbrev pub after_answer : Script → Script
+after_answer (act w x) = x
+after_answer x = x
+
+abbrev pub left_of : Script → Script
+left_of (fork l r) = l
+left_of x = done
+
+abbrev pub right_of : Script → Script
+right_of (fork l r) = r
+right_of x = done
+
+abbrev pub behind : (right : Script) → Script
+behind (sync x) = x
+behind x = x
+
+-- how many wants and forks it has
+abbrev pub size_of : Script → ℕ
+size_of done = 0
+size_of (sync x) = size_of x
+size_of (act w x) = 1 + size_of x
+size_of (fork l r) = 1 + size_of l + size_of r
+
+-- the strands of a main with this script
+abbrev pub scripted : Script → Strands Script
+scripted main = record {
+  start = main;
+  want = wants_of;
+  answer = λ x given. after_answer x;
+  left = left_of;
+  right = right_of;
+  joined = λ r l. behind r;
+  depth = size_of;
+}

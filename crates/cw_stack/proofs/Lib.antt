@@ -1,0 +1,4 @@
+pub mod Rising
+pub mod Keeping
+pub mod Rolling
+pub mod WorkedEntries

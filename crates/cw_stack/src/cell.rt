@@ -1,0 +1,161 @@
+ghost use Rattle.std.specs.Prelude.{◌≡◌, ◌↔◌, IsNone, ◌+◌, ◌<◌, ◌≤◌, List, ◌++◌, ◌∷◌, [], length, filter, take, drop, nat_lt, slice_index, unwrap_or, Contains, IfOk, IsOk, OnOk, IfSome};
+ghost use Rattle.std.specs.Option.{option_map};
+ghost use Rattle.std.specs.List.Sorted.{IsStrictlyIncreasing};
+ghost use Rattle.cw_tree.specs.declared.access.Entry.{Entry};
+ghost use Rattle.cw_tree.specs.Stacks.{stamps};
+ghost use Rattle.cw_stack.specs.Cells.{value_of, newest, entry_of, last_eight, AreSteps, GoesWithTrees, StaysWithTrees, TakesWhatIsBeneath};
+
+use cw_base::OutOfMemory;
+use cw_tree::{Entry, Mark};
+use std::alloc::Global;
+use std::marker::Model;
+
+/// A cell: its value, and its entries, those of its live accesses, oldest first. The oldest `cleaned` of them are never undone.
+#[derive(Drop)]
+pub struct Cell {
+    value: i64,
+    entries: Vec<Entry>,
+    cleaned: usize,
+}
+
+impl Model for Cell {
+    ghost use Rattle.std.specs.Prelude.{◌-◌, vec_len, vec_capacity};
+    ghost use Rattle.cw_stack.specs.Cells.{CellParts, first_value, IsKept};
+
+    ghost Value = { CellParts };
+
+    ghost view = { λ c. record { first = first_value c.value c.entries.items; entries = c.entries.items; cleaned = c.cleaned; room = vec_capacity c.entries - vec_len c.entries } };
+
+    ghost invariant = { λ c. IsKept c.value c.entries.items c.cleaned };
+}
+
+impl Cell {
+    /// A cell with its first value, that no access was made of.
+    pub fn new(alloc: Global, init: i64) -> Cell
+        ensures first { result.first ≡ init }
+        ensures entries { result.entries ≡ [] }
+        ensures cleaned { result.cleaned ≡ 0 }
+        ensures room { result.room ≡ 0 }
+    {
+        Cell {
+            value: init,
+            entries: Vec::new(alloc),
+            cleaned: 0,
+        }
+    }
+
+    /// Makes room for one more entry.
+    pub fn reserve(&mut self) -> Result<(), OutOfMemory>
+        ensures room { OnOk result (0 < self.new.room) }
+        ensures there { 0 < self.old.room → IsOk result }
+        ensures kept { self.old.room ≤ self.new.room }
+        ensures first { self.new.first ≡ self.old.first }
+        ensures entries { self.new.entries ≡ self.old.entries }
+        ensures cleaned { self.new.cleaned ≡ self.old.cleaned }
+    {
+        self.entries.reserve(1)?;
+        Ok(())
+    }
+
+    /// An access that reads, or writes a value. Answers the cell's value after it. Takes no memory.
+    pub fn access(&mut self, mark: Mark, write: Option<i64>) -> i64
+        requires room { 0 < self.old.room }
+        requires later { IfSome (newest self.old.entries) (λ e. e.mark.stamp < mark.stamp) }
+        ensures answer { result ≡ unwrap_or write (value_of self.old) }
+        ensures entries { self.new.entries ≡ self.old.entries ++ entry_of mark write (value_of self.old) ∷ [] }
+        ensures value { value_of self.new ≡ result }
+        ensures first { self.new.first ≡ self.old.first }
+        ensures cleaned { self.new.cleaned ≡ self.old.cleaned }
+        ensures room { self.new.room + 1 ≡ self.old.room }
+        ensures in_a_tree { GoesWithTrees self.old self.new mark.stamp write result }
+    {
+        let old = self.value;
+        let value = write.unwrap_or(old);
+        self.entries.push_reserved(Entry {
+            mark,
+            wrote: write.is_some(),
+            value,
+            old,
+        });
+        self.value = value;
+        value
+    }
+
+    /// Forgets the undo part of all entries: from now on none of them is rolled back. Each keeps the value before it.
+    pub fn clean(&mut self)
+        ensures cleaned { self.new.cleaned ≡ length self.old.entries }
+        ensures first { self.new.first ≡ self.old.first }
+        ensures entries { self.new.entries ≡ self.old.entries }
+        ensures room { self.new.room ≡ self.old.room }
+    {
+        self.cleaned = self.entries.len();
+    }
+
+    /// Takes away the entries from the one with stamp `first` on, and restores the value from before them. Takes no memory.
+    pub fn roll(&mut self, first: u64)
+        requires { Contains (stamps (drop self.old.cleaned self.old.entries)) first }
+        ensures entries { self.new.entries ≡ filter (λ e. nat_lt e.mark.stamp first) self.old.entries }
+        ensures value { (es : List Entry) (e : Entry) (fs : List Entry) → self.old.entries ≡ es ++ e ∷ fs → e.mark.stamp ≡ first → value_of self.new ≡ e.old }
+        ensures first { self.new.first ≡ self.old.first }
+        ensures cleaned { self.new.cleaned ≡ self.old.cleaned }
+        ensures room { self.new.room + length self.new.entries ≡ self.old.room + length self.old.entries }
+        ensures in_a_tree { StaysWithTrees self.old self.new }
+        ensures beneath { TakesWhatIsBeneath self.old self.new first }
+    {
+        let left = place_of(self.entries.as_slice(), first);
+        self.value = self.entries[left].old;
+        self.entries.truncate(left);
+    }
+
+    /// The value.
+    pub fn value(&self) -> i64
+        ensures { result ≡ value_of self.now }
+    {
+        self.value
+    }
+
+    /// The mark of the newest entry.
+    pub fn last(&self) -> Option<Mark>
+        ensures none { IsNone result ↔ (self.now.entries ≡ []) }
+        ensures newest { result ≡ option_map (λ e. e.mark) (newest self.now.entries) }
+    {
+        self.entries.last().map(|entry| entry.mark)
+    }
+
+    /// The entries, oldest first: their stamps rise, each has the value that those before it left, and the value that it leaves.
+    pub fn journal(&self) -> &[Entry]
+        ensures entries { result.now ≡ self.now.entries }
+        ensures rising { IsStrictlyIncreasing (stamps self.now.entries) }
+        ensures steps { AreSteps self.now.first self.now.entries }
+        ensures cleaned { self.now.cleaned ≤ length self.now.entries }
+    {
+        self.entries.as_slice()
+    }
+
+    /// The stamps of the newest eight entries, or of all where there are fewer, oldest first.
+    pub fn chain(&self) -> Result<Vec<u64>, OutOfMemory>
+        ensures { IfOk result (λ chain. chain.items ≡ last_eight (stamps self.now.entries)) }
+    {
+        let mut chain = Vec::new(*self.entries.allocator());
+        let skipped = self.entries.len().saturating_sub(8);
+        for entry in &self.entries[skipped..] {
+            chain.push(entry.mark.stamp)?;
+        }
+        Ok(chain)
+    }
+}
+
+// The place of the entry with a stamp, found from the newest on.
+fn place_of(entries: &[Entry], first: u64) -> usize
+    requires there { Contains (stamps entries.now) first }
+    requires rising { IsStrictlyIncreasing (stamps entries.now) }
+    ensures within { result < length entries.now }
+    ensures stamp { slice_index (stamps entries.now) result ≡ first }
+    ensures entries { filter (λ e. nat_lt e.mark.stamp first) entries.now ≡ take result entries.now }
+{
+    let mut place = entries.len() - 1;
+    while entries[place].mark.stamp > first {
+        place -= 1;
+    }
+    place
+}

@@ -1,0 +1,15 @@
+pub mod Columns
+pub mod Marks
+pub mod Traces
+pub mod Tier
+pub mod Brackets
+pub mod Stands
+pub mod Segments
+pub mod Keeps
+pub mod Running
+pub mod Laws
+pub mod Outward
+pub mod Runs
+pub mod Told
+pub mod Query
+pub mod Verdicts

@@ -1,0 +1,55 @@
+-- What is seen of a tier, and what its parts keep.
+use Rattle.std.specs.Prelude.{◌≡◌, ℕ, ◌+◌, ◌*◌, ◌/◌, ◌%◌, ◌^◌, ◌<◌, ◌≤◌, true, List, length, filter, is_some, slice_index, vec_capacity, Option, Some}
+use Rattle.cw_tree.specs.Walks.{has}
+use Rattle.cw_trace.specs.declared.tier.Trace.{Trace}
+use Rattle.cw_trace.specs.declared.tier.Tier.TheInside.{Inside}
+use Rattle.cw_trace.specs.Columns.{Columns, used, owner, is_trace, outer, opening, closing}
+use Rattle.cw_trace.specs.Keeps.{Distinct}
+use Rattle.cw_trace.specs.Traces.{Traces}
+
+abbrev pub traces_of : Inside → Traces
+traces_of a = record {
+  columns = record {
+    room = a.room;
+    owners = a.owners.items;
+    gaps = a.gaps.items;
+    parents = a.parents.items;
+    traces = a.traces.items;
+    brackets = a.brackets.marks;
+    outers = a.outers.items;
+  };
+}
+
+-- how many columns name a trace
+abbrev pub trace_count : List (Option Trace) → ℕ
+trace_count ts = length (filter is_some ts)
+
+-- what every call keeps, for any tree or none
+pub record AreSound (c : Columns) : Type 0 where
+  pub odd : used c % 2 ≡ 1
+  pub rooted : (i : ℕ) → 0 < i → i < used c → slice_index c.parents i < i
+  -- each column has the owner of a smaller one or its own, which is a trace
+  pub owner_low : (i : ℕ) → i < used c → owner c i ≤ i
+  pub owned : (i : ℕ) → i < used c → is_trace c (owner c i) ≡ true
+  pub pairs : (f : ℕ) → f % 2 ≡ 1 → f < used c → is_trace c (f + 1) ≡ is_trace c f
+  pub outer_low : (i o : ℕ) → outer c i ≡ Some o → o < used c
+  -- the brackets are just those of the traces, each once
+  pub distinct : Distinct c.brackets
+  pub count : length c.brackets ≡ 2 * trace_count c.traces
+  pub there : (t : ℕ) → is_trace c t ≡ true → (has c.brackets (opening t) ≡ true) × (has c.brackets (closing t) ≡ true)
+  pub only : (b : ℕ) → has c.brackets b ≡ true → is_trace c (b / 2) ≡ true
+
+pub record IsKept (a : Inside) : Type 0 where
+  pub few : a.room < 2 ^ 31
+  pub fits : length a.owners.items ≤ a.room
+  pub gaps : length a.gaps.items ≡ length a.owners.items
+  pub parents : length a.parents.items ≡ length a.owners.items
+  pub traces : length a.traces.items ≡ length a.owners.items
+  pub outers : length a.outers.items ≡ length a.owners.items
+  pub owners_room : a.room ≤ vec_capacity a.owners
+  pub gaps_room : a.room ≤ vec_capacity a.gaps
+  pub parents_room : a.room ≤ vec_capacity a.parents
+  pub traces_room : a.room ≤ vec_capacity a.traces
+  pub outers_room : a.room ≤ vec_capacity a.outers
+  pub brackets_room : a.brackets.room ≡ 2 * a.room
+  pub sound : AreSound (traces_of a).columns

@@ -1,0 +1,124 @@
+ghost use Rattle.std.specs.Prelude.{◌≡◌, ◌+◌, ◌<◌, ◌≤◌, ◌==◌, ◌||◌, ◌^◌, [], true, false, IfOk, length, filter, not};
+ghost use Rattle.std.specs.Option.{ForSome};
+ghost use Rattle.cw_tree.specs.Walks.{has};
+ghost use Rattle.cw_trace.specs.Columns.{is_before, opening, closing, marks, place_after, is_mark_of};
+ghost use Rattle.cw_trace.specs.Marks.{with_mark};
+
+use cw_base::OutOfMemory;
+use cw_order::{OrderList, Steps};
+use std::alloc::Global;
+use std::marker::Model;
+use std::sync::ledger::Ledger;
+
+/// Marks in an order list.
+#[derive(Drop)]
+pub(crate) struct Brackets {
+    order: OrderList,
+    elements: Vec<u32>,
+    marks: Vec<u32>,
+}
+
+impl Model for Brackets {
+    ghost use Rattle.cw_trace.specs.Marks.{Marks};
+
+    ghost Value = { Marks };
+
+    ghost use Rattle.cw_trace.specs.Brackets.{marks_of, IsKept};
+
+    ghost view = { marks_of };
+
+    ghost invariant = { IsKept };
+}
+
+impl Brackets {
+    /// No marks yet, and room for those below `room`. No later call takes memory.
+    pub(crate) fn with_room(alloc: Global, room: u32) -> Result<Brackets, OutOfMemory>
+        ensures none { IfOk result (λ b. b.marks ≡ []) }
+        ensures room { IfOk result (λ b. b.room ≡ room) }
+    {
+        Ok(Brackets {
+            order: OrderList::with_room(alloc, room)?,
+            elements: vec![in alloc; 0; room as usize]?,
+            marks: vec![in alloc; 0; room as usize + 1]?,
+        })
+    }
+
+    /// Puts a new mark right after another, or first where none is given.
+    pub(crate) fn insert(&mut self, at: Option<u32>, mark: u32)
+        requires at { ForSome at (λ a. has self.old.marks a ≡ true) }
+        requires new { has self.old.marks mark ≡ false }
+        requires low { mark < self.old.room }
+        requires few { length self.old.marks < self.old.room }
+        ensures marks { self.new.marks ≡ with_mark at mark self.old.marks }
+        ensures room { self.new.room ≡ self.old.room }
+    {
+        let place = match at {
+            Some(other) => Some(self.elements[other as usize]),
+            None => None,
+        };
+        if let Ok(element) = self.order.insert_after(place) {
+            self.elements[mark as usize] = element;
+            self.marks[element as usize] = mark;
+        } else {
+            unreachable!()
+        }
+    }
+
+    /// Takes a mark out.
+    pub(crate) fn remove(&mut self, mark: u32)
+        requires { has self.old.marks mark ≡ true }
+        ensures marks { self.new.marks ≡ filter (λ m. not (m == mark)) self.old.marks }
+        ensures room { self.new.room ≡ self.old.room }
+    {
+        self.order.remove(self.elements[mark as usize]);
+    }
+
+    /// Whether the mark `a` stands before `b`.
+    pub(crate) fn before<L: Ledger>(&self, a: u32, b: u32, steps: &mut Steps<L>) -> bool
+        requires first { has self.now.marks a ≡ true }
+        requires second { has self.now.marks b ≡ true }
+        ensures order { result ≡ is_before self.now.marks a b }
+        ensures cost { steps.new ≡ steps.old + 1 }
+    {
+        self.order.before(self.elements[a as usize], self.elements[b as usize], steps)
+    }
+
+    /// Puts the brackets of both traces of a split fork right after a trace's opening one: those of the left one, then those of the right one.
+    pub(crate) fn open_both(&mut self, trace: u32, fork: u32)
+        requires around { has self.old.marks (opening trace) ≡ true }
+        requires new_left { (has self.old.marks (opening fork) ≡ false)
+            × (has self.old.marks (closing fork) ≡ false) }
+        requires new_right { (has self.old.marks (opening (fork + 1)) ≡ false)
+            × (has self.old.marks (closing (fork + 1)) ≡ false) }
+        requires low { closing (fork + 1) < self.old.room }
+        requires small { self.old.room < 2 ^ 32 }
+        requires few { length self.old.marks + 4 ≤ self.old.room }
+        requires trace { opening trace < 2 ^ 32 }
+        ensures marks { self.new.marks ≡ place_after (opening trace) (marks fork) self.old.marks }
+        ensures room { self.new.room ≡ self.old.room }
+    {
+        let left = 2 * fork;
+        self.insert(Some(2 * trace), left);
+        self.insert(Some(left), left + 1);
+        self.insert(Some(left + 1), left + 2);
+        self.insert(Some(left + 2), left + 3);
+    }
+
+    /// Takes out the brackets of both traces of a split fork.
+    pub(crate) fn close_both(&mut self, fork: u32)
+        requires left { (has self.old.marks (opening fork) ≡ true)
+            × (has self.old.marks (closing fork) ≡ true) }
+        requires right { (has self.old.marks (opening (fork + 1)) ≡ true)
+            × (has self.old.marks (closing (fork + 1)) ≡ true) }
+        requires low { closing (fork + 1) < 2 ^ 32 }
+        ensures marks { self.new.marks
+            ≡ filter (λ b. not (is_mark_of fork b || is_mark_of (fork + 1) b)) self.old.marks }
+        ensures room { self.new.room ≡ self.old.room }
+    {
+        let left = 2 * fork;
+        self.remove(left);
+        self.remove(left + 1);
+        self.remove(left + 2);
+        self.remove(left + 3);
+    }
+}

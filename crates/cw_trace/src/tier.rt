@@ -1,0 +1,444 @@
+ghost use Rattle.std.specs.Prelude.{◌≡◌, ◌^◌, map, ℕ, ◌<◌, ◌≤◌, ◌+◌, ◌%◌, ◌++◌, ◌∷◌, [], true, false, Option, Some, None, length, IsErr, IfOk, IfErr, OnOk, OnErr, vec_len, vec_capacity, slice_get, slice_index};
+ghost use Rattle.cw_trace.specs.Columns as columns;
+
+mod reads;
+
+use crate::brackets::Brackets;
+use cw_base::OutOfMemory;
+use cw_order::Steps;
+use std::alloc::Global;
+use std::marker::Model;
+use std::sync::ledger::Ledger;
+
+/// What is kept for a trace: the gap at its head, its lead, and the nearest trace around it that has a pending block.
+#[derive(Clone, Copy, Drop, Debug)]
+pub struct Trace {
+    pub head: u32,
+    pub lead: Option<u32>,
+    pub up: Option<u32>,
+}
+
+/// There are no two unused columns.
+#[derive(Clone, Copy, Debug)]
+pub struct Inline;
+
+/// Another fork of the trace is to be split before.
+#[derive(Clone, Copy, Debug)]
+pub struct Early {
+    pub before: u32,
+}
+
+/// The strands and traces of a fork-join program, by columns.
+#[derive(Drop)]
+pub struct Tier {
+    room: u32,
+    owners: Vec<u32>,
+    gaps: Vec<u32>,
+    parents: Vec<u32>,
+    traces: Vec<Option<Trace>>,
+    outers: Vec<Option<u32>>,
+    brackets: Brackets,
+}
+
+impl Model for Tier {
+    ghost use Rattle.cw_trace.specs.Traces.{Traces};
+
+    ghost Value = { Traces };
+
+    ghost use Rattle.cw_trace.specs.Tier.{traces_of, IsKept};
+
+    ghost view = { traces_of };
+
+    ghost invariant = { IsKept };
+}
+
+/// One more in a list that has room for it.
+fn put<T: Drop>(list: &mut Vec<T>, item: T)
+    requires { vec_len list.old < vec_capacity list.old }
+    ensures items { list.new.items ≡ list.old.items ++ item ∷ [] }
+    ensures capacity { vec_capacity list.old ≤ vec_capacity list.new }
+{
+    if list.push(item).is_err() {
+        unreachable!()
+    }
+}
+
+/// Two more of the same.
+fn put_pair<T: Copy>(list: &mut Vec<T>, item: T)
+    requires { vec_len list.old + 2 ≤ vec_capacity list.old }
+    ensures items { list.new.items ≡ list.old.items ++ item ∷ item ∷ [] }
+    ensures capacity { vec_capacity list.old ≤ vec_capacity list.new }
+{
+    put(list, item);
+    put(list, item);
+}
+
+/// The owner of one strand after a split.
+fn part_of(i: usize, owner: u32, trace: u32, fork: u32) -> u32
+    requires { fork + 1 < 2 ^ 32 }
+    ensures { result ≡ columns.part_of trace fork i owner }
+{
+    if i == fork as usize + 1 {
+        fork + 1
+    } else if owner == trace && fork as usize <= i {
+        fork
+    } else {
+        owner
+    }
+}
+
+/// The strands of a trace from a fork on become those of the left trace, but the right strand, which gets its own.
+/// Smaller columns never change.
+#[tactic(auto, using(crate::proofs::Edits::parts_more, crate::proofs::Edits::parts_done))]
+fn part(owners: &mut [u32], trace: u32, fork: u32)
+    requires fork { fork + 1 < 2 ^ 32 }
+    requires there { fork ≤ length owners.old }
+    ensures { owners.new ≡ columns.parts trace fork 0 owners.old }
+{
+    for i in fork as usize..owners.len() {
+        let owner = owners[i];
+        owners[i] = part_of(i, owner, trace, fork);
+    }
+}
+
+/// The owner of one strand after a merge.
+fn back_to(owner: u32, trace: u32, fork: u32) -> u32
+    requires { fork + 1 < 2 ^ 32 }
+    ensures { result ≡ columns.back_to trace fork owner }
+{
+    if owner == fork || owner == fork + 1 {
+        trace
+    } else {
+        owner
+    }
+}
+
+/// The strands of both traces of a split fork go back to a trace. Smaller columns never change.
+#[tactic(auto, using(crate::proofs::Edits::back_more))]
+fn put_back(owners: &mut [u32], trace: u32, fork: u32)
+    requires fork { fork + 1 < 2 ^ 32 }
+    requires there { fork ≤ length owners.old }
+    requires smaller { (i : ℕ) → i < fork → slice_index owners.old i < fork }
+    ensures { owners.new ≡ map (columns.back_to trace fork) owners.old }
+{
+    for i in fork as usize..owners.len() {
+        let owner = owners[i];
+        owners[i] = back_to(owner, trace, fork);
+    }
+}
+
+/// What is left of a trace's lead where a gap goes to a part that is cut off.
+fn kept_lead(lead: Option<u32>, gap: u32) -> Option<u32>
+    ensures { result ≡ columns.kept_lead lead gap }
+{
+    match lead {
+        Some(kept) => { if kept == gap { None } else { Some(kept) } }
+        None => None,
+    }
+}
+
+/// What stands around a new trace: the trace that was cut, where it has a lead.
+fn around_new(lead: Option<u32>, trace: u32, up: Option<u32>) -> Option<u32>
+    ensures { result ≡ columns.or_else lead trace up }
+{
+    match lead {
+        Some(_) => Some(trace),
+        None => up,
+    }
+}
+
+/// What is kept for a trace.
+fn row_of(traces: &[Option<Trace>], trace: u32) -> Trace
+    requires { trace < length traces.now }
+    ensures { result ≡ columns.row_in (slice_get traces.now trace) }
+{
+    match traces[trace as usize] {
+        Some(row) => row,
+        None => Trace {
+            head: 0,
+            lead: None,
+            up: None,
+        },
+    }
+}
+
+impl Tier {
+    ghost use Rattle.cw_trace.specs.Laws.{ForkKeeps, SplitKeeps, MergeKeeps};
+    ghost use Rattle.cw_trace.specs.Outward.{NoneBars, NextBars};
+
+    /// Room for the columns of `m` strands, of which column 0 is the root's. No later call takes memory.
+    pub fn with_strands(alloc: Global, m: u32) -> Result<Tier, OutOfMemory>
+        requires { 0 < m }
+        ensures first { IfOk result (λ t. t.columns ≡ columns.first_tier m) }
+        // the brackets of more have no numbers of 32 bits
+        ensures large { 2 ^ 31 ≤ m → IsErr result }
+    {
+        if m >= 1 << 31 {
+            return Err(OutOfMemory);
+        }
+        let places = m as usize;
+        let mut owners = Vec::with_capacity(alloc, places)?;
+        let mut gaps = Vec::with_capacity(alloc, places)?;
+        let mut parents = Vec::with_capacity(alloc, places)?;
+        let mut traces = Vec::with_capacity(alloc, places)?;
+        let mut outers = Vec::with_capacity(alloc, places)?;
+        owners.push(0)?;
+        gaps.push(0)?;
+        parents.push(0)?;
+        traces.push(Some(Trace {
+            head: 0,
+            lead: Some(0),
+            up: None,
+        }))?;
+        outers.push(None)?;
+        let mut brackets = Brackets::with_room(alloc, 2 * m)?;
+        brackets.insert(None, 0);
+        brackets.insert(Some(0), 1);
+        Ok(Tier {
+            room: m,
+            owners,
+            gaps,
+            parents,
+            traces,
+            outers,
+            brackets,
+        })
+    }
+
+    /// The number of columns in use.
+    pub fn used(&self) -> u32
+        ensures { result ≡ columns.used self.now.columns }
+    {
+        self.owners.len() as u32
+    }
+
+    /// The trace of a strand.
+    pub fn owner<L: Ledger>(&self, strand: u32, steps: &mut Steps<L>) -> u32
+        requires { strand < columns.used self.now.columns }
+        ensures value { result ≡ columns.owner self.now.columns strand }
+        ensures cost { steps.new ≡ steps.old + 1 }
+    {
+        steps.tick();
+        self.owners[strand as usize]
+    }
+
+    /// The gap in use by a strand.
+    pub fn gap(&self, strand: u32) -> u32
+        requires { strand < columns.used self.now.columns }
+        ensures { result ≡ columns.gap self.now.columns strand }
+    {
+        self.gaps[strand as usize]
+    }
+
+    /// The gap that leads to a trace's outermost pending block.
+    pub fn lead<L: Ledger>(&self, trace: u32, steps: &mut Steps<L>) -> Option<u32>
+        requires { trace < columns.used self.now.columns }
+        ensures value { result ≡ columns.lead self.now.columns trace }
+        ensures cost { steps.new ≡ steps.old + 1 }
+    {
+        steps.tick();
+        match self.traces[trace as usize] {
+            Some(row) => row.lead,
+            None => None,
+        }
+    }
+
+    /// The nearest trace around it that has a pending block.
+    pub fn up<L: Ledger>(&self, trace: u32, steps: &mut Steps<L>) -> Option<u32>
+        requires { trace < columns.used self.now.columns }
+        ensures value { result ≡ columns.up self.now.columns trace }
+        ensures cost { steps.new ≡ steps.old + 1 }
+    {
+        steps.tick();
+        match self.traces[trace as usize] {
+            Some(row) => row.up,
+            None => None,
+        }
+    }
+
+    /// Whether a trace stands within another.
+    pub fn inside<L: Ledger>(&self, trace: u32, outer: u32, steps: &mut Steps<L>) -> bool
+        requires inner { columns.is_trace self.now.columns trace ≡ true }
+        requires outer { columns.is_trace self.now.columns outer ≡ true }
+        ensures value { result ≡ columns.inside self.now.columns trace outer }
+        ensures cost { steps.new ≡ steps.old + 2 }
+    {
+        let after = self.brackets.before(2 * outer, 2 * trace, steps);
+        let within = self.brackets.before(2 * trace, 2 * outer + 1, steps);
+        after && within
+    }
+
+    /// Whether a column names a trace: it is the root's, or its fork is split and not merged.
+    pub fn is_trace(&self, strand: u32) -> bool
+        requires { strand < columns.used self.now.columns }
+        ensures { result ≡ columns.is_trace self.now.columns strand }
+    {
+        self.traces[strand as usize].is_some()
+    }
+
+    /// The fork outward of a fork that the strand of a column makes.
+    fn outer_at(&self, parent: u32) -> Option<u32>
+        requires { parent < columns.used self.now.columns }
+        ensures { result ≡ columns.outer_at self.now.columns parent }
+    {
+        if parent == 0 || self.is_trace(parent) {
+            None
+        } else if parent % 2 == 1 {
+            Some(parent)
+        } else {
+            self.outers[parent as usize - 1]
+        }
+    }
+
+    /// The fork that has to be split before another one.
+    fn before_split(&self, fork: u32) -> Option<u32>
+        requires { fork < columns.used self.now.columns }
+        ensures { result ≡ columns.before_split self.now.columns fork }
+    {
+        match self.outers[fork as usize] {
+            Some(outer) => {
+                if self.is_trace(outer) {
+                    None
+                } else {
+                    Some(outer)
+                }
+            }
+            None => None,
+        }
+    }
+
+    /// The columns of the left and right strands of a fork. The word is that of the forking strand's gap.
+    /// What stood for a tree stands for it with the fork, inline or not.
+    pub fn fork(&mut self, word: u64, parent: u32) -> Result<(u32, u32), Inline>
+        requires { parent < columns.used self.old.columns }
+        ensures strands { IfOk result
+            (λ r. (r.0 ≡ columns.used self.old.columns) × (r.1 ≡ columns.used self.old.columns + 1)) }
+        ensures room { OnOk result (columns.used self.old.columns + 2 ≤ self.old.columns.room) }
+        ensures forked { OnOk result
+            (self.new.columns ≡ columns.forked word parent self.old.columns) }
+        ensures inline { OnErr result (self.old.columns.room < columns.used self.old.columns + 2) }
+        ensures err { OnErr result (self.new ≡ self.old) }
+        ensures keeps { ForkKeeps word parent self.old.columns self.new.columns }
+    {
+        self.fork_columns(word, parent)
+    }
+
+    /// Cuts the trace of a fork there, or names the fork that is to be split before.
+    pub fn split(&mut self, fork: u32) -> Result<(), Early>
+        requires low { fork < columns.used self.old.columns }
+        requires left { fork % 2 ≡ 1 }
+        requires whole { columns.is_trace self.old.columns fork ≡ false }
+        ensures now { OnOk result (columns.before_split self.old.columns fork ≡ None) }
+        ensures split { OnOk result (self.new.columns ≡ columns.split_at fork self.old.columns) }
+        ensures early { IfErr result
+            (λ e. columns.before_split self.old.columns fork ≡ Some e.before) }
+        ensures err { OnErr result (self.new ≡ self.old) }
+        ensures keeps { OnOk result (SplitKeeps fork self.old.columns self.new.columns) }
+        ensures allowed { OnOk result (NoneBars fork self.old.columns) }
+        ensures barred { IfErr result (λ e. NextBars fork e.before self.old.columns) }
+    {
+        self.split_columns(fork)
+    }
+
+    /// Both traces of a split fork go back to the trace that it was cut from.
+    pub fn merge(&mut self, fork: u32)
+        requires low { fork < columns.used self.old.columns }
+        requires left { fork % 2 ≡ 1 }
+        requires split { columns.is_trace self.old.columns fork ≡ true }
+        ensures merged { self.new.columns ≡ columns.merged fork self.old.columns }
+        ensures keeps { MergeKeeps fork self.old.columns self.new.columns }
+    {
+        self.merge_columns(fork);
+    }
+
+    /// Two more columns, where there are two.
+    fn fork_columns(&mut self, word: u64, parent: u32) -> Result<(u32, u32), Inline>
+        requires { parent < columns.used self.old.columns }
+        ensures strands { IfOk result
+            (λ r. (r.0 ≡ columns.used self.old.columns) × (r.1 ≡ columns.used self.old.columns + 1)) }
+        ensures room { OnOk result (columns.used self.old.columns + 2 ≤ self.old.columns.room) }
+        ensures forked { OnOk result
+            (self.new.columns ≡ columns.forked word parent self.old.columns) }
+        ensures inline { OnErr result (self.old.columns.room < columns.used self.old.columns + 2) }
+        ensures err { OnErr result (self.new ≡ self.old) }
+    {
+        let used = self.owners.len();
+        if (self.room as usize) < used + 2 {
+            return Err(Inline);
+        }
+        let left = used as u32;
+        let owner = self.owners[parent as usize];
+        let gap = if word == 0 {
+            self.gaps[parent as usize]
+        } else {
+            left
+        };
+        let outer = self.outer_at(parent);
+        put_pair(&mut self.owners, owner);
+        put_pair(&mut self.gaps, gap);
+        put_pair(&mut self.parents, parent);
+        put_pair(&mut self.traces, None);
+        put_pair(&mut self.outers, outer);
+        Ok((left, left + 1))
+    }
+
+    /// The columns and brackets of a split.
+    fn split_columns(&mut self, fork: u32) -> Result<(), Early>
+        requires low { fork < columns.used self.old.columns }
+        requires left { fork % 2 ≡ 1 }
+        requires whole { columns.is_trace self.old.columns fork ≡ false }
+        ensures now { OnOk result (columns.before_split self.old.columns fork ≡ None) }
+        ensures split { OnOk result (self.new.columns ≡ columns.split_at fork self.old.columns) }
+        ensures early { IfErr result
+            (λ e. columns.before_split self.old.columns fork ≡ Some e.before) }
+        ensures err { OnErr result (self.new ≡ self.old) }
+    {
+        if let Some(before) = self.before_split(fork) {
+            return Err(Early { before });
+        }
+        let trace = self.owners[fork as usize];
+        let gap = self.gaps[fork as usize];
+        let row = row_of(self.traces.as_slice(), trace);
+        let lead = kept_lead(row.lead, gap);
+        let above = around_new(lead, trace, row.up);
+        part(self.owners.as_mut_slice(), trace, fork);
+        self.gaps[fork as usize + 1] = fork + 1;
+        self.traces[trace as usize] = Some(Trace {
+            head: row.head,
+            lead,
+            up: row.up,
+        });
+        self.traces[fork as usize] = Some(Trace {
+            head: gap,
+            lead: Some(gap),
+            up: above,
+        });
+        self.traces[fork as usize + 1] = Some(Trace {
+            head: fork + 1,
+            lead: Some(fork + 1),
+            up: above,
+        });
+        self.brackets.open_both(trace, fork);
+        Ok(())
+    }
+
+    /// The columns and brackets of a merge.
+    fn merge_columns(&mut self, fork: u32)
+        requires low { fork < columns.used self.old.columns }
+        requires left { fork % 2 ≡ 1 }
+        requires split { columns.is_trace self.old.columns fork ≡ true }
+        ensures { self.new.columns ≡ columns.merged fork self.old.columns }
+    {
+        let trace = self.owners[self.parents[fork as usize] as usize];
+        let row = row_of(self.traces.as_slice(), trace);
+        put_back(self.owners.as_mut_slice(), trace, fork);
+        self.traces[trace as usize] = Some(Trace {
+            head: row.head,
+            lead: Some(row.head),
+            up: row.up,
+        });
+        self.traces[fork as usize] = None;
+        self.traces[fork as usize + 1] = None;
+        self.brackets.close_both(fork);
+    }
+}

@@ -1,0 +1,51 @@
+ghost use Rattle.cw_tree.specs.ChainLaws.{ConflictsAt, ConflictsGrow, ConflictsClose, NewestGrow, NewestClose, ChainsGrow, ChainsClose, ChainsExtend, PartsAreChains, EachFollows, SomeAreChains, BeneathIsEnd, StampsGrow, StampsClose, StampsExtend, PartsOfStamps, EachStampFollows, SomeOfStamps, StampsBeneath, StampConflictsGrow, StampConflictsClose, StacksGrow, StacksClose, FrontsOfStacks, StacksTell};
+ghost use Rattle.cw_tree.specs.VictimsAt.{VictimsAt, VictimsGrow, VictimRows};
+
+/// An access that is made next at a place: with what it conflicts, and what stays of that as others act.
+pub fn conflicts_at_places()
+    ensures place { ConflictsAt }
+    ensures grow { ConflictsGrow }
+    ensures close { ConflictsClose }
+    ensures newest_grow { NewestGrow }
+    ensures newest_close { NewestClose }
+{}
+
+/// The victim of an access that is made next at a place, what stays of it as others act, and what it is in small trees.
+pub fn victims_at_places()
+    ensures place { VictimsAt }
+    ensures grow { VictimsGrow }
+    ensures rows { VictimRows }
+{}
+
+/// A chain stays one as nodes are added and blocks are closed, and as an access comes that does not conflict with the newest; its
+/// parts are chains; and what is beneath a pending block is its end.
+pub fn chains_stay()
+    ensures grow { ChainsGrow }
+    ensures close { ChainsClose }
+    ensures extend { ChainsExtend }
+    ensures parts { PartsAreChains }
+    ensures each { EachFollows }
+    ensures some { SomeAreChains }
+    ensures beneath { BeneathIsEnd }
+{}
+
+/// The same of accesses that are named by their stamps.
+pub fn chains_by_stamps()
+    ensures grow { StampsGrow }
+    ensures close { StampsClose }
+    ensures extend { StampsExtend }
+    ensures parts { PartsOfStamps }
+    ensures each { EachStampFollows }
+    ensures some { SomeOfStamps }
+    ensures beneath { StampsBeneath }
+    ensures conflicts_grow { StampConflictsGrow }
+    ensures conflicts_close { StampConflictsClose }
+{}
+
+/// Accesses of a cell go with their entries as nodes are added and blocks are closed, and so do the oldest of them; an entry tells what its access wrote, and when.
+pub fn stacks_stay()
+    ensures grow { StacksGrow }
+    ensures close { StacksClose }
+    ensures fronts { FrontsOfStacks }
+    ensures tell { StacksTell }
+{}
