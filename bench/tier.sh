@@ -185,5 +185,5 @@ for n in 1000 10000 30000; do
 done
 echo "Early behind 100000 strands: $((($(took early 100000) - $(took behind 100000)) / 1000000)) ns"
 if [ -x /usr/bin/time ]; then
-  echo "a tier for 1000000 strands with its words: $(/usr/bin/time -f '%M KiB' "$program" none 500000 2>&1 > /dev/null)"
+  echo "a tier for 1000000 strands with its words: $(/usr/bin/time -f '%M KiB' "$program" fork 500000 2>&1 > /dev/null)"
 fi

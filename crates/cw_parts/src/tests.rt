@@ -2,6 +2,7 @@ mod checks;
 mod grown;
 mod machines;
 mod orders;
+mod queries;
 mod texts;
 mod traces;
 mod trees;

@@ -156,6 +156,7 @@ module _ (c : Columns) (words : List ℕ) (t : List Node) (cuts joins : List ℕ
     apart = g.apart;
     words_are = k.words_are;
     leads = λ x h n. leads x (record { low = h; named = n });
+    heads = λ x h n. g.heads x (record { low = h; named = n });
     active = λ x h n none. (let tr : IsTrace c cuts joins x = record { low = h; named = n } in g.lead_live x tr (λ f w e. cc (cut_as x f w, not_false _ (none f))) ∙ ap Some (sym (g.heads x tr)));
     no_up = k.ups.no_up;
     ups = λ x p h n. by_first x p (record { low = h; named = n }) (outermost t (used c) (λ i. nat_eq (owner c i) (around c x))) refl;

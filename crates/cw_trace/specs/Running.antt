@@ -53,7 +53,7 @@ pub record IsDone (t : List Node) (is_open : ℕ → Bool) (column : ℕ) : Type
   pub at : fork_column t fork ≡ column
   pub done : (s : ℕ) → 0 < s → s < length t → parent_of t s ≡ fork → is_open s ≡ false
 
--- an unsplit fork may be joined: it has columns, was neither split nor joined, and its strands are no longer open
+-- an unsplit fork may be joined: it has columns, was not split, and its strands are no longer open
 pub record MayJoinAt (c : Columns) (t : List Node) (cuts joins : List ℕ) (is_open : ℕ → Bool) (column : ℕ) : Type 0 where
   pub done : IsDone t is_open column
   pub low : column + 1 < used c

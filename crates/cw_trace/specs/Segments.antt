@@ -73,7 +73,7 @@ pub record Segments (c : Columns) (cuts joins : List ℕ) (pend : ℕ → Bool) 
   pub parted : (t s r : ℕ) → IsTrace c cuts joins t → Start c joins t s → Start c joins t r → s < r → (gap c s ≡ gap c r → ⊥) → (b : ℕ) × (col b < r) × Within c pend col t s b
   pub one_trace : (t u s r : ℕ) → IsTrace c cuts joins t → IsTrace c cuts joins u → Start c joins t s → Start c joins u r → IsLive c cuts joins t s → IsLive c cuts joins u r → gap c s ≡ gap c r → t ≡ u
 
--- a fork may be split: it has columns, was neither split nor joined, its right strand made no step, and no fork outward of it in its trace is unsplit
+-- a fork may be split, where no fork outward of it bars it: it has columns, was neither split nor joined, and its right strand made no step
 pub record MaySplit (c : Columns) (cuts joins : List ℕ) (pend : ℕ → Bool) (col : ℕ → ℕ) (f : ℕ) : Type 0 where
   pub low : f < used c
   pub left : f % 2 ≡ 1

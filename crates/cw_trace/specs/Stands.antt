@@ -72,7 +72,8 @@ pub record Stands (c : Columns) (words : List ℕ) (t : List Node) (cuts merges 
   pub apart : (i : ℕ) → 0 < i → i < used c → IsTrue (is_apart cuts merges i) → owner c i ≡ i
   -- gap words
   pub words_are : (g : ℕ) → g < used c → slice_index words g ≡ stamp_or_0 t (outermost t (used c) (λ i. gap c i == g))
-  -- leads
+  -- heads and leads
+  pub heads : (x : ℕ) → x < used c → IsTrue (names_trace cuts merges x) → head c x ≡ gap c x
   pub leads : (x : ℕ) → x < used c → IsTrue (names_trace cuts merges x) → word_of words (lead c x) ≡ stamp_or_0 t (outermost t (used c) (λ i. owner c i == x))
   pub active : (x : ℕ) → x < used c → IsTrue (names_trace cuts merges x) → ((f : ℕ) → IsTrue (not (is_cut_at c cuts merges x f))) → lead c x ≡ Some (head c x)
   -- ups

@@ -1,5 +1,5 @@
 ghost use Rattle.std.specs.Prelude.{◌≡◌, ◌+◌, ◌≤◌};
-ghost use Rattle.cw_trace.specs.Told.{Holds};
+ghost use Rattle.cw_trace.specs.Told.{Holds, Inside, Test, Stays};
 
 use cw_order::Steps;
 use cw_trace::{Columns, Gaps, Tier};
@@ -18,18 +18,15 @@ impl<'a> Columns for Held<'a> {
     ghost ready = { λ s. Unit {0} };
 
     fn owner<K: Ledger>(&mut self, strand: u32, looks: &mut Steps<K>) -> u32 {
-        looks.tick();
-        self.tier.owner_of(strand)
+        self.tier.owner_of(strand, looks)
     }
 
     fn lead<K: Ledger>(&mut self, trace: u32, looks: &mut Steps<K>) -> Option<u32> {
-        looks.tick();
-        self.tier.lead_of(trace)
+        self.tier.lead_of(trace, looks)
     }
 
     fn up<K: Ledger>(&mut self, trace: u32, looks: &mut Steps<K>) -> Option<u32> {
-        looks.tick();
-        self.tier.up_of(trace)
+        self.tier.up_of(trace, looks)
     }
 
     fn word<K: Ledger>(&mut self, gap: u32, looks: &mut Steps<K>) -> u64 {
@@ -46,7 +43,14 @@ impl<'a> Columns for Held<'a> {
         outer: u32,
         looks: &mut Steps<K>,
         compares: &mut Steps<L>,
-    ) -> bool {
+    ) -> bool
+        ensures told { Holds self.new.tier.now.columns self.new.gaps.now.words.items (Inside trace outer) (Test result) }
+        ensures kept { Stays (Holds self.old.tier.now.columns self.old.gaps.now.words.items)
+            (Holds self.new.tier.now.columns self.new.gaps.now.words.items) }
+        ensures looks { looks.new ≤ looks.old + 4 }
+        ensures compares { compares.new ≤ compares.old + 2 }
+        ensures cost { looks.new ≡ looks.old + 4 }
+    {
         // a comparison reads the labels of two brackets
         looks.tick();
         looks.tick();

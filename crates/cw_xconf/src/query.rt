@@ -1,16 +1,26 @@
-ghost use Rattle.std.specs.Prelude.{◌≡◌, ◌+◌, ◌≤◌, ℕ, List};
+ghost use Rattle.std.specs.Prelude.{◌≡◌, ◌+◌, ◌≤◌, ◌==◌, ℕ, List};
 ghost use Rattle.cw_trace.specs.Columns as traces;
 ghost use Rattle.cw_trace.specs.Told.{Holds, Stays};
 ghost use Rattle.cw_trace.specs.Query as rules;
 ghost use Rattle.cw_trace.specs.Query.{HasWord, StandsIn, GivesAround, Gives, Covers};
 ghost use Rattle.cw_trace.specs.Verdicts.{TellsOfTree, TellsByReading, TellsOfBlock};
+ghost use Rattle.cw_xconf.specs.Costs.{looks_around, looks_for};
 
-use crate::steps::{came_before, is_less, is_same};
+use crate::steps::{came_before, is_less};
 use crate::{Held, Verdict};
 use cw_order::Steps;
 use cw_trace::{Columns, Gaps, Tier};
 use cw_tree::Mark;
 use std::sync::ledger::Ledger;
+
+/// Whether two traces are one.
+fn is_same<L: Ledger>(trace: u32, other: u32, compares: &mut Steps<L>) -> bool
+    ensures value { result ≡ (trace == other) }
+    ensures cost { compares.new ≡ compares.old + 1 }
+{
+    compares.tick();
+    trace == other
+}
 
 /// The word of a trace's lead, or 0 where it has none.
 fn lead_word<C: Columns, K: Ledger>(columns: &mut C, trace: u32, looks: &mut Steps<K>) -> u64
@@ -57,7 +67,7 @@ fn ask_around<C: Columns, K: Ledger, L: Ledger>(
     ensures ready { C.ready columns.new }
     ensures given { GivesAround (C.told columns.new) asker around result }
     ensures kept { Stays (C.told columns.old) (C.told columns.new) }
-    ensures looks { looks.new ≤ looks.old + 7 }
+    ensures looks { looks.new ≤ looks.old + looks_around result }
     ensures compares { compares.new ≤ compares.old + 3 }
 {
     match around {
@@ -88,6 +98,8 @@ pub fn ask_by<C: Columns, K: Ledger, L: Ledger>(
         → TellsOfTree c words last asker result }
     ensures kept { Stays (C.told columns.old) (C.told columns.new) }
     ensures looks { looks.new ≤ looks.old + 12 }
+    // no read is made that decides nothing
+    ensures needed { looks.new ≤ looks.old + looks_for result }
     ensures compares { compares.new ≤ compares.old + 5 }
 {
     let own = columns.owner(last.strand, looks);
@@ -144,6 +156,8 @@ pub fn ask<L: Ledger, K: Ledger>(
     ensures tells { TellsOfTree tier.now.columns gaps.now.words.items last asker result }
     ensures by_reading { TellsByReading tier.now.columns gaps.now.words.items last asker result }
     ensures looks { looks.new ≤ looks.old + 12 }
+    // no read is made that decides nothing
+    ensures needed { looks.new ≤ looks.old + looks_for result }
     ensures compares { compares.new ≤ compares.old + 5 }
 {
     let mut held = Held { tier, gaps };

@@ -1,18 +1,9 @@
-//! The comparisons of a query, each with its tick.
-ghost use Rattle.std.specs.Prelude.{◌≡◌, ◌+◌, ◌==◌, nat_lt};
+//! The comparisons of stamps, each with its tick.
+ghost use Rattle.std.specs.Prelude.{◌≡◌, ◌+◌, nat_lt};
 ghost use Rattle.cw_trace.specs.Query as query;
 
 use cw_order::Steps;
 use std::sync::ledger::Ledger;
-
-/// Whether two traces are one.
-pub(crate) fn is_same<L: Ledger>(trace: u32, other: u32, compares: &mut Steps<L>) -> bool
-    ensures value { result ≡ (trace == other) }
-    ensures cost { compares.new ≡ compares.old + 1 }
-{
-    compares.tick();
-    trace == other
-}
 
 /// Whether a stamp is less than another.
 pub(crate) fn is_less<L: Ledger>(stamp: u64, other: u64, compares: &mut Steps<L>) -> bool

@@ -8,9 +8,11 @@ use std::sync::ledger::Ledger;
 /// Reads of any number: what names nothing reads as 0, `None` or false.
 impl Tier {
     /// The trace of a strand.
-    pub fn owner_of(&self, strand: u32) -> u32
-        ensures { result ≡ columns.owner self.now.columns strand }
+    pub fn owner_of<L: Ledger>(&self, strand: u32, looks: &mut Steps<L>) -> u32
+        ensures value { result ≡ columns.owner self.now.columns strand }
+        ensures cost { looks.new ≡ looks.old + 1 }
     {
+        looks.tick();
         if strand < self.used() {
             self.owners[strand as usize]
         } else {
@@ -19,9 +21,11 @@ impl Tier {
     }
 
     /// The gap that leads to a trace's outermost pending block.
-    pub fn lead_of(&self, trace: u32) -> Option<u32>
-        ensures { result ≡ columns.lead self.now.columns trace }
+    pub fn lead_of<L: Ledger>(&self, trace: u32, looks: &mut Steps<L>) -> Option<u32>
+        ensures value { result ≡ columns.lead self.now.columns trace }
+        ensures cost { looks.new ≡ looks.old + 1 }
     {
+        looks.tick();
         if (trace as usize) < self.traces.len() {
             row_of(self.traces.as_slice(), trace).lead
         } else {
@@ -30,9 +34,11 @@ impl Tier {
     }
 
     /// The nearest trace around it that has a pending block.
-    pub fn up_of(&self, trace: u32) -> Option<u32>
-        ensures { result ≡ columns.up self.now.columns trace }
+    pub fn up_of<L: Ledger>(&self, trace: u32, looks: &mut Steps<L>) -> Option<u32>
+        ensures value { result ≡ columns.up self.now.columns trace }
+        ensures cost { looks.new ≡ looks.old + 1 }
     {
+        looks.tick();
         if (trace as usize) < self.traces.len() {
             row_of(self.traces.as_slice(), trace).up
         } else {

@@ -1,0 +1,482 @@
+ghost use Rattle.std.specs.Prelude.{◌≡◌, ◌+◌, ◌<◌, ◌≤◌, length};
+
+use super::grown::grown;
+use cw_order::Steps;
+use cw_trace::{Columns, Gaps, Tier};
+use cw_tree::{Kind, Mark, Tree};
+use cw_xconf::{Held, Verdict, ask, ask_by, contains_by};
+use std::alloc::Global;
+use std::marker::Brand;
+use std::sync::ledger::{Blank, Ledger};
+use std::test::Fail;
+
+/// A call of a tier, or a gap's word. A fork is told the word of its parent's gap.
+#[derive(Clone, Copy)]
+enum Call {
+    Fork(u32),
+    Split(u32),
+    Merge(u32),
+    Word(u32, u64),
+}
+
+/// What is asked: the verdict for an asker, or whether a block, by its begin and column, is above the access.
+#[derive(Clone, Copy)]
+enum Question {
+    Ask(u32),
+    Block(u64, u32),
+}
+
+fn make(tier: &mut Tier, gaps: &mut Gaps, call: Call) {
+    match call {
+        Call::Fork(parent) => {
+            if parent < tier.used() {
+                let gap = tier.gap(parent) as usize;
+                let word = if gap < gaps.words.len() {
+                    gaps.words[gap]
+                } else {
+                    0
+                };
+                let _answer = tier.fork(word, parent);
+            }
+        }
+        Call::Split(fork) => {
+            if fork < tier.used() && fork % 2 == 1 && !tier.is_trace(fork) {
+                let _answer = tier.split(fork);
+            }
+        }
+        Call::Merge(fork) => {
+            if fork < tier.used() && fork % 2 == 1 && tier.is_trace(fork) {
+                tier.merge(fork);
+            }
+        }
+        Call::Word(gap, word) => {
+            if (gap as usize) < gaps.words.len() {
+                gaps.set(gap, word);
+            }
+        }
+    }
+}
+
+/// What is answered on an access, within the bounds of both calls.
+fn answer<K: Ledger, L: Ledger>(
+    alloc: Global,
+    held: &mut Held<'_>,
+    last: Mark,
+    question: Question,
+    looks: &mut Steps<K>,
+    compares: &mut Steps<L>,
+) -> Result<String, Fail>
+    ensures looks { looks.new ≤ looks.old + 12 }
+    ensures compares { compares.new ≤ compares.old + 5 }
+{
+    Ok(match question {
+        Question::Ask(asker) => {
+            let verdict = ask(held.tier, held.gaps, last, asker, looks, compares);
+            format!(in alloc; "{verdict:?} ")?
+        }
+        Question::Block(stamp, strand) => {
+            let above = contains_by(held, Mark { strand, stamp }, last, looks, compares);
+            format!(in alloc; "{above} ")?
+        }
+    })
+}
+
+/// What is answered after calls of a tier with so much room.
+fn answers<K: Ledger, L: Ledger>(
+    alloc: Global,
+    blanks: (Blank, Blank),
+    room: u32,
+    calls: &[Call],
+    questions: &[(u32, u64, Question)],
+) -> Result<String, Fail>
+    requires looks { (blanks.0.name ≡ K.name) × (blanks.0.parts ≡ K.parts) × (0 < K.parts) }
+    requires compares { (blanks.1.name ≡ L.name) × (blanks.1.parts ≡ L.parts) × (0 < L.parts) }
+    requires room { 0 < room }
+{
+    let mut looks = Steps::<K>::new(blanks.0);
+    let mut compares = Steps::<L>::new(blanks.1);
+    let mut tier = Tier::with_strands(alloc, room)?;
+    let mut gaps = Gaps::with_strands(alloc, room)?;
+    for call in calls {
+        make(&mut tier, &mut gaps, *call);
+    }
+    let mut held = Held {
+        tier: &tier,
+        gaps: &gaps,
+    };
+    let mut text = String::new(alloc);
+    for &(strand, stamp, question) in questions {
+        let last = Mark { strand, stamp };
+        let line = answer(alloc, &mut held, last, question, &mut looks, &mut compares)?;
+        text.push_str(line.as_str())?;
+    }
+    Ok(text)
+}
+
+#[test]
+fn verdicts_of_a_tier(rt: HostRuntime) -> Result<(), Fail> {
+    let within: &[Call] = &[
+        Call::Fork(0),
+        Call::Split(1),
+        Call::Word(0, 2),
+        Call::Fork(1),
+        Call::Split(3),
+    ];
+    let table: [(u32, &[Call], &[(u32, u64, Question)], &str); 4] = [
+        (
+            5,
+            &[
+                Call::Fork(0),
+                Call::Split(1),
+                Call::Fork(1),
+                Call::Split(3),
+                Call::Merge(3),
+                Call::Word(0, 5),
+            ],
+            &[
+                (4, 3, Question::Ask(2)),
+                (1, 6, Question::Ask(2)),
+                (1, 6, Question::Ask(1)),
+            ],
+            "Free Against(5) Within ",
+        ),
+        (
+            3,
+            &[Call::Fork(0), Call::Split(1), Call::Word(0, 2)],
+            &[(1, 5_002, Question::Ask(2))],
+            "Against(2) ",
+        ),
+        (
+            5,
+            within,
+            &[
+                (3, 4, Question::Ask(2)),
+                (3, 4, Question::Ask(4)),
+                (4, 5, Question::Ask(3)),
+                (1, 3, Question::Ask(2)),
+                (1, 3, Question::Ask(4)),
+            ],
+            "Against(2) Within Within Against(2) Within ",
+        ),
+        (
+            5,
+            within,
+            &[
+                (3, 4, Question::Block(2, 1)),
+                (1, 3, Question::Block(2, 1)),
+                (2, 6, Question::Block(2, 1)),
+            ],
+            "true true false ",
+        ),
+    ];
+    for (room, calls, questions, wanted) in table {
+        if room > 0 {
+            let blanks = (Blank::new(1), Blank::new(1));
+            let text = answers::<Brand, Brand>(rt.alloc(), blanks, room, calls, questions)?;
+            assert_eq!(rt; text.as_str(), wanted);
+        }
+    }
+    Ok(())
+}
+
+/// Columns in which nothing agrees: traces that are not there, and a gap's word that is 5 once and then 0.
+#[derive(Drop)]
+struct Fickle {
+    word: u64,
+}
+
+impl Columns for Fickle {
+    ghost told = { λ s r a. Unit {0} };
+
+    ghost ready = { λ s. Unit {0} };
+
+    fn owner<K: Ledger>(&mut self, strand: u32, looks: &mut Steps<K>) -> u32 {
+        looks.tick();
+        strand.saturating_add(4_000_000_000)
+    }
+
+    fn lead<K: Ledger>(&mut self, trace: u32, looks: &mut Steps<K>) -> Option<u32> {
+        looks.tick();
+        Some(trace)
+    }
+
+    fn up<K: Ledger>(&mut self, trace: u32, looks: &mut Steps<K>) -> Option<u32> {
+        looks.tick();
+        Some(trace / 2)
+    }
+
+    fn word<K: Ledger>(&mut self, _gap: u32, looks: &mut Steps<K>) -> u64 {
+        looks.tick();
+        let word = self.word;
+        self.word = 0;
+        word
+    }
+
+    fn inside<K: Ledger, L: Ledger>(
+        &mut self,
+        _trace: u32,
+        _outer: u32,
+        looks: &mut Steps<K>,
+        compares: &mut Steps<L>,
+    ) -> bool {
+        looks.tick();
+        compares.tick();
+        false
+    }
+}
+
+fn ask_fickle<K: Ledger, L: Ledger>(blanks: (Blank, Blank), stamp: u64) -> Verdict
+    requires looks { (blanks.0.name ≡ K.name) × (blanks.0.parts ≡ K.parts) × (0 < K.parts) }
+    requires compares { (blanks.1.name ≡ L.name) × (blanks.1.parts ≡ L.parts) × (0 < L.parts) }
+{
+    let mut looks = Steps::<K>::new(blanks.0);
+    let mut compares = Steps::<L>::new(blanks.1);
+    let mut columns = Fickle { word: 5 };
+    let last = Mark { strand: 1, stamp };
+    let verdict = ask_by(&mut columns, last, 2, &mut looks, &mut compares);
+    verdict
+}
+
+#[test]
+fn a_verdict_whatever_is_told(rt: HostRuntime) -> Result<(), Fail> {
+    for (stamp, wanted) in [(6, Verdict::Against(5)), (5, Verdict::Against(0))] {
+        let blanks = (Blank::new(1), Blank::new(1));
+        assert_eq!(rt; ask_fickle::<Brand, Brand>(blanks, stamp), wanted);
+    }
+    Ok(())
+}
+
+/// A tree and a tier at one moment, the column of each node, and of whom and by whom it is asked: each asker is a refused access where the
+/// strand's next node goes.
+#[derive(Drop)]
+struct Moment {
+    tree: Tree,
+    calls: Vec<Call>,
+    columns: Vec<u32>,
+    accesses: Vec<u32>,
+    askers: Vec<u32>,
+}
+
+fn mark(moment: &Moment, n: u32) -> Mark
+    requires { n < length moment.now.tree }
+{
+    let strand = if (n as usize) < moment.columns.len() {
+        moment.columns[n as usize]
+    } else {
+        0
+    };
+    Mark {
+        strand,
+        stamp: moment.tree.node(n).stamp,
+    }
+}
+
+/// Whether the tree has what a verdict says.
+fn is_so(tree: &Tree, last: u32, asker: u32, verdict: Verdict) -> bool
+    requires last { last < length tree.now }
+    requires asker { asker < length tree.now }
+{
+    let nearest = tree.nua(last);
+    match verdict {
+        Verdict::Free => nearest.is_none(),
+        Verdict::Within => nearest.is_some() && !tree.conflict_plain(last, asker),
+        Verdict::Against(begin) => {
+            let mut found = false;
+            for n in 0..last {
+                if tree.is_pending(n) && tree.node(n).stamp == begin && tree.ancestor(n, last) {
+                    found = !tree.ancestor(n, asker);
+                }
+            }
+            found && tree.conflict_plain(last, asker)
+        }
+    }
+}
+
+/// The outermost pending block above the asker that is not above the access, by the columns.
+fn victim_by<K: Ledger, L: Ledger>(
+    moment: &Moment,
+    held: &mut Held<'_>,
+    last: u32,
+    asker: u32,
+    looks: &mut Steps<K>,
+    compares: &mut Steps<L>,
+) -> Option<u32>
+    requires last { last < length moment.now.tree }
+    requires asker { asker < length moment.now.tree }
+{
+    let tree = &moment.tree;
+    for n in 0..asker {
+        if tree.is_pending(n) && tree.ancestor(n, asker) {
+            if !contains_by(held, mark(moment, n), mark(moment, last), looks, compares) {
+                return Some(n);
+            }
+        }
+    }
+    None
+}
+
+/// The verdicts of each access for each asker, or `?` where one, or a victim, is not what the tree has.
+fn verdicts<K: Ledger, L: Ledger>(
+    alloc: Global,
+    blanks: (Blank, Blank),
+    moment: &Moment,
+) -> Result<String, Fail>
+    requires looks { (blanks.0.name ≡ K.name) × (blanks.0.parts ≡ K.parts) × (0 < K.parts) }
+    requires compares { (blanks.1.name ≡ L.name) × (blanks.1.parts ≡ L.parts) × (0 < L.parts) }
+{
+    let mut looks = Steps::<K>::new(blanks.0);
+    let mut compares = Steps::<L>::new(blanks.1);
+    let mut tier = Tier::with_strands(alloc, 9)?;
+    let mut gaps = Gaps::with_strands(alloc, 9)?;
+    for call in &moment.calls {
+        make(&mut tier, &mut gaps, *call);
+    }
+    let mut held = Held {
+        tier: &tier,
+        gaps: &gaps,
+    };
+    let tree = &moment.tree;
+    let size = tree.nodes().len();
+    let mut text = String::new(alloc);
+    for &last in &moment.accesses {
+        for &asker in &moment.askers {
+            if (last as usize) < size && (asker as usize) < size {
+                let by = mark(moment, asker).strand;
+                let verdict = ask(
+                    &tier,
+                    &gaps,
+                    mark(moment, last),
+                    by,
+                    &mut looks,
+                    &mut compares,
+                );
+                let victim = victim_by(moment, &mut held, last, asker, &mut looks, &mut compares);
+                let right = is_so(tree, last, asker, verdict)
+                    && victim == tree.victim_plain(last, asker);
+                let line = if right {
+                    format!(in alloc; "{verdict:?} ")?
+                } else {
+                    String::from_str(alloc, "? ")?
+                };
+                text.push_str(line.as_str())?;
+            }
+        }
+    }
+    Ok(text)
+}
+
+/// A block with a stolen fork, and a block in each of its strands.
+fn stolen_in_a_block(alloc: Global) -> Result<Moment, Fail> {
+    let nodes = vec![in alloc;
+        (0, Kind::Block, 1),
+        (1, Kind::Write { cell: 0, value: 1 }, 2),
+        (1, Kind::Fork, 3),
+        (3, Kind::Strand, 0),
+        (3, Kind::Strand, 0),
+        (4, Kind::Block, 4),
+        (6, Kind::Write { cell: 0, value: 2 }, 5),
+        (5, Kind::Read { cell: 1, value: 0 }, 6),
+        (5, Kind::Block, 7),
+        (9, Kind::Write { cell: 1, value: 3 }, 8),
+        (6, Kind::Tried { cell: 1 }, 0),
+        (9, Kind::Tried { cell: 0 }, 0),
+    ]?;
+    Ok(Moment {
+        tree: grown(alloc, nodes, &[])?,
+        calls: vec![in alloc;
+            Call::Word(0, 1),
+            Call::Fork(0),
+            Call::Split(1),
+            Call::Word(1, 4),
+            Call::Word(2, 7),
+        ]?,
+        columns: vec![in alloc; 0, 0, 0, 0, 1, 2, 1, 1, 2, 2, 2, 1, 2]?,
+        accesses: vec![in alloc; 2, 7, 8, 10]?,
+        askers: vec![in alloc; 11, 12]?,
+    })
+}
+
+/// The same without the block around the fork.
+fn stolen_in_no_block(alloc: Global) -> Result<Moment, Fail> {
+    let nodes = vec![in alloc;
+        (0, Kind::Fork, 1),
+        (1, Kind::Strand, 0),
+        (1, Kind::Strand, 0),
+        (2, Kind::Block, 2),
+        (4, Kind::Write { cell: 0, value: 1 }, 3),
+        (3, Kind::Read { cell: 1, value: 0 }, 4),
+        (3, Kind::Block, 5),
+        (7, Kind::Write { cell: 1, value: 2 }, 6),
+        (4, Kind::Tried { cell: 1 }, 0),
+        (7, Kind::Tried { cell: 0 }, 0),
+    ]?;
+    Ok(Moment {
+        tree: grown(alloc, nodes, &[])?,
+        calls: vec![in alloc;
+            Call::Fork(0),
+            Call::Split(1),
+            Call::Word(0, 2),
+            Call::Word(2, 5),
+        ]?,
+        columns: vec![in alloc; 0, 0, 1, 2, 1, 1, 2, 2, 2, 1, 2]?,
+        accesses: vec![in alloc; 5, 6, 8]?,
+        askers: vec![in alloc; 9, 10]?,
+    })
+}
+
+/// A stolen branch that was merged again, and then a block with a stolen fork.
+fn merged_before_a_block(alloc: Global) -> Result<Moment, Fail> {
+    let nodes = vec![in alloc;
+        (0, Kind::Fork, 1),
+        (1, Kind::Strand, 0),
+        (1, Kind::Strand, 0),
+        (2, Kind::Write { cell: 0, value: 1 }, 2),
+        (3, Kind::Write { cell: 1, value: 2 }, 3),
+        (0, Kind::Block, 4),
+        (6, Kind::Fork, 5),
+        (7, Kind::Strand, 0),
+        (7, Kind::Strand, 0),
+        (8, Kind::Write { cell: 2, value: 3 }, 6),
+        (8, Kind::Tried { cell: 0 }, 0),
+        (9, Kind::Tried { cell: 2 }, 0),
+    ]?;
+    Ok(Moment {
+        tree: grown(alloc, nodes, &[])?,
+        calls: vec![in alloc;
+            Call::Fork(0),
+            Call::Split(1),
+            Call::Merge(1),
+            Call::Word(0, 4),
+            Call::Fork(0),
+            Call::Split(3),
+        ]?,
+        columns: vec![in alloc; 0, 0, 1, 2, 1, 2, 0, 0, 3, 4, 3, 3, 4]?,
+        accesses: vec![in alloc; 4, 5, 10]?,
+        askers: vec![in alloc; 11, 12]?,
+    })
+}
+
+#[test]
+fn verdicts_and_victims_are_those_of_the_tree(rt: HostRuntime) -> Result<(), Fail> {
+    let alloc = rt.alloc();
+    let table = [
+        (
+            stolen_in_a_block(alloc)?,
+            "Within Within Within Against(4) Within Within Against(7) Within ",
+        ),
+        (
+            stolen_in_no_block(alloc)?,
+            "Within Against(2) Free Free Against(5) Within ",
+        ),
+        (
+            merged_before_a_block(alloc)?,
+            "Free Free Free Free Within Within ",
+        ),
+    ];
+    for (moment, wanted) in &table {
+        let blanks = (Blank::new(1), Blank::new(1));
+        let text = verdicts::<Brand, Brand>(alloc, blanks, moment)?;
+        assert_eq!(rt; text.as_str(), *wanted);
+    }
+    Ok(())
+}
