@@ -194,4 +194,11 @@ for size in 1 10 100 1000 5000; do
   echo "$size traces inside one another: ask $(shown "$(each few "$size" 20000000)") ns of a few marks, $(shown "$(each random "$size" 20000000)") ns at random; conflict_plain $(shown "$(each plain "$size" $((20000000 / size)))") ns"
 done
 echo "1000001 columns: ask $(shown "$(each wide-few 500000 20000000)") ns of a few marks, $(shown "$(each wide 500000 20000000)") ns at random"
+# instructions of one ask, where valgrind is there: these do not vary with what else the machine does
+counted() { valgrind --tool=callgrind --callgrind-out-file="$folder/calls" "$program" "$@" 2>&1 > /dev/null | sed -n 's/^.*Collected : *//p'; }
+if command -v valgrind > /dev/null; then
+  for size in 1 10 100 1000 5000; do
+    echo "$size traces inside one another: $((($(counted few "$size" 100000) - $(counted few "$size" 0)) / 100000)) instructions an ask of a few marks, $((($(counted random "$size" 100000) - $(counted random "$size" 0)) / 100000)) at random"
+  done
+fi
 sed -n 's/^model name[^:]*: //p' /proc/cpuinfo | head -1
