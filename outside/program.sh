@@ -41,7 +41,6 @@ try 'a run' 0 $'out 1\nc = 1\nend\n' '' run
 try 'no words' 2 '' "$usage"
 try 'a word that is no command' 2 '' "$usage" Run
 try 'a word behind run' 2 '' "$usage" run run
-try 'an option that is none' 2 '' "$usage" run --workers 1
 try 'an empty word' 2 '' "$usage" ''
 try 'a word that is no UTF-8' 2 '' "$usage" $'\xff'
 try 'run and a word that is no UTF-8' 2 '' "$usage" run $'r\xffun'
@@ -64,6 +63,29 @@ printf 'fn main() { out 9223372036854775807 + 1; }' > source
 try 'a fault of main' 6 $'fault Overflow in 0\n' '' run
 printf 'fn main() { spawn { out 9223372036854775807 * 2; } }' > source
 try 'a fault of a spawned strand' 6 $'fault Overflow in 0.1l\n' '' run
+
+# ## Fuel and size
+
+printf 'cell c; fn main() { c = c + 1; out c; }' > source
+try 'one counted thing too many' 6 $'fault Size in 0\n' '' run --size 3
+try 'as many counted things and units as it needs' 0 $'out 1\nc = 1\nend\n' '' run --size=4 --fuel 2
+try 'one unit of fuel too few' 6 $'fault Fuel in 0\n' '' run --fuel 1
+try 'leading zeros' 0 $'out 1\nc = 1\nend\n' '' run --size 007
+for words in '--fuel 0' '--fuel 1000000001' '--size 10000001' '--size' '--size=' '--size=+4' '--fuel -1' '--fue 1' '--fuel 1 --fuel=1' '--workers 1' '7'; do
+  # the words stand apart by blanks
+  # shellcheck disable=SC2086
+  try "run $words" 2 '' "$usage" run $words
+done
+try 'an option before the command' 2 '' "$usage" --fuel 1 run
+
+printf 'fn main() { spawn { out 1; out 2; } sync; out 3; }' > source
+try 'fuel along the longest way' 0 $'out 1\nout 2\nout 3\nend\n' '' run --fuel 4
+try 'fuel behind a join' 6 $'fault Fuel in 0\n' '' run --fuel 3
+try 'fuel of a left strand' 6 $'fault Fuel in 0.1l\n' '' run --fuel 2
+printf 'cell c; fn main() { spawn { c = 1; c = 2; } c = 3; }' > source
+try 'the sizes of two strands' 0 $'c = 3\nend\n' '' run --size 4
+try 'their sum over the limit' 6 $'fault Size in 0\n' '' run --size 3
+try 'the size of a left strand' 6 $'fault Size in 0.1l\n' '' run --size 1
 
 # ## Reading and writing that fail
 

@@ -1,4 +1,6 @@
+ghost use Rattle.std.specs.Prelude.{◌≡◌, []};
 ghost use Rattle.cw_code.specs.Programs.{IsProgram};
+ghost use Rattle.cw_code.specs.Rules.{faults};
 
 use crate::{CellInfo, Verified};
 use cw_base::Seq;
@@ -9,5 +11,6 @@ pub struct Program {
     pub code: Verified,
     pub cells: Seq<CellInfo>,
     pub main: u32,
+    pub ghost sound: { faults code ≡ [] },
     pub ghost whole: { ∥ IsProgram code cells main ∥₁ },
 }

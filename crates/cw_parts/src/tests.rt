@@ -3,6 +3,7 @@ mod grown;
 mod machines;
 mod orders;
 mod queries;
+mod strands;
 mod texts;
 mod traces;
 mod trees;

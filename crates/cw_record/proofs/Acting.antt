@@ -14,7 +14,7 @@ use Rattle.cw_tree.specs.Journals.{fits_cells}
 use Rattle.cw_tree.specs.Nodes.{closed, first_state, is_fork_kind, is_strand_kind, is_tried_kind, parent_of}
 use Rattle.cw_tree.proofs.CellJournals.{HasJournals}
 use Rattle.cw_serial.specs.Jobs.{Job}
-use Rattle.cw_serial.specs.Room.Strands.{StrandState, job_of, state_of, strands_of}
+use Rattle.cw_serial.specs.Room.Strands.{StrandState, state_of, strands_of}
 use Rattle.cw_serial.specs.MachineOf.{machine_of}
 use Rattle.cw_serial.specs.Wants.{value_at, answer_to, memory_after, outputs_after}
 use Rattle.cw_serial.proofs.Branches.{Branch, on_left, on_right}
@@ -25,7 +25,7 @@ use Rattle.cw_record.specs.declared.worker.Worker.{Worker}
 use Rattle.cw_record.specs.Drawn.{added, drawn_after, drawn, entry, noted}
 use Rattle.cw_record.specs.Items.{is_act_kind}
 use Rattle.cw_record.specs.Replay.{IsAct}
-use Rattle.cw_record.specs.Worked.{Acts, law_of, unstarted, want_of}
+use Rattle.cw_record.specs.Worked.{Acts, law_of, unstarted, want_of, job_of}
 use Rattle.cw_record.proofs.Building.{open_items}
 use Rattle.cw_record.proofs.Descending.{Descends}
 use Rattle.cw_record.proofs.GrowingItems.{leaf_built, begin_built, end_built}
@@ -180,7 +180,7 @@ module _ (job : Job) (closes : Closes (strands_of job)) (there : WantsThere job)
       acted.strand ∙ (ap (λ l. l.answer (state_of code.strand) (answer_to x code.memory.items)) (law_same job code w r) ∙ ap (λ a. (strands_of job).answer a (answer_to x code.memory.items)) r.strand) in
       subst R (sym e)
       (record {
-        job_is = ap job_of acted.done.interpreter ∙ r.job_is;
+        job_is = ap job_of acted.done.task ∙ r.job_is;
         memory = acted.done.memory ∙ ap (memory_after x) r.memory;
         outputs = acted.done.outputs ∙ ap (outputs_after x) r.outputs;
         strand = goes_on ∙ ap (λ m. (strands_of job).answer w.strand (answer_to x m)) r.memory;
@@ -191,7 +191,7 @@ module _ (job : Job) (closes : Closes (strands_of job)) (there : WantsThere job)
   pub act_leaves_less : IsDeep (strands_of job) → (code new : Worker) (w : Working StrandState) → Runs job code w → takes_answer (want_of code) ≡ true → Acted code new → left_to_do new < left_to_do code
   act_leaves_less deep code new w r d acted =
       let l = law_of code in
-      let same : law_of new ≡ l = ap (λ i. strands_of (job_of i)) acted.done.interpreter in
+      let same : law_of new ≡ l = ap (λ i. strands_of (job_of i)) acted.done.task in
       let given = answer_to (want_of code) code.memory.items in
       let D : Strands StrandState → Type 0 = λ s. IsDeep s in
       let falls : l.depth (l.answer (state_of code.strand) given) < l.depth (state_of code.strand) = (subst D (sym (law_same job code w r)) deep).answer (state_of code.strand) given d in

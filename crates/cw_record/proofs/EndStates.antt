@@ -14,7 +14,7 @@ use Rattle.cw_tree.proofs.Ancestors.{ancestor_self, ancestor_step, ancestor_up, 
 use Rattle.cw_tree.proofs.Growing.{length_more}
 use Rattle.cw_tree.proofs.Lists.{In}
 use Rattle.cw_serial.specs.Room.Strands.{StrandState, state_of}
-use Rattle.cw_serial.specs.declared.interpreter.strand.Strand.{Strand as Written}
+use Rattle.cw_serial.specs.declared.standing.Standing.{Standing as Written}
 use Rattle.cw_record.specs.declared.worker.Branch.{Branch}
 use Rattle.cw_record.specs.declared.worker.Branch.TheVariants.{Left, Right}
 use Rattle.cw_record.specs.Drawn.{added}

@@ -33,6 +33,7 @@ pub mod LastItems
 pub mod GrowingItems
 pub mod Faults
 pub mod Descending
+pub mod Standings
 pub mod Waiting
 pub mod Playing
 pub mod GrowingWays

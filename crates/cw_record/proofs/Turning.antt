@@ -3,8 +3,6 @@ use Rattle.std.proofs.Common.{◌≡◌, ℕ, ◌<◌, List, [], ◌∷◌, leng
 use Rattle.cw_strand.specs.declared.want.Want.{Want}
 use Rattle.cw_strand.specs.declared.want.Want.TheVariants as want
 use Rattle.cw_strand.specs.Strands.{Closes, IsDeep, MayWant, is_over, takes_answer}
-use Rattle.cw_strand.specs.Laws.{params_at}
-use Rattle.cw_text.specs.Syntax.{tree_of}
 use Rattle.cw_tree.specs.Nodes.{is_block}
 use Rattle.std.specs.Prelude.{All, IfOk, IsTrue, Result, Ok, Err}
 use Rattle.cw_base.specs.declared.memory.OutOfMemory.{OutOfMemory}
@@ -13,12 +11,11 @@ use Rattle.cw_tree.specs.declared.access.Entry.{Entry}
 use Rattle.cw_tree.specs.Series.{strand_of}
 use Rattle.std.proofs.lemmas.List.Elements.{All-head}
 use Rattle.cw_serial.specs.Jobs.{Job}
-use Rattle.cw_serial.specs.declared.interpreter.strand.Strand.{Strand as Written}
+use Rattle.cw_serial.specs.declared.standing.Standing.{Standing as Written}
 use Rattle.cw_serial.specs.Room.Strands.{StrandState, state_of, strands_of}
 use Rattle.cw_serial.proofs.Branches.{Branch, on_left, on_right}
-use Rattle.cw_serial.specs.Programs.{IsProgramOf}
-use Rattle.cw_serial.proofs.Room.Lawful.{deep_of, lawful_of}
-use Rattle.cw_serial.proofs.Room.Elements.{WantsThere, wants_there}
+use Rattle.cw_serial.proofs.Room.Lawful.{deep_of}
+use Rattle.cw_serial.proofs.Room.Elements.{WantsThere}
 use Rattle.cw_serial.proofs.Working.{Worker as Working, own_in, reached, after_act, after_fork as worker_after_fork}
 use Rattle.cw_record.specs.declared.worker.Branch.{Branch as Held}
 use Rattle.cw_record.specs.declared.worker.Branch.TheVariants.{Left, Right}
@@ -67,16 +64,10 @@ module _ {job : Job} {code : Worker} {w : Working StrandState} (r : Runs job cod
   pub first_fork_there : {x y : Held} {rest : List Held} → code.branches ≡ x ∷ rest → x ≡ y → fork_at y < length code.drawing.tree
   first_fork_there {y = y} {rest} was is = first_there y rest (was ∙ ap (λ b. b ∷ rest) is)
 
-  -- where the program was checked, the law holds
-  module _ (named : IsProgramOf (tree_of job.program.ast) job.program) (params : params_at (tree_of job.program.ast) job.program.main ≡ []) where
+  -- where blocks close, and strands want only elements that are there
+  module _ (closes : Closes (strands_of job)) (there : WantsThere job) where
     deep : IsDeep (strands_of job)
     deep = deep_of job
-
-    closes : Closes (strands_of job)
-    closes = (lawful_of job named params).closes
-
-    there : WantsThere job
-    there = wants_there job named
 
     -- ## A step
 
@@ -92,7 +83,7 @@ module _ {job : Job} {code : Worker} {w : Working StrandState} (r : Runs job cod
     -- from the end of a strand to the branch that was taken
     module _ {x : Held} {rest : List Held} (taken : code.branches ≡ x ∷ rest) {new : Worker} (over : is_over (want_of code) ≡ true) (keeps : SwitchesStrand (record code { branches = rest }) new) where
       stays : SwitchesStrand code new
-      stays = record { interpreter = keeps.interpreter; memory = keeps.memory; outputs = keeps.outputs }
+      stays = record { task = keeps.task; memory = keeps.memory; outputs = keeps.outputs }
 
       pub turn_run : {f : ℕ} {right : Written} → x ≡ Left f right → drawn new.drawing ≡ after_start f (drawn code.drawing) → new.strand ≡ right → new.branches ≡ Right f code.strand ∷ rest → StillRuns job code new
       turn_run {f} {right} is drawing strand branches = by w.branches refl (held (Left f right) rest was) where

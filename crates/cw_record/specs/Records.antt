@@ -1,16 +1,14 @@
 -- What a record holds, and what is true of the run of one worker.
 use Rattle.std.specs.Prelude.{◌≡◌, ℕ, suc, ◌<◌, List, [], map, length, true, Some, IsTrue}
 use Rattle.cw_strand.specs.declared.want.Want.TheVariants.{Fault as AFault}
-use Rattle.cw_strand.specs.Laws.{params_at}
+use Rattle.cw_strand.specs.Programs.{IsCompiled}
 use Rattle.cw_strand.specs.Names.{first_memory}
-use Rattle.cw_text.specs.Syntax.{tree_of}
 use Rattle.cw_tree.specs.declared.node.Node.{Node}
 use Rattle.cw_tree.specs.declared.access.Entry.{Entry}
 use Rattle.cw_tree.specs.Nodes.{parent_of, is_strand, is_block, is_pending, is_committed}
 use Rattle.cw_tree.specs.Walks.{is_ancestor}
 use Rattle.cw_tree.specs.Names.{name_of}
-use Rattle.cw_serial.specs.Jobs.{Job}
-use Rattle.cw_serial.specs.Programs.{IsProgramOf}
+use Rattle.cw_serial.specs.Jobs.{Job, Takes}
 use Rattle.cw_serial.specs.Room.Strands.{StrandState, strands_of}
 use Rattle.cw_serial.specs.Machine.{Machine, has_ended}
 use Rattle.cw_serial.specs.StrandTree.{at}
@@ -37,10 +35,10 @@ IsReplayed r = Replays (strands_of (job_of r)) (first_memory r.program.cells) r.
 abbrev pub IsCoherentRun : Record → Type 0
 IsCoherentRun r = IsCoherent (strands_of (job_of r)) (first_memory r.program.cells) r.limits.aborts r.tree r.journals r.conflicts r.end
 
--- A record is coherent for the strands of its program, which is a checked one, and has as many words as main has parameters.
+-- A record is coherent for the strands of its program, which is a compiled one, and has as many words as main has parameters.
 pub record IsCoherentRecord (r : Record) : Type 0 where
-  pub program : IsProgramOf (tree_of r.program.ast) r.program
-  pub words : length r.words ≡ length (params_at (tree_of r.program.ast) r.program.main)
+  pub program : IsCompiled r.program
+  pub words : Takes r.program (length r.words)
   pub coherent : IsCoherentRun r
 
 -- the outputs of a record are those of its output nodes, in its order

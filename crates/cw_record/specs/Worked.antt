@@ -1,17 +1,25 @@
 -- What one worker holds in memory, and what its steps do to it.
-use Rattle.std.specs.Prelude.{◌≡◌, ℕ, List, [], ◌∷◌}
+use Rattle.std.specs.Prelude.{◌≡◌, ℕ, true, List, [], ◌∷◌, All}
 use Rattle.cw_strand.specs.declared.want.Want.{Want}
-use Rattle.cw_strand.specs.Strands.{Strands}
+use Rattle.cw_strand.specs.Strands.{Strands, is_over}
 use Rattle.cw_serial.specs.Wants.{memory_after, outputs_after}
-use Rattle.cw_serial.specs.Room.Strands.{StrandState, job_of, state_of, strands_of}
+use Rattle.cw_serial.specs.Jobs.{Job, bare}
+use Rattle.cw_serial.specs.Room.Strands.{StrandState, IsOf, state_of, strands_of}
+use Rattle.cw_serial.specs.declared.standing.Standing.{Standing}
+use Rattle.cw_code.specs.declared.program.Program.{Program}
+use Rattle.cw_record.specs.declared.worker.Task.{Task}
 use Rattle.cw_record.specs.declared.worker.Branch.{Branch}
 use Rattle.cw_record.specs.declared.worker.Branch.TheVariants.{Left, Right}
 use Rattle.cw_record.specs.declared.worker.Worker.{Worker}
 use Rattle.cw_record.specs.Drawn.{drawn, drawn_after}
 
+-- what a task runs
+abbrev pub job_of : Task → Job
+job_of t = record { program = t.program.now; words = t.words.now; limits = t.limits }
+
 -- the law of the strands that it runs
 abbrev pub law_of : Worker → Strands StrandState
-law_of w = strands_of (job_of w.interpreter)
+law_of w = strands_of (job_of w.task)
 
 -- what the strand that it runs wants
 abbrev pub want_of : Worker → Want
@@ -19,13 +27,13 @@ want_of w = (law_of w).want (state_of w.strand)
 
 -- It goes from strand to strand: what it runs by, memory and outputs stay.
 pub record SwitchesStrand (old new : Worker) : Type 0 where
-  pub interpreter : new.interpreter ≡ old.interpreter
+  pub task : new.task ≡ old.task
   pub memory : new.memory ≡ old.memory
   pub outputs : new.outputs ≡ old.outputs
 
 -- It did what its strand wants, in memory, outputs and drawing: what it runs by and the waiting strands stay.
 pub record Acts (old new : Worker) : Type 0 where
-  pub interpreter : new.interpreter ≡ old.interpreter
+  pub task : new.task ≡ old.task
   pub branches : new.branches ≡ old.branches
   pub memory : new.memory.items ≡ memory_after (want_of old) old.memory.items
   pub outputs : new.outputs.items ≡ outputs_after (want_of old) old.outputs.items
@@ -41,3 +49,22 @@ abbrev pub unstarted : List Branch → List ℕ
 unstarted [] = []
 unstarted (Left f right ∷ rest) = f ∷ unstarted rest
 unstarted (Right f left ∷ rest) = unstarted rest
+
+-- ## Strands of the program
+
+-- what a strand of a program wants
+abbrev pub want_in : Program → Standing → Want
+want_in p x = (strands_of (bare p)).want (state_of x)
+
+-- the strand that waits there is one of the program, and a left one has ended
+abbrev pub BranchStands : Program → Branch → Type 0
+BranchStands p (Left f right) = IsOf p right
+BranchStands p (Right f left) = IsOf p left × (is_over (want_in p left) ≡ true)
+
+abbrev pub AllBranchesStand : Program → List Branch → Type 0
+AllBranchesStand p branches = All (BranchStands p) branches
+
+-- all strands of the worker are those of its program
+pub record AllStand (w : Worker) : Type 0 where
+  pub strand : IsOf w.task.program.now w.strand
+  pub branches : AllBranchesStand w.task.program.now w.branches

@@ -1,4 +1,5 @@
-ghost use Rattle.std.specs.Prelude.{◌≡◌, ◌↔◌, pos, IfOk, IsTrue};
+ghost use Rattle.std.specs.Prelude.{◌≡◌, ◌↔◌, pos, length, IfOk, IsTrue};
+ghost use Rattle.cw_serial.specs.Jobs.{Takes};
 ghost use Rattle.cw_tree.specs.Nodes.{is_strand};
 ghost use Rattle.cw_serial.specs.Wants.{value_at};
 ghost use Rattle.cw_serial.specs.MachineOf.{end_under};
@@ -29,6 +30,7 @@ pub enum Checked {
 /// the machine does at each pick what the tree has there, and comes to the same end. More than 4,294,967,295 cells, strands or picks
 /// are answered as want of memory.
 pub fn check(alloc: Global, kept: &Record) -> Result<Checked, OutOfMemory>
+    requires { Takes kept.now.program (length kept.now.words) }
     ensures { IfOk result (λ c. IsCheckOf kept.now c) }
 {
     let program = &kept.program;
@@ -51,7 +53,8 @@ pub fn check(alloc: Global, kept: &Record) -> Result<Checked, OutOfMemory>
 
 /// Whether a record replays, where this is the machine's end under its order.
 fn replays(alloc: Global, kept: &Record, end: &SerialEnd) -> Result<bool, OutOfMemory>
-    requires { end.now ≡ end_under (job_of kept.now) kept.now.order }
+    requires words { Takes kept.now.program (length kept.now.words) }
+    requires end { end.now ≡ end_under (job_of kept.now) kept.now.order }
     ensures { IfOk result (λ b. IsTrue b ↔ IsReplayed kept.now) }
 {
     // a hint to the prover: the root is a strand, and each other node has a smaller parent

@@ -1,7 +1,6 @@
-ghost use Rattle.std.specs.Prelude.{◌≡◌, [], IfOk};
-ghost use Rattle.cw_strand.specs.Laws.{params_at};
-ghost use Rattle.cw_text.specs.Syntax.{tree_of};
-ghost use Rattle.cw_serial.specs.Programs.{IsProgramOf};
+ghost use Rattle.std.specs.Prelude.{◌≡◌, [], IfOk, length};
+ghost use Rattle.cw_strand.specs.Programs.{IsCompiled};
+ghost use Rattle.cw_serial.specs.Jobs.{Takes};
 ghost use Rattle.cw_record.specs.Records.{BlocksEnded, HasEnded, HasItsOutputs, IsCoherentRun, IsReplayed, IsDepthFirst, IsNumberedDepthFirst};
 
 use crate::worker::Worker;
@@ -27,15 +26,15 @@ pub struct Record {
 }
 
 /// The run of one worker: depth first, the left strand of each fork before the right one. It ends by itself or at the first
-/// fault. Fuel and size are not counted yet: no text that can be read comes near their limits.
+/// fault.
 pub fn depth_first(
     alloc: Global,
     program: Program,
     words: Seq<i64>,
     limits: Limits,
 ) -> Result<Record, OutOfMemory>
-    requires named { IsProgramOf (tree_of program.ast) program }
-    requires params { params_at (tree_of program.ast) program.main ≡ [] }
+    requires compiled { IsCompiled program }
+    requires words { Takes program (length words) }
     ensures program { IfOk result (λ r. r.program ≡ program) }
     ensures words { IfOk result (λ r. r.words ≡ words) }
     ensures limits { IfOk result (λ r. r.limits ≡ limits) }

@@ -1,5 +1,6 @@
 ghost use Rattle.std.specs.Prelude.{◌≡◌, ◌↔◌, ◌<◌, IfOk, IsSomeAnd, IsTrue, length};
 ghost use Rattle.cw_tree.specs.Nodes.{is_strand};
+ghost use Rattle.cw_serial.specs.Jobs.{Takes};
 ghost use Rattle.cw_serial.specs.Machine.{Machine};
 ghost use Rattle.cw_serial.specs.Room.Strands.{StrandState};
 ghost use Rattle.cw_record.specs.Order.{ending_strand, node_of, order_of};
@@ -17,6 +18,7 @@ use std::alloc::Global;
 
 /// Whether the machine does at each pick what the tree has there, and then a strand that spent its budget stands at what was refused.
 pub(crate) fn does_all(alloc: Global, kept: &Record) -> Result<bool, OutOfMemory>
+    requires words { Takes kept.now.program (length kept.now.words) }
     requires strand { IsTrue (is_strand kept.now.tree (ending_strand kept.now.end)) }
     requires order { kept.now.order ≡ order_of kept.now.tree kept.now.conflicts kept.now.limits.aborts kept.now.end }
     ensures { IfOk result (λ b. IsTrue b ↔ ItemsAreDone kept.now) }

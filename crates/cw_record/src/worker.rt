@@ -1,19 +1,17 @@
 ghost use Rattle.std.specs.Prelude.{◌≡◌, ◌<◌, ◌++◌, [], ◌∷◌, true, All, IfOk, IsTrue, OnOk, length, map};
-ghost use Rattle.cw_text.specs.Syntax.{tree_of};
-ghost use Rattle.cw_strand.specs.Laws.{params_at};
 ghost use Rattle.cw_strand.specs.Names.{first_memory};
 ghost use Rattle.cw_strand.specs.Strands.{is_over, takes_answer};
 ghost use Rattle.cw_strand.specs.declared.want.Want.TheVariants as Want;
 ghost use Rattle.cw_tree.specs.Nodes.{fresh_node, is_block};
 ghost use Rattle.cw_tree.specs.Series.{strand_of};
 ghost use Rattle.cw_tree.specs.declared.node.Kind.TheVariants.{Strand as AStrand};
-ghost use Rattle.cw_serial.specs.Jobs.{Job};
-ghost use Rattle.cw_serial.specs.Programs.{IsProgramOf};
-ghost use Rattle.cw_serial.specs.Room.Strands.{job_of, state_of, strands_of};
+ghost use Rattle.cw_strand.specs.Programs.{IsCompiled};
+ghost use Rattle.cw_serial.specs.Jobs.{Job, Takes};
+ghost use Rattle.cw_serial.specs.Room.Strands.{IsOf, state_of};
 ghost use Rattle.cw_serial.specs.Wants.{answer_to};
 ghost use Rattle.cw_record.specs.Drawn.{after_fork, after_join, after_start, blank, drawn};
 ghost use Rattle.cw_record.specs.Records.{IsWorkerRun};
-ghost use Rattle.cw_record.specs.Worked.{Acts, SwitchesStrand, WaitsOnLeft, law_of, unstarted, want_of};
+ghost use Rattle.cw_record.specs.Worked.{Acts, AllBranchesStand, AllStand, SwitchesStrand, WaitsOnLeft, job_of, law_of, unstarted, want_in, want_of};
 ghost use Rattle.cw_record.specs.declared.worker.Branch.TheVariants.{Right as OnRight};
 ghost use Rattle.cw_record.specs.declared.record_end.RecordEnd.TheVariants as ending;
 
@@ -21,29 +19,37 @@ use crate::RecordEnd;
 use crate::drawing::Drawing;
 use cw_base::{OutOfMemory, Seq, Stack};
 use cw_code::{FaultKind, Limits};
-use cw_serial::{Interpreter, Program, Strand, first_memory, value_at};
+use cw_serial::{Program, Standing, first_memory, value_at};
 use cw_strand::{Given, Want};
 use cw_tree::Tree;
 use std::alloc::Global;
 
+/// What is run: a program, with the words of its command and its limits.
+#[derive(Drop)]
+pub(crate) struct Task<'a> {
+    pub(crate) program: &'a Program,
+    pub(crate) words: &'a [i64],
+    pub(crate) limits: Limits,
+}
+
 /// A fork on the way down to the strand that is run, with its node.
 #[derive(Drop)]
-pub(crate) enum Branch<'a> {
+pub(crate) enum Branch {
     /// The left strand is run, and the right one is still to come.
-    Left { fork: u32, right: Strand<'a> },
+    Left { fork: u32, right: Standing },
     /// The right strand is run, and the left one has ended.
-    Right { fork: u32, left: Strand<'a> },
+    Right { fork: u32, left: Standing },
 }
 
 /// One worker: the strand that it runs, at its want, and the forks on the way down to it, the innermost first.
 #[derive(Drop)]
 pub(crate) struct Worker<'a> {
-    pub(crate) interpreter: Interpreter<'a>,
+    pub(crate) task: Task<'a>,
     pub(crate) memory: Vec<i64>,
     pub(crate) outputs: Vec<i64>,
     pub(crate) drawing: Drawing,
-    pub(crate) strand: Strand<'a>,
-    pub(crate) branches: Stack<Branch<'a>>,
+    pub(crate) strand: Standing,
+    pub(crate) branches: Stack<Branch>,
 }
 
 /// What a run leaves.
@@ -61,19 +67,25 @@ impl<'a> Worker<'a> {
         words: &'a [i64],
         limits: Limits,
     ) -> Result<Worker<'a>, OutOfMemory>
-        ensures job { IfOk result (λ w. job_of w.interpreter ≡ record { program = program.now; words = words.now; limits = limits }) }
+        requires { Takes program.now (length words.now) }
+        ensures job { IfOk result (λ w. job_of w.task ≡ record { program = program.now; words = words.now; limits = limits }) }
         ensures memory { IfOk result (λ w. w.memory.items ≡ first_memory program.now.cells) }
         ensures outputs { IfOk result (λ w. w.outputs.items ≡ []) }
         ensures drawing { IfOk result (λ w. drawn w.drawing ≡ blank (length w.memory.items)) }
         ensures strand { IfOk result (λ w. state_of w.strand ≡ (law_of w).start) }
         ensures branches { IfOk result (λ w. w.branches ≡ []) }
+        ensures stands { IfOk result (λ w. AllStand w) }
     {
-        let interpreter = Interpreter::new(alloc, program, words, limits)?;
+        let task = Task {
+            program,
+            words,
+            limits,
+        };
         let memory = first_memory(alloc, program.cells.as_slice())?;
         let drawing = Drawing::begin(alloc, memory.len())?;
-        let strand = Strand::start(alloc, &interpreter)?;
+        let strand = Standing::start(alloc, program, words, limits)?;
         Ok(Worker {
-            interpreter,
+            task,
             memory,
             outputs: Vec::new(alloc),
             drawing,
@@ -89,8 +101,8 @@ impl<'a> Worker<'a> {
         words: &'a [i64],
         limits: Limits,
     ) -> Result<Run, OutOfMemory>
-        requires named { IsProgramOf (tree_of program.now.ast) program.now }
-        requires params { params_at (tree_of program.now.ast) program.now.main ≡ [] }
+        requires compiled { IsCompiled program.now }
+        requires words { Takes program.now (length words.now) }
         ensures { IfOk result (λ r. IsWorkerRun (record { program = program.now; words = words.now; limits = limits })
             r.drawing.tree r.drawing.journals.items r.end) }
     {
@@ -116,12 +128,14 @@ impl<'a> Worker<'a> {
         requires there { self.old.drawing.place < length self.old.drawing.tree }
         requires answered { takes_answer (want_of self.old) ≡ true }
         requires block { want_of self.old ≡ Want.End → IsTrue (is_block self.old.drawing.tree self.old.drawing.place) }
+        requires stands { IsOf self.old.task.program.now self.old.strand }
         ensures acts { OnOk result (Acts self.old self.new) }
+        ensures stands { OnOk result (IsOf self.old.task.program.now self.new.strand) }
         ensures strand { OnOk result (state_of self.new.strand
             ≡ (law_of self.old).answer (state_of self.old.strand) (answer_to (want_of self.old) self.old.memory.items)) }
     {
         let given = self.do_want()?;
-        self.strand.answer(given, &self.interpreter)
+        self.strand.answer(given, self.task.program)
     }
 
     /// Does what the strand wants in memory and outputs, and draws it.
@@ -161,24 +175,26 @@ impl<'a> Worker<'a> {
     fn fork(&mut self, alloc: Global) -> Result<(), OutOfMemory>
         requires there { self.old.drawing.place < length self.old.drawing.tree }
         requires wanted { want_of self.old ≡ Want.Fork }
+        requires stands { IsOf self.old.task.program.now self.old.strand }
         ensures keeps { OnOk result (SwitchesStrand self.old self.new) }
         ensures drawing { OnOk result (drawn self.new.drawing ≡ after_fork (drawn self.old.drawing)) }
         ensures left { OnOk result (state_of self.new.strand ≡ (law_of self.old).left (state_of self.old.strand)) }
         ensures right { OnOk result (WaitsOnLeft self.old.branches self.new.branches (length self.old.drawing.tree)
             ((law_of self.old).right (state_of self.old.strand))) }
+        ensures stands { OnOk result (AllBranchesStand self.old.task.program.now self.old.branches → AllStand self.new) }
     {
         let fork = self.drawing.forks()?;
-        let left = self.strand.fork(alloc, &self.interpreter)?;
+        let left = self.strand.fork(alloc, self.task.program)?;
         let right = std::mem::replace(&mut self.strand, left);
         self.branches.push(Branch::Left { fork, right })
     }
 
     /// Goes on with the right strand of a fork, whose left strand has ended.
-    fn turn(&mut self, fork: u32, right: Strand<'a>) -> Result<(), OutOfMemory>
+    fn turn(&mut self, fork: u32, right: Standing) -> Result<(), OutOfMemory>
         requires { fork < length self.old.drawing.tree }
         ensures keeps { OnOk result (SwitchesStrand self.old self.new) }
         ensures drawing { OnOk result (drawn self.new.drawing ≡ after_start fork (drawn self.old.drawing)) }
-        ensures strand { OnOk result (self.new.strand ≡ right.entry) }
+        ensures strand { OnOk result (self.new.strand ≡ right) }
         ensures branches { OnOk result (self.new.branches ≡ OnRight fork self.old.strand ∷ self.old.branches) }
     {
         self.drawing.starts(fork)?;
@@ -187,17 +203,20 @@ impl<'a> Worker<'a> {
     }
 
     /// Goes on with the strand that forked, where both strands of the fork have ended.
-    fn join(&mut self, fork: u32, left: Strand<'a>) -> Result<(), OutOfMemory>
+    fn join(&mut self, fork: u32, left: Standing) -> Result<(), OutOfMemory>
         requires there { fork < length self.old.drawing.tree }
         requires ended { is_over (want_of self.old) ≡ true }
+        requires right { IsOf self.old.task.program.now self.old.strand }
+        requires left { IsOf self.old.task.program.now left × (is_over (want_in self.old.task.program.now left) ≡ true) }
         ensures keeps { OnOk result (SwitchesStrand self.old self.new) }
         ensures drawing { OnOk result (drawn self.new.drawing ≡ after_join fork (drawn self.old.drawing)) }
         ensures branches { OnOk result (self.new.branches ≡ self.old.branches) }
         ensures strand { OnOk result (state_of self.new.strand
-            ≡ (law_of self.old).joined (state_of self.old.strand) (state_of left.entry)) }
+            ≡ (law_of self.old).joined (state_of self.old.strand) (state_of left)) }
+        ensures stands { OnOk result (IsOf self.old.task.program.now self.new.strand) }
     {
         self.drawing.joins(fork);
-        self.strand.join(left, &self.interpreter)
+        self.strand.join(left, self.task.program)
     }
 
     /// The run that has come to the end of main.

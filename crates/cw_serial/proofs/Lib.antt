@@ -1,8 +1,5 @@
-pub mod NamingRules
 pub mod Room
 pub mod FirstMemory
-pub mod Declarations
-pub mod KnownNames
 pub mod Deep
 pub mod Sides
 pub mod Turns
@@ -12,6 +9,7 @@ pub mod Settled
 pub mod Replaced
 pub mod Numbers
 pub mod Numbered
+pub mod AreOf
 pub mod Waiting
 pub mod Holding
 pub mod Joining

@@ -6,7 +6,7 @@ use Rattle.cw_tree.specs.declared.picks.Name.{Name}
 use Rattle.cw_tree.specs.declared.picks.Turn.{Turn}
 use Rattle.cw_serial.specs.declared.machine.Machine.{Machine as Code}
 use Rattle.cw_serial.specs.declared.orders.Known.{Known}
-use Rattle.cw_serial.specs.declared.interpreter.strand.Strand.{Strand}
+use Rattle.cw_serial.specs.declared.standing.Standing.{Standing}
 use Rattle.cw_serial.specs.declared.table.Sides.{Sides}
 use Rattle.cw_serial.specs.declared.table.Row.{Row}
 use Rattle.cw_serial.specs.StrandTree.{at}
@@ -103,7 +103,7 @@ module _ (code : Code) where
   abbrev names : List Name
   names = code.strands.names.items
 
-  abbrev rows : List (Row Strand)
+  abbrev rows : List (Row Standing)
   rows = code.strands.rows.items
 
   nowhere_by : (order : List Name) (n i : ℕ) (x : Name) (q r : List Turn) → turns names i ≡ Some q → started_at rows (record x { parent = i }) ≡ None → turns order n ≡ Some (q ++ turn_of x ∷ r) → StandsNowhere order n code

@@ -6,11 +6,11 @@ use Rattle.cw_strand.specs.declared.want.Want.{Want}
 use Rattle.cw_strand.specs.declared.want.Given.{Given}
 use Rattle.cw_strand.specs.Strands.{Strands}
 use Rattle.cw_tree.specs.declared.picks.Turn.{Turn}
-use Rattle.cw_serial.specs.declared.interpreter.strand.Strand.{Strand}
+use Rattle.cw_serial.specs.declared.standing.Standing.{Standing}
 use Rattle.cw_serial.specs.declared.machine.Machine.{Machine as Code}
 use Rattle.cw_serial.specs.declared.table.Table.{Table}
 use Rattle.cw_serial.specs.Jobs.{Job}
-use Rattle.cw_serial.specs.Room.Strands.{StrandState, job_of, state_of, strands_of}
+use Rattle.cw_serial.specs.Room.Strands.{StrandState, state_of, strands_of}
 use Rattle.cw_serial.specs.StrandTree.{StrandTree, put}
 use Rattle.cw_serial.specs.Wants.{answer_to, memory_after, outputs_after, blocks_after}
 use Rattle.cw_serial.specs.Machine.{Begun, Machine, same_name, turns, may_pick, pick_at, pick}
@@ -52,28 +52,26 @@ module _ (job : Job) (old : Code) (m : Machine StrandState) (is : IsMachine job 
         }) (blocks_after (record { strand = q }) (λ (b : Begun). same_name b.strand q) v m.begun)) None) here.wants
 
     -- the want was done, the strand answered, and all settled
-    pub picked : (given : Given) (mid new : Code) (table : Table Strand) → may_pick m.begun q ≡ true → IsDone w n old given mid → Answers (strands_of (job_of mid.interpreter)) state_of mid.strands n given table
-        → new.memory ≡ mid.memory → new.outputs ≡ mid.outputs → new.begun ≡ mid.begun → new.interpreter ≡ mid.interpreter
-        → ((t : StrandTree StrandState) → SettlesTo (strands_of (job_of mid.interpreter)) state_of table (n ∷ []) t → Holds state_of new.strands t × IsSettled (strands_of (job_of mid.interpreter)) t)
+    pub picked : (given : Given) (mid new : Code) (table : Table Standing) → may_pick m.begun q ≡ true → IsDone w n old given mid → Answers s state_of mid.strands n given table
+        → new.memory ≡ mid.memory → new.outputs ≡ mid.outputs → new.begun ≡ mid.begun
+        → ((t : StrandTree StrandState) → SettlesTo s state_of table (n ∷ []) t → Holds state_of new.strands t × IsSettled s t)
         → IsFront table.names.items new.strands.names.items
         → Picks job m (pick s m q) true new
-    picked given mid new table may done answers memory outputs begun interpreter settles front =
-        let job_is : job_of mid.interpreter ≡ job = ap job_of done.interpreter ∙ is.job_is in
-        let answered : Answers s state_of old.strands n given table = subst (λ t. Answers s state_of t n given table) done.strands (subst (λ j. Answers (strands_of j) state_of mid.strands n given table) job_is answers) in
+    picked given mid new table may done answers memory outputs begun settles front =
+        let answered : Answers s state_of old.strands n given table = subst (λ t. Answers s state_of t n given table) done.strands answers in
         let same : state_of answered.strand ≡ state_of here.strand = strand_is s state_of old.strands table n given answered m.strands is.strands is.settled q up here.forks (state_of here.strand) here.here in
         let given_is : given ≡ answer_to w m.memory = done.given_is ∙ ap (answer_to w) (sym is.memory) in
         let (begun_now, some, are) = alike_some old.strands.names.items mid.begun blocks (subst (λ o. AreAlike old.strands.names.items o blocks) done.begun alike) in
         let now : Machine StrandState = after (state_of here.strand) begun_now in
         let strands_are : put s m.strands q (s.answer (state_of answered.strand) given) ≡ now.strands = ap (λ a. put s m.strands q (s.answer a given)) same ∙ ap (λ g. put s m.strands q (s.answer (state_of here.strand) g)) given_is in
-        let (held, settled) = settles now.strands (subst (λ j. SettlesTo (strands_of j) state_of table (n ∷ []) now.strands) (sym job_is) (subst (SettlesTo s state_of table (n ∷ [])) strands_are (answered_comes s state_of old.strands table n given answered m.strands is.strands is.settled q up))) in
+        let (held, settled) = settles now.strands (subst (SettlesTo s state_of table (n ∷ [])) strands_are (answered_comes s state_of old.strands table n given answered m.strands is.strands is.settled q up)) in
         let picks : pick s m q ≡ Some now = pick_here ∙ (ap (λ b. cond b (option_map (after (state_of here.strand)) blocks) None) may ∙ ap (option_map (after (state_of here.strand))) some) in
         let same_names : table.names.items ≡ old.strands.names.items = ap (λ v. v.items) (answered.back.names ∙ answered.gone.names) in
         subst (λ o. Picks job m o true new) (sym picks) (record {
-          job_is = ap job_of interpreter ∙ job_is;
           memory = ap (memory_after w) is.memory ∙ (sym done.memory ∙ ap (λ v. v.items) (sym memory));
           outputs = ap (outputs_after w) is.outputs ∙ (sym done.outputs ∙ ap (λ v. v.items) (sym outputs));
           strands = held;
-          settled = subst (λ j. IsSettled (strands_of j) now.strands) job_is settled;
+          settled = settled;
           begun = subst (λ bs. AreBegun new.strands.names.items bs begun_now) (sym begun) (begun_more old.strands.names.items new.strands.names.items mid.begun begun_now (let (rest, e) = front in (rest, e ∙ ap (λ v. v ++ rest) same_names)) are);
         })
 

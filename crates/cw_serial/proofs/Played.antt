@@ -118,17 +118,17 @@ module _ (job : Job) (picks : Order) where
 
   -- a pick, by its name
   abbrev pub Picked : Play → ℕ → Bool → Play → Type 0
-  Picked old n moved new = (any : Job) (names : List Name) (m : Machine StrandState) → IsPlay any names old m → Plays any names m (pick_named (strands_of any) m (turns names n)) moved new
+  Picked old n moved new = (any : Job) (names : List Name) (m : Machine StrandState) → any.program ≡ job.program → IsPlay any names old m → Plays any names m (pick_named (strands_of any) m (turns names n)) moved new
 
   module _ (old new : Play) (place n : ℕ) (there : slice_get picks.list place ≡ Some n) (played : Played old place) where
     pub plays_on : Picked old n true new → Played new (place + 1)
-    plays_on picked = by (pick_named (strands_of job) played.machine (turns picks.names n)) refl (picked job picks.names played.machine played.is) where
+    plays_on picked = by (pick_named (strands_of job) played.machine (turns picks.names n)) refl (picked job picks.names played.machine refl played.is) where
       by : (o : Option (Machine StrandState)) → pick_named (strands_of job) played.machine (turns picks.names n) ≡ o → Plays job picks.names played.machine o true new → Played new (place + 1)
       by None e h = absurd h
       by (Some t) e h = record { machine = t; is = h; leaves = played_on (strands_of job) picks.names picks.list picks.last (end_under job picks) place n played.machine t there e played.leaves }
 
     pub stuck_at : Picked old n false new → last.Stuck place ≡ end_under job picks
-    stuck_at picked = by (pick_named (strands_of job) played.machine (turns picks.names n)) refl (picked job picks.names played.machine played.is) where
+    stuck_at picked = by (pick_named (strands_of job) played.machine (turns picks.names n)) refl (picked job picks.names played.machine refl played.is) where
       by : (o : Option (Machine StrandState)) → pick_named (strands_of job) played.machine (turns picks.names n) ≡ o → Plays job picks.names played.machine o false new → last.Stuck place ≡ end_under job picks
       by (Some t) e h = absurd h
       by None e h = played_stuck (strands_of job) picks.names picks.list picks.last (end_under job picks) place n played.machine there e played.leaves

@@ -1,6 +1,4 @@
-pub mod Lawful
 pub mod Elements
-pub mod Bodies
-pub mod DoneTasks
-pub mod StandingWork
-pub mod Locals
+pub mod Lawful
+pub mod Nexts
+pub mod Wants

@@ -8,7 +8,9 @@ use Rattle.cw_tree.specs.declared.picks.Turn.{Turn}
 use Rattle.cw_serial.specs.declared.machine.Machine.{Machine as Code}
 use Rattle.cw_serial.specs.declared.machine.Begun.{Begun as Block}
 use Rattle.cw_serial.specs.Jobs.{Job}
-use Rattle.cw_serial.specs.Room.Strands.{StrandState, job_of, state_of, strands_of}
+use Rattle.cw_code.specs.declared.program.Program.{Program}
+use Rattle.cw_serial.specs.AreOf.{AreOf}
+use Rattle.cw_serial.specs.Room.Strands.{StrandState, state_of, strands_of}
 use Rattle.cw_serial.specs.StrandTree.{StrandTree, at}
 use Rattle.cw_serial.specs.Wants.{answer_to, memory_after, outputs_after, blocks_after}
 use Rattle.cw_serial.specs.Machine.{Begun, Machine, turns}
@@ -27,12 +29,15 @@ AreBegun names ns qs = ⊥
 
 -- The machine of the job is in this state.
 pub record IsMachine (job : Job) (code : Code) (m : Machine StrandState) : Type 0 where
-  pub job_is : job_of code.interpreter ≡ job
   pub memory : m.memory ≡ code.memory.items
   pub outputs : m.outputs ≡ code.outputs.items
   pub strands : Holds state_of code.strands m.strands
   pub settled : IsSettled (strands_of job) m.strands
   pub begun : AreBegun (names_in code) code.begun m.begun
+
+-- The strands of the machine are those of this program.
+abbrev pub Runs : Program → Code → Type 0
+Runs program code = AreOf program code.strands.rows.items
 
 -- The names of the strands that were started, in the order in which they were. Number 0 is the root; a strand's number is greater than
 -- that of the one that started it; no two strands have the same name; both strands of a fork were started, and of each earlier one.
@@ -72,7 +77,6 @@ pub record IsDone (w : Want) (n : ℕ) (old : Code) (given : Given) (new : Code)
   pub memory : new.memory.items ≡ memory_after w old.memory.items
   pub outputs : new.outputs.items ≡ outputs_after w old.outputs.items
   pub begun : begun_after w n old.begun ≡ Some new.begun
-  pub interpreter : new.interpreter ≡ old.interpreter
   pub strands : new.strands ≡ old.strands
 
 -- a want of that strand was done; or it cannot be done, and nothing changed

@@ -1,10 +1,20 @@
 -- What is run.
-use Rattle.std.specs.Prelude.{ℤ, List}
+use Rattle.std.specs.Prelude.{ℕ, ℤ, List, []}
 use Rattle.cw_code.specs.declared.Limits.{Limits}
-use Rattle.cw_serial.specs.declared.program.Program.{Program}
+use Rattle.cw_code.specs.declared.program.Program.{Program}
+use Rattle.cw_strand.specs.Coded.{MainTakes}
 
 -- a program, with the words of its command and its limits
 pub record Job : Type 0 where
   pub program : Program
   pub words : List ℤ
   pub limits : Limits
+
+-- the program's main has so many parameters
+abbrev pub Takes : Program → ℕ → Type 0
+Takes program n = MainTakes program.code program.main n
+
+-- The program as a job without words, and with limits of 0. What a strand of a program wants, and what becomes of it, is the same in
+-- each job of that program.
+abbrev pub bare : Program → Job
+bare program = record { program = program; words = []; limits = record { fuel = 0; size = 0; aborts = 0; strands = 0; moves = 0 } }

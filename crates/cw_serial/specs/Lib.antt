@@ -1,12 +1,10 @@
-pub mod NamingRules
 pub mod Room
-pub mod Named
-pub mod Programs
 pub mod Jobs
 pub mod StrandTree
 pub mod Forks
 pub mod Spots
 pub mod Held
+pub mod AreOf
 pub mod Wants
 pub mod Machine
 pub mod MachineOf

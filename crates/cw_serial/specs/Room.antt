@@ -1,4 +1,2 @@
-pub mod Elements
-pub mod Works
 pub mod Strands
 pub mod Rows

@@ -1,10 +1,10 @@
-ghost use Rattle.std.specs.Prelude.{◌≡◌, ◌≤◌, false, Some, None, IfOk, length};
+ghost use Rattle.std.specs.Prelude.{◌≡◌, ◌≤◌, false, Some, None, IfOk, OnOk, length};
 ghost use Rattle.cw_tree.specs.declared.picks.Turn.{Turn};
 ghost use Rattle.cw_serial.specs.InMemory.{before_end};
 ghost use Rattle.cw_serial.specs.Orders.{end_from};
 
-use crate::interpreter::{Interpreter, Strand};
 use crate::memory::{first_memory, value_at};
+use crate::standing::Standing;
 use crate::table::Table;
 use crate::{Limits, Name, Program, SerialEnd};
 use cw_base::{OutOfMemory, Seq, Stack};
@@ -19,44 +19,43 @@ pub struct Begun {
 
 /// The machine with one memory, of a program with the words of its command and its limits. A strand is named by its number among the strands that were started.
 #[derive(Drop)]
-pub struct Machine<'a> {
+pub struct Machine {
     alloc: Global,
-    interpreter: Interpreter<'a>,
     memory: Vec<i64>,
     outputs: Vec<i64>,
-    strands: Table<Strand<'a>>,
+    strands: Table<Standing>,
     begun: Stack<Begun>,
 }
 
-impl<'a> Machine<'a> {
+impl Machine {
     ghost use Rattle.std.specs.Prelude.{List, Option, MatchOption, unwrap_or, if◌then◌else◌};
     ghost use Rattle.cw_serial.specs.declared.ends.SerialEnd.TheVariants as last;
-    ghost use Rattle.cw_serial.specs.Jobs.{Job};
+    ghost use Rattle.cw_serial.specs.Jobs.{Job, Takes};
     ghost use Rattle.cw_serial.specs.Room.Strands.{StrandState, strands_of};
     ghost use Rattle.cw_serial.specs.StrandTree.{at};
     ghost use Rattle.cw_serial.specs.Machine.{Machine as State_of, turns, pick, may_pick, has_ended, end_of_named};
     ghost use Rattle.cw_serial.specs.MachineOf.{machine_of};
     ghost use Rattle.cw_serial.specs.Held.{IsFront, started_at};
     ghost use Rattle.cw_serial.specs.Orders.{IsNamed, at_named};
-    ghost use Rattle.cw_serial.specs.InMemory.{IsMachine, names_in, AreNames, Picks, DoesWant, want_before_end};
+    ghost use Rattle.cw_serial.specs.InMemory.{IsMachine, Runs, names_in, AreNames, Picks, DoesWant, want_before_end};
 
     /// The machine before the first pick. More than 4,294,967,295 strands, whose numbers no name can give, are answered as want of
     /// memory, here and at each pick.
     pub fn new(
         alloc: Global,
-        program: &'a Program,
-        words: &'a [i64],
+        program: &Program,
+        words: &[i64],
         limits: Limits,
-    ) -> Result<Machine<'a>, OutOfMemory>
-        ensures { IfOk result (λ m. let job : Job = record { program = program.now; words = words.now; limits = limits } in
+    ) -> Result<Machine, OutOfMemory>
+        requires { Takes program.now (length words.now) }
+        ensures machine { IfOk result (λ m. let job : Job = record { program = program.now; words = words.now; limits = limits } in
             IsMachine job m (machine_of job)) }
+        ensures runs { IfOk result (λ m. Runs program.now m) }
     {
-        let interpreter = Interpreter::new(alloc, program, words, limits)?;
         let memory = first_memory(alloc, program.cells.as_slice())?;
-        let strands = Table::of_main(alloc, &interpreter)?;
+        let strands = Table::of_main(alloc, program, words, limits)?;
         Ok(Machine {
             alloc,
-            interpreter,
             memory,
             outputs: Vec::new(alloc),
             strands,
@@ -107,10 +106,12 @@ impl<'a> Machine<'a> {
 
     /// Makes a pick of a strand, or answers false where it cannot be picked, with nothing changed. A number that no strand has cannot be
     /// picked. The program is the one that the machine was made of. After an error the machine can only be dropped.
-    pub fn pick(&mut self, _program: &'a Program, strand: u32) -> Result<bool, OutOfMemory>
-        ensures picks { IfOk result (λ moved. (job : Job) (m : State_of StrandState) (q : List Turn) → IsMachine job self.old m →
-            turns (names_in self.old) strand ≡ Some q →
+    pub fn pick(&mut self, program: &Program, strand: u32) -> Result<bool, OutOfMemory>
+        requires { Runs program.now self.old }
+        ensures picks { IfOk result (λ moved. (job : Job) (m : State_of StrandState) (q : List Turn) → job.program ≡ program.now →
+            IsMachine job self.old m → turns (names_in self.old) strand ≡ Some q →
             Picks job m (pick (strands_of job) m q) moved self.new) }
+        ensures runs { OnOk result (Runs program.now self.new) }
         ensures unknown { IfOk result (λ moved. (job : Job) (m : State_of StrandState) → IsMachine job self.old m →
             length (names_in self.old) ≤ strand → moved ≡ false) }
         ensures stuck { IfOk result (λ moved. moved ≡ false → self.new ≡ self.old) }
@@ -125,15 +126,15 @@ impl<'a> Machine<'a> {
         let Some(given) = self.do_want(strand, want)? else {
             return Ok(false);
         };
-        self.strands.answer(strand, given, &self.interpreter)?;
-        self.strands.settle(self.alloc, strand, &self.interpreter)?;
+        self.strands.answer(strand, given, program)?;
+        self.strands.settle(self.alloc, strand, program)?;
         Ok(true)
     }
 
     /// What it shows of itself where the picks are used up, so many of them, and the last strand is this one, or none.
     pub(crate) fn shown(self, strand: Option<u32>, name: u32, place: u32) -> SerialEnd
-        ensures { (job : Job) (m : State_of StrandState) (o : Option (List Turn)) → IsMachine job self.entry m →
-            IsNamed job m self.entry strand o →
+        ensures { (job : Job) (m : State_of StrandState) (o : Option (List Turn)) → IsMachine job self m →
+            IsNamed job m self strand o →
             result ≡ (if has_ended (strands_of job) m then last.Finished m.memory m.outputs
             else unwrap_or (end_of_named (strands_of job) m name o) (last.Stuck place)) }
     {

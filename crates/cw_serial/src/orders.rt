@@ -35,7 +35,7 @@ impl<'n> Known<'n> {
     pub fn number(
         &mut self,
         alloc: Global,
-        machine: &Machine<'_>,
+        machine: &Machine,
         name: u32,
     ) -> Result<Option<u32>, OutOfMemory>
         ensures order { IfOk result (λ found. self.new.order.now ≡ self.old.order.now) }
@@ -71,7 +71,7 @@ impl<'n> Known<'n> {
     }
 
     /// The number of the strand to which these names lead down, if that was started.
-    fn descend(&mut self, machine: &Machine<'_>, number: u32, mut todo: Stack<u32>) -> Option<u32>
+    fn descend(&mut self, machine: &Machine, number: u32, mut todo: Stack<u32>) -> Option<u32>
         ensures order { self.new.order.now ≡ self.old.order.now }
         ensures found { IsNumbered (names_in machine.now) machine.now.strands.rows.items →
             (from n : ℕ) → LeadDown self.old.order.now from todo n →

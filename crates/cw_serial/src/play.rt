@@ -1,5 +1,6 @@
-ghost use Rattle.std.specs.Prelude.{◌≡◌, IfOk};
-ghost use Rattle.cw_serial.specs.Jobs.{Job};
+ghost use Rattle.std.specs.Prelude.{◌≡◌, length, IfOk, OnOk};
+ghost use Rattle.cw_serial.specs.InMemory.{Runs};
+ghost use Rattle.cw_serial.specs.Jobs.{Job, Takes};
 ghost use Rattle.cw_serial.specs.MachineOf.{end_under, machine_of};
 ghost use Rattle.cw_serial.specs.Orders.{IsPlay};
 
@@ -12,13 +13,13 @@ use std::alloc::Global;
 
 /// The machine with one memory, driven by the names of an order: a strand is named by its number there.
 #[derive(Drop)]
-pub struct Play<'a, 'n> {
+pub struct Play<'n> {
     alloc: Global,
-    machine: Machine<'a>,
+    machine: Machine,
     known: Known<'n>,
 }
 
-impl<'a, 'n> Play<'a, 'n> {
+impl<'n> Play<'n> {
     ghost use Rattle.std.specs.Prelude.{List};
     ghost use Rattle.cw_tree.specs.declared.picks.Name.{Name as Named};
     ghost use Rattle.cw_serial.specs.Machine.{Machine as State_of, pick_named, shown, turns};
@@ -29,13 +30,15 @@ impl<'a, 'n> Play<'a, 'n> {
     /// The machine before the first pick.
     pub fn new(
         alloc: Global,
-        program: &'a Program,
-        words: &'a [i64],
+        program: &Program,
+        words: &[i64],
         limits: Limits,
         names: &'n [Name],
-    ) -> Result<Play<'a, 'n>, OutOfMemory>
-        ensures { IfOk result (λ play. let job : Job = record { program = program.now; words = words.now; limits = limits } in
+    ) -> Result<Play<'n>, OutOfMemory>
+        requires { Takes program.now (length words.now) }
+        ensures play { IfOk result (λ play. let job : Job = record { program = program.now; words = words.now; limits = limits } in
             IsPlay job names.now play (machine_of job)) }
+        ensures runs { IfOk result (λ play. Runs program.now play.machine) }
     {
         let machine = Machine::new(alloc, program, words, limits)?;
         let known = Known::new(alloc, names)?;
@@ -60,6 +63,7 @@ impl<'a, 'n> Play<'a, 'n> {
             want ≡ want_before_end (strands_of job) (at_named job m (turns names name))) }
         ensures same { IfOk result (λ want. (job : Job) (names : List Named) (m : State_of StrandState) → IsPlay job names self.old m →
             IsPlay job names self.new m) }
+        ensures machine { OnOk result (self.new.machine ≡ self.old.machine) }
     {
         let strand = self.known.number(self.alloc, &self.machine, name)?;
         Ok(self.machine.want_of(strand))
@@ -67,9 +71,12 @@ impl<'a, 'n> Play<'a, 'n> {
 
     /// Makes the pick of the strand of a name, or answers false where it cannot be made, with the machine as it was. The program is
     /// the one that the machine was made of. After an error the machine can only be dropped.
-    pub fn pick(&mut self, program: &'a Program, name: u32) -> Result<bool, OutOfMemory>
-        ensures { IfOk result (λ moved. (job : Job) (names : List Named) (m : State_of StrandState) → IsPlay job names self.old m →
+    pub fn pick(&mut self, program: &Program, name: u32) -> Result<bool, OutOfMemory>
+        requires { Runs program.now self.old.machine }
+        ensures picks { IfOk result (λ moved. (job : Job) (names : List Named) (m : State_of StrandState) → job.program ≡ program.now →
+            IsPlay job names self.old m →
             Plays job names m (pick_named (strands_of job) m (turns names name)) moved self.new) }
+        ensures runs { OnOk result (Runs program.now self.new.machine) }
     {
         let Some(strand) = self.known.number(self.alloc, &self.machine, name)? else {
             return Ok(false);
@@ -101,6 +108,7 @@ pub fn serial(
     limits: Limits,
     picks: &Picks,
 ) -> Result<SerialEnd, OutOfMemory>
+    requires { Takes program.now (length words.now) }
     ensures { IfOk result (λ e. e ≡ end_under (record { program = program.now; words = words.now; limits = limits }) picks.now) }
 {
     let Ok(count) = u32::try_from(picks.list.len()) else {

@@ -1,8 +1,9 @@
 ghost use Rattle.std.specs.Prelude.{◌≡◌, ◌+◌, ◌<◌, ◌++◌, ◌∷◌, List, [], true, Some, IfOk, OnOk, slice_get, vec_len, length};
 
 use crate::Name;
-use crate::interpreter::{Interpreter, Strand};
+use crate::standing::Standing;
 use cw_base::OutOfMemory;
+use cw_code::{Limits, Program};
 use cw_strand::{Given, Want};
 use std::alloc::Global;
 use std::mem;
@@ -136,17 +137,26 @@ impl<S: Drop> Table<S> {
     }
 }
 
-impl<'a> Table<Strand<'a>> {
-    ghost use Rattle.cw_serial.specs.Jobs.{Job};
-    ghost use Rattle.cw_serial.specs.Room.Strands.{StrandState, job_of, state_of, strands_of};
+impl Table<Standing> {
+    ghost use Rattle.cw_serial.specs.Jobs.{Job, Takes, bare};
+    ghost use Rattle.cw_serial.specs.Room.Strands.{StrandState, state_of, strands_of};
     ghost use Rattle.cw_serial.specs.StrandTree.{StrandTree, goes_on};
     ghost use Rattle.cw_serial.specs.Spots.{IsSettled};
     ghost use Rattle.cw_serial.specs.Held.{Answers, answers_by, Moves, SettlesTo, Holds, IsFront, want_at, over_at};
+    ghost use Rattle.cw_serial.specs.AreOf.{AreOf};
 
     /// The strand of main alone, with its forks made.
-    pub fn of_main(alloc: Global, by: &Interpreter<'a>) -> Result<Table<Strand<'a>>, OutOfMemory>
-        ensures { IfOk result (λ table. let s = strands_of (job_of by.now) in
+    pub fn of_main(
+        alloc: Global,
+        program: &Program,
+        words: &[i64],
+        limits: Limits,
+    ) -> Result<Table<Standing>, OutOfMemory>
+        requires { Takes program.now (length words.now) }
+        ensures holds { IfOk result (λ table. let job : Job = record { program = program.now; words = words.now; limits = limits } in
+            let s = strands_of job in
             Holds state_of table (goes_on s 0 s.start) × IsSettled s (goes_on s 0 s.start)) }
+        ensures stands { IfOk result (λ table. AreOf program.now table.rows.items) }
     {
         let mut table = Table {
             names: Vec::new(alloc),
@@ -157,9 +167,9 @@ impl<'a> Table<Strand<'a>> {
             fork: 0,
             right: false,
         };
-        let strand = Strand::start(alloc, by)?;
+        let strand = Standing::start(alloc, program, words, limits)?;
         table.start(alloc, root, strand)?;
-        table.settle(alloc, 0, by)?;
+        table.settle(alloc, 0, program)?;
         Ok(table)
     }
 
@@ -186,15 +196,18 @@ impl<'a> Table<Strand<'a>> {
         &mut self,
         number: u32,
         given: Given,
-        by: &Interpreter<'a>,
+        program: &Program,
     ) -> Result<(), OutOfMemory>
-        requires { answers_by (want_at (strands_of (job_of by.now)) state_of self.old.rows.items number) ≡ true }
-        ensures { OnOk result (Answers (strands_of (job_of by.now)) state_of self.old number given self.new) }
+        requires stands { AreOf program.now self.old.rows.items }
+        requires answered { answers_by (want_at (strands_of (bare program.now)) state_of self.old.rows.items number) ≡ true }
+        ensures answers { OnOk result ((job : Job) → job.program ≡ program.now →
+            Answers (strands_of job) state_of self.old number given self.new) }
+        ensures stands { OnOk result (AreOf program.now self.new.rows.items) }
     {
         let Place::Stands(mut strand) = self.put(number, Place::Gone) else {
             unreachable!()
         };
-        strand.answer(given, by)?;
+        strand.answer(given, program)?;
         self.put(number, Place::Stands(strand));
         Ok(())
     }
@@ -204,17 +217,19 @@ impl<'a> Table<Strand<'a>> {
         &mut self,
         alloc: Global,
         number: u32,
-        by: &Interpreter<'a>,
+        program: &Program,
     ) -> Result<(), OutOfMemory>
-        ensures strands { OnOk result ((t : StrandTree StrandState) →
-            SettlesTo (strands_of (job_of by.now)) state_of self.old (number ∷ []) t →
-            Holds state_of self.new t × IsSettled (strands_of (job_of by.now)) t) }
+        requires { AreOf program.now self.old.rows.items }
+        ensures strands { OnOk result ((job : Job) → job.program ≡ program.now → (t : StrandTree StrandState) →
+            SettlesTo (strands_of job) state_of self.old (number ∷ []) t →
+            Holds state_of self.new t × IsSettled (strands_of job) t) }
         ensures names { OnOk result (IsFront self.old.names.items self.new.names.items) }
+        ensures stands { OnOk result (AreOf program.now self.new.rows.items) }
     {
         let mut todo = Vec::new(alloc);
         todo.push(number)?;
         while let Some(number) = todo.pop() {
-            self.advance(alloc, number, by, &mut todo)?;
+            self.advance(alloc, number, program, &mut todo)?;
         }
         Ok(())
     }
@@ -224,14 +239,17 @@ impl<'a> Table<Strand<'a>> {
         &mut self,
         alloc: Global,
         number: u32,
-        by: &Interpreter<'a>,
+        program: &Program,
         todo: &mut Vec<u32>,
     ) -> Result<(), OutOfMemory>
-        ensures { OnOk result (Moves (strands_of (job_of by.now)) state_of self.old number todo.old.items self.new todo.new.items) }
+        requires { AreOf program.now self.old.rows.items }
+        ensures moves { OnOk result ((job : Job) → job.program ≡ program.now →
+            Moves (strands_of job) state_of self.old number todo.old.items self.new todo.new.items) }
+        ensures stands { OnOk result (AreOf program.now self.new.rows.items) }
     {
         match self.want(number) {
-            Some(Want::Fork) => self.fork(alloc, number, by, todo),
-            Some(Want::Sync | Want::Done) => self.join(number, by, todo),
+            Some(Want::Fork) => self.fork(alloc, number, program, todo),
+            Some(Want::Sync | Want::Done) => self.join(number, program, todo),
             _ => Ok(()),
         }
     }
@@ -241,17 +259,20 @@ impl<'a> Table<Strand<'a>> {
         &mut self,
         alloc: Global,
         number: u32,
-        by: &Interpreter<'a>,
+        program: &Program,
         todo: &mut Vec<u32>,
     ) -> Result<(), OutOfMemory>
-        requires { want_at (strands_of (job_of by.now)) state_of self.old.rows.items number ≡ Some Want.Fork }
-        ensures { OnOk result (Moves (strands_of (job_of by.now)) state_of self.old number todo.old.items self.new todo.new.items) }
+        requires stands { AreOf program.now self.old.rows.items }
+        requires wants { want_at (strands_of (bare program.now)) state_of self.old.rows.items number ≡ Some Want.Fork }
+        ensures moves { OnOk result ((job : Job) → job.program ≡ program.now →
+            Moves (strands_of job) state_of self.old number todo.old.items self.new todo.new.items) }
+        ensures stands { OnOk result (AreOf program.now self.new.rows.items) }
     {
         let sides = self.next_sides()?;
         let Place::Stands(mut strand) = self.put(number, Place::Waits) else {
             unreachable!()
         };
-        let left = strand.fork(alloc, by)?;
+        let left = strand.fork(alloc, program)?;
         let fork = self.note(number, sides)?;
         let parent = number;
         let right = false;
@@ -283,11 +304,14 @@ impl<'a> Table<Strand<'a>> {
     fn join(
         &mut self,
         number: u32,
-        by: &Interpreter<'a>,
+        program: &Program,
         todo: &mut Vec<u32>,
     ) -> Result<(), OutOfMemory>
-        requires { over_at (strands_of (job_of by.now)) state_of self.old.rows.items number ≡ true }
-        ensures { OnOk result (Moves (strands_of (job_of by.now)) state_of self.old number todo.old.items self.new todo.new.items) }
+        requires stands { AreOf program.now self.old.rows.items }
+        requires over { over_at (strands_of (bare program.now)) state_of self.old.rows.items number ≡ true }
+        ensures moves { OnOk result ((job : Job) → job.program ≡ program.now →
+            Moves (strands_of job) state_of self.old number todo.old.items self.new todo.new.items) }
+        ensures stands { OnOk result (AreOf program.now self.new.rows.items) }
     {
         let Some(name) = self.name(number) else {
             return Ok(());
@@ -304,7 +328,7 @@ impl<'a> Table<Strand<'a>> {
         let Place::Stands(mut right) = self.put(sides.right, Place::Gone) else {
             unreachable!()
         };
-        right.join(left, by)?;
+        right.join(left, program)?;
         self.put(name.parent, Place::Stands(right));
         todo.push(name.parent)?;
         Ok(())

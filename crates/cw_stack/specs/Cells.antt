@@ -27,10 +27,6 @@ newest es = slice_get es (length es - 1)
 abbrev pub entry_of : Mark → Option ℤ → ℤ → Entry
 entry_of mark write v = record { mark = mark; wrote = is_some write; value = unwrap_or write v; old = v }
 
--- the last eight of a list, or all where there are fewer
-abbrev pub last_eight : List ℕ → List ℕ
-last_eight ns = drop (length ns - 8) ns
-
 -- ## What is true of every cell
 
 -- each entry has the value that those before it left of v, and the value that it leaves

@@ -3,7 +3,8 @@ ghost use Rattle.std.specs.Option.{option_map};
 ghost use Rattle.std.specs.List.Sorted.{IsStrictlyIncreasing};
 ghost use Rattle.cw_tree.specs.declared.access.Entry.{Entry};
 ghost use Rattle.cw_tree.specs.Stacks.{stamps};
-ghost use Rattle.cw_stack.specs.Cells.{value_of, newest, entry_of, last_eight, AreSteps, GoesWithTrees, StaysWithTrees, TakesWhatIsBeneath};
+ghost use Rattle.cw_tree.specs.Newest.{last_eight};
+ghost use Rattle.cw_stack.specs.Cells.{value_of, newest, entry_of, AreSteps, GoesWithTrees, StaysWithTrees, TakesWhatIsBeneath};
 
 use cw_base::OutOfMemory;
 use cw_tree::{Entry, Mark};

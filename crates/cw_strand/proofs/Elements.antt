@@ -1,117 +1,132 @@
--- A strand loads and stores only elements of cells that are declared, and these are there in memory.
-use Rattle.std.proofs.Common.{◌≡◌, ◌<◌, ◌+◌, ℕ, ℤ, zero, suc, List, [], ◌∷◌, ◌++◌, length, replicate, refl, subst, arith, Bool, true, false, cond, Option, Some, None, Result, Ok, Err, length-append}
-use Rattle.std.specs.Str.{bytes_eq}
-use Rattle.std.proofs.lemmas.Option.{same_Some}
-use Rattle.std.proofs.lemmas.List.{length-replicate}
+-- Strands of code that breaks no rule load and store only elements of the cells.
+use Rattle.std.proofs.Common.{◌≡◌, ℕ, zero, suc, ◌+◌, ◌<◌, Bool, true, false, List, [], ◌∷◌, length, refl, sym, subst, arith, Option, Some, None, Result, Ok, Err, ℤ, pos, negsuc, nat_lt}
+use Rattle.std.specs.Prelude.{slice_get, if◌then◌else◌, nat_le}
+use Rattle.std.proofs.lemmas.Bool.{ltb-true, leb-true}
+use Rattle.std.proofs.lemmas.Option.{slice_get_within}
+use Rattle.cw_code.specs.declared.instruction.Instr.{Instr}
+use Rattle.cw_code.specs.declared.instruction.Func.{Func}
+use Rattle.cw_code.specs.declared.instruction.Code.{Code}
 use Rattle.cw_code.specs.declared.FaultKind.{FaultKind}
-use Rattle.cw_code.specs.declared.CellInfo.{CellInfo}
-use Rattle.cw_text.specs.Syntax.{number, name, unary, binary, Statement, declare, assign, out, atomic, spawn, sync, Block, empty, first, Declaration, cell, func}
+use Rattle.cw_code.specs.declared.Limits.{Limits}
+use Rattle.cw_code.specs.declared.effects.Effect.{Effect}
+use Rattle.cw_code.specs.declared.effects.Effect.TheVariants as t
+use Rattle.cw_code.specs.Rules.{below, cells_below, effect_of, faults, operand_faults}
+use Rattle.cw_code.proofs.Sound.{owner, operands_fine, has_effect, below_names, both_true, tested}
 use Rattle.cw_strand.specs.declared.want.Want.{Want}
-use Rattle.cw_strand.specs.declared.want.Want.TheVariants.{Load, Store}
-use Rattle.cw_strand.specs.Strands.{GoesTo, stays, answered, joins, Reached, of_main, of_left, of_right}
-use Rattle.cw_strand.specs.Meaning.{element_of, Task, value, apply_one, apply_two, perform, bind, store_in, show, forget, wait, commit, finish, State, Step, on, wants, result, read_name, write_name, begin_with, wait_in, act, step_of, Standing, with_value, begins, stand, strands}
-use Rattle.cw_strand.specs.Names.{elements, cells_from, first_memory}
-use Rattle.cw_strand.proofs.Standing.{stand_holds}
+use Rattle.cw_strand.specs.declared.want.Want.TheVariants.{Out, Begin}
+use Rattle.cw_strand.specs.Strands.{Strands, GoesTo, Reached, stays, answered, joins, of_main, of_left, of_right}
+use Rattle.cw_strand.specs.Running.{Standing, on, wants, stuck, stand}
+use Rattle.cw_strand.specs.Coded as coded
+use Rattle.cw_strand.specs.Coded.{Frame, State, Step, index, goes_to, counted, counts, spends, result, in_range, read_local, returned, wait_in, most_frames}
+use Rattle.cw_strand.specs.Laws.{NamesElement}
+use Rattle.cw_strand.proofs.Bounding.{bounded}
+use Rattle.cw_strand.proofs.Settling.{stand_holds}
 
-module _ (cells : List CellInfo) where
-  -- it is the element of a declared cell
-  abbrev pub IsElement : ℕ → Type 0
-  IsElement c = (n : List ℕ) × (element_of cells n ≡ Some c)
+-- a cell of an array
+pub element_below : (a : ℤ) (len cells : ℕ) → cells_below a len cells ≡ true → (n : ℕ) → n < len → index a + n < cells
+element_below (pos m) len cells e n lt = omega (arith, lt, leb-true (m + len) cells (both_true (nat_lt m cells) (nat_le (m + len) cells) e).1)
+element_below (negsuc m) len cells e n lt = absurd cc
 
-  abbrev pub NamesElement : Want → Type 0
-  NamesElement (Load c) = IsElement c
-  NamesElement (Store c v) = IsElement c
-  NamesElement w = Unit {0}
+pub cell_below : (a : ℤ) (cells : ℕ) → below a cells ≡ true → index a < cells
+cell_below a cells e = let n = below_names a cells e in subst (λ z. index z < cells) (sym n.1) n.2
 
-  abbrev StepNames : Step → Type 0
-  StepNames (on s) = Unit {0}
-  StepNames (wants w s) = NamesElement w
+module _ (code : Code) where
+  -- what a step wants names an element
+  abbrev Names : Step → Type 0
+  Names (on s) = Unit {0}
+  Names (wants w s) = NamesElement code w
+  Names stuck = Unit {0}
 
-  result_names : (r : Result ℤ FaultKind) (vs : List ℤ) (s : State) → StepNames (result r vs s)
-  result_names (Ok v) vs s = tt
-  result_names (Err k) vs s = tt
+  names_either : (b : Bool) (x y : Step) → (b ≡ true → Names x) → (b ≡ false → Names y) → Names (if b then x else y)
+  names_either true x y g h = g refl
+  names_either false x y g h = h refl
 
-  read_names : (l : Option ℤ) (n : List ℕ) (o : Option ℕ) (s : State) → element_of cells n ≡ o → StepNames (read_name l o s)
-  read_names (Some v) n o s e = tt
-  read_names None n (Some c) s e = (n, e)
-  read_names None n None s e = tt
+  counted_names : (w : Want) (s : State) → NamesElement code w → Names (counts w s)
+  counted_names w s h = names_either (nat_le s.limits.size s.size) _ _ (λ e. tt) (λ e. h)
 
-  write_names : (l : Option ℤ) (n : List ℕ) (o : Option ℕ) (v : ℤ) (s : State) → element_of cells n ≡ o → StepNames (write_name l o n v s)
-  write_names (Some old) n o v s e = tt
-  write_names None n (Some c) v s e = (n, e)
-  write_names None n None v s e = tt
+  spent_names : (s : State) (go : State → Step) → Names (go (record s { fuel = s.fuel + 1 })) → Names (spends s go)
+  spent_names s go h = names_either (nat_le s.limits.fuel s.fuel) _ _ (λ e. tt) (λ e. h)
 
-  begin_names : (st : Statement) (k : List Task) (s : State) → StepNames (begin_with st k s)
-  begin_names (declare w e) k s = tt
-  begin_names (assign w e) k s = tt
-  begin_names (out e) k s = tt
-  begin_names (atomic b) k s = tt
-  begin_names (spawn b) k s = tt
-  begin_names sync k s = tt
+  range_names : (len : ℕ) (z : ℤ) (s : State) (go : Step) → (index z < len → Names go) → Names (in_range len z s go)
+  range_names len (negsuc n) s go h = tt
+  range_names len (pos n) s go h = names_either (nat_lt n len) _ _ (λ e. h (ltb-true n len e)) (λ e. tt)
 
-  wait_names : (ns : List ℕ) (k : List Task) (s : State) → StepNames (wait_in ns k s)
-  wait_names (suc n ∷ ns) k s = tt
-  wait_names (zero ∷ ns) k s = tt
-  wait_names [] k s = tt
+  result_names : (r : Result ℤ FaultKind) (p : ℕ) (vs : List ℤ) (s : State) → Names (result r p vs s)
+  result_names (Ok v) p vs s = tt
+  result_names (Err k) p vs s = tt
 
-  act_names : (t : Task) (vs : List ℤ) (k : List Task) (s : State) → StepNames (act cells t vs k s)
-  act_names (value (number n)) vs k s = tt
-  act_names (value (name w)) vs k s = read_names _ w.name _ _ refl
-  act_names (value (unary o e)) vs k s = tt
-  act_names (value (binary o l r)) vs k s = tt
-  act_names (apply_one o) (x ∷ vs) k s = result_names _ vs _
-  act_names (apply_one o) [] k s = tt
-  act_names (apply_two o) (y ∷ x ∷ vs) k s = result_names _ vs _
-  act_names (apply_two o) (y ∷ []) k s = tt
-  act_names (apply_two o) [] k s = tt
-  act_names (perform empty) vs k s = tt
-  act_names (perform (first st b)) vs k s = begin_names st _ s
-  act_names (bind n) (v ∷ vs) k s = tt
-  act_names (bind n) [] k s = tt
-  act_names (store_in n) (v ∷ vs) k s = write_names _ n _ v _ refl
-  act_names (store_in n) [] k s = tt
-  act_names show (v ∷ vs) k s = tt
-  act_names show [] k s = tt
-  act_names (forget n) vs k s = tt
-  act_names wait vs k s = wait_names s.scopes k s
-  act_names commit vs k s = tt
-  act_names finish vs k s = tt
+  read_names : (o : Option ℤ) (p : ℕ) (vs : List ℤ) (s : State) → Names (read_local o p vs s)
+  read_names None p vs s = tt
+  read_names (Some v) p vs s = tt
 
-  step_names : (ts : List Task) (s : State) → StepNames (step_of cells ts s)
-  step_names [] s = tt
-  step_names (t ∷ k) s = act_names t s.values k s
+  returned_names : (fs : List Frame) (v : ℤ) (s : State) → Names (returned fs v s)
+  returned_names [] v s = tt
+  returned_names (f ∷ fs) v s = tt
 
-  stand_names : (s : State) → NamesElement (stand cells s).want
-  stand_names s = stand_holds cells (λ t. Unit {0}) (λ x. NamesElement x.want) (λ t u h is. tt) (λ t u w h is. subst StepNames is (step_names t.todo t)) s tt
+  waited_names : (ns : List ℕ) (p : ℕ) (vs : List ℤ) (s : State) → Names (wait_in ns p vs s)
+  waited_names [] p vs s = tt
+  waited_names (zero ∷ ns) p vs s = tt
+  waited_names (suc n ∷ ns) p vs s = tt
 
-  module _ (body : Block) where
-    goes_named : {from own : List ℕ} {a b : Standing} → GoesTo (strands cells body) from a own b → NamesElement a.want → NamesElement b.want
-    goes_named stays h = h
-    goes_named (answered {b = b} goes given is) h = stand_names (with_value given b.state)
-    goes_named (joins {right = r} goes fork left lo right ro) h = stand_names r.state
+  called_names : (o : Option Func) (p : ℕ) (vs : List ℤ) (s : State) → Names (coded.called o p vs s)
+  called_names None p vs s = tt
+  called_names (Some g) p vs s = names_either (nat_lt (length vs) g.params) _ _ (λ few. tt) (λ enough. names_either (nat_le most_frames (length s.callers + 1)) _ _ (λ e. tt) (λ e. tt))
 
-    -- what a strand of a run wants names only such elements
-    pub wants_named : {own : List ℕ} {x : Standing} → Reached (strands cells body) own x → NamesElement x.want
-    wants_named (of_main goes) = goes_named goes (stand_names (begins body [] empty))
-    wants_named (of_left {f = f} r fork goes) = goes_named goes (stand_names (begins f.state.beside f.state.locals f.state.beside))
-    wants_named (of_right {f = f} r fork goes) = goes_named goes (stand_names f.state)
+  act_names : (f : Func) (q : ℕ) (e : Effect) (i : Instr) → operand_faults code f q i (Some e) ≡ [] → (p : ℕ) (vs : List ℤ) (s : State) → Names (coded.act code e i p vs s)
+  act_names f q t.Load i ok p vs s = counted_names _ _ (cell_below i.a code.cells (tested _ _ _ ok))
+  act_names f q t.LoadAt i ok p (n ∷ vs) s = range_names i.b n s _ (λ lt. counted_names _ _ (element_below i.a i.b code.cells (tested _ _ _ ok) (index n) lt))
+  act_names f q t.Store i ok p (v ∷ vs) s = counted_names _ _ (cell_below i.a code.cells (tested _ _ _ ok))
+  act_names f q t.StoreAt i ok p (v ∷ n ∷ vs) s = range_names i.b n s _ (λ lt. counted_names _ _ (element_below i.a i.b code.cells (tested _ _ _ ok) (index n) lt))
+  act_names f q t.Push i ok p vs s = tt
+  act_names f q t.Local i ok p vs s = read_names _ p vs s
+  act_names f q t.Set i ok p (v ∷ vs) s = names_either (nat_lt (index i.a) (length s.current.locals)) _ _ (λ e. tt) (λ e. tt)
+  act_names f q (t.Lift o) i ok p (x ∷ vs) s = result_names _ p vs s
+  act_names f q (t.Join o) i ok p (y ∷ x ∷ vs) s = result_names _ p vs s
+  act_names f q t.Jump i ok p vs s = tt
+  act_names f q t.JumpZero i ok p (v ∷ vs) s = tt
+  act_names f q t.Call i ok p vs s = spent_names s (λ u. coded.called (slice_get code.funcs (index i.a)) p vs u) (called_names _ p vs _)
+  act_names f q t.Ret i ok p (v ∷ vs) s = returned_names s.callers v s
+  act_names f q t.Drop i ok p (v ∷ vs) s = tt
+  act_names f q t.Out i ok p (v ∷ vs) s = counted_names (Out v) _ tt
+  act_names f q t.Begin i ok p vs s = counted_names Begin (record (goes_to p vs s) { scopes = 0 ∷ s.scopes }) tt
+  act_names f q t.End i ok p vs s = tt
+  act_names f q t.Fork i ok p vs s = names_either (nat_le s.limits.size s.size) _ _ (λ e. tt) (λ e. tt)
+  act_names f q t.Sync i ok p vs s = waited_names s.scopes p vs s
+  act_names f q t.Done i ok p vs s = tt
+  act_names f q t.Tick i ok p vs s = spent_names s (λ u. on (goes_to p vs u)) tt
+  act_names f q e i ok p vs s = tt
 
-some_element : (len : ℕ) → 0 < elements len
-some_element zero = omega arith
-some_element (suc n) = omega arith
+  module _ (ok : faults code ≡ []) where
+    pub step_names : (s : State) → Names (coded.step code s)
+    step_names s = names_either (nat_lt s.limits.size s.size) _ _ (λ e. tt) (λ e. at (slice_get code.instrs s.current.place) refl)
+      where
+        at : (o : Option Instr) → slice_get code.instrs s.current.place ≡ o → Names (coded.step_at code o s)
+        at None is = tt
+        at (Some i) is =
+            let w = owner code ok s.current.place (slice_get_within code.instrs s.current.place i is) in
+            let ops = operands_fine code ok w.func s.current.place w.declared w.inside i is in
+            let e = has_effect code w.func s.current.place i (effect_of i) ops in
+            subst (λ o. Names (coded.act_of code o i s)) (sym e.1)
+            (act_names w.func s.current.place e.0 i (subst (λ o. operand_faults code w.func s.current.place i o ≡ []) e.1 ops) (s.current.place + 1) s.current.operands s)
 
-found_element : (b : Bool) (n c len : ℕ) (i : ℤ) (rest : List ℤ) (o : Option ℕ) → cond b (Some n) o ≡ Some c → (o ≡ Some c → c < n + elements len + length rest) → c < n + length (replicate (elements len) i ++ rest)
-found_element true n c len i rest o e later =
-    let same : n ≡ c = same_Some n c e in
-    let some = some_element len in
-    omega (arith, length-append (replicate (elements len) i) rest, length-replicate (elements len) i)
-found_element false n c len i rest o e later =
-    let low = later e in
-    omega (arith, length-append (replicate (elements len) i) rest, length-replicate (elements len) i)
+    module _ (main : ℕ) (words : List ℤ) (limits : Limits) where
+      abbrev strands : Strands (Standing State)
+      strands = coded.strands_of code main words limits
 
--- the element of a declared cell is there in memory
-pub element_there : (ds : List Declaration) (n c : ℕ) (x : List ℕ) → element_of (cells_from n ds) x ≡ Some c → c < n + length (first_memory (cells_from n ds))
-element_there [] n c x e = absurd (cc e)
-element_there (cell y l len i ∷ ds) n c x e =
-    found_element (bytes_eq x y) n c len i (first_memory (cells_from (n + elements len) ds)) (element_of (cells_from (n + elements len) ds) x) e (element_there ds (n + elements len) c x)
-element_there (func y l ps b ∷ ds) n c x e = element_there ds n c x e
+      stand_names : (s : State) → NamesElement code (stand (coded.runs code main words limits) s).want
+      stand_names s =
+          stand_holds (coded.runs code main words limits) (bounded code main words limits ok).on (λ u. Unit {0}) (λ x. NamesElement code x.want)
+          (λ u v h is. tt)
+          (λ u v w h is. subst Names is (step_names u))
+          (λ u h is. tt)
+          s tt
+
+      goes_names : (from own : List ℕ) (a b : Standing State) → GoesTo strands from a own b → NamesElement code a.want → NamesElement code b.want
+      goes_names from own a b stays h = h
+      goes_names from own a b (answered {b = c} g given is) h = stand_names _
+      goes_names from own a b (joins g is l lo r ro) h = stand_names _
+
+      pub names_elements : (own : List ℕ) (x : Standing State) → Reached strands own x → NamesElement code x.want
+      names_elements own x (of_main g) = goes_names _ _ _ _ g (stand_names _)
+      names_elements own x (of_left {f = f} r is g) = goes_names _ _ _ _ g (stand_names (coded.left f.state))
+      names_elements own x (of_right r is g) = goes_names _ _ _ _ g (stand_names _)

@@ -1,43 +1,295 @@
--- Where a state comes to by what it does by itself.
-use Rattle.std.proofs.Common.{◌≡◌, ◌≤◌, ℕ, zero, suc, List, refl, ap, sym, ◌∙◌, subst, arith}
-use Rattle.cw_code.specs.declared.CellInfo.{CellInfo}
+-- A strand of code without faults always has what its next instruction needs.
+use Rattle.std.proofs.Common.{◌≡◌, ℕ, zero, suc, ◌+◌, ◌-◌, ◌<◌, ◌≤◌, Bool, true, false, List, [], ◌∷◌, length, drop, reverse, Option, Some, Result, Ok, Err, refl, sym, ap, ◌∙◌, subst, arith, ℤ, pos, negsuc, length-append, length-drop, nat_lt}
+use Rattle.std.specs.Prelude.{slice_get, Contains, if◌then◌else◌, nat_le}
+use Rattle.std.proofs.lemmas.List.{length-reverse, length-set, length-replicate, length-take-le}
+use Rattle.std.proofs.lemmas.Bool.{ltb-false, ltb-true}
+use Rattle.cw_code.specs.declared.instruction.Instr.{Instr}
+use Rattle.cw_code.specs.declared.instruction.Func.{Func}
+use Rattle.cw_code.specs.declared.instruction.Code.{Code}
+use Rattle.cw_code.specs.declared.FaultKind.{FaultKind}
+use Rattle.cw_code.specs.declared.FaultKind.TheVariants.{Range, Depth, Fuel, Size}
+use Rattle.cw_code.specs.declared.Limits.{Limits}
+use Rattle.cw_code.specs.declared.effects.Effect.{Effect}
+use Rattle.cw_code.specs.declared.effects.Effect.TheVariants as t
+use Rattle.cw_code.specs.declared.situation.Situation.{Situation}
+use Rattle.cw_code.specs.Table.{taken, left_there}
+use Rattle.cw_code.specs.Rules.{at_start, effect_of, never_passed, jumps, called, params_of, is_target, operand_faults, situation_faults, places, onwards, passed, faults}
+use Rattle.cw_code.proofs.Sound.{contained, laid, is_inside, inside_is, instr_at, operands_fine, situation_fine, has_effect, start_known, Around, around, next_is, target_found, below_names, target_is, tested}
 use Rattle.cw_strand.specs.declared.want.Want.{Want}
-use Rattle.cw_strand.specs.Meaning.{State, Step, on, wants, step, work, Standing, stand_by, stand_within, stand}
-use Rattle.cw_strand.specs.Laws.{ComesTo, here, goes_on}
-use Rattle.cw_strand.proofs.LocalWork.{step_leaves_less}
+use Rattle.cw_strand.specs.declared.want.Want.TheVariants.{Begin, End, Fork, Sync, Done, Fault}
+use Rattle.cw_strand.specs.declared.want.Given.{Given}
+use Rattle.cw_strand.specs.declared.want.Given.TheVariants.{Nothing, Value}
+use Rattle.cw_strand.specs.Strands.{is_over}
+use Rattle.cw_strand.specs.Running.{on, wants, stuck, Visits, starts, steps, answers, goes_left, goes_right, joins}
+use Rattle.cw_strand.specs.Arithmetic.{is_zero}
+use Rattle.cw_strand.specs.Meaning.{in_place, one_more}
+use Rattle.cw_strand.specs.Coded as coded
+use Rattle.cw_strand.specs.Coded.{Frame, State, Step, index, goes_to, with_value, locals_for, left, joined, counted, counts, spends, result, in_range, read_local, write_local, returned, wait_in, most_frames, starts_at}
+use Rattle.cw_strand.specs.Standing.{StandsAt, WaitAt, NoneOver, StandsIn, StandsWanting}
 
-module _ (cells : List CellInfo) where
-  module _ (P : State → Type 0) (Q : Standing → Type 0)
-      (goes : (s t : State) → P s → step cells s ≡ on t → P t)
-      (comes : (s t : State) (w : Want) → P s → step cells s ≡ wants w t → Q (record { want = w; state = t })) where
-    holds_by : (s : State) (x : Step) (go : State → Standing) → P s → step cells s ≡ x → ((t : State) → step cells s ≡ on t → P t → Q (go t)) → Q (stand_by x go)
-    holds_by s (on t) go h is later = later t is (goes s t h is)
-    holds_by s (wants w t) go h is later = comes s t w h is
+there : {X : Type 0} (xs : List X) (n : ℕ) → n < length xs → (x : X) × (slice_get xs n ≡ Some x)
+there [] n lt = absurd (omega arith)
+there (x ∷ xs) zero lt = (x, refl)
+there (x ∷ xs) (suc n) lt = there xs n (omega arith)
 
-    holds_within : (n : ℕ) (s : State) → work s.todo ≤ n → P s → Q (stand_within cells n s)
-    holds_within zero s low h = holds_by s _ _ h refl (λ t is later. absurd (omega (arith, step_leaves_less cells s t is)))
-    holds_within (suc n) s low h = holds_by s _ _ h refl (λ t is later. holds_within n t (omega (arith, step_leaves_less cells s t is)) later)
+-- ## Scopes
 
-    -- what holds of each state on the way, and so of the want to which it leads, holds where the state comes to stand
-    pub stand_holds : (s : State) → P s → Q (stand cells s)
-    stand_holds s h = holds_within (work s.todo) s (omega arith) h
+over_less : (m n : ℕ) (ns : List ℕ) → m ≤ n → NoneOver m ns → NoneOver n ns
+over_less m n [] le low = tt
+over_less m n (k ∷ ns) le low = (omega (arith, le, low.0), over_less m n ns le low.1)
 
-  pub local_work_ends : (s : State) → ComesTo cells s (stand cells s)
-  local_work_ends s =
-      stand_holds (λ t. (x : Standing) → ComesTo cells t x → ComesTo cells s x) (λ x. ComesTo cells s x)
-      (λ t u h is x later. h x (goes_on is later))
-      (λ t u w h is. h _ (here is))
-      s (λ x h. h)
+over_behind : (m : ℕ) (ns : List ℕ) → NoneOver m ns → NoneOver m (drop 1 ns)
+over_behind m [] low = tt
+over_behind m (k ∷ ns) low = low.1
 
-  one_place : (s : State) (x y : Standing) → ComesTo cells s x → ComesTo cells s y → x ≡ y
-  one_place s x y (here is) (here is') = ap (λ z. stand_by z (λ t. x)) (sym is ∙ is')
-  one_place s x y (here is) (goes_on is' h) = absurd cc
-  one_place s x y (goes_on is h) (here is') = absurd cc
-  one_place s x y (goes_on {t = t} is h) (goes_on {t = u} is' h') = let same : u ≡ t = cc in one_place t x y h (subst (λ v. ComesTo cells v y) same h')
+over_more : (m : ℕ) (ns : List ℕ) → NoneOver m ns → NoneOver (m + 1) (one_more ns)
+over_more m [] low = (omega arith, tt)
+over_more m (k ∷ ns) low = (omega (arith, low.0), over_less m (m + 1) ns (omega arith) low.1)
 
-  -- a step by itself leads to where all of them lead
-  pub stand_on : (s t : State) → step cells s ≡ on t → stand cells s ≡ stand cells t
-  stand_on s t is = one_place s _ _ (local_work_ends s) (goes_on is (local_work_ends t))
+-- ## Steps
 
-  pub stand_want : (s t : State) (w : Want) → step cells s ≡ wants w t → stand cells s ≡ record { want = w; state = t }
-  stand_want s t w is = one_place s _ _ (local_work_ends s) (here is)
+module _ (code : Code) where
+  -- what a step leads to stands, and it is not stuck
+  abbrev pub Stands : Step → Type 0
+  Stands (on s) = StandsIn code s
+  Stands (wants w s) = StandsWanting code w s
+  Stands stuck = ⊥
+
+  stands_either : (b : Bool) (x y : Step) → (b ≡ true → Stands x) → (b ≡ false → Stands y) → Stands (if b then x else y)
+  stands_either true x y g h = g refl
+  stands_either false x y g h = h refl
+
+  -- at a want that no strand forks at and none ends at
+  goes_on : (w : Want) (s : State) → (w ≡ Fork → ⊥) → is_over w ≡ false → StandsIn code s → StandsWanting code w s
+  goes_on w s other lasts h = record { stands = h; beside = λ is. absurd (other is); within = λ is. absurd (let z : false ≡ true = sym lasts ∙ is in cc) }
+
+  at_fault : (k : FaultKind) (s : State) → StandsIn code s → Stands (wants (Fault k) s)
+  at_fault k s h = goes_on (Fault k) s (λ is. cc) refl h
+
+  at_end : (w : Want) (s : State) → (w ≡ Fork → ⊥) → s.size ≤ s.limits.size → StandsIn code s → StandsWanting code w s
+  at_end w s other le h = record { stands = h; beside = λ is. absurd (other is); within = λ is. le }
+
+  pub given_stands : (given : Given) (s : State) → StandsIn code s → StandsIn code (with_value given s)
+  given_stands Nothing s h = h
+  given_stands (Value v) s h = record { current = subst (λ n. StandsAt code s.current.place (length s.current.locals) n) (same_length s.current.operands) h.current; callers = h.callers; scopes = h.scopes }
+    where
+      same_length : (vs : List ℤ) → length vs ≡ length (in_place v vs)
+      same_length [] = refl
+      same_length (x ∷ vs) = refl
+
+  pub joined_stands : (s t : State) → StandsIn code s → StandsIn code (joined s t)
+  joined_stands s t h = record { current = h.current; callers = h.callers; scopes = over_less s.size (t.size + s.size) s.scopes (omega arith) h.scopes }
+
+module _ (code : Code) (ok : faults code ≡ []) where
+  -- what is known at an instruction
+  pub record Here (p n h : ℕ) (i : Instr) (e : Effect) : Type 0 where
+    pub at : StandsAt code p n h
+    pub is : slice_get code.instrs p ≡ Some i
+    pub operands : operand_faults code at.func p i (Some e) ≡ []
+    pub around : Around code at.func (places code at.func) p i (Some e) at.situation
+    pub room : taken e (called code i.a) ≤ h
+
+  -- the height behind an instruction
+  behind_height : (e : Effect) (i : Instr) (s : Situation) → (onwards code i (Some e) s).height ≡ s.height - taken e (called code i.a) + left_there e
+  behind_height t.Fork i s = omega arith
+  behind_height e i s = refl
+
+  onward : {p n h : ℕ} {i : Instr} {e : Effect} → Here p n h i e → never_passed (Some e) ≡ false → (m : ℕ) → m ≡ h - taken e (called code i.a) + left_there e → StandsAt code (p + 1) n m
+  onward {p = p} {i = i} {e = e} w goes m eq =
+      let at = w.at in
+      let in_f = is_inside at.func p at.within in
+      let q = next_is code at.func p (Some e) in_f goes (w.around.last goes) in
+      record {
+        func = at.func;
+        declared = at.declared;
+        within = inside_is code at.func (p + 1) (omega (arith, in_f.from)) (omega (arith, in_f.to, w.around.last goes));
+        situation = onwards code i (Some e) at.situation;
+        known = w.around.next (p + 1) q;
+        operands_there = omega (arith, behind_height e i at.situation, at.operands_there, eq);
+        locals_there = at.locals_there;
+      }
+
+  jumped : {p n h : ℕ} {i : Instr} {e : Effect} → (w : Here p n h i e) → jumps (Some e) ≡ true → is_target code w.at.func p i.a ≡ true → (m : ℕ) → m ≡ h - taken e (called code i.a) + left_there e → StandsAt code (index i.a) n m
+  jumped {p = p} {n = n} {i = i} {e = e} w j is m eq =
+      let at = w.at in
+      let to = target_is code at.func p i.a is in
+      let q = target_found code at.func i (Some e) to.0 j to.1 to.2 in
+      let here : StandsAt code to.0 n m = record {
+        func = at.func;
+        declared = at.declared;
+        within = to.2;
+        situation = passed code i (Some e) at.situation;
+        known = w.around.target to.0 q;
+        operands_there = omega (arith, at.operands_there, eq);
+        locals_there = at.locals_there;
+      } in
+      subst (λ k. StandsAt code k n m) (sym (ap index to.1)) here
+
+  counted_stands : (s : State) (go : State → Step) → StandsIn code s → Stands code (go (record s { size = s.size + 1 })) → Stands code (counted s go)
+  counted_stands s go f g = stands_either code (nat_le s.limits.size s.size) _ _ (λ e. at_fault code Size s f) (λ e. g)
+
+  wants_counted : (w : Want) (s : State) → (w ≡ Fork → ⊥) → is_over w ≡ false → StandsIn code s → Stands code (counts w s)
+  wants_counted w s other lasts f = counted_stands s (λ u. wants w u) f (goes_on code w (record s { size = s.size + 1 }) other lasts (record { current = f.current; callers = f.callers; scopes = over_less s.size (s.size + 1) s.scopes (omega arith) f.scopes }))
+
+  spent_stands : (s : State) (go : State → Step) → StandsIn code s → Stands code (go (record s { fuel = s.fuel + 1 })) → Stands code (spends s go)
+  spent_stands s go f g = stands_either code (nat_le s.limits.fuel s.fuel) _ _ (λ e. at_fault code Fuel s f) (λ e. g)
+
+  result_stands : (r : Result ℤ FaultKind) (p : ℕ) (vs : List ℤ) (s : State) → StandsIn code s → StandsAt code p (length s.current.locals) (suc (length vs)) → Stands code (result r p vs s)
+  result_stands (Ok v) p vs s f h = record { current = h; callers = f.callers; scopes = f.scopes }
+  result_stands (Err k) p vs s f h = at_fault code k s f
+
+  range_stands : (len : ℕ) (z : ℤ) (s : State) (go : Step) → StandsIn code s → Stands code go → Stands code (in_range len z s go)
+  range_stands len (negsuc n) s go f g = at_fault code Range s f
+  range_stands len (pos n) s go f g = stands_either code (nat_lt n len) _ _ (λ e. g) (λ e. at_fault code Range s f)
+
+  read_stands : (o : Option ℤ) (x : ℤ) → o ≡ Some x → (p : ℕ) (vs : List ℤ) (s : State) → StandsIn code s → StandsAt code p (length s.current.locals) (suc (length vs)) → Stands code (read_local o p vs s)
+  read_stands o x e p vs s f h = rw e (record { current = h; callers = f.callers; scopes = f.scopes })
+
+  write_stands : (n : ℕ) (v : ℤ) (p : ℕ) (vs : List ℤ) (s : State) → n < length s.current.locals → StandsIn code s → StandsAt code p (length s.current.locals) (length vs) → Stands code (write_local n v p vs s)
+  write_stands n v p vs s lt f h =
+      stands_either code (nat_lt n (length s.current.locals)) _ _
+      (λ e. record { current = subst (λ m. StandsAt code p m (length vs)) (sym (length-set s.current.locals n v)) h; callers = f.callers; scopes = f.scopes })
+      (λ e. absurd (omega (arith, lt, ltb-false n (length s.current.locals) e)))
+
+  waited_stands : (ns : List ℕ) (p : ℕ) (vs : List ℤ) (s : State) → NoneOver s.size ns → s.size ≤ s.limits.size → StandsIn code s → StandsIn code (goes_to p vs s) → Stands code (wait_in ns p vs s)
+  waited_stands [] p vs s low le f g = g
+  waited_stands (zero ∷ ns) p vs s low le f g = g
+  waited_stands (suc n ∷ ns) p vs s low le f g = at_end code Sync (record s { scopes = n ∷ ns }) (λ is. cc) le (record { current = f.current; callers = f.callers; scopes = (omega (arith, low.0), low.1) })
+
+  returned_stands : (fs : List Frame) (v : ℤ) (s : State) → s.size ≤ s.limits.size → StandsIn code s → WaitAt code fs → Stands code (returned fs v s)
+  returned_stands [] v s le f w = at_end code Done s (λ is. cc) le f
+  returned_stands (g ∷ fs) v s le f w = record { current = w.0; callers = w.1; scopes = over_behind s.size s.scopes f.scopes }
+
+  -- a function begins, with its arguments and zeros
+  pub begins : (g : Func) (vs : List ℤ) → Contains code.funcs g → g.params ≤ length vs → StandsAt code g.start (length (locals_for g vs)) 0
+  begins g vs co le =
+      let li = laid code ok g co in
+      let pl = li.locals in
+      let len : g.locals ≡ length (locals_for g vs) = simp (length-append, length-reverse, length-replicate, length-take-le g.params vs le) (omega arith) in
+      record { func = g; declared = co; within = inside_is code g g.start (omega arith) li.starts; situation = at_start; known = start_known code g li.starts; operands_there = refl; locals_there = len }
+
+  called_stands : (o : Option Func) (g : Func) → o ≡ Some g → Contains code.funcs g → (p : ℕ) (vs : List ℤ) (s : State) → g.params ≤ length vs → StandsIn code s → StandsAt code p (length s.current.locals) (suc (length (drop g.params vs))) → Stands code (coded.called o p vs s)
+  called_stands o g e co p vs s le f h =
+      rw e (stands_either code (nat_lt (length vs) g.params) _ _
+      (λ few. absurd (omega (arith, le, ltb-true (length vs) g.params few)))
+      (λ enough. stands_either code (nat_le most_frames (length s.callers + 1)) _ _ (λ deep. at_fault code Depth s f) (λ room. record { current = begins g vs co le; callers = (h, f.callers); scopes = (omega arith, f.scopes) })))
+
+  module _ (i : Instr) (s : State) (f : StandsIn code s) (le : s.size ≤ s.limits.size) where
+    -- a place and operands at which the current function stands
+    moved : (p : ℕ) (vs : List ℤ) → StandsAt code p (length s.current.locals) (length vs) → StandsIn code (goes_to p vs s)
+    moved p vs h = record { current = h; callers = f.callers; scopes = f.scopes }
+
+    act_stands : (e : Effect) (vs : List ℤ) → Here s.current.place (length s.current.locals) (length vs) i e → Stands code (coded.act code e i (s.current.place + 1) vs s)
+    act_stands t.Push vs w = moved _ (i.a ∷ vs) (onward w refl _ (omega arith))
+    act_stands t.Local vs w =
+        let n = below_names i.a w.at.func.locals (tested _ _ _ w.operands) in
+        let x = there s.current.locals n.0 (omega (arith, n.2, w.at.locals_there)) in
+        let here : slice_get s.current.locals (index i.a) ≡ Some x.0 = ap (λ z. slice_get s.current.locals (index z)) n.1 ∙ x.1 in
+        read_stands (slice_get s.current.locals (index i.a)) x.0 here (s.current.place + 1) vs s f (onward w refl _ (omega arith))
+    act_stands t.Set (v ∷ vs) w =
+        let n = below_names i.a w.at.func.locals (tested _ _ _ w.operands) in
+        let lt : index i.a < length s.current.locals = subst (λ z. index z < length s.current.locals) (sym n.1) (omega (arith, n.2, w.at.locals_there)) in
+        write_stands (index i.a) v (s.current.place + 1) vs s lt f (onward w refl _ (omega arith))
+    act_stands t.Load vs w = wants_counted _ _ (λ is. cc) refl (moved _ (pos 0 ∷ vs) (onward w refl _ (omega arith)))
+    act_stands t.LoadAt (n ∷ vs) w = range_stands _ n s _ f (wants_counted _ _ (λ is. cc) refl (moved _ (pos 0 ∷ vs) (onward w refl _ (omega arith))))
+    act_stands t.Store (v ∷ vs) w = wants_counted _ _ (λ is. cc) refl (moved _ vs (onward w refl _ (omega arith)))
+    act_stands t.StoreAt (v ∷ n ∷ vs) w = range_stands _ n s _ f (wants_counted _ _ (λ is. cc) refl (moved _ vs (onward w refl _ (omega arith))))
+    act_stands (t.Lift o) (x ∷ vs) w = result_stands _ (s.current.place + 1) vs s f (onward w refl _ (omega arith))
+    act_stands (t.Join o) (y ∷ x ∷ vs) w = result_stands _ (s.current.place + 1) vs s f (onward w refl _ (omega arith))
+    act_stands t.Jump vs w = moved _ vs (jumped w refl (tested _ _ _ w.operands) _ (omega arith))
+    act_stands t.JumpZero (v ∷ vs) w =
+        let m : length vs ≡ length (v ∷ vs) - taken t.JumpZero (called code i.a) + left_there t.JumpZero = omega arith in
+        moved _ vs (either (is_zero v) (jumped w refl (tested _ _ _ w.operands) _ m) (onward w refl _ m))
+      where
+        either : (b : Bool) {n h x y : ℕ} → StandsAt code x n h → StandsAt code y n h → StandsAt code (if b then x else y) n h
+        either true a b = a
+        either false a b = b
+    act_stands t.Call vs w =
+        let n = below_names i.a (length code.funcs) (tested _ _ _ w.operands) in
+        let x = there code.funcs n.0 n.2 in
+        let here : slice_get code.funcs (index i.a) ≡ Some x.0 = ap (λ z. slice_get code.funcs (index z)) n.1 ∙ x.1 in
+        let count : called code i.a ≡ x.0.params = ap (called code) n.1 ∙ ap params_of x.1 in
+        let spent = record s { fuel = s.fuel + 1 } in
+        spent_stands s (λ u. coded.called (slice_get code.funcs (index i.a)) (s.current.place + 1) vs u) f
+        (called_stands (slice_get code.funcs (index i.a)) x.0 here (contained code.funcs n.0 x.0 x.1) (s.current.place + 1) vs spent (omega (arith, w.room, count)) (record { current = f.current; callers = f.callers; scopes = f.scopes }) (onward w refl _ (omega (arith, w.room, count, length-drop x.0.params vs))))
+    act_stands t.Ret (v ∷ vs) w = returned_stands s.callers v s le f f.callers
+    act_stands t.Drop (v ∷ vs) w = moved _ vs (onward w refl _ (omega arith))
+    act_stands t.Out (v ∷ vs) w = wants_counted _ _ (λ is. cc) refl (moved _ vs (onward w refl _ (omega arith)))
+    act_stands t.Begin vs w = wants_counted Begin (record (goes_to (s.current.place + 1) vs s) { scopes = 0 ∷ s.scopes }) (λ is. cc) refl (record { current = onward w refl _ (omega arith); callers = f.callers; scopes = (omega arith, f.scopes) })
+    act_stands t.End vs w = goes_on code End (record (goes_to (s.current.place + 1) vs s) { scopes = drop 1 s.scopes }) (λ is. cc) refl (record { current = onward w refl _ (omega arith); callers = f.callers; scopes = over_behind s.size s.scopes f.scopes })
+    act_stands t.Fork vs w =
+        let none : length vs ≡ 0 = omega (arith, w.at.operands_there, w.around.border refl) in
+        counted_stands s (λ u. wants Fork (record (goes_to (index i.a) vs u) { scopes = one_more u.scopes; beside = s.current.place + 1 })) f (record {
+          stands = record { current = jumped w refl (tested _ _ _ w.operands) _ (omega arith); callers = f.callers; scopes = over_more s.size s.scopes f.scopes };
+          beside = λ is. record { current = onward w refl _ (omega arith); callers = tt; scopes = (omega arith, tt) };
+          within = λ is. absurd cc;
+        })
+    act_stands t.Sync vs w = waited_stands s.scopes (s.current.place + 1) vs s f.scopes le f (moved _ vs (onward w refl _ (omega arith)))
+    act_stands t.Done vs w = at_end code Done s (λ is. cc) le f
+    act_stands t.Tick vs w = spent_stands s (λ u. on (goes_to (s.current.place + 1) vs u)) f (record { current = onward w refl _ (omega arith); callers = f.callers; scopes = f.scopes })
+    act_stands t.Set [] w = absurd (omega (arith, w.room))
+    act_stands t.LoadAt [] w = absurd (omega (arith, w.room))
+    act_stands t.Store [] w = absurd (omega (arith, w.room))
+    act_stands t.StoreAt [] w = absurd (omega (arith, w.room))
+    act_stands t.StoreAt (v ∷ []) w = absurd (omega (arith, w.room))
+    act_stands (t.Lift o) [] w = absurd (omega (arith, w.room))
+    act_stands (t.Join o) [] w = absurd (omega (arith, w.room))
+    act_stands (t.Join o) (x ∷ []) w = absurd (omega (arith, w.room))
+    act_stands t.JumpZero [] w = absurd (omega (arith, w.room))
+    act_stands t.Ret [] w = absurd (omega (arith, w.room))
+    act_stands t.Drop [] w = absurd (omega (arith, w.room))
+    act_stands t.Out [] w = absurd (omega (arith, w.room))
+
+  -- what stands at the current place
+  pub record Next (s : State) : Type 0 where
+    pub instr : Instr
+    pub effect : Effect
+    pub does : effect_of instr ≡ Some effect
+    pub here : Here s.current.place (length s.current.locals) (length s.current.operands) instr effect
+
+  pub next : (s : State) → StandsIn code s → Next s
+  next s f =
+      let at = f.current in
+      let in_f = is_inside at.func s.current.place at.within in
+      let is = instr_at code ok at.func s.current.place at.declared in_f in
+      let i = is.0 in
+      let ops = operands_fine code ok at.func s.current.place at.declared in_f i is.1 in
+      let sit = situation_fine code ok at.func s.current.place at.declared in_f i is.1 at.situation at.known in
+      let e = has_effect code at.func s.current.place i (effect_of i) ops in
+      let ops2 = subst (λ o. operand_faults code at.func s.current.place i o ≡ []) e.1 ops in
+      let sit2 = around code at.func (places code at.func) s.current.place i (Some e.0) at.situation (subst (λ o. situation_faults code at.func (places code at.func) s.current.place i o at.situation ≡ []) e.1 sit) in
+      record { instr = i; effect = e.0; does = e.1; here = record { at = at; is = is.1; operands = ops2; around = sit2; room = omega (arith, sit2.room, at.operands_there) } }
+
+  -- no step of a strand that stands is stuck, and what it leads to stands
+  pub step_stands : (s : State) → StandsIn code s → Stands code (coded.step code s)
+  step_stands s f =
+      let n = next s f in
+      stands_either code (nat_lt s.limits.size s.size) _ _
+      (λ e. at_fault code Size s f)
+      (λ e. subst (λ o. Stands code (coded.step_at code o s)) (sym n.here.is)
+      (subst (λ o. Stands code (coded.act_of code o n.instr s)) (sym n.does)
+      (act_stands n.instr s f (ltb-false s.limits.size s.size e) n.effect s.current.operands n.here)))
+
+  module _ (main : ℕ) (words : List ℤ) (limits : Limits) (takes : coded.MainTakes code main (length words)) where
+    first_stands : StandsIn code (coded.runs code main words limits).first
+    first_stands =
+        let f = takes.0 in
+        let le : f.params ≤ length (reverse words) = simp length-reverse (omega (arith, takes.2)) in
+        let co = contained code.funcs main f takes.1 in
+        let starts : StandsIn code (starts_at code (Some f) (reverse words) limits) = record { current = begins f (reverse words) co le; callers = tt; scopes = (omega arith, tt) } in
+        subst (λ o. StandsIn code (starts_at code o (reverse words) limits)) (sym takes.1) starts
+
+    pub stands_first : (s : State) → s ≡ (coded.runs code main words limits).first → StandsIn code s
+    stands_first s is = subst (StandsIn code) (sym is) first_stands
+
+    visited_stands : (s : State) → Visits (coded.runs code main words limits) s → StandsIn code s
+    visited_stands s starts = first_stands
+    visited_stands t (steps {s = s} v is) = subst (Stands code) is (step_stands s (visited_stands s v))
+    visited_stands u (answers {s = s} {t = t} v is given) = given_stands code given t (subst (Stands code) is (step_stands s (visited_stands s v))).stands
+    visited_stands u (goes_left {s = s} v is) = (subst (Stands code) is (step_stands s (visited_stands s v))).beside refl
+    visited_stands u (goes_right {s = s} v is) = (subst (Stands code) is (step_stands s (visited_stands s v))).stands
+    visited_stands u (joins {s = s} {t = t} {v = y} v is w js) = joined_stands code t y (subst (Stands code) is (step_stands s (visited_stands s v))).stands
+
+    -- no strand of verified code ever lacks what it needs
+    pub never_stuck : (s : State) → Visits (coded.runs code main words limits) s → coded.step code s ≡ stuck → ⊥
+    never_stuck s v is = subst (Stands code) is (step_stands s (visited_stands s v))

@@ -1,10 +1,10 @@
 -- The operators, on numbers of 64 bits.
-use Rattle.std.specs.Prelude.{◌-◌, ◌^◌, Bool, true, false, ◌&&◌, not, Result, Ok, Err, if◌then◌else◌, ℤ, pos, negsuc, ◌+ℤ◌, ◌-ℤ◌, ◌*ℤ◌, neg_ℤ, int_lt, int_le}
+use Rattle.std.specs.Prelude.{◌-◌, ◌^◌, Bool, true, false, ◌&&◌, not, Result, Ok, Err, if◌then◌else◌, ℤ, pos, negsuc, ◌+ℤ◌, ◌-ℤ◌, ◌*ℤ◌, neg_ℤ, int_lt, int_le, int_div, int_rem}
 use Rattle.std.specs.Ordering.{int_eq}
-use Rattle.cw_text.specs.declared.ast.Op.{Op}
-use Rattle.cw_text.specs.declared.ast.Op.TheVariants as op
+use Rattle.cw_code.specs.declared.effects.Operator.{Operator}
+use Rattle.cw_code.specs.declared.effects.Operator.TheVariants.{Add as add, Sub as sub, Mul as mul, Div as div, Rem as rem, Neg as neg, Not as logical_not, Eq as eq, Ne as ne, Lt as lt, Le as le, Gt as gt, Ge as ge}
 use Rattle.cw_code.specs.declared.FaultKind.{FaultKind}
-use Rattle.cw_code.specs.declared.FaultKind.TheVariants.{Overflow}
+use Rattle.cw_code.specs.declared.FaultKind.TheVariants.{Zero, Overflow}
 
 -- a result outside the numbers of 64 bits is a fault
 abbrev pub fitted : ℤ → Result ℤ FaultKind
@@ -17,22 +17,29 @@ truth false = Ok (pos 0)
 abbrev pub is_zero : ℤ → Bool
 is_zero z = int_eq z (pos 0)
 
--- An operator of one operand. A tree may name one of two operands there, which then changes nothing.
-abbrev pub one : Op → ℤ → Result ℤ FaultKind
-one op.Neg x = fitted (neg_ℤ x)
-one op.Not x = truth (is_zero x)
+-- a number, where another result is none that is a fault
+abbrev pub unless_fault : ℤ → Result ℤ FaultKind → Result ℤ FaultKind
+unless_fault z (Ok q) = Ok z
+unless_fault z (Err k) = Err k
+
+-- an operator of one operand; one of two changes nothing
+abbrev pub one : Operator → ℤ → Result ℤ FaultKind
+one neg x = fitted (neg_ℤ x)
+one logical_not x = truth (is_zero x)
 one o x = Ok x
 
--- An operator of two operands. A tree may name one of one operand there, which then gives the first.
-abbrev pub two : Op → ℤ → ℤ → Result ℤ FaultKind
-two op.Add x y = fitted (x +ℤ y)
-two op.Sub x y = fitted (x -ℤ y)
-two op.Mul x y = fitted (x *ℤ y)
-two op.Eq x y = truth (int_eq x y)
-two op.Ne x y = truth (not (int_eq x y))
-two op.Lt x y = truth (int_lt x y)
-two op.Le x y = truth (int_le x y)
-two op.Gt x y = truth (int_lt y x)
-two op.Ge x y = truth (int_le y x)
-two op.Neg x y = Ok x
-two op.Not x y = Ok x
+-- An operator of two operands; one of one gives the first. A quotient goes towards zero, and a remainder is a fault where the quotient is.
+abbrev pub two : Operator → ℤ → ℤ → Result ℤ FaultKind
+two add x y = fitted (x +ℤ y)
+two sub x y = fitted (x -ℤ y)
+two mul x y = fitted (x *ℤ y)
+two div x y = if is_zero y then Err Zero else fitted (int_div x y)
+two rem x y = if is_zero y then Err Zero else unless_fault (int_rem x y) (fitted (int_div x y))
+two eq x y = truth (int_eq x y)
+two ne x y = truth (not (int_eq x y))
+two lt x y = truth (int_lt x y)
+two le x y = truth (int_le x y)
+two gt x y = truth (int_lt y x)
+two ge x y = truth (int_le y x)
+two neg x y = Ok x
+two logical_not x y = Ok x

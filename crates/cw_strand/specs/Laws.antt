@@ -1,56 +1,115 @@
--- What holds of strands over the syntax.
-use Rattle.std.specs.Prelude.{◌≡◌, ℕ, zero, suc, List, [], ◌∷◌, Some, None}
-use Rattle.cw_text.specs.declared.ast.Word.{Word}
-use Rattle.cw_text.specs.Syntax.{Block, Declaration, cell, func}
-use Rattle.cw_code.specs.declared.CellInfo.{CellInfo}
-use Rattle.cw_strand.specs.declared.want.Want.TheVariants.{Done}
-use Rattle.cw_strand.specs.Strands.{Reached, IsDeep, Closes, IsLawful}
-use Rattle.cw_strand.specs.Names.{naming_fault, main_of, cells_of}
-use Rattle.cw_strand.specs.Meaning.{State, finish, on, wants, step, Standing, stand, strands, body_at}
+-- What holds of strands: over the syntax, over code that breaks no rule, and of both together.
+use Rattle.std.specs.Prelude.{◌≡◌, ◌<◌, ℕ, ℤ, List, [], ◌∷◌, length, None}
+use Rattle.cw_text.specs.Syntax.{Declaration}
+use Rattle.cw_code.specs.declared.Limits.{Limits}
+use Rattle.cw_code.specs.declared.instruction.Code.{Code}
+use Rattle.cw_code.specs.Rules.{faults}
+use Rattle.cw_strand.specs.declared.want.Want.{Want}
+use Rattle.cw_strand.specs.declared.want.Want.TheVariants.{Load, Store, Done}
+use Rattle.cw_strand.specs.Strands.{Strands, Reached, IsDeep, Closes, IsLawful}
+use Rattle.cw_strand.specs.Running.{Standing, Settles, NeverStuck}
+use Rattle.cw_strand.specs.Pasts.{Past, became, CanBe, WantTheSame}
+use Rattle.cw_strand.specs.Names.{naming_fault}
+use Rattle.cw_strand.specs.Meaning as meaning
+use Rattle.cw_strand.specs.Meaning.{State, finish}
+use Rattle.cw_strand.specs.Coded as coded
+use Rattle.cw_strand.specs.Compilation.{code_of, main_function}
 
--- by steps of its own a state comes to stand at a want
-pub data ComesTo (cells : List CellInfo) : State → Standing → Type 0 where
-  here : {s : State} {x : Standing} → step cells s ≡ wants x.want x.state → ComesTo cells s x
-  goes_on : {s t : State} {x : Standing} → step cells s ≡ on t → ComesTo cells t x → ComesTo cells s x
+-- ## Over the syntax
 
 -- A strand never goes on by itself for ever: where it stands is where its steps lead.
 abbrev pub LocalWorkEnds : Type 0
-LocalWorkEnds = (cells : List CellInfo) (s : State) → ComesTo cells s (stand cells s)
+LocalWorkEnds = (ds : List Declaration) (words : List ℤ) (limits : Limits) → Settles (meaning.runs ds words limits)
 
 -- Whatever a strand is answered, no more forks and answers follow each other than its depth says.
 abbrev pub ForksEnd : Type 0
-ForksEnd = (cells : List CellInfo) (body : Block) → IsDeep (strands cells body)
+ForksEnd = (ds : List Declaration) (words : List ℤ) (limits : Limits) → IsDeep (meaning.strands_of ds words limits)
 
 -- The strand has come to its end: that alone is left, and no operand is left over.
-pub record HasDoneAll (x : Standing) : Type 0 where
+pub record HasDoneAll (x : Standing State) : Type 0 where
   pub todo : x.state.todo ≡ finish ∷ []
   pub values : x.state.values ≡ []
 
--- the parameters of the item of that number
-abbrev pub params_at : List Declaration → ℕ → List Word
-params_at [] n = []
-params_at (cell x l len i ∷ ds) zero = []
-params_at (func x l ps b ∷ ds) zero = ps
-params_at (d ∷ ds) (suc n) = params_at ds n
-
--- The program has no naming fault, and this is its main. Main has no parameters, as in any text that can be read: a strand starts
--- without locals, so it would have no values for them.
-pub record IsFaultless (ds : List Declaration) (main : ℕ) : Type 0 where
+-- The program has no naming fault, and the command has a word for each parameter of its main.
+pub record IsFaultless (ds : List Declaration) (words : List ℤ) : Type 0 where
   pub named : naming_fault ds ≡ None
-  pub is_main : main_of ds ≡ Some main
-  pub params : params_at ds main ≡ []
+  pub takes : meaning.MainTakes ds (length words)
 
 -- A strand of a program without a naming fault is done only where it has done all that it had to do.
 abbrev pub EndsOnlyWhenDone : Type 0
 EndsOnlyWhenDone =
-    (ds : List Declaration) (main : ℕ) → IsFaultless ds main
-    → let s = strands (cells_of ds) (body_at ds main) in
-    (own : List ℕ) (x : Standing) → Reached s own x → s.want x ≡ Done → HasDoneAll x
+    (ds : List Declaration) (words : List ℤ) (limits : Limits) → IsFaultless ds words
+    → let s = meaning.strands_of ds words limits in
+    (own : List ℕ) (x : Standing State) → Reached s own x → s.want x ≡ Done → HasDoneAll x
 
 -- In a program without a naming fault a block ends in the strand that began it, and a strand ends only once its own blocks have ended.
 abbrev pub BlocksClose : Type 0
-BlocksClose = (ds : List Declaration) (main : ℕ) → IsFaultless ds main → Closes (strands (cells_of ds) (body_at ds main))
+BlocksClose = (ds : List Declaration) (words : List ℤ) (limits : Limits) → IsFaultless ds words → Closes (meaning.strands_of ds words limits)
 
 -- The strands of every program without a naming fault keep the law.
 abbrev pub StrandsAreLawful : Type 0
-StrandsAreLawful = (ds : List Declaration) (main : ℕ) → IsFaultless ds main → IsLawful (strands (cells_of ds) (body_at ds main))
+StrandsAreLawful = (ds : List Declaration) (words : List ℤ) (limits : Limits) → IsFaultless ds words → IsLawful (meaning.strands_of ds words limits)
+
+-- ## Over code that breaks no rule
+
+-- No strand, whatever it is answered, ever lacks an operand, a local, a function or a place to go on.
+abbrev pub CodeIsNeverStuck : Type 0
+CodeIsNeverStuck =
+    (code : Code) (main : ℕ) (words : List ℤ) (limits : Limits) → faults code ≡ [] → coded.MainTakes code main (length words)
+    → NeverStuck (coded.runs code main words limits)
+
+-- A strand never goes on by itself for ever.
+abbrev pub CodeWorkEnds : Type 0
+CodeWorkEnds = (code : Code) (main : ℕ) (words : List ℤ) (limits : Limits) → faults code ≡ [] → Settles (coded.runs code main words limits)
+
+-- Whatever a strand is answered, no more forks and answers follow each other than its depth says.
+abbrev pub CodeForksEnd : Type 0
+CodeForksEnd = (code : Code) (main : ℕ) (words : List ℤ) (limits : Limits) → faults code ≡ [] → IsDeep (coded.strands_of code main words limits)
+
+-- a want names only elements of the cells
+abbrev pub NamesElement : Code → Want → Type 0
+NamesElement code (Load c) = c < code.cells
+NamesElement code (Store c v) = c < code.cells
+NamesElement code w = Unit {0}
+
+-- A strand loads and stores only elements of the cells.
+abbrev pub CodeNamesElements : Type 0
+CodeNamesElements =
+    (code : Code) (main : ℕ) (words : List ℤ) (limits : Limits) → faults code ≡ []
+    → let s = coded.strands_of code main words limits in
+    (own : List ℕ) (x : Standing coded.State) → Reached s own x → NamesElement code (s.want x)
+
+-- ## Compiled code
+
+-- The code of a program without a naming fault breaks no rule.
+abbrev pub BreaksNoRule : Type 0
+BreaksNoRule = (ds : List Declaration) → naming_fault ds ≡ None → faults (code_of ds) ≡ []
+
+-- the strands of a program's code
+abbrev pub compiled : List Declaration → List ℤ → Limits → Strands (Standing coded.State)
+compiled ds words limits = coded.strands_of (code_of ds) (main_function ds) words limits
+
+-- Compiled code wants what the source wants.
+abbrev pub WantsOfTheSource : Type 0
+WantsOfTheSource =
+    (ds : List Declaration) (words : List ℤ) (limits : Limits) → IsFaultless ds words
+    → WantTheSame (meaning.strands_of ds words limits) (compiled ds words limits)
+
+-- A strand of compiled code is done only where the strand of the source to which the same has happened has done all that it had to do.
+abbrev pub CodeEndsOnlyWhenDone : Type 0
+CodeEndsOnlyWhenDone =
+    (ds : List Declaration) (words : List ℤ) (limits : Limits) → IsFaultless ds words
+    → let s = meaning.strands_of ds words limits in
+    let t = compiled ds words limits in
+    (own : List ℕ) (x : Standing coded.State) → Reached t own x → t.want x ≡ Done
+    → (p : Past) × (CanBe s p × ((x ≡ became t p) × HasDoneAll (became s p)))
+
+-- The strands of the code of every program without a naming fault keep the law.
+abbrev pub CodeIsLawful : Type 0
+CodeIsLawful = (ds : List Declaration) (words : List ℤ) (limits : Limits) → IsFaultless ds words → IsLawful (compiled ds words limits)
+
+-- ## Laws that want the same
+
+-- Where blocks close over the one, they close over the other.
+abbrev pub ClosesWithIt : {A B : Type 0} → Strands A → Strands B → Type 0
+ClosesWithIt s t = WantTheSame s t → Closes s → Closes t

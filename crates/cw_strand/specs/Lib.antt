@@ -1,6 +1,13 @@
 pub mod Strands
+pub mod Running
+pub mod Pasts
 pub mod Arithmetic
 pub mod Names
 pub mod Meaning
+pub mod Coded
+pub mod Standing
+pub mod Acting
+pub mod Compilation
+pub mod Programs
 pub mod Laws
 pub mod Rows

@@ -1,9 +1,11 @@
--- Worked programs.
-use Rattle.std.specs.Prelude.{ℕ, zero, suc, ◌≡◌, List, [], ◌∷◌, codes, Result, Ok, Err, None, ℤ, pos, unwrap_or}
+-- Worked programs: their naming faults, their code, and what their strands want, over the syntax and over the code.
+use Rattle.std.specs.Prelude.{ℕ, zero, suc, ◌≡◌, List, [], ◌∷◌, codes, Result, Ok, Err, None, ℤ, pos}
 use Rattle.cw_text.specs.declared.fault.TextFault.{TextFault}
 use Rattle.cw_text.specs.Syntax.{Declaration}
 use Rattle.cw_text.specs.Rows.{read}
-use Rattle.cw_code.specs.declared.FaultKind.TheVariants.{Overflow}
+use Rattle.cw_code.specs.declared.FaultKind.TheVariants.{Overflow, Fuel, Size}
+use Rattle.cw_code.specs.declared.Limits.{Limits}
+use Rattle.cw_code.specs.declared.instruction.Code.{Code}
 use Rattle.cw_strand.specs.declared.naming.NameKind.TheVariants.{Unknown, Twice, NoMain, NotALocal}
 use Rattle.cw_strand.specs.declared.want.Want.{Want}
 use Rattle.cw_strand.specs.declared.want.Want.TheVariants.{Load, Store, Out, Begin, End, Fork, Sync, Done, Fault}
@@ -11,7 +13,10 @@ use Rattle.cw_strand.specs.declared.want.Given.{Given}
 use Rattle.cw_strand.specs.declared.want.Given.TheVariants.{Nothing, Value}
 use Rattle.cw_strand.specs.Names as names
 use Rattle.cw_strand.specs.Strands.{Strands}
-use Rattle.cw_strand.specs.Meaning.{Standing, Task, finish, strands, body_at}
+use Rattle.cw_strand.specs.Meaning as meaning
+use Rattle.cw_strand.specs.Meaning.{Task, finish}
+use Rattle.cw_strand.specs.Compilation.{code_of, plain, local, set, load, push, fork, begin, end, show, wait, done, tick, ret}
+use Rattle.cw_strand.specs.Laws.{compiled}
 
 abbrev pub tree : List ℕ → List Declaration
 tree text = given (read text) where
@@ -63,29 +68,70 @@ abbrev pub asked : {A : Type 0} → Strands A → ℕ → List ℤ → List (Oth
 asked s zero vs others a = []
 asked s (suc n) vs others a = s.want a ∷ after_want s (λ us more b. asked s n us more b) (s.want a) vs others a
 
--- the strands of the text's program
-abbrev pub strands_of_text : List ℕ → Strands Standing
-strands_of_text text = let ds = tree text in strands (names.cells_of ds) (body_at ds (unwrap_or (names.main_of ds) 0))
+-- limits of fuel and size
+abbrev pub within : ℕ → ℕ → Limits
+within fuel size = record { fuel = fuel; size = size; aborts = 1; strands = 1; moves = 1 }
 
-abbrev pub trace : List ℕ → List ℤ → List Want
-trace text vs = let s = strands_of_text text in asked s 20 vs [] s.start
+abbrev pub trace : ℕ → ℕ → List ℕ → List ℤ → List Want
+trace fuel size text vs = let s = meaning.strands_of (tree text) [] (within fuel size) in asked s 20 vs [] s.start
+
+-- the same over its code
+abbrev pub code_trace : ℕ → ℕ → List ℕ → List ℤ → List Want
+code_trace fuel size text vs = let s = compiled (tree text) [] (within fuel size) in asked s 20 vs [] s.start
+
+-- what the strands want, over the syntax and over the code
+abbrev pub Wants : ℕ → ℕ → List ℕ → List ℤ → List Want → Type 0
+Wants fuel size text vs ws = (trace fuel size text vs ≡ ws) × (code_trace fuel size text vs ≡ ws)
+
+abbrev pub count_one : List ℕ
+count_one = codes "cell c; fn main() { c = c + 1; out c; }"
 
 abbrev pub Traces : Type 0
 Traces =
-    (trace (codes "cell c; fn main() { c = c + 1; out c; }") (pos 0 ∷ pos 1 ∷ []) ≡ Load 0 ∷ Store 0 (pos 1) ∷ Load 0 ∷ Out (pos 1) ∷ Done ∷ [])
-    × (trace (codes "cell a; cell b; fn main() { let x = a - b; x = x * x; b = !x; out x >= 4; }") (pos 1 ∷ pos 3 ∷ []) ≡ Load 0 ∷ Load 1 ∷ Store 1 (pos 0) ∷ Out (pos 1) ∷ Done ∷ [])
-    × (trace (codes "fn main() { out 9223372036854775807 + 1; }") [] ≡ Fault Overflow ∷ [])
+    Wants 9 9 count_one (pos 0 ∷ pos 1 ∷ []) (Load 0 ∷ Store 0 (pos 1) ∷ Load 0 ∷ Out (pos 1) ∷ Done ∷ [])
+    × Wants 9 9 (codes "cell a; cell b; fn main() { let x = a - b; x = x * x; b = !x; out x >= 4; }") (pos 1 ∷ pos 3 ∷ []) (Load 0 ∷ Load 1 ∷ Store 1 (pos 0) ∷ Out (pos 1) ∷ Done ∷ [])
+    × Wants 9 9 (codes "fn main() { out 9223372036854775807 + 1; }") [] (Fault Overflow ∷ [])
 
 -- After a fork come the wants of its left strand up to the end, those of its right one up to its sync, and then those of the
 -- strand that forked.
 abbrev pub Forks : Type 0
 Forks =
-    (trace (codes "cell c; fn main() { atomic { spawn { c = c + 1; } c = c + 1; } }") (pos 0 ∷ pos 1 ∷ []) ≡ Begin ∷ Fork ∷ Load 0 ∷ Store 0 (pos 1) ∷ Done ∷ Load 0 ∷ Store 0 (pos 2) ∷ Sync ∷ End ∷ Done ∷ [])
-    × (trace (codes "fn main() { spawn { } spawn { sync; } sync; out 1; }") [] ≡ Fork ∷ Done ∷ Fork ∷ Done ∷ Sync ∷ Sync ∷ Out (pos 1) ∷ Done ∷ [])
-    × (trace (codes "fn main() { spawn { spawn { out 1; } out 2; } out 3; }") [] ≡ Fork ∷ Fork ∷ Out (pos 1) ∷ Done ∷ Out (pos 2) ∷ Sync ∷ Done ∷ Out (pos 3) ∷ Sync ∷ Done ∷ [])
-    × (trace (codes "fn main() { spawn { } atomic { atomic { spawn { } } sync; out 1; } }") [] ≡ Fork ∷ Done ∷ Begin ∷ Begin ∷ Fork ∷ Done ∷ Sync ∷ End ∷ Out (pos 1) ∷ End ∷ Sync ∷ Done ∷ [])
-    × (trace (codes "fn main() { let x = 1; spawn { x = 2; let y = 3; out y; } sync; out x; }") [] ≡ Fork ∷ Out (pos 3) ∷ Done ∷ Sync ∷ Out (pos 1) ∷ Done ∷ [])
-    × (trace (codes "fn main() { let x = 1; atomic { let y = 2; x = y; } let y = 3; out x; out y; }") [] ≡ Begin ∷ End ∷ Out (pos 2) ∷ Out (pos 3) ∷ Done ∷ [])
+    Wants 9 9 (codes "cell c; fn main() { atomic { spawn { c = c + 1; } c = c + 1; } }") (pos 0 ∷ pos 1 ∷ []) (Begin ∷ Fork ∷ Load 0 ∷ Store 0 (pos 1) ∷ Done ∷ Load 0 ∷ Store 0 (pos 2) ∷ Sync ∷ End ∷ Done ∷ [])
+    × Wants 9 9 (codes "fn main() { spawn { } spawn { sync; } sync; out 1; }") [] (Fork ∷ Done ∷ Fork ∷ Done ∷ Sync ∷ Sync ∷ Out (pos 1) ∷ Done ∷ [])
+    × Wants 9 9 (codes "fn main() { spawn { spawn { out 1; } out 2; } out 3; }") [] (Fork ∷ Fork ∷ Out (pos 1) ∷ Done ∷ Out (pos 2) ∷ Sync ∷ Done ∷ Out (pos 3) ∷ Sync ∷ Done ∷ [])
+    × Wants 9 9 (codes "fn main() { spawn { } atomic { atomic { spawn { } } sync; out 1; } }") [] (Fork ∷ Done ∷ Begin ∷ Begin ∷ Fork ∷ Done ∷ Sync ∷ End ∷ Out (pos 1) ∷ End ∷ Sync ∷ Done ∷ [])
+    × Wants 9 9 (codes "fn main() { let x = 1; spawn { x = 2; let y = 3; out y; } sync; out x; }") [] (Fork ∷ Out (pos 3) ∷ Done ∷ Sync ∷ Out (pos 1) ∷ Done ∷ [])
+    × Wants 9 9 (codes "fn main() { let x = 1; atomic { let y = 2; x = y; } let y = 3; out x; out y; }") [] (Begin ∷ End ∷ Out (pos 2) ∷ Out (pos 3) ∷ Done ∷ [])
+
+-- A unit of fuel is due at each statement, along the longest way; what both strands of a fork counted is added where they are joined.
+abbrev pub Spent : Type 0
+Spent =
+    Wants 9 3 count_one (pos 0 ∷ pos 1 ∷ []) (Load 0 ∷ Store 0 (pos 1) ∷ Load 0 ∷ Fault Size ∷ [])
+    × Wants 2 4 count_one (pos 0 ∷ pos 1 ∷ []) (Load 0 ∷ Store 0 (pos 1) ∷ Load 0 ∷ Out (pos 1) ∷ Done ∷ [])
+    × Wants 1 4 count_one (pos 0 ∷ pos 1 ∷ []) (Load 0 ∷ Store 0 (pos 1) ∷ Fault Fuel ∷ [])
+    × Wants 4 9 (codes "fn main() { spawn { out 1; out 2; } sync; out 3; }") [] (Fork ∷ Out (pos 1) ∷ Out (pos 2) ∷ Done ∷ Sync ∷ Out (pos 3) ∷ Done ∷ [])
+    × Wants 3 9 (codes "fn main() { spawn { out 1; out 2; } sync; out 3; }") [] (Fork ∷ Out (pos 1) ∷ Out (pos 2) ∷ Done ∷ Sync ∷ Fault Fuel ∷ [])
+    × Wants 2 9 (codes "fn main() { spawn { out 1; out 2; } sync; out 3; }") [] (Fork ∷ Out (pos 1) ∷ Fault Fuel ∷ [])
+    × Wants 9 4 (codes "cell c; fn main() { spawn { c = 1; c = 2; } c = 3; }") [] (Fork ∷ Store 0 (pos 1) ∷ Store 0 (pos 2) ∷ Done ∷ Store 0 (pos 3) ∷ Sync ∷ Done ∷ [])
+    × Wants 9 3 (codes "cell c; fn main() { spawn { c = 1; c = 2; } c = 3; }") [] (Fork ∷ Store 0 (pos 1) ∷ Store 0 (pos 2) ∷ Done ∷ Store 0 (pos 3) ∷ Sync ∷ Fault Size ∷ [])
+    × Wants 9 1 (codes "cell c; fn main() { spawn { c = 1; c = 2; } c = 3; }") [] (Fork ∷ Store 0 (pos 1) ∷ Fault Size ∷ [])
+
+-- the code of a program whose only function is main
+abbrev pub Compiles : List ℕ → Code → Type 0
+Compiles text code = code_of (tree text) ≡ code
+
+-- a number of an ended block is used again, and a fork's target lies behind what it spawns
+abbrev pub Codes : Type 0
+Codes =
+    Compiles (codes "cell c; fn main() { atomic { let x = -c; } let y = 2; spawn { out y; } }") (record {
+      cells = 1;
+      funcs = record { params = 0; locals = 1; start = 0; end = 21 } ∷ [];
+      instrs =
+          tick ∷ begin ∷ tick ∷ load 0 ∷ plain 13 ∷ set 0 ∷ wait ∷ end
+          ∷ tick ∷ push (pos 2) ∷ set 0
+          ∷ tick ∷ fork 18 ∷ tick ∷ local 0 ∷ show ∷ wait ∷ done
+          ∷ wait ∷ push (pos 0) ∷ ret ∷ [];
+    })
 
 -- what a strand has become once it got these answers, the newest first
 abbrev pub after_answers : {A : Type 0} → Strands A → List Given → A
@@ -94,10 +140,10 @@ after_answers s (g ∷ gs) = s.answer (after_answers s gs) g
 
 -- what a strand stands at and what it has to do once that is answered, once it got these answers, the newest first
 abbrev pub standing : List ℕ → List Given → Want × List Task
-standing text given = let x = after_answers (strands_of_text text) given in (x.want, x.state.todo)
+standing text given = let x = after_answers (meaning.strands_of (tree text) [] (within 9 9)) given in (x.want, x.state.todo)
 
 -- Both are over, the second one too early: its name stands for nothing.
 abbrev pub Endings : Type 0
 Endings =
     (standing (codes "cell c; fn main() { let x = c; out x * x; }") (Nothing ∷ Value (pos 3) ∷ []) ≡ (Done, finish ∷ []))
-    × (standing (codes "fn main() { out x; }") [] ≡ (Done, []))
+    × ((after_answers (meaning.strands_of (tree (codes "fn main() { out x; }")) [] (within 9 9)) []).want ≡ Done)

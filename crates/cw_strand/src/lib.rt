@@ -1,50 +1,114 @@
 //! What a strand means: which names a program may use, what a strand wants next, what an answer makes of it, and which
 //! strands a fork and a join make of it. Stands on `cw_base`, `cw_text` and `cw_code`.
-//! `specs/Strands.antt` is the law of strands that all layers above take as a parameter, `specs/Meaning.antt` gives it from
-//! the syntax tree, `specs/Names.antt` has the naming rules, `specs/Arithmetic.antt` the operators. `specs/Laws.antt` has
-//! what holds of strands, `specs/Rows.antt` the worked programs.
+//! `specs/Strands.antt` is the law of strands that all layers above take as a parameter, and `specs/Running.antt` makes one from steps. It
+//! is given twice: by `specs/Meaning.antt` from the syntax tree, and by `specs/Coded.antt` from compiled code; `specs/Compilation.antt` is
+//! the code of a tree. `specs/Names.antt` has the naming rules, `specs/Arithmetic.antt` the operators, `specs/Pasts.antt` what it is that
+//! two laws want the same. `specs/Laws.antt` has what holds of strands, `specs/Rows.antt` the worked programs.
 #![tactic(auto)]
 
-ghost use Rattle.cw_strand.specs.Rows.{Faults, Traces, Forks, Endings};
 ghost use Rattle.cw_strand.specs.Laws.{LocalWorkEnds, ForksEnd, EndsOnlyWhenDone, BlocksClose, StrandsAreLawful};
+ghost use Rattle.cw_strand.specs.Laws.{CodeIsNeverStuck, CodeWorkEnds, CodeForksEnd, CodeNamesElements};
+ghost use Rattle.cw_strand.specs.Laws.{BreaksNoRule, WantsOfTheSource, CodeEndsOnlyWhenDone, CodeIsLawful, ClosesWithIt};
+ghost use Rattle.cw_strand.specs.Pasts.{CanBe, Past, WantTheSame};
+ghost use Rattle.cw_strand.specs.Rows.{Faults, Traces, Forks, Spent, Codes, Endings};
+ghost use Rattle.cw_strand.specs.Strands.{Strands};
+ghost use Rattle.std.specs.Prelude.{◌↔◌};
 
+mod led;
 mod naming;
+mod operators;
+mod strand;
 mod want;
 
 pub use naming::{NameFault, NameKind};
+pub use strand::Strand;
 pub use want::{Given, Want};
 
-/// Worked programs: their naming faults, and what their strands want, also where they fork.
+/// Worked programs: their naming faults, their code, and what their strands want, over the syntax and over the code.
 pub fn worked_programs()
     ensures faults { Faults }
+    ensures codes { Codes }
     ensures traces { Traces }
     ensures forks { Forks }
+    ensures spent { Spent }
 {}
 
-/// A strand never goes on by itself for ever: it always comes to a want, and stands there.
+/// Over the syntax a strand never goes on by itself for ever: it always comes to a want, and stands there.
 pub fn local_work_ends()
     ensures { LocalWorkEnds }
 {}
 
-/// No more forks and answers follow each other than a strand's depth says.
+/// Over the syntax no more forks and answers follow each other than a strand's depth says.
 pub fn forks_end()
     ensures { ForksEnd }
 {}
 
-/// A strand of a program without a naming fault, also the left one of a fork, is done only where it has done all that it
+/// Over the syntax a strand of a program without a naming fault, also the left one of a fork, is done only where it has done all that it
 /// had to do, with no operand left over.
 pub fn ends_only_when_done()
     ensures ends { EndsOnlyWhenDone }
     ensures worked { Endings }
 {}
 
-/// A block ends in the strand that began it, and a strand ends only once its own blocks have ended: a right one at a sync,
-/// another one where it is done.
+/// Over the syntax a block ends in the strand that began it, and a strand ends only once its own blocks have ended: a right one at a
+/// sync, another one where it is done.
 pub fn blocks_close()
     ensures { BlocksClose }
 {}
 
-/// The strands of every program without a naming fault keep the law of strands.
+/// Over the syntax the strands of every program without a naming fault keep the law of strands.
 pub fn strands_are_lawful()
     ensures { StrandsAreLawful }
+{}
+
+/// Over code that breaks no rule no strand ever lacks what it needs.
+pub fn code_is_never_stuck()
+    ensures { CodeIsNeverStuck }
+{}
+
+/// Over code that breaks no rule no strand goes on by itself for ever.
+pub fn code_work_ends()
+    ensures { CodeWorkEnds }
+{}
+
+/// Over code that breaks no rule no more forks and answers follow each other than a strand's depth says.
+pub fn code_forks_end()
+    ensures { CodeForksEnd }
+{}
+
+/// Over code that breaks no rule a strand loads and stores only elements of the cells.
+pub fn code_names_elements()
+    ensures { CodeNamesElements }
+{}
+
+/// The code of a program without a naming fault breaks no rule.
+pub fn compiled_code_breaks_no_rule()
+    ensures { BreaksNoRule }
+{}
+
+/// Compiled code wants what the source wants: after whatever may have happened to a strand, it stands at the same want over the syntax and
+/// over the code.
+pub fn compiled_code_wants_the_same()
+    ensures { WantsOfTheSource }
+{}
+
+/// A strand of compiled code is done only where the strand of the source, to which the same has happened, has done all that it had to do.
+pub fn code_ends_only_when_done()
+    ensures { CodeEndsOnlyWhenDone }
+{}
+
+/// The strands of the code of every program without a naming fault keep the law of strands.
+pub fn code_is_lawful()
+    ensures { CodeIsLawful }
+{}
+
+/// Of two laws of strands that want the same: what can be over the one can be over the other, so that the other wants the same too.
+pub fn the_same_can_be<A, B>()
+    ensures pasts { (s : Strands A) (t : Strands B) → WantTheSame s t → (p : Past) → CanBe s p ↔ CanBe t p }
+    ensures back { (s : Strands A) (t : Strands B) → WantTheSame s t → WantTheSame t s }
+{}
+
+/// Of two laws of strands that want the same: where blocks close over the one, they close over the other.
+pub fn closes_with_it<A, B>()
+    ensures { (s : Strands A) (t : Strands B) → ClosesWithIt s t }
 {}

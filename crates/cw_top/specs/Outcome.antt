@@ -9,7 +9,7 @@ use Rattle.cw_record.specs.declared.record_end.RecordEnd.{RecordEnd}
 use Rattle.cw_record.specs.declared.record_end.RecordEnd.TheVariants.{Finished, Fault, Budget, Moves}
 use Rattle.cw_serial.specs.declared.ends.SerialEnd.{SerialEnd}
 use Rattle.cw_serial.specs.declared.ends.SerialEnd.TheVariants as last
-use Rattle.cw_serial.specs.declared.program.Program.{Program}
+use Rattle.cw_code.specs.declared.program.Program.{Program}
 use Rattle.cw_serial.specs.MachineOf.{end_under}
 use Rattle.cw_record.specs.Records.{job_of, BlocksEnded, HasEnded, HasItsOutputs, IsCoherentRecord, IsReplayed, IsDepthFirst, IsNumberedDepthFirst}
 use Rattle.cw_top.specs.declared.command.Command.{Command}
@@ -78,7 +78,7 @@ words_of (Run words limits) = words
 abbrev pub limits_of : Command → Limits
 limits_of (Run words limits) = limits
 
--- what a command runs: the program that the whole source spells
+-- what a command runs: the compilation of what the whole source spells
 abbrev pub Runs : Command → (left : Option (List ℕ)) → Program → Type 0
 Runs (Run words limits) left p = IfSome left (λ bytes. Spells bytes p)
 

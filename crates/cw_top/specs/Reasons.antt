@@ -2,8 +2,8 @@
 use Rattle.std.specs.Prelude.{◌≡◌, ℕ, List, Option, Some, IfSome}
 use Rattle.cw_text.specs.declared.fault.TextRefusal.{TextRefusal}
 use Rattle.cw_text.specs.declared.fault.TextRefusal.TheVariants as text
-use Rattle.cw_serial.specs.declared.program.NameRefusal.{NameRefusal}
-use Rattle.cw_serial.specs.declared.program.NameRefusal.TheVariants as naming
+use Rattle.cw_compile.specs.declared.refusal.NameRefusal.{NameRefusal}
+use Rattle.cw_compile.specs.declared.refusal.NameRefusal.TheVariants as naming
 use Rattle.cw_top.specs.declared.outcome.Note.{Note}
 use Rattle.cw_top.specs.declared.outcome.Note.TheVariants as note
 use Rattle.cw_top.specs.declared.reasons.Stop.{Stop}

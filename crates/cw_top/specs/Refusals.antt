@@ -1,10 +1,11 @@
 -- Why a source is refused: its text's first fault, or else its program's first naming fault.
 use Rattle.std.specs.Prelude.{◌≡◌, ℕ, List, Option, Some, None, Result, Ok, Err}
 use Rattle.cw_text.specs.declared.fault.TextFault.{TextFault}
-use Rattle.cw_text.specs.Syntax.{Declaration, tree_of}
+use Rattle.cw_text.specs.Syntax.{Declaration}
 use Rattle.cw_text.specs.Text.{program}
 use Rattle.cw_strand.specs.Names.{naming_fault, Fault}
-use Rattle.cw_serial.specs.declared.program.Program.{Program}
+use Rattle.cw_code.specs.declared.program.Program.{Program}
+use Rattle.cw_strand.specs.Programs.{IsProgramOf}
 use Rattle.cw_top.specs.declared.outcome.Note.{Note}
 use Rattle.cw_top.specs.declared.outcome.Note.TheVariants.{Text, Name}
 
@@ -20,6 +21,6 @@ of_reading (Err f) = Some (Text f)
 abbrev pub refusal : List ℕ → Option Note
 refusal bytes = of_reading (program bytes)
 
--- The program is what these bytes spell.
+-- The program is the compilation of the tree that these bytes spell.
 abbrev pub Spells : List ℕ → Program → Type 0
-Spells bytes p = program bytes ≡ Ok (tree_of p.ast)
+Spells bytes p = (ds : List Declaration) × ((program bytes ≡ Ok ds) × IsProgramOf ds p)

@@ -6,6 +6,7 @@
 #![tactic(auto)]
 
 mod command;
+mod options;
 mod outcome;
 mod reading;
 mod reasons;

@@ -1,8 +1,7 @@
 ghost use Rattle.std.specs.Prelude.{◌≡◌, ◌-◌, ◌<◌, ◌≤◌, [], length, Ok, IfOk, IfErr, IfSome, IsErrOf, OnOk};
 ghost use Rattle.cw_io.specs.Outside.{IsDry, Rose, RunsDry, Takes};
-ghost use Rattle.cw_text.specs.Syntax.{tree_of};
-ghost use Rattle.cw_strand.specs.Laws.{params_at};
-ghost use Rattle.cw_serial.specs.Programs.{IsProgramOf};
+ghost use Rattle.cw_strand.specs.Programs.{IsCompiled};
+ghost use Rattle.cw_serial.specs.Jobs.{Takes as AsksFor};
 ghost use Rattle.cw_top.specs.declared.reasons.NoRun.TheVariants.{Stopped};
 ghost use Rattle.cw_top.specs.declared.reasons.Stop.TheVariants.{ReadFault};
 ghost use Rattle.cw_top.specs.Outcome.{GivesOn, TakesAtMost, most_bytes};
@@ -10,8 +9,9 @@ ghost use Rattle.cw_top.specs.Reasons.{WhyNoRun, WhyRefused, WhyStopped};
 ghost use Rattle.cw_top.specs.Refusals.{Spells};
 
 use crate::reasons::{NoRun, Refusal, Stop};
+use cw_code::Program;
+use cw_compile::compile;
 use cw_io::Source;
-use cw_serial::{Program, checked};
 use cw_text::read_program;
 use std::alloc::Global;
 
@@ -58,15 +58,15 @@ fn read_all<S: Source>(alloc: Global, source: &mut S) -> Result<Vec<u8>, Stop>
     Ok(bytes)
 }
 
-// The program that bytes spell, with its names checked.
+// The program that bytes spell, compiled. Its main has no parameters, as in any text that can be read so far.
 fn program_of(alloc: Global, bytes: &[u8]) -> Result<Program, Refusal>
     ensures spelled { IfOk result (λ p. Spells bytes.now p) }
-    ensures program { IfOk result (λ p. IsProgramOf (tree_of p.ast) p) }
-    ensures params { IfOk result (λ p. params_at (tree_of p.ast) p.main ≡ []) }
+    ensures compiled { IfOk result (λ p. IsCompiled p) }
+    ensures words { IfOk result (λ p. AsksFor p 0) }
     ensures why { IfErr result (λ r. WhyRefused r bytes.now) }
 {
     let ast = read_program(alloc, bytes)?;
-    Ok(checked(alloc, ast)?)
+    Ok(compile(alloc, &ast)?)
 }
 
 // The program that a source spells.
@@ -77,8 +77,8 @@ pub fn program_from<S: Source>(alloc: Global, source: &mut S) -> Result<Program,
     ensures taken { TakesAtMost most_bytes (S.left source.old) (S.left source.new) }
     ensures whole { OnOk result (RunsDry (S.left source.old) (S.left source.new)) }
     ensures spelled { IfOk result (λ p. IfSome (S.left source.old) (λ bytes. Spells bytes p)) }
-    ensures program { IfOk result (λ p. IsProgramOf (tree_of p.ast) p) }
-    ensures params { IfOk result (λ p. params_at (tree_of p.ast) p.main ≡ []) }
+    ensures compiled { IfOk result (λ p. IsCompiled p) }
+    ensures words { IfOk result (λ p. AsksFor p 0) }
 {
     let bytes = read_all(alloc, source)?;
     Ok(program_of(alloc, bytes.as_slice())?)

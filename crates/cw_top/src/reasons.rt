@@ -1,6 +1,6 @@
 use cw_base::OutOfMemory;
+use cw_compile::NameRefusal;
 use cw_io::Failed;
-use cw_serial::NameRefusal;
 use cw_strand::NameFault;
 use cw_text::{TextFault, TextRefusal};
 use std::alloc::AllocError;

@@ -14,7 +14,7 @@ use Rattle.cw_trace.specs.Columns.{Columns, used, owner, gap, left_of}
 use Rattle.cw_trace.specs.Stands.{GoesOn, column, fork_column, outermost, stamp_or_0}
 use Rattle.cw_trace.specs.Segments.{Segments}
 use Rattle.cw_trace.specs.Keeps.{Keeps}
-use Rattle.cw_trace.specs.Laws.{fork_nodes}
+use Rattle.cw_tree.specs.NextNodes.{fork_nodes}
 use Rattle.cw_trace.proofs.Alike.{SamePending, segments_alike, ups_alike}
 use Rattle.cw_trace.proofs.Counting.{some_below, fork_column_lt}
 use Rattle.cw_trace.proofs.Forking.{get_right}

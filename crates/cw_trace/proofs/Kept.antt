@@ -5,7 +5,8 @@ use Rattle.cw_trace.specs.Columns.{Columns, used, gap, is_trace, before_split, f
 use Rattle.cw_trace.specs.Traces.{Traces}
 use Rattle.cw_trace.specs.Stands.{column}
 use Rattle.cw_trace.specs.Keeps.{Keeps}
-use Rattle.cw_trace.specs.Laws.{ForkKeeps, SplitKeeps, MergeKeeps, fork_nodes}
+use Rattle.cw_tree.specs.NextNodes.{fork_nodes}
+use Rattle.cw_trace.specs.Laws.{ForkKeeps, SplitKeeps, MergeKeeps}
 use Rattle.cw_trace.proofs.Forking.{keeps_fork}
 use Rattle.cw_trace.proofs.GoingOn.{active, goes_on}
 use Rattle.cw_trace.proofs.Inlining.{keeps_inline}

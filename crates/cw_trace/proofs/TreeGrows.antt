@@ -13,7 +13,7 @@ use Rattle.cw_tree.proofs.Growing.{node_grown, number_grown}
 use Rattle.cw_tree.proofs.Members.{in_below, filter_same, below_none, below_last}
 use Rattle.cw_trace.specs.Columns.{Columns}
 use Rattle.cw_trace.specs.Running.{IsOrdered, MayGoOn}
-use Rattle.cw_trace.specs.Laws.{fork_nodes}
+use Rattle.cw_tree.specs.NextNodes.{fork_nodes}
 use Rattle.cw_trace.proofs.Forking.{get_right}
 use Rattle.cw_trace.proofs.InRange.{strand_low, fork_low}
 use Rattle.cw_trace.proofs.Lines.{same_or, le_or_lt, or_left, or_right}

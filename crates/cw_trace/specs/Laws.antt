@@ -5,14 +5,11 @@ use Rattle.cw_tree.specs.declared.node.Kind.TheVariants.{Strand, Fork, Block}
 use Rattle.cw_tree.specs.declared.node.BlockState.{BlockState}
 use Rattle.cw_tree.specs.Nodes.{is_pending, is_strand_kind, is_fork_kind, is_block_kind, is_pending_state, stamp_of, fresh_node, closed}
 use Rattle.cw_tree.specs.Shape.{IsTree}
+use Rattle.cw_tree.specs.NextNodes.{fork_nodes}
 use Rattle.cw_trace.specs.Columns.{Columns, used, owner, gap, first_tier, begun_word, closed_word}
 use Rattle.cw_trace.specs.Stands.{Stands, GoesOn, column}
 use Rattle.cw_trace.specs.Keeps.{Keeps}
 use Rattle.cw_trace.specs.Running.{IsOrdered, MayGoOn, IsUnstarted, IsDone, MayJoinAt}
-
--- the nodes that a fork adds to a tree of n nodes
-abbrev pub fork_nodes : ℕ → ℕ → ℕ → List Node
-fork_nodes n p stamp = fresh_node p Fork stamp ∷ fresh_node n Strand 0 ∷ fresh_node n Strand 0 ∷ []
 
 -- a fork at each place p where the strand of the column may go on, the word being that of its gap
 abbrev pub ForkKeeps : ℕ → ℕ → Columns → Columns → Type 0

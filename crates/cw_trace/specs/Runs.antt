@@ -10,7 +10,7 @@ use Rattle.cw_trace.specs.Columns.{Columns, used, owner, gap, is_trace, before_s
 use Rattle.cw_trace.specs.Stands.{GoesOn, Descends, column}
 use Rattle.cw_trace.specs.Keeps.{Keeps}
 use Rattle.cw_trace.specs.Running.{IsOrdered, MayGoOn, IsUnstarted, IsDone, MayJoinAt}
-use Rattle.cw_trace.specs.Laws.{fork_nodes}
+use Rattle.cw_tree.specs.NextNodes.{fork_nodes}
 
 -- a strand may go on at place p, and pending blocks have stamps
 pub record Place (c : Columns) (t : List Node) (cuts joins : List ℕ) (p : ℕ) : Type 0 where

@@ -40,3 +40,8 @@ pub mod ChainsChange
 pub mod Stamps
 pub mod Stacks
 pub mod VictimsAt
+pub mod NextTrees
+pub mod NextBefore
+pub mod NextStamps
+pub mod ClosedStamps
+pub mod NextPending

@@ -15,3 +15,5 @@ pub mod ChainLaws
 pub mod Rows
 pub mod WorkedRun
 pub mod VictimsAt
+pub mod NextNodes
+pub mod Newest

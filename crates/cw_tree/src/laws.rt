@@ -1,4 +1,5 @@
 ghost use Rattle.cw_tree.specs.ChainLaws.{ConflictsAt, ConflictsGrow, ConflictsClose, NewestGrow, NewestClose, ChainsGrow, ChainsClose, ChainsExtend, PartsAreChains, EachFollows, SomeAreChains, BeneathIsEnd, StampsGrow, StampsClose, StampsExtend, PartsOfStamps, EachStampFollows, SomeOfStamps, StampsBeneath, StampConflictsGrow, StampConflictsClose, StacksGrow, StacksClose, FrontsOfStacks, StacksTell};
+ghost use Rattle.cw_tree.specs.NextNodes.{SoundCloses, SoundForks, SoundGrows, SoundRefuses};
 ghost use Rattle.cw_tree.specs.VictimsAt.{VictimsAt, VictimsGrow, VictimRows};
 
 /// An access that is made next at a place: with what it conflicts, and what stays of that as others act.
@@ -48,4 +49,12 @@ pub fn stacks_stay()
     ensures close { StacksClose }
     ensures fronts { FrontsOfStacks }
     ensures tell { StacksTell }
+{}
+
+/// What is true of the tree of a run stays true as nodes are made at places and blocks there are closed.
+pub fn trees_stay_sound()
+    ensures grows { SoundGrows }
+    ensures refuses { SoundRefuses }
+    ensures forks { SoundForks }
+    ensures closes { SoundCloses }
 {}

@@ -1,5 +1,6 @@
-ghost use Rattle.std.specs.Prelude.{◌≡◌, ◌-◌, ◌<◌, ◌≤◌, ◌^◌, ◌++◌, ◌∷◌, [], length, slice_get, Some, OnOk, OnErr, IfOk, IsErr, IsTrue};
-ghost use Rattle.cw_tree.specs.Nodes.{parent_of, is_strand, is_fork, is_block, is_pending, is_aborted, fresh_node, closed};
+ghost use Rattle.std.specs.Prelude.{◌≡◌, ◌+◌, ◌-◌, false, ◌<◌, ◌≤◌, ◌^◌, ◌++◌, ◌∷◌, [], length, slice_get, Some, OnOk, OnErr, IfOk, IsErr, IsTrue};
+ghost use Rattle.cw_tree.specs.NextNodes.{fork_nodes};
+ghost use Rattle.cw_tree.specs.Nodes.{is_block_kind, parent_of, is_strand, is_fork, is_block, is_pending, is_aborted, fresh_node, closed};
 ghost use Rattle.cw_tree.specs.Walks.{IsNumbered};
 
 mod name;
@@ -136,6 +137,27 @@ impl Tree {
         Ok(number as u32)
     }
 
+    /// Adds a fork beneath a parent, with its left and its right strand, or nothing. Answers the number of the fork.
+    pub fn fork(&mut self, parent: u32, stamp: u64) -> Result<u32, OutOfMemory>
+        requires { parent < length self.old }
+        ensures number { IfOk result (λ n. n ≡ length self.old) }
+        ensures ok { OnOk result (self.new ≡ self.old ++ fork_nodes (length self.old) parent stamp) }
+        ensures few { OnOk result (length self.old + 3 < 2 ^ 32) }
+        ensures err { OnErr result (self.new ≡ self.old) }
+    {
+        let number = self.nodes.len();
+        if number > u32::MAX as usize - 3 {
+            return Err(OutOfMemory);
+        }
+        self.nodes.reserve(3)?;
+        let fork = number as u32;
+        self.nodes
+            .push_reserved(leaf_node(parent, Kind::Fork, stamp));
+        self.nodes.push_reserved(leaf_node(fork, Kind::Strand, 0));
+        self.nodes.push_reserved(leaf_node(fork, Kind::Strand, 0));
+        Ok(fork)
+    }
+
     /// Closes a block: how it ended, and the stamp of its end.
     pub fn close(&mut self, block: u32, state: BlockState, end: u64)
         requires { IsTrue (is_block self.old block) }
@@ -144,5 +166,19 @@ impl Tree {
         let node = &mut self.nodes[block as usize];
         node.state = state;
         node.end = end;
+    }
+}
+
+// A new node that is no block.
+fn leaf_node(parent: u32, kind: Kind, stamp: u64) -> Node
+    requires { is_block_kind kind ≡ false }
+    ensures { result ≡ fresh_node parent kind stamp }
+{
+    Node {
+        parent,
+        kind,
+        state: BlockState::Committed,
+        stamp,
+        end: 0,
     }
 }

@@ -1,10 +1,9 @@
 use super::grown::grown;
+use super::machines::program;
 use super::orders::ordered;
 use cw_base::Seq;
 use cw_code::{FaultKind, Limits};
 use cw_record::{Checked, Record, RecordEnd, check};
-use cw_serial::checked;
-use cw_text::read_program;
 use cw_tree::{Conflict, Kind, Tree};
 use std::alloc::Global;
 use std::test::Fail;
@@ -28,11 +27,11 @@ fn said(
 ) -> Result<Checked, Fail> {
     let order = ordered(alloc, &tree, conflicts.as_slice(), aborts, &end)?;
     let run = Record {
-        program: checked(alloc, read_program(alloc, text.as_bytes())?)?,
+        program: program(alloc, text)?,
         words: Seq::new(alloc),
         limits: Limits {
-            fuel: 1,
-            size: 1,
+            fuel: 9,
+            size: 9,
             aborts,
             strands: 1,
             moves: 1,

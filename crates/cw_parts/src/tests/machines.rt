@@ -1,13 +1,16 @@
+ghost use Rattle.std.specs.Prelude.{IfOk};
+ghost use Rattle.cw_serial.specs.Jobs.{Takes};
+
 use cw_base::Seq;
-use cw_serial::{Limits, Machine, Name, Picks, Program, SerialEnd, checked, serial};
+use cw_compile::compile;
+use cw_serial::{Limits, Machine, Name, Picks, Program, SerialEnd, serial, takes_words};
 use cw_text::read_program;
 use std::alloc::Global;
 use std::test::Fail;
 
-// What the limits are has no meaning yet.
 const LIMITS: Limits = Limits {
-    fuel: 1,
-    size: 1,
+    fuel: 9,
+    size: 9,
     aborts: 1,
     strands: 1,
     moves: 1,
@@ -24,8 +27,15 @@ const fn name(parent: u32, fork: u32, right: bool) -> Name {
 // One block, in which each of two strands adds one to a cell.
 const BOTH: &str = "cell c; fn main() { atomic { spawn { c = c + 1; } c = c + 1; } }";
 
-fn program(alloc: Global, text: &str) -> Result<Program, Fail> {
-    Ok(checked(alloc, read_program(alloc, text.as_bytes())?)?)
+pub fn program(alloc: Global, text: &str) -> Result<Program, Fail>
+    ensures { IfOk result (λ p. Takes p 0) }
+{
+    let program = compile(alloc, &read_program(alloc, text.as_bytes())?)?;
+    if takes_words(&program, 0) {
+        Ok(program)
+    } else {
+        Err("main asks for words".into())
+    }
 }
 
 // Picks of these numbers, where the root forks once.
@@ -66,7 +76,7 @@ fn picks_lead_to_ends(rt: HostRuntime) -> Result<(), Fail> {
 }
 
 // What each of the three strands stands at.
-fn standing(alloc: Global, machine: &Machine<'_>) -> Result<String, Fail> {
+fn standing(alloc: Global, machine: &Machine) -> Result<String, Fail> {
     let wants = [machine.at(0), machine.at(1), machine.at(2)];
     Ok(format!(in alloc; "{wants:?}")?)
 }
@@ -92,19 +102,5 @@ fn an_update_is_lost_step_by_step(rt: HostRuntime) -> Result<(), Fail> {
     }
     assert_eq!(rt; machine.names(), names.as_slice());
     assert_eq!(rt; machine.memory(), [1].as_slice());
-    Ok(())
-}
-
-// A program that was not checked. Its right strand meets a name of nothing, and both are over before the first pick.
-#[test]
-fn a_strand_without_a_name_stays_over_behind_a_join(rt: HostRuntime) -> Result<(), Fail> {
-    let alloc = rt.alloc();
-    let program = Program {
-        ast: read_program(alloc, b"fn main() { spawn { } x = 1; out 1; }")?,
-        cells: Seq::new(alloc),
-        main: 0,
-    };
-    let machine = Machine::new(alloc, &program, &[], LIMITS)?;
-    assert!(rt; machine.ended());
     Ok(())
 }

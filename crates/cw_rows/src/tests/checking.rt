@@ -1,8 +1,11 @@
+ghost use Rattle.std.specs.Prelude.{length, IfOk};
+ghost use Rattle.cw_serial.specs.Jobs.{Takes};
+
 use super::{COUNTS, answer};
 use cw_base::Seq;
 use cw_io::{SureSink, SureSource};
 use cw_record::{Checked, Record, RecordEnd, check};
-use cw_serial::{SerialEnd, serial};
+use cw_serial::{SerialEnd, serial, takes_words};
 use cw_tree::{Kind, Tree};
 use std::alloc::Global;
 use std::sync::Wait;
@@ -12,23 +15,40 @@ use std::thread::Threads;
 // A block in the left strand, and an access beside it in the right one.
 const BESIDE: &[u8] = b"cell c; fn main() { spawn { atomic { c = 1; } } c = 2; }";
 
-fn record<R: AllocGlobal + Threads + Wait + Sync>(rt: &R, text: &[u8]) -> Result<Record, Fail> {
+fn record<R: AllocGlobal + Threads + Wait + Sync>(rt: &R, text: &[u8]) -> Result<Record, Fail>
+    ensures { IfOk result (λ r. Takes r.program (length r.words)) }
+{
     let mut source = SureSource::new(text.to_vec(rt.alloc())?, 100);
     let mut sink = SureSink::with_room(rt.alloc(), 100)?;
     let reply = answer(rt, &["run"], &mut source, &mut sink)?;
-    Ok(reply.kept.ok_or("no run is kept")?)
+    let kept = reply.kept.ok_or("no run is kept")?;
+    if takes_words(&kept.program, kept.words.len()) {
+        Ok(kept)
+    } else {
+        Err("main asks for other words".into())
+    }
 }
 
 // What a check says where the run ended so.
-fn with_end(alloc: Global, mut run: Record, end: RecordEnd) -> Result<Checked, Fail> {
+fn with_end(alloc: Global, mut run: Record, end: RecordEnd) -> Result<Checked, Fail>
+    requires { Takes run.program (length run.words) }
+{
     run.end = end;
     Ok(check(alloc, &run)?)
 }
 
 // The end under other picks.
-fn end_with_picks(alloc: Global, mut run: Record, list: Seq<u32>) -> Result<SerialEnd, Fail> {
+fn end_with_picks(alloc: Global, mut run: Record, list: Seq<u32>) -> Result<SerialEnd, Fail>
+    requires { Takes run.program (length run.words) }
+{
     run.order.list = list;
-    Ok(serial(alloc, &run.program, &[], run.limits, &run.order)?)
+    Ok(serial(
+        alloc,
+        &run.program,
+        run.words.as_slice(),
+        run.limits,
+        &run.order,
+    )?)
 }
 
 fn finished(alloc: Global, memory: &[i64], outputs: &[i64]) -> Result<RecordEnd, Fail> {
@@ -39,7 +59,9 @@ fn finished(alloc: Global, memory: &[i64], outputs: &[i64]) -> Result<RecordEnd,
 }
 
 // What a check says where the picks are these.
-fn with_picks(alloc: Global, mut run: Record, list: Seq<u32>, last: u32) -> Result<Checked, Fail> {
+fn with_picks(alloc: Global, mut run: Record, list: Seq<u32>, last: u32) -> Result<Checked, Fail>
+    requires { Takes run.program (length run.words) }
+{
     run.order.list = list;
     run.order.last = last;
     Ok(check(alloc, &run)?)
@@ -56,7 +78,9 @@ fn counts_tree(alloc: Global, value: i64) -> Result<Tree, Fail> {
 }
 
 // What a check says where the tree is this.
-fn with_tree(alloc: Global, mut run: Record, tree: Tree) -> Result<Checked, Fail> {
+fn with_tree(alloc: Global, mut run: Record, tree: Tree) -> Result<Checked, Fail>
+    requires { Takes run.program (length run.words) }
+{
     run.tree = tree;
     Ok(check(alloc, &run)?)
 }

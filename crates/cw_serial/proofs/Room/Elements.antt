@@ -1,15 +1,17 @@
 -- The strands of a job load and store only elements that are there.
-use Rattle.std.proofs.Common.{◌<◌, ℕ, List, length, subst, sym, arith}
-use Rattle.cw_code.specs.declared.CellInfo.{CellInfo}
-use Rattle.cw_text.specs.Syntax.{tree_of}
+use Rattle.std.proofs.Common.{◌≡◌, ◌<◌, ◌+◌, ℕ, List, [], ◌∷◌, length, replicate, refl, ap, sym, ◌∙◌, arith, length-append}
+use Rattle.std.proofs.lemmas.List.{length-replicate}
+use Rattle.cw_text.specs.Syntax.{Declaration, cell, func}
+use Rattle.cw_code.specs.declared.instruction.Code.{Code}
 use Rattle.cw_strand.specs.declared.want.Want.{Want}
 use Rattle.cw_strand.specs.declared.want.Want.TheVariants.{Load, Store}
 use Rattle.cw_strand.specs.Strands.{Reached}
-use Rattle.cw_strand.specs.Meaning.{body_at}
-use Rattle.cw_strand.specs.Names.{first_memory}
-use Rattle.cw_strand.proofs.Elements.{IsElement, NamesElement, wants_named, element_there}
+use Rattle.cw_strand.specs.Names.{elements, cells_from, first_memory}
+use Rattle.cw_strand.specs.Compilation.{elements_in}
+use Rattle.cw_strand.specs.Programs.{IsCompiled}
+use Rattle.cw_strand.specs.Laws.{NamesElement}
+use Rattle.cw_strand.proofs.Elements as named
 use Rattle.cw_serial.specs.Jobs.{Job}
-use Rattle.cw_serial.specs.Programs.{IsProgramOf}
 use Rattle.cw_serial.specs.Room.Strands.{StrandState, strands_of}
 
 -- a load or a store is of one of so many elements
@@ -22,15 +24,22 @@ NamesThere k w = Unit {0}
 abbrev pub WantsThere : Job → Type 0
 WantsThere job = (own : List ℕ) (x : StrandState) → Reached (strands_of job) own x → NamesThere (length (first_memory job.program.cells)) ((strands_of job).want x)
 
-names_there : (cells : List CellInfo) (k : ℕ) → ((c : ℕ) → IsElement cells c → c < k) → (w : Want) → NamesElement cells w → NamesThere k w
-names_there cells k there (Load c) h = there c h
-names_there cells k there (Store c v) h = there c h
-names_there cells k there _ h = tt
+-- the memory has at first as many elements as the cells of the text
+memory_size : (n : ℕ) (ds : List Declaration) → length (first_memory (cells_from n ds)) ≡ elements_in ds
+memory_size n [] = refl
+memory_size n (cell x l len i ∷ ds) =
+    omega (arith, length-append (replicate (elements len) i) (first_memory (cells_from (n + elements len) ds)), length-replicate (elements len) i, memory_size (n + elements len) ds)
+memory_size n (func x l ps b ∷ ds) = memory_size n ds
 
-pub wants_there : (job : Job) → IsProgramOf (tree_of job.program.ast) job.program → WantsThere job
+names_there : (code : Code) (k : ℕ) (w : Want) → code.cells ≡ k → NamesElement code w → NamesThere k w
+names_there code k (Load c) is h = omega (arith, is, h)
+names_there code k (Store c v) is h = omega (arith, is, h)
+names_there code k w is h = tt
+
+pub wants_there : (job : Job) → IsCompiled job.program → WantsThere job
 unfolding strands_of
-wants_there job is own x reached =
-    let cells = job.program.cells in
-    let Q : List CellInfo → Type 0 = λ cs. (c : ℕ) → IsElement cs c → c < length (first_memory cs) in
-    let there : Q cells = subst Q (sym is.cells) (λ c e. (let low = element_there (tree_of job.program.ast) 0 c e.0 e.1 in omega arith)) in
-    names_there cells (length (first_memory cells)) there x.want (wants_named cells (body_at (tree_of job.program.ast) job.program.main) reached)
+wants_there job (ds, is) own x reached =
+    let p = job.program in
+    let same : p.code.cells ≡ length (first_memory p.cells) =
+    ap (λ (c : Code). c.cells) is.code ∙ (sym (memory_size 0 ds) ∙ ap (λ cs. length (first_memory cs)) (sym is.cells)) in
+    names_there p.code (length (first_memory p.cells)) x.want same (named.names_elements p.code p.sound p.main job.words job.limits own x reached)

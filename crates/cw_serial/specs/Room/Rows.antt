@@ -1,13 +1,9 @@
--- Worked runs of the machine.
-use Rattle.std.specs.Prelude.{ℕ, ◌≡◌, List, [], ◌∷◌, codes, pos, true, false, unwrap_or}
-use Rattle.cw_code.specs.declared.CellInfo.{CellInfo}
+-- Worked runs of the machine, over the code of small programs.
+use Rattle.std.specs.Prelude.{ℕ, ◌≡◌, List, [], ◌∷◌, codes, pos, true, false}
 use Rattle.cw_code.specs.declared.FaultKind.TheVariants.{Overflow}
-use Rattle.cw_text.specs.declared.ast.Op.TheVariants.{Add}
-use Rattle.cw_text.specs.declared.ast.Word.{Word}
-use Rattle.cw_text.specs.Syntax.{Statement, Block, number, name as named, binary, assign, atomic, spawn, empty, first}
-use Rattle.cw_strand.specs.Names.{cells_of, main_of, first_memory}
-use Rattle.cw_strand.specs.Meaning.{strands, body_at}
-use Rattle.cw_strand.specs.Rows.{tree}
+use Rattle.cw_strand.specs.Names.{cells_of, first_memory}
+use Rattle.cw_strand.specs.Rows.{tree, within}
+use Rattle.cw_strand.specs.Laws.{compiled}
 use Rattle.cw_tree.specs.declared.picks.Name.{Name}
 use Rattle.cw_serial.specs.declared.ends.SerialEnd.{SerialEnd}
 use Rattle.cw_serial.specs.declared.ends.SerialEnd.TheVariants as last
@@ -21,7 +17,7 @@ root = record { parent = 0; fork = 0; right = false }
 abbrev pub ending : List ℕ → List Name → List ℕ → ℕ → SerialEnd
 ending text names list name =
     let ds = tree text in
-    serial_end (strands (cells_of ds) (body_at ds (unwrap_or (main_of ds) 0))) (first_memory (cells_of ds)) (record { names = names; list = list; last = name })
+    serial_end (compiled ds [] (within 9 9)) (first_memory (cells_of ds)) (record { names = names; list = list; last = name })
 
 -- one cell, to which one is added before it is shown
 abbrev pub counts : List ℕ
@@ -40,21 +36,11 @@ Ends =
 
 -- ## Two strands in a block
 
--- c = c + 1;
-abbrev pub more : Statement
-more = let c : Word = record { name = codes "c"; line = 1 } in assign c (binary Add (named c) (number (pos 1)))
-
 -- one block, in which each of two strands adds one to a cell
-abbrev pub two_add : Block
-two_add = first (atomic (first (spawn (first more empty)) (first more empty))) empty
-
-abbrev pub cell : List CellInfo
-cell = record { name = codes "c"; len = 0; base = 0; init = pos 0 } ∷ []
-
 abbrev pub both : List ℕ → ℕ → SerialEnd
 both list name =
     let names = root ∷ record { parent = 0; fork = 1; right = false } ∷ record { parent = 0; fork = 1; right = true } ∷ [] in
-    serial_end (strands cell two_add) (first_memory cell) (record { names = names; list = list; last = name })
+    ending (codes "cell c; fn main() { atomic { spawn { c = c + 1; } c = c + 1; } }") names list name
 
 -- an update that is lost, none that is lost, the block's end before its strands', and the right strand where it stands
 abbrev pub StrandEnds : Type 0

@@ -2,4 +2,4 @@ use Rattle.cw_strand.proofs.Lawful.{lawful}
 use Rattle.cw_strand.proofs.blocks_close.Goals as goal
 
 pub returns : goal.returns
-returns c ds main faultless = (lawful ds main faultless).closes
+returns c ds words limits faultless = (lawful ds words limits faultless).closes

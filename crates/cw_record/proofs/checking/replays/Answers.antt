@@ -17,7 +17,7 @@ returns-then-not-names_strand c =
     let E : SerialEnd → Type 0 = λ e. SameEnd r.end r.order e in
     elim c.then-not-names_strand.branch [
       | then-not-names_strand-via-then-not-names_strand w ↦ (λ h. absurd (cc h), λ h. let yes = h.strand in let no = w.if-not-names_strand.true in let is = c.names_strand.ensures in cc)
-      | then-not-names_strand-via-else-not-names_strand+then-not-is_same_end w ↦ (λ h. absurd (cc h), λ h. let yes = w.is_same_end.ensures.1 (subst E (sym c.requires) (same_end r c.nodes.ensures.numbered.rooted c.nodes.ensures.numbered.root h)) in let no = w.if-not-is_same_end.true in cc)
+      | then-not-names_strand-via-else-not-names_strand+then-not-is_same_end w ↦ (λ h. absurd (cc h), λ h. let yes = w.is_same_end.ensures.1 (subst E (sym c.requires.end) (same_end r c.nodes.ensures.numbered.rooted c.nodes.ensures.numbered.root h)) in let no = w.if-not-is_same_end.true in cc)
     ]
 
 pub returns : goal.returns
@@ -26,6 +26,6 @@ returns c =
     let E : SerialEnd → Type 0 = λ e. SameEnd r.end r.order e in
     let strand : is_strand r.tree (ending_strand r.end) ≡ true = (let yes = c.if-not-names_strand.false in let is = c.names_strand.ensures in cc) in
     let order : r.order ≡ order_of r.tree r.conflicts r.limits.aborts r.end = c.same_picks.ensures.0 c.if-not-same_picks.false ∙ (c.in_ok-order.ensures ∙ ap (λ cs. order_of r.tree cs r.limits.aborts r.end) c.as_slice.ensures) in
-    let end = subst E c.requires (c.is_same_end.ensures.0 c.if-not-is_same_end.false) in
+    let end = subst E c.requires.end (c.is_same_end.ensures.0 c.if-not-is_same_end.false) in
     let both = replays_if_done r c.nodes.ensures.numbered.rooted c.nodes.ensures.numbered.root strand order end in
     IfOk-weaker c.does_all.result (λ b. IsTrue b ↔ ItemsAreDone r) (λ b. IsTrue b ↔ IsReplayed r) (λ b e. (λ h. both.0 (e.0 h), λ h. e.1 (both.1 h))) c.does_all.ensures

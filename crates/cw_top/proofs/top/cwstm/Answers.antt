@@ -1,6 +1,11 @@
+use Rattle.std.proofs.Common.{map, string_bytes}
 use Rattle.cw_top.proofs.Pieces as pieces
 use Rattle.cw_top.proofs.Statuses as statuses
+use Rattle.cw_top.proofs.Wordless.{no_words}
 use Rattle.cw_top.proofs.top.cwstm.Goals as goal
+
+pub answer-requires : goal.answer-requires
+answer-requires g c = rw c.command_of.ensures (no_words (map string_bytes c.args.words.now))
 
 pub returns-clause-usage : goal.returns-clause-usage
 returns-clause-usage g c = let cause = rw c.command_of.ensures at c.answer.ensures.cause in statuses.usage _ _ _ _ _ _ _ c.answer.ensures.status cause

@@ -1,44 +1,56 @@
+use Rattle.cw_serial.proofs.Room.Lawful.{closes_of}
+use Rattle.cw_serial.proofs.Room.Elements.{wants_there}
 use Rattle.cw_record.specs.Worked.{unstarted}
 use Rattle.cw_record.proofs.Conditions.{wanted_by, over_by, answered_by}
 use Rattle.cw_record.proofs.Leaving.{runs_first}
 use Rattle.cw_record.proofs.Shaped.{to_come_there}
 use Rattle.cw_record.proofs.Turning.{first_fork_there, act_run, fork_run, turn_run, join_run, finish_answer, fault_answer, end_at_block}
+use Rattle.cw_record.proofs.Standings.{act_stands, turn_stands, join_stands, taken_stands}
 use Rattle.cw_record.proofs.worker.Worker.run.Goals as goal
 
 pub wants-init : goal.wants-init
 wants-init c =
     let e = c.in_ok-worker.ensures in
-    runs_first _ c.in_ok-worker.worker e.job e.memory e.outputs e.drawing e.strand e.branches
+    (runs_first _ c.in_ok-worker.worker e.job e.memory e.outputs e.drawing e.strand e.branches, e.stands)
 
 -- ## A fork
 
 pub fork-requires-clause-wanted : goal.fork-requires-clause-wanted
 fork-requires-clause-wanted c = wanted_by c.wants.worker c.want.ensures c.in-Fork.is
 
+pub fork-requires-clause-stands : goal.fork-requires-clause-stands
+fork-requires-clause-stands c = c.wants.invariant.1.strand
+
 pub fork-requires-clause-there : goal.fork-requires-clause-there
-fork-requires-clause-there c = let (w, r) = c.wants.invariant in r.draws.built.there
+fork-requires-clause-there c = let (w, r) = c.wants.invariant.0 in r.draws.built.there
 
 pub wants-preserved-in-Continue-branch-2 : goal.wants-preserved-in-Continue-branch-2
 wants-preserved-in-Continue-branch-2 c =
     let e = c.in_ok-fork-in-Fork.ensures in
-    (fork_run c.wants.invariant.1 c.requires.named c.requires.params e.keeps (wanted_by c.wants.worker c.want.ensures c.in-Fork.is) e.drawing e.left e.right).0
+    ((fork_run c.wants.invariant.0.1 (closes_of _ c.requires.compiled c.requires.words) (wants_there _ c.requires.compiled) e.keeps (wanted_by c.wants.worker c.want.ensures c.in-Fork.is) e.drawing e.left e.right).0, e.stands c.wants.invariant.1.branches)
 
 pub wants-smaller-in-Continue-branch-2 : goal.wants-smaller-in-Continue-branch-2
 wants-smaller-in-Continue-branch-2 c =
     let e = c.in_ok-fork-in-Fork.ensures in
-    (fork_run c.wants.invariant.1 c.requires.named c.requires.params e.keeps (wanted_by c.wants.worker c.want.ensures c.in-Fork.is) e.drawing e.left e.right).1
+    (fork_run c.wants.invariant.0.1 (closes_of _ c.requires.compiled c.requires.words) (wants_there _ c.requires.compiled) e.keeps (wanted_by c.wants.worker c.want.ensures c.in-Fork.is) e.drawing e.left e.right).1
 
 -- ## The end of a strand
 
 pub returns-in-None : goal.returns-in-None
 returns-in-None c =
-    finish_answer c.wants.invariant.1 c.requires.named c.requires.params (over_by c.wants.worker c.want.ensures c.in-Sync.is) c.in-None.ensures.0 c.finished.result c.finished.ensures.drawing c.finished.ensures.end
+    finish_answer c.wants.invariant.0.1 (closes_of _ c.requires.compiled c.requires.words) (wants_there _ c.requires.compiled) (over_by c.wants.worker c.want.ensures c.in-Sync.is) c.in-None.ensures.0 c.finished.result c.finished.ensures.drawing c.finished.ensures.end
 
 pub turn-requires : goal.turn-requires
-turn-requires c = first_fork_there c.wants.invariant.1 c.in-Some-Left.ensures c.in-Some-Left.field-0-is
+turn-requires c = first_fork_there c.wants.invariant.0.1 c.in-Some-Left.ensures c.in-Some-Left.field-0-is
 
 pub join-requires-clause-there : goal.join-requires-clause-there
-join-requires-clause-there c = first_fork_there c.wants.invariant.1 c.in-Some-Right.ensures c.in-Some-Right.field-0-is
+join-requires-clause-there c = first_fork_there c.wants.invariant.0.1 c.in-Some-Right.ensures c.in-Some-Right.field-0-is
+
+pub join-requires-clause-right : goal.join-requires-clause-right
+join-requires-clause-right c = c.wants.invariant.1.strand
+
+pub join-requires-clause-left : goal.join-requires-clause-left
+join-requires-clause-left c = taken_stands c.wants.worker c.wants.invariant.1 c.in-Some-Right.ensures c.in-Some-Right.field-0-is
 
 pub join-requires-clause-ended : goal.join-requires-clause-ended
 join-requires-clause-ended c = over_by c.wants.worker c.want.ensures c.in-Sync.is
@@ -46,49 +58,51 @@ join-requires-clause-ended c = over_by c.wants.worker c.want.ensures c.in-Sync.i
 pub wants-preserved-in-Continue-branch-3 : goal.wants-preserved-in-Continue-branch-3
 wants-preserved-in-Continue-branch-3 c =
     let e = c.in_ok-turn-in-Some-Left.ensures in
-    (turn_run c.wants.invariant.1 c.requires.named c.requires.params c.in-Some-Left.ensures (over_by c.wants.worker c.want.ensures c.in-Sync.is) e.keeps c.in-Some-Left.field-0-is e.drawing e.strand e.branches).0
+    ((turn_run c.wants.invariant.0.1 (closes_of _ c.requires.compiled c.requires.words) (wants_there _ c.requires.compiled) c.in-Some-Left.ensures (over_by c.wants.worker c.want.ensures c.in-Sync.is) e.keeps c.in-Some-Left.field-0-is e.drawing e.strand e.branches).0, turn_stands c.wants.worker c.wants.invariant.1 c.in-Some-Left.ensures (over_by c.wants.worker c.want.ensures c.in-Sync.is) e.keeps c.in-Some-Left.field-0-is e.strand e.branches)
 
 pub wants-smaller-in-Continue-branch-3 : goal.wants-smaller-in-Continue-branch-3
 wants-smaller-in-Continue-branch-3 c =
     let e = c.in_ok-turn-in-Some-Left.ensures in
-    (turn_run c.wants.invariant.1 c.requires.named c.requires.params c.in-Some-Left.ensures (over_by c.wants.worker c.want.ensures c.in-Sync.is) e.keeps c.in-Some-Left.field-0-is e.drawing e.strand e.branches).1
+    (turn_run c.wants.invariant.0.1 (closes_of _ c.requires.compiled c.requires.words) (wants_there _ c.requires.compiled) c.in-Some-Left.ensures (over_by c.wants.worker c.want.ensures c.in-Sync.is) e.keeps c.in-Some-Left.field-0-is e.drawing e.strand e.branches).1
 
 pub wants-preserved-in-Continue-branch-4 : goal.wants-preserved-in-Continue-branch-4
 wants-preserved-in-Continue-branch-4 c =
     let e = c.in_ok-join-in-Some-Right.ensures in
-    (join_run c.wants.invariant.1 c.requires.named c.requires.params c.in-Some-Right.ensures (over_by c.wants.worker c.want.ensures c.in-Sync.is) e.keeps c.in-Some-Right.field-0-is e.drawing e.branches e.strand).0
+    ((join_run c.wants.invariant.0.1 (closes_of _ c.requires.compiled c.requires.words) (wants_there _ c.requires.compiled) c.in-Some-Right.ensures (over_by c.wants.worker c.want.ensures c.in-Sync.is) e.keeps c.in-Some-Right.field-0-is e.drawing e.branches e.strand).0, join_stands c.wants.worker c.wants.invariant.1 c.in-Some-Right.ensures e.keeps e.stands e.branches)
 
 pub wants-smaller-in-Continue-branch-4 : goal.wants-smaller-in-Continue-branch-4
 wants-smaller-in-Continue-branch-4 c =
     let e = c.in_ok-join-in-Some-Right.ensures in
-    (join_run c.wants.invariant.1 c.requires.named c.requires.params c.in-Some-Right.ensures (over_by c.wants.worker c.want.ensures c.in-Sync.is) e.keeps c.in-Some-Right.field-0-is e.drawing e.branches e.strand).1
+    (join_run c.wants.invariant.0.1 (closes_of _ c.requires.compiled c.requires.words) (wants_there _ c.requires.compiled) c.in-Some-Right.ensures (over_by c.wants.worker c.want.ensures c.in-Sync.is) e.keeps c.in-Some-Right.field-0-is e.drawing e.branches e.strand).1
 
 -- ## A fault
 
 pub faulted-requires-clause-forks : goal.faulted-requires-clause-forks
 faulted-requires-clause-forks c =
-    let (w, r) = c.wants.invariant in
+    let (w, r) = c.wants.invariant.0 in
     to_come_there c.wants.worker.drawing.tree (unstarted c.wants.worker.branches) r.draws.shape
 
 pub returns-in-Fault : goal.returns-in-Fault
 returns-in-Fault c =
-    fault_answer c.wants.invariant.1 c.requires.named c.requires.params c.in-Fault.kind (wanted_by c.wants.worker c.want.ensures c.in-Fault.is) c.faulted.result c.faulted.ensures.tree c.faulted.ensures.journals c.faulted.ensures.end
+    fault_answer c.wants.invariant.0.1 (closes_of _ c.requires.compiled c.requires.words) (wants_there _ c.requires.compiled) c.in-Fault.kind (wanted_by c.wants.worker c.want.ensures c.in-Fault.is) c.faulted.result c.faulted.ensures.tree c.faulted.ensures.journals c.faulted.ensures.end
 
 -- ## A want that is done
 
 pub act-requires : goal.act-requires
 act-requires c =
-    let (w, r) = c.wants.invariant in
-    record { there = r.draws.built.there; answered = answered_by c.wants.worker c.want.ensures c.in-Load.is; block = end_at_block r c.requires.named c.requires.params }
+    let (w, r) = c.wants.invariant.0 in
+    record { there = r.draws.built.there; answered = answered_by c.wants.worker c.want.ensures c.in-Load.is; block = end_at_block r (closes_of _ c.requires.compiled c.requires.words) (wants_there _ c.requires.compiled); stands = c.wants.invariant.1.strand }
 
 pub wants-preserved : goal.wants-preserved
 wants-preserved c =
-    let e = c.in_ok-act-in-Load.ensures in
-    (act_run c.wants.invariant.1 c.requires.named c.requires.params c.act.new.self (answered_by c.wants.worker c.want.ensures c.in-Load.is)
-    (record { done = e.acts; strand = e.strand })).0
+    let e = c.in_ok-act-in-Load.ensures in (
+      (act_run c.wants.invariant.0.1 (closes_of _ c.requires.compiled c.requires.words) (wants_there _ c.requires.compiled) c.act.new.self (answered_by c.wants.worker c.want.ensures c.in-Load.is)
+          (record { done = e.acts; strand = e.strand })).0,
+      act_stands c.wants.worker c.wants.invariant.1 c.act.new.self e.acts e.stands,
+    )
 
 pub wants-smaller : goal.wants-smaller
 wants-smaller c =
     let e = c.in_ok-act-in-Load.ensures in
-    (act_run c.wants.invariant.1 c.requires.named c.requires.params c.act.new.self (answered_by c.wants.worker c.want.ensures c.in-Load.is)
+    (act_run c.wants.invariant.0.1 (closes_of _ c.requires.compiled c.requires.words) (wants_there _ c.requires.compiled) c.act.new.self (answered_by c.wants.worker c.want.ensures c.in-Load.is)
     (record { done = e.acts; strand = e.strand })).1

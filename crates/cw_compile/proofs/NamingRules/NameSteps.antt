@@ -1,0 +1,30 @@
+-- Going over statements and parameters one by one, where what was looked at so far has no fault.
+use Rattle.std.proofs.Common.{◌≡◌, ℕ, ◌+◌, ◌<◌, List, ◌∷◌, ◌++◌, length, drop, get_or, None, refl, ap, sym, ◌∙◌, append_assoc}
+use Rattle.std.proofs.lemmas.List.{drop_more}
+use Rattle.cw_text.specs.declared.ast.Word.{Word}
+use Rattle.cw_text.specs.declared.ast.Stmt.{Stmt}
+use Rattle.cw_text.specs.Syntax.{statement_of, block_of}
+use Rattle.cw_strand.specs.Names.{Scope, find, a_local, declared_new, scope_after, in_statement, in_block, in_params, with_params}
+use Rattle.cw_compile.specs.declared.naming.visible.Visible.{Visible}
+use Rattle.cw_compile.specs.NamingRules.Visible.{StaysVisible}
+
+-- the item of a loop is the first of those that are left
+pub item_first : {X : Type 0} (xs : List X) (i : ℕ) (x : X) → i < length xs → x ≡ get_or xs i x → drop i xs ≡ x ∷ drop (i + 1) xs
+item_first xs i x lt is = drop_more xs i x lt ∙ ap (λ y. y ∷ drop (i + 1) xs) (sym is)
+
+-- a statement without a fault: what is left is looked at with the names after it
+pub in_block_next : (g : Scope) (xs : List Stmt) (i : ℕ) (x : Stmt) → i < length xs → x ≡ get_or xs i x → in_statement g (statement_of x) ≡ None → in_block g (block_of (drop i xs)) ≡ in_block (scope_after (statement_of x) g) (block_of (drop (i + 1) xs))
+in_block_next g xs i x lt is none = rw (item_first xs i x lt is, none) refl
+
+-- a parameter whose name is new, in the same way
+module _ (g : Scope) (ws : List Word) (i : ℕ) (w : Word) (lt : i < length ws) (is : w ≡ get_or ws i w) where
+  pub in_params_next : declared_new (find w.name g) w.line ≡ None → in_params g (drop i ws) ≡ in_params ((w.name, a_local) ∷ g) (drop (i + 1) ws)
+  in_params_next none = rw (item_first ws i w lt is, none) refl
+
+  pub with_params_next : with_params ((w.name, a_local) ∷ g) (drop (i + 1) ws) ≡ with_params g (drop i ws)
+  with_params_next = rw (item_first ws i w lt is) refl
+
+-- ## What stays visible
+
+pub keeps_more : (u v w : Visible) → StaysVisible u v → StaysVisible v w → StaysVisible u w
+keeps_more u v w (xs, a) (ys, b) = (ys ++ xs, b ∙ rw (a, append_assoc) refl)

@@ -1,0 +1,4 @@
+pub mod NamingRules
+pub mod Named
+pub mod Numbered
+pub mod Emitted

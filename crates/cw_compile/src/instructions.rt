@@ -1,0 +1,163 @@
+//! The instructions that compiled code is made of.
+
+ghost use Rattle.std.specs.Prelude.{◌≡◌};
+ghost use Rattle.cw_strand.specs.Meaning.{lifted, joining};
+ghost use Rattle.cw_strand.specs.Compilation as code;
+
+use cw_code::{Instr, Operator};
+use cw_text::Op;
+
+// the numbers of the instructions that no operator has
+const PUSH: u8 = 1;
+
+const LOCAL: u8 = 2;
+
+const SET: u8 = 3;
+
+const LOAD: u8 = 4;
+
+const STORE: u8 = 6;
+
+pub(crate) const RET: u8 = 24;
+
+const DISCARD: u8 = 25;
+
+pub(crate) const SHOW: u8 = 26;
+
+pub(crate) const BEGIN: u8 = 27;
+
+pub(crate) const END: u8 = 28;
+
+const FORK: u8 = 29;
+
+pub(crate) const WAIT: u8 = 30;
+
+pub(crate) const DONE: u8 = 31;
+
+pub(crate) const TICK: u8 = 32;
+
+/// An instruction without operands.
+pub(crate) fn plain(op: u8) -> Instr
+    ensures { result ≡ code.plain op }
+{
+    Instr { op, a: 0, b: 0 }
+}
+
+/// An instruction with one operand.
+fn with_a(op: u8, a: u32) -> Instr
+    ensures { result ≡ code.with_a op a }
+{
+    Instr {
+        op,
+        a: i64::from(a),
+        b: 0,
+    }
+}
+
+pub(crate) fn push(number: i64) -> Instr
+    ensures { result ≡ code.push number }
+{
+    Instr {
+        op: PUSH,
+        a: number,
+        b: 0,
+    }
+}
+
+pub(crate) fn local(number: u32) -> Instr
+    ensures { result ≡ code.local number }
+{
+    with_a(LOCAL, number)
+}
+
+pub(crate) fn set(number: u32) -> Instr
+    ensures { result ≡ code.set number }
+{
+    with_a(SET, number)
+}
+
+pub(crate) fn load(element: u32) -> Instr
+    ensures { result ≡ code.load element }
+{
+    with_a(LOAD, element)
+}
+
+pub(crate) fn store(element: u32) -> Instr
+    ensures { result ≡ code.store element }
+{
+    with_a(STORE, element)
+}
+
+pub(crate) fn fork(place: u32) -> Instr
+    ensures { result ≡ code.fork place }
+{
+    with_a(FORK, place)
+}
+
+/// The number of an operator's instruction.
+fn number_of(operator: Operator) -> u8
+    ensures { result ≡ code.number_of operator }
+{
+    match operator {
+        Operator::Add => 8,
+        Operator::Sub => 9,
+        Operator::Mul => 10,
+        Operator::Div => 11,
+        Operator::Rem => 12,
+        Operator::Neg => 13,
+        Operator::Not => 14,
+        Operator::Eq => 15,
+        Operator::Ne => 16,
+        Operator::Lt => 17,
+        Operator::Le => 18,
+        Operator::Gt => 19,
+        Operator::Ge => 20,
+    }
+}
+
+/// The arithmetic of an operator.
+pub(crate) fn arithmetic(operator: Operator) -> Instr
+    ensures { result ≡ code.plain (code.number_of operator) }
+{
+    plain(number_of(operator))
+}
+
+/// What an operator does that has one operand. A tree may name one of two operands there, which then changes nothing.
+pub(crate) fn lifted(op: Op) -> Option<Operator>
+    ensures { result ≡ lifted op }
+{
+    match op {
+        Op::Neg => Some(Operator::Neg),
+        Op::Not => Some(Operator::Not),
+        Op::Add | Op::Sub | Op::Mul => None,
+        Op::Eq | Op::Ne | Op::Lt | Op::Le | Op::Gt | Op::Ge => None,
+    }
+}
+
+/// What an operator does that has two operands. A tree may name one of one operand there, which then gives the first.
+fn joining(op: Op) -> Option<Operator>
+    ensures { result ≡ joining op }
+{
+    match op {
+        Op::Add => Some(Operator::Add),
+        Op::Sub => Some(Operator::Sub),
+        Op::Mul => Some(Operator::Mul),
+        Op::Eq => Some(Operator::Eq),
+        Op::Ne => Some(Operator::Ne),
+        Op::Lt => Some(Operator::Lt),
+        Op::Le => Some(Operator::Le),
+        Op::Gt => Some(Operator::Gt),
+        Op::Ge => Some(Operator::Ge),
+        Op::Neg | Op::Not => None,
+    }
+}
+
+/// The instruction of an operator that has two operands.
+pub(crate) fn join(op: Op) -> Instr
+    ensures { result ≡ code.join_code (joining op) }
+{
+    match joining(op) {
+        Some(operator) => arithmetic(operator),
+        None => plain(DISCARD),
+    }
+}

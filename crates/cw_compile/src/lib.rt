@@ -1,0 +1,24 @@
+//! Programs from syntax trees: the naming rules, and the compilation.
+//! Stands on `cw_base`, `cw_text`, `cw_code` and `cw_strand`.
+//! Contracts cite `specs/NamingRules/Scopes.antt` (what an answer says of a naming fault) and, of `cw_strand`, what a compiled program is.
+//! Private ones cite `specs/Emitted.antt` (what was emitted so far), the rest of `specs/NamingRules` (what items declare, what is visible),
+//! and `specs/Named.antt` with `specs/Numbered.antt` (names in memory).
+#![tactic(auto)]
+
+mod compiling;
+mod elements;
+mod emitter;
+mod instructions;
+mod listing;
+mod locals;
+mod names;
+mod naming;
+mod refusal;
+mod slots;
+
+pub use compiling::compile;
+pub use cw_strand::{NameFault, NameKind};
+pub use refusal::NameRefusal;
+
+#[cfg(test)]
+mod tests;

@@ -1,0 +1,9 @@
+//! The naming rules over a syntax tree: what its items declare, or the first naming fault.
+
+mod checking;
+mod items;
+mod scope;
+mod visible;
+
+pub(crate) use checking::{checked, is_main};
+pub(crate) use items::Declared;

@@ -1,0 +1,5 @@
+use Rattle.cw_open.proofs.LawsHold.{chains, ended}
+use Rattle.cw_open.proofs.chains_of_runs.Goals as goal
+
+pub returns : goal.returns
+returns c = record { chains = chains; ended = ended }

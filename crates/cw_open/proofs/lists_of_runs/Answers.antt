@@ -1,0 +1,5 @@
+use Rattle.cw_open.proofs.LawsHold.{cells, rise, are_live, have_all}
+use Rattle.cw_open.proofs.lists_of_runs.Goals as goal
+
+pub returns : goal.returns
+returns c = record { cells = cells; rise = rise; live = are_live; all = have_all }

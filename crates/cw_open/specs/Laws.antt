@@ -1,0 +1,83 @@
+-- What is true of every state that a run leads to. The laws are over runs in which an access may be refused at any time, whatever is said of
+-- it: every run of a machine that asks more of that is one of these.
+use Rattle.std.specs.Prelude.{◌≡◌, ℕ, ℤ, ◌<◌, ◌≤◌, IsTrue, List, length, map, Option}
+use Rattle.std.specs.List.Sorted.{IsStrictlyIncreasing}
+use Rattle.cw_tree.specs.declared.node.Node.{Node}
+use Rattle.cw_tree.specs.Nodes.{stamp_of, end_of, is_pending, touches}
+use Rattle.cw_tree.specs.Walks.{has, is_above}
+use Rattle.cw_tree.specs.Series.{place}
+use Rattle.cw_tree.specs.Accesses.{is_live, live_accesses, IsChainOf}
+use Rattle.cw_tree.specs.Journals.{FitsCells, AllEndedBetween}
+use Rattle.cw_tree.specs.Stacks.{access_at}
+use Rattle.cw_tree.specs.Newest.{newest}
+use Rattle.cw_tree.specs.NextNodes.{IsSound, IsPlace}
+use Rattle.cw_open.specs.Machine.{Machine, live, is_running}
+use Rattle.cw_open.specs.Steps.{Met, refuses}
+use Rattle.cw_open.specs.Runs.{IsMet, Allowed, Reached, at_once, at_any_time}
+use Rattle.cw_open.specs.Open.{is_open, AreNested}
+
+-- what holds of every state to which a run over these first values leads, whichever accesses one may conflict with
+abbrev pub OfEachState : (List ℤ → Machine → Type 0) → Type 0
+OfEachState P = (asked : List Node → List ℕ → Option ℤ → List ℕ) (first : List ℤ) (m : Machine) → Reached (at_any_time asked) first m → P first m
+
+-- the same where one may conflict with the newest access alone
+abbrev pub OfEachWithNewest : (List ℤ → Machine → Type 0) → Type 0
+OfEachWithNewest P = (first : List ℤ) (m : Machine) → Reached (at_any_time (λ t us w. newest us)) first m → P first m
+
+-- ## The tree
+
+-- it is a computation tree, its stamps differ and rise along it, and nothing comes after a pending block
+abbrev pub TreesAreSound : Type 0
+TreesAreSound = OfEachState (λ first m. IsSound m.tree)
+
+-- open nodes stand in open ones, one in each at most, and the last
+abbrev pub OpenAreNested : Type 0
+OpenAreNested = OfEachState (λ first m. AreNested m.tree (is_open m))
+
+-- where a strand runs, its next node, or the end of its block, may be made
+abbrev pub StrandsStandAtPlaces : Type 0
+StrandsStandAtPlaces = OfEachState (λ first m. (s : ℕ) → IsTrue (is_running m s) → IsPlace m.tree (place m.tree s))
+
+-- no stamp is greater than the clock
+abbrev pub ClocksAreLatest : Type 0
+ClocksAreLatest = OfEachState (λ first m. (n : ℕ) → n < length m.tree → (stamp_of m.tree n ≤ m.clock) × (end_of m.tree n ≤ m.clock))
+
+-- ## The lists
+
+-- there is one for each cell, and each access is of a cell
+abbrev pub CellsFit : Type 0
+CellsFit = OfEachState (λ first m. (m.first ≡ first) × (length m.lists ≡ length first) × FitsCells m.tree (length first))
+
+abbrev pub ListsRise : Type 0
+ListsRise = OfEachState (λ first m. (c : ℕ) → IsStrictlyIncreasing (live m c))
+
+-- a list has accesses of its cell alone, and live ones
+abbrev pub ListsAreLive : Type 0
+ListsAreLive = OfEachState (λ first m. (c s : ℕ) → IsTrue (has (live m c) s) → (n : ℕ) × IsTrue (touches m.tree c n) × (stamp_of m.tree n ≡ s) × IsTrue (is_live m.tree n))
+
+-- no undo is under way: what is live beneath a pending block is in the list of its cell
+abbrev pub NoneUndone : Machine → Type 0
+NoneUndone m = (b c n : ℕ) → IsTrue (is_pending m.tree b) → IsTrue (is_above m.tree b n) → IsTrue (touches m.tree c n) → IsTrue (is_live m.tree n) → IsTrue (has (live m c) (stamp_of m.tree n))
+
+-- where none is, a list has just the live accesses of its cell
+abbrev pub ListsHaveAll : Type 0
+ListsHaveAll = OfEachState (λ first m. NoneUndone m → (c : ℕ) → live m c ≡ map (stamp_of m.tree) (live_accesses m.tree c))
+
+-- each list is a chain
+abbrev pub ListsAreChains : Type 0
+ListsAreChains = OfEachWithNewest (λ first m. (c : ℕ) → IsChainOf m.tree c (live m c))
+
+-- each block above an access and not above the next one of its list is committed, and ended before it
+abbrev pub BlocksHaveEnded : Type 0
+BlocksHaveEnded = OfEachWithNewest (λ first m. (c : ℕ) → AllEndedBetween m.tree (map (access_at m.tree) (live m c)))
+
+-- ## Where an access is refused as soon as it conflicts
+
+-- all that is so reached is reached where it may be refused at any time
+abbrev pub AtOnceIsAtAnyTime : Type 0
+AtOnceIsAtAnyTime = (first : List ℤ) (m : Machine) → Reached at_once first m → Reached (at_any_time (λ t us w. newest us)) first m
+
+-- and what a refused access met is as a conflict tells it
+abbrev pub RefusalsAreTold : Type 0
+RefusalsAreTold =
+    (first : List ℤ) (m : Machine) (s c : ℕ) (write : Option ℤ) (met : Met) → Reached at_once first m → Allowed at_once m (refuses s c write met) → IsMet m.tree (place m.tree s) c met

@@ -1,0 +1,97 @@
+-- The steps of the open machine, and what each does. A step carries its stamp, so a draw of a number from the clock is none.
+use Rattle.std.specs.Prelude.{ℕ, ℤ, Bool, not, max, List, [], ◌∷◌, ◌++◌, length, map, filter, slice_set, Option}
+use Rattle.std.specs.Option.{option_map_or}
+use Rattle.cw_tree.specs.declared.node.Node.{Node}
+use Rattle.cw_tree.specs.declared.node.Kind.TheVariants.{Strand, Block, Out, Tried}
+use Rattle.cw_tree.specs.declared.node.BlockState.{BlockState}
+use Rattle.cw_tree.specs.declared.node.BlockState.TheVariants.{Committed, Aborted}
+use Rattle.cw_tree.specs.declared.conflict.Conflict.{Conflict}
+use Rattle.cw_tree.specs.Nodes.{stamp_of, fresh_node, closed}
+use Rattle.cw_tree.specs.Walks.{is_above}
+use Rattle.cw_tree.specs.Series.{place}
+use Rattle.cw_tree.specs.Attempts.{attempt_of}
+use Rattle.cw_tree.specs.Stacks.{access_kind, access_at}
+use Rattle.cw_tree.specs.VictimsAt.{victim_at}
+use Rattle.cw_tree.specs.NextNodes.{fork_nodes}
+use Rattle.cw_open.specs.Machine.{Machine, live, value_of}
+
+-- what a refused access met: the last access of its cell and a pending block that stood in the way, by their stamps, and the newest accesses
+pub record Met : Type 0 where
+  pub last : ℕ
+  pub block : ℕ
+  pub chain : List ℕ
+
+pub data Step : Type 0 where
+  forks : (strand stamp : ℕ) → Step
+  begins : (strand stamp : ℕ) → Step
+  accesses : (strand cell : ℕ) → (write : Option ℤ) → (stamp : ℕ) → Step
+  -- an access is refused
+  refuses : (strand cell : ℕ) → (write : Option ℤ) → (met : Met) → Step
+  outputs : (strand : ℕ) → (value : ℤ) → (stamp : ℕ) → Step
+  commits : (strand stamp : ℕ) → Step
+  -- what the strand's innermost pending block did to a cell is undone
+  undoes : (strand cell : ℕ) → Step
+  aborts : (strand stamp : ℕ) → Step
+  finishes : (strand : ℕ) → (dead : Bool) → Step
+  joins : (fork : ℕ) → Step
+  stops : (strand : ℕ) → Step
+
+-- nodes come in, the first of them with a stamp
+abbrev pub adds : Machine → List Node → ℕ → Machine
+adds m xs stamp = record m { tree = m.tree ++ xs; clock = max m.clock stamp }
+
+-- the block in which strand s stands is closed
+abbrev pub closes : Machine → ℕ → BlockState → ℕ → Machine
+closes m s state end = record m { tree = closed m.tree (place m.tree s) state end; clock = max m.clock end }
+
+-- the conflict of an access of cell c that is refused at place p
+abbrev pub refusal : Machine → ℕ → ℕ → Met → Conflict
+refusal m p c met =
+    let victim = victim_at m.tree (access_at m.tree met.last) p in
+    record {
+      cell = c;
+      last = met.last;
+      asker = length m.tree;
+      block = met.block;
+      victim = option_map_or (stamp_of m.tree) victim 0;
+      attempt = attempt_of (m.tree ++ fresh_node p (Tried c) 0 ∷ []) (length m.tree) victim;
+      chain = met.chain;
+    }
+
+-- the live accesses of cell c that are not beneath node b
+abbrev pub live_beside : Machine → ℕ → ℕ → List ℕ
+live_beside m b c = filter (λ s. not (is_above m.tree b (access_at m.tree s))) (live m c)
+
+-- the state after a step
+abbrev pub after : Machine → Step → Machine
+after m (forks s stamp) = adds m (fork_nodes (length m.tree) (place m.tree s) stamp) stamp
+after m (begins s stamp) = adds m (fresh_node (place m.tree s) Block stamp ∷ []) stamp
+after m (accesses s c w stamp) =
+    record (adds m (fresh_node (place m.tree s) (access_kind c w (value_of m c)) stamp ∷ []) stamp) { lists = slice_set m.lists c (live m c ++ stamp ∷ []) }
+after m (refuses s c w met) =
+    record m { tree = m.tree ++ fresh_node (place m.tree s) (Tried c) 0 ∷ []; conflicts = m.conflicts ++ refusal m (place m.tree s) c met ∷ [] }
+after m (outputs s v stamp) = adds m (fresh_node (place m.tree s) (Out v) stamp ∷ []) stamp
+after m (commits s stamp) = closes m s Committed stamp
+after m (undoes s c) = record m { lists = slice_set m.lists c (live_beside m (place m.tree s) c) }
+after m (aborts s stamp) = closes m s Aborted stamp
+after m (finishes s dead) = record m { finished = (s, dead) ∷ m.finished }
+after m (joins f) = record m { joined = f ∷ m.joined }
+after m (stops s) = record m { stopped = s ∷ m.stopped }
+
+-- the state after steps, one after another
+abbrev pub after_all : Machine → List Step → Machine
+after_all m [] = m
+after_all m (e ∷ es) = after_all (after m e) es
+
+-- before the first step: the root strand alone
+abbrev pub opening : List ℤ → Machine
+opening first = record {
+  first = first;
+  tree = fresh_node 0 Strand 0 ∷ [];
+  lists = map (λ v. []) first;
+  clock = 0;
+  conflicts = [];
+  finished = [];
+  joined = [];
+  stopped = [];
+}

@@ -1,0 +1,49 @@
+//! The open machine: what strands that run at the same time do to a computation tree, the cells' live accesses and a clock. There is no
+//! code here that runs.
+//! Stands on `cw_tree`.
+//! Contracts cite `specs/Machine.antt` (the state, and where its strands stand), `specs/Steps.antt` (the steps, and what each does),
+//! `specs/Runs.antt` (what each step needs, and runs), `specs/Open.antt` (nodes that are still open) and `specs/Laws.antt` (what is true of
+//! every state that a run leads to); `specs/Rows.antt` tries them.
+#![tactic(auto)]
+
+ghost use Rattle.cw_open.specs.Laws.{AtOnceIsAtAnyTime, BlocksHaveEnded, CellsFit, ClocksAreLatest, ListsAreChains, ListsAreLive, ListsHaveAll, ListsRise, OpenAreNested, RefusalsAreTold, StrandsStandAtPlaces, TreesAreSound};
+ghost use Rattle.cw_open.specs.Rows.{Beneath, Inside, InnerCommitted, Outer, Twice};
+
+/// The tree of every state: it is sound, its open nodes are nested, its running strands stand at places, and the clock is at its latest
+/// stamp or after it.
+pub fn trees_of_runs()
+    ensures trees { TreesAreSound }
+    ensures open_nodes { OpenAreNested }
+    ensures places { StrandsStandAtPlaces }
+    ensures clocks { ClocksAreLatest }
+{}
+
+/// The lists of every state: they rise, and have live accesses of their cells alone; where no undo is under way, they have all of them.
+pub fn lists_of_runs()
+    ensures cells { CellsFit }
+    ensures rise { ListsRise }
+    ensures live { ListsAreLive }
+    ensures all { ListsHaveAll }
+{}
+
+/// Where an access may conflict with the newest one alone, each list is a chain, and what stands between two of a list has ended.
+pub fn chains_of_runs()
+    ensures chains { ListsAreChains }
+    ensures ended { BlocksHaveEnded }
+{}
+
+/// What is said of runs holds where an access is refused as soon as it conflicts with the newest one, and what it met is as a conflict
+/// tells it.
+pub fn runs_at_once()
+    ensures runs { AtOnceIsAtAnyTime }
+    ensures told { RefusalsAreTold }
+{}
+
+/// What the definitions say of small runs.
+pub fn worked_runs()
+    ensures inside { Inside }
+    ensures outer { Outer }
+    ensures inner_committed { InnerCommitted }
+    ensures beneath { Beneath }
+    ensures twice { Twice }
+{}

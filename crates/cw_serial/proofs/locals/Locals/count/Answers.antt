@@ -1,6 +1,0 @@
-use Rattle.std.proofs.Common.{sym, ◌∙◌}
-use Rattle.cw_serial.proofs.Declarations.{length-list_of}
-use Rattle.cw_serial.proofs.locals.Locals.count.Goals as goal
-
-pub returns : goal.returns
-returns g c = rw (← c.self.view_is) (c.len.ensures ∙ sym (length-list_of c.self.inside.declared _ c.self.invariant))

@@ -1,6 +1,0 @@
-use Rattle.cw_serial.proofs.naming.checking.in_function.Goals as goal
-
-pub returns : goal.returns
-returns c =
-    let params = c.in_ok-in_params.ensures in
-    rw (← c.new-visible.ensures, params.exact, ← params.visible) c.in_block.ensures.exact

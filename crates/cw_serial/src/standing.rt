@@ -1,0 +1,89 @@
+//! The strands of a run, at their wants, over the code of its program. This file, with `specs/Room` and `proofs/Room`, is the one room that
+//! knows what a strand is made of: all else knows the law of strands alone.
+ghost use Rattle.std.specs.Prelude.{◌≡◌, true, length, IfOk, OnOk};
+ghost use Rattle.cw_strand.specs.Strands.{is_over};
+ghost use Rattle.cw_strand.specs.declared.want.Want.TheVariants as Want;
+
+use cw_base::OutOfMemory;
+use cw_code::{Limits, Program};
+use cw_strand::{Given, Strand, Want};
+use std::alloc::Global;
+
+/// A strand at its want.
+#[derive(Drop)]
+pub struct Standing {
+    pub(crate) strand: Strand,
+    pub(crate) want: Want,
+}
+
+#[tactic(auto, unfolding(crate::specs::Room::Strands::strands_of, crate::specs::Room::Strands::state_of, crate::specs::Room::Strands::IsOf))]
+impl Standing {
+    ghost use Rattle.cw_serial.specs.Jobs.{Job, Takes, bare};
+    ghost use Rattle.cw_serial.specs.Room.Strands.{IsOf, state_of, strands_of};
+
+    /// The strand of main, at its first want.
+    pub fn start(
+        alloc: Global,
+        program: &Program,
+        words: &[i64],
+        limits: Limits,
+    ) -> Result<Standing, OutOfMemory>
+        requires { Takes program.now (length words.now) }
+        ensures start { IfOk result (λ x. let job : Job = record { program = program.now; words = words.now; limits = limits } in
+            state_of x ≡ (strands_of job).start) }
+        ensures stands { IfOk result (λ x. IsOf program.now x) }
+    {
+        let mut strand = Strand::main(alloc, program, words, limits)?;
+        let want = strand.next(program, Given::Nothing)?;
+        Ok(Standing { strand, want })
+    }
+
+    /// What it stands at.
+    pub fn want(&self) -> Want
+        ensures { (job : Job) → result ≡ (strands_of job).want (state_of self.now) }
+    {
+        self.want
+    }
+
+    /// Goes on to the next want, once this one is answered.
+    pub fn answer(&mut self, given: Given, program: &Program) -> Result<(), OutOfMemory>
+        requires { IsOf program.now self.old }
+        ensures answer { OnOk result ((job : Job) → job.program ≡ program.now →
+            state_of self.new ≡ (strands_of job).answer (state_of self.old) given) }
+        ensures stands { OnOk result (IsOf program.now self.new) }
+    {
+        self.want = self.strand.next(program, given)?;
+        Ok(())
+    }
+
+    /// The left strand of the fork that this one wants. This one goes on as the right strand.
+    pub fn fork(&mut self, alloc: Global, program: &Program) -> Result<Standing, OutOfMemory>
+        requires stands { IsOf program.now self.old }
+        requires fork { (strands_of (bare program.now)).want (state_of self.old) ≡ Want.Fork }
+        ensures left { IfOk result (λ left. (job : Job) → job.program ≡ program.now →
+            state_of left ≡ (strands_of job).left (state_of self.old)) }
+        ensures right { OnOk result ((job : Job) → job.program ≡ program.now →
+            state_of self.new ≡ (strands_of job).right (state_of self.old)) }
+        ensures left_stands { IfOk result (λ left. IsOf program.now left) }
+        ensures right_stands { OnOk result (IsOf program.now self.new) }
+    {
+        let mut strand = self.strand.fork(alloc)?;
+        let want = strand.next(program, Given::Nothing)?;
+        self.want = self.strand.next(program, Given::Nothing)?;
+        Ok(Standing { strand, want })
+    }
+
+    /// As the right strand of a fork, at its end, becomes the strand that forked and goes on to the next want. The left strand is at its
+    /// end, too.
+    pub fn join(&mut self, left: Standing, program: &Program) -> Result<(), OutOfMemory>
+        requires right { IsOf program.now self.old × (is_over ((strands_of (bare program.now)).want (state_of self.old)) ≡ true) }
+        requires left { IsOf program.now left × (is_over ((strands_of (bare program.now)).want (state_of left)) ≡ true) }
+        ensures joined { OnOk result ((job : Job) → job.program ≡ program.now →
+            state_of self.new ≡ (strands_of job).joined (state_of self.old) (state_of left)) }
+        ensures stands { OnOk result (IsOf program.now self.new) }
+    {
+        self.strand.joined(left.strand);
+        self.want = self.strand.next(program, Given::Nothing)?;
+        Ok(())
+    }
+}

@@ -1,0 +1,188 @@
+-- The instrs goes on with each task of the syntax that is no statement.
+use Rattle.std.proofs.Common.{◌≡◌, ◌∙◌, ℕ, zero, suc, ◌+◌, ◌-◌, ◌<◌, List, [], ◌∷◌, ◌++◌, length, drop, refl, sym, ap, subst, arith, Option, Some, None, Result, Ok, Err, ℤ, pos, inl, inr, length-append}
+use Rattle.std.specs.Prelude.{slice_get, slice_set, if◌then◌else◌, nat_le}
+use Rattle.std.proofs.lemmas.Option.{slice_get_within}
+use Rattle.std.proofs.lemmas.List.{length-set}
+use Rattle.std.proofs.lemmas.Bool.{lt-ltb}
+use Rattle.cw_text.specs.declared.ast.Word.{Word}
+use Rattle.cw_text.specs.Syntax.{Term, number, name, unary, binary, Declaration}
+use Rattle.cw_code.specs.declared.CellInfo.{CellInfo}
+use Rattle.cw_code.specs.declared.instruction.Instr.{Instr}
+use Rattle.cw_code.specs.declared.effects.Operator.{Operator}
+use Rattle.cw_code.specs.declared.effects.Effect.TheVariants as effect
+use Rattle.cw_code.specs.declared.Limits.{Limits}
+use Rattle.cw_code.specs.declared.FaultKind.{FaultKind}
+use Rattle.cw_code.specs.declared.FaultKind.TheVariants.{Size}
+use Rattle.cw_code.specs.Table.{effect_at}
+use Rattle.cw_strand.specs.declared.want.Want.{Want}
+use Rattle.cw_strand.specs.declared.want.Want.TheVariants.{Load, Store, Out, End, Sync, Fault}
+use Rattle.cw_strand.specs.Arithmetic.{one, two}
+use Rattle.cw_strand.specs.Running.{on, stuck}
+use Rattle.cw_strand.specs.Names.{find, used, in_term, cells_of}
+use Rattle.cw_strand.specs.Meaning as m
+use Rattle.cw_strand.specs.Meaning.{Task, value, lift, join, discard, bind, store_in, show, forget, wait, commit, finish, local_of, with_local, element_of, lifted, joining, lifts, joins}
+use Rattle.cw_strand.specs.Coded as c
+use Rattle.cw_strand.specs.Coded.{Frame}
+use Rattle.cw_strand.specs.Compilation.{Slots, code_of, slot_of, term_code, plain, number_of, lift_code, join_code, reads, writes, element, push, set}
+use Rattle.cw_strand.specs.Compilation as instr
+use Rattle.cw_strand.proofs.Numbering.{Agree, scope_of, Slotted, slotted, find_out, element_there, get_set, agree_newer, same_count, agree_drop}
+use Rattle.cw_strand.proofs.FitTasks.{no_fault}
+use Rattle.cw_strand.proofs.Doing.{HasAt, front, behind, Does, does_value, does_wait, does_lifts, does_joins}
+use Rattle.cw_strand.proofs.Sharing.{Shared, syntax_at, code_at, IsSmall, Ahead, Keeps, alike, same_place, moves, both_want, both_choose, acts}
+use Rattle.cw_strand.proofs.Following.{stays}
+
+module _ (ds : List Declaration) (words : List ℤ) (limits : Limits) {g : Slots} {n : ℕ} {fs : List Frame} (x : Shared ds words limits g n fs) (small : IsSmall ds words limits x) (p : ℕ) where
+  abbrev instrs : List Instr
+  instrs = (code_of ds).instrs
+
+  abbrev cells : List CellInfo
+  cells = cells_of ds
+
+  abbrev source : List Task → List ℤ → m.State
+  source k vs = syntax_at ds words limits x k vs
+
+  abbrev coded : ℕ → List ℤ → c.State
+  coded q vs = code_at ds words limits x q vs
+
+  abbrev DoesNext : ℕ → List Task → Type 0
+  DoesNext h k = Does ds instrs n g h k (p + 1) fs
+
+  abbrev Follows : m.Step → List ℤ → Type 0
+  Follows step vs = Ahead ds words limits step (coded p vs)
+
+  abbrev Steps : List ℤ → c.Step → Type 0
+  Steps vs step = c.step (code_of ds) (coded p vs) ≡ step
+
+  -- something is wanted that counts
+  pub counts_follow : {g2 : Slots} {n2 : ℕ} {fs2 : List Frame} (vs : List ℤ) (w : Want) (y : Shared ds words limits g2 n2 fs2) (k : List Task) (q : ℕ) (us : List ℤ) → Steps vs (c.counts w (code_at ds words limits y q us)) → (let z : Shared ds words limits g2 n2 fs2 = record y { size = y.size + 1 } in Keeps ds words limits w (syntax_at ds words limits z k us) (code_at ds words limits z q us)) → Follows (m.counts cells limits w (syntax_at ds words limits y k us)) vs
+  counts_follow vs w y k q us step kept = both_choose ds words limits x p vs (nat_le limits.size y.size) (Fault Size) w _ _ _ _ step tt kept
+
+  -- a number is pushed
+  pushes : (vs : List ℤ) (v : ℤ) (k : List Task) → Steps vs (on (coded (p + 1) (v ∷ vs))) → DoesNext (suc (length vs)) k → Follows (on (source k (v ∷ vs))) vs
+  pushes vs v k step rest = moves ds words limits x p vs x k (p + 1) (v ∷ vs) step rest refl
+
+  name_follows : (w : Word) (vs : List ℤ) (k : List Task) (o : Option ℤ) (l : Option ℕ) → Slotted x.locals g x.numbers w.name o l → l ≡ slot_of g w.name → used (find w.name (scope_of ds g)) w.line ≡ None → slice_get instrs p ≡ Some (reads cells l w.name) → DoesNext (suc (length vs)) k → Follows (m.read_name cells limits o (element_of cells w.name) (source k vs)) vs
+  name_follows w vs k o l (inl r) is named stands rest =
+      let there = stands ∙ ap (λ z. Some (reads cells z w.name)) r.numbered in
+      let step = acts ds words limits x p vs small (instr.local r.number) effect.Local there refl ∙ ap (λ z. c.read_local z (p + 1) vs (coded p vs)) r.holds in
+      subst (λ z. Follows (m.read_name cells limits z (element_of cells w.name) (source k vs)) vs) (sym r.named) (pushes vs r.held k step rest)
+  name_follows w vs k o l (inr r) is named stands rest =
+      let found = find_out ds g w.name (sym is ∙ r.1) in
+      let e = element_there ds 0 w.name w.line (sym (ap (λ z. used z w.line) found) ∙ named) in
+      let there = stands ∙ ap (λ z. Some (reads cells z w.name)) r.1 ∙ ap (λ z. Some (instr.load (element z))) e.1 in
+      let step = acts ds words limits x p vs small (instr.load e.0) effect.Load there refl in
+      let both = counts_follow vs (Load e.0) x k (p + 1) (pos 0 ∷ vs) step (alike ds words limits (record x { size = x.size + 1 }) k (p + 1) (pos 0 ∷ vs) rest refl) in
+      subst (λ z. Follows (m.read_name cells limits z (element_of cells w.name) (source k vs)) vs) (sym r.0) (subst (λ z. Follows (m.read_name cells limits None z (source k vs)) vs) (sym e.1) both)
+
+  pub value_follows : (e : Term) (vs : List ℤ) (k : List Task) → in_term (scope_of ds g) e ≡ None → HasAt instrs p (term_code cells g e) → Does ds instrs n g (suc (length vs)) k (p + length (term_code cells g e)) fs → Follows (m.act cells limits (value e) vs k (source (value e ∷ k) vs)) vs
+  value_follows (number v) vs k named has rest = pushes vs v k (acts ds words limits x p vs small (push v) effect.Push has.0 refl) rest
+  value_follows (name w) vs k named has rest = name_follows w vs k (local_of x.locals w.name) (slot_of g w.name) (slotted x.locals g x.numbers w.name x.agree) refl named has.0 rest
+  value_follows (unary o e) vs k named has rest =
+      let a = term_code cells g e in
+      let b = lift_code (lifted o) in
+      let past : p + length (a ++ b) ≡ p + length a + length b = omega (arith, length-append a b) in
+      let behind_it = subst (λ q. Does ds instrs n g (suc (length vs)) k q fs) past rest in
+      same_place ds words limits x p vs (value e ∷ lifts (lifted o) k) (does_value named (front instrs p a b has) (does_lifts ds instrs o (behind instrs p a b has) behind_it)) refl
+  value_follows (binary o l r) vs k named has rest =
+      let a = term_code cells g l in
+      let b = term_code cells g r in
+      let i = join_code (joining o) in
+      let tail = behind instrs p a (b ++ i ∷ []) has in
+      let past : p + length (a ++ (b ++ i ∷ [])) ≡ p + length a + length b + 1 = omega (arith, length-append a (b ++ i ∷ []), length-append b (i ∷ [])) in
+      let behind_it = subst (λ q. Does ds instrs n g (suc (length vs)) k q fs) past rest in
+      let last = does_joins ds instrs o (behind instrs (p + length a) b (i ∷ []) tail).0 behind_it in
+      let second = does_value (no_fault _ _ named).1 (front instrs (p + length a) b (i ∷ []) tail) last in
+      same_place ds words limits x p vs (value l ∷ value r ∷ joins (joining o) k) (does_value (no_fault _ _ named).0 (front instrs p a (b ++ i ∷ []) has) second) refl
+
+  -- ## Tasks that take operands
+
+  result_follows : (r : Result ℤ FaultKind) (us vs : List ℤ) (k : List Task) → Steps us (c.result r (p + 1) vs (coded p us)) → DoesNext (suc (length vs)) k → Follows (m.result r vs (source k us)) us
+  result_follows (Ok v) us vs k step rest = moves ds words limits x p us x k (p + 1) (v ∷ vs) step rest refl
+  result_follows (Err e) us vs k step rest = both_want ds words limits x p us (Fault e) (source k us) (coded p us) step tt
+
+  pub lift_follows : (o : Operator) (v : ℤ) (vs : List ℤ) (k : List Task) → effect_at (number_of o) ≡ Some (effect.Lift o) → slice_get instrs p ≡ Some (plain (number_of o)) → DoesNext (suc (length vs)) k → Follows (m.act cells limits (lift o) (v ∷ vs) k (source (lift o ∷ k) (v ∷ vs))) (v ∷ vs)
+  lift_follows o v vs k does there rest = result_follows (one o v) (v ∷ vs) vs k (acts ds words limits x p (v ∷ vs) small (plain (number_of o)) (effect.Lift o) there does) rest
+
+  pub join_follows : (o : Operator) (v w : ℤ) (vs : List ℤ) (k : List Task) → effect_at (number_of o) ≡ Some (effect.Join o) → slice_get instrs p ≡ Some (plain (number_of o)) → DoesNext (suc (length vs)) k → Follows (m.act cells limits (join o) (v ∷ w ∷ vs) k (source (join o ∷ k) (v ∷ w ∷ vs))) (v ∷ w ∷ vs)
+  join_follows o v w vs k does there rest = result_follows (two o w v) (v ∷ w ∷ vs) vs k (acts ds words limits x p (v ∷ w ∷ vs) small (plain (number_of o)) (effect.Join o) there does) rest
+
+  pub discard_follows : (v : ℤ) (vs : List ℤ) (k : List Task) → slice_get instrs p ≡ Some instr.discard → DoesNext (length vs) k → Follows (m.act cells limits discard (v ∷ vs) k (source (discard ∷ k) (v ∷ vs))) (v ∷ vs)
+  discard_follows v vs k there rest = moves ds words limits x p (v ∷ vs) x k (p + 1) vs (acts ds words limits x p (v ∷ vs) small instr.discard effect.Drop there refl) rest refl
+
+  pub show_follows : (v : ℤ) (vs : List ℤ) (k : List Task) → slice_get instrs p ≡ Some instr.show → DoesNext (length vs) k → Follows (m.act cells limits show (v ∷ vs) k (source (show ∷ k) (v ∷ vs))) (v ∷ vs)
+  show_follows v vs k there rest =
+      counts_follow (v ∷ vs) (Out v) x k (p + 1) vs (acts ds words limits x p (v ∷ vs) small instr.show effect.Out there refl)
+      (alike ds words limits (record x { size = x.size + 1 }) k (p + 1) vs rest refl)
+
+  -- a local is set
+  sets : {g2 : Slots} (i : ℕ) (v : ℤ) (vs : List ℤ) (k : List Task) (l : m.Locals) → i < n → Agree l g2 (slice_set x.numbers i v) → slice_get instrs p ≡ Some (set i) → Does ds instrs n g2 (length vs) k (p + 1) fs → Follows (on (record (source k vs) { locals = l })) (v ∷ vs)
+  sets {g2 = g2} i v vs k l less agree there rest =
+      let y : Shared ds words limits g2 n fs = record {
+        locals = l;
+        numbers = slice_set x.numbers i v;
+        scopes = x.scopes;
+        fuel = x.fuel;
+        size = x.size;
+        beside = x.beside;
+        begins = x.begins;
+        count = x.count ∙ sym (length-set x.numbers i v);
+        agree = agree;
+      } in
+      let room = lt-ltb i (length x.numbers) (omega (arith, less, x.count)) in
+      let step = acts ds words limits x p (v ∷ vs) small (set i) effect.Set there refl ∙ ap (λ z. if z then on (code_at ds words limits y (p + 1) vs) else stuck) room in
+      moves ds words limits x p (v ∷ vs) y k (p + 1) vs step rest refl
+
+  pub bind_follows : (a : List ℕ) (v : ℤ) (vs : List ℤ) (k : List Task) → length g < n → slice_get instrs p ≡ Some (set (length g)) → Does ds instrs n (a ∷ g) (length vs) k (p + 1) fs → Follows (m.act cells limits (bind a) (v ∷ vs) k (source (bind a ∷ k) (v ∷ vs))) (v ∷ vs)
+  bind_follows a v vs k less there rest =
+      let agree : Agree ((a, v) ∷ x.locals) (a ∷ g) (slice_set x.numbers (length g) v) = (refl, get_set x.numbers (length g) v (omega (arith, less, x.count)), agree_newer x.locals g x.numbers (length g) v (omega arith) x.agree) in
+      sets (length g) v vs k ((a, v) ∷ x.locals) less agree there rest
+
+  pub store_follows : (a : List ℕ) (line : ℕ) (v : ℤ) (vs : List ℤ) (k : List Task) → used (find a (scope_of ds g)) line ≡ None → slice_get instrs p ≡ Some (writes cells (slot_of g a) a) → DoesNext (length vs) k → Follows (m.act cells limits (store_in a) (v ∷ vs) k (source (store_in a ∷ k) (v ∷ vs))) (v ∷ vs)
+  store_follows a line v vs k named stands rest = by (slotted x.locals g x.numbers a x.agree)
+    where
+      by : Slotted x.locals g x.numbers a (local_of x.locals a) (slot_of g a) → Follows (m.write_name cells limits (local_of x.locals a) (element_of cells a) a v (source k vs)) (v ∷ vs)
+      by (inl r) =
+          let there = stands ∙ ap (λ z. Some (writes cells z a)) r.numbered in
+          let less = slice_get_within x.numbers r.number r.held r.holds in
+          subst (λ z. Follows (m.write_name cells limits z (element_of cells a) a v (source k vs)) (v ∷ vs)) (sym r.named) (sets r.number v vs k (with_local x.locals a v) (omega (arith, less, x.count)) (r.set v) there rest)
+      by (inr r) =
+          let found = find_out ds g a r.1 in
+          let e = element_there ds 0 a line (sym (ap (λ z. used z line) found) ∙ named) in
+          let there = stands ∙ ap (λ z. Some (writes cells z a)) r.1 ∙ ap (λ z. Some (instr.store (element z))) e.1 in
+          let step = acts ds words limits x p (v ∷ vs) small (instr.store e.0) effect.Store there refl in
+          let both = counts_follow (v ∷ vs) (Store e.0 v) x k (p + 1) vs step (alike ds words limits (record x { size = x.size + 1 }) k (p + 1) vs rest refl) in
+          subst (λ z. Follows (m.write_name cells limits z (element_of cells a) a v (source k vs)) (v ∷ vs)) (sym r.0) (subst (λ z. Follows (m.write_name cells limits None z a v (source k vs)) (v ∷ vs)) (sym e.1) both)
+
+  -- ## The ends of blocks, and of strands
+
+  pub forget_follows : (o : ℕ) (vs : List ℤ) (k : List Task) → Does ds instrs n (drop (length g - o) g) (length vs) k p fs → Follows (m.act cells limits (forget o) vs k (source (forget o ∷ k) vs)) vs
+  forget_follows o vs k rest =
+      let same = same_count x.locals g x.numbers x.agree in
+      let dropped = agree_drop (length g - o) x.locals g x.numbers x.agree in
+      let y : Shared ds words limits (drop (length g - o) g) n fs = record {
+        locals = drop (length x.locals - o) x.locals;
+        numbers = x.numbers;
+        scopes = x.scopes;
+        fuel = x.fuel;
+        size = x.size;
+        beside = x.beside;
+        begins = x.begins;
+        count = x.count;
+        agree = subst (λ q. Agree (drop (q - o) x.locals) (drop (length g - o) g) x.numbers) (sym same) dropped;
+      } in
+      (coded p vs, stays, alike ds words limits y k p vs rest refl)
+
+  pub wait_follows : (vs : List ℤ) (k : List Task) → slice_get instrs p ≡ Some instr.wait → DoesNext (length vs) k → Follows (m.act cells limits wait vs k (source (wait ∷ k) vs)) vs
+  wait_follows vs k there rest = by x.scopes (acts ds words limits x p vs small instr.wait effect.Sync there refl)
+    where
+      by : (ns : List ℕ) → Steps vs (c.wait_in ns (p + 1) vs (coded p vs)) → Follows (m.wait_in ns k (source (wait ∷ k) vs)) vs
+      by [] step = moves ds words limits x p vs x k (p + 1) vs step rest refl
+      by (zero ∷ ns) step = moves ds words limits x p vs x k (p + 1) vs step rest refl
+      by (suc o ∷ ns) step =
+          let y : Shared ds words limits g n fs = record x { scopes = o ∷ ns } in
+          both_want ds words limits x p vs Sync (syntax_at ds words limits y (wait ∷ k) vs) (code_at ds words limits y p vs) step (alike ds words limits y (wait ∷ k) p vs (does_wait there rest) refl)
+
+  pub commit_follows : (vs : List ℤ) (k : List Task) → slice_get instrs p ≡ Some instr.end → DoesNext (length vs) k → Follows (m.act cells limits commit vs k (source (commit ∷ k) vs)) vs
+  commit_follows vs k there rest =
+      let y : Shared ds words limits g n fs = record x { scopes = drop 1 x.scopes } in
+      both_want ds words limits x p vs End (syntax_at ds words limits y k vs) (code_at ds words limits y (p + 1) vs) (acts ds words limits x p vs small instr.end effect.End there refl) (alike ds words limits y k (p + 1) vs rest refl)

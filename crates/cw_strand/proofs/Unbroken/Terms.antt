@@ -1,0 +1,157 @@
+-- The code of an expression fits what is expected at its places: it leaves one operand more.
+use Rattle.std.proofs.Common.{◌≡◌, ℕ, zero, suc, ◌+◌, ◌-◌, ◌<◌, ◌≤◌, Bool, true, false, not, List, [], ◌∷◌, ◌++◌, length, refl, sym, ap, subst, arith, Option, Some, None, length-append, ℤ}
+use Rattle.std.specs.Prelude.{slice_get, if◌then◌else◌}
+use Rattle.std.specs.Str.{bytes_eq}
+use Rattle.std.proofs.lemmas.Bool.{lt-ltb}
+use Rattle.cw_text.specs.Syntax.{Term, number, name, unary, binary, Declaration, cell, func}
+use Rattle.cw_code.specs.declared.CellInfo.{CellInfo}
+use Rattle.cw_code.specs.declared.instruction.Func.{Func}
+use Rattle.cw_code.specs.declared.instruction.Code.{Code}
+use Rattle.cw_code.specs.declared.situation.Situation.{Situation}
+use Rattle.cw_code.specs.declared.effects.Operator.{Operator}
+use Rattle.cw_code.specs.declared.effects.Effect.TheVariants as effect
+use Rattle.cw_code.specs.Table.{effect_at}
+use Rattle.cw_code.proofs.Passes.{no_fault}
+use Rattle.cw_code.proofs.Walk.{at, expected, Walks, further, nothing, simply}
+use Rattle.cw_strand.specs.Names.{find, used, globals, elements, cells_from, cells_of, in_term}
+use Rattle.cw_strand.specs.Meaning.{element_of, lifted, joining}
+use Rattle.cw_strand.specs.Compilation.{Slots, slot_of, code_of, elements_in, element, reads, writes, plain, number_of, term_code, lift_code, join_code}
+use Rattle.cw_strand.specs.Compilation as instr
+use Rattle.cw_strand.proofs.Numbering.{scope_of, find_out, element_there}
+use Rattle.cw_strand.proofs.FitTasks as fit
+use Rattle.cw_strand.proofs.Doing.{HasAt, front, behind, Lifts, lifted_lifts, Joins, joining_joins}
+
+-- ## Numbers of locals and of elements
+
+slot_below : (g : Slots) (n : List ℕ) (s : ℕ) → slot_of g n ≡ Some s → s < length g
+slot_below [] n s e = cc
+slot_below (x ∷ g) n s e = by (bytes_eq n x) e (λ h. slot_below g n s h)
+  where
+    by : (y : Bool) → (if y then Some (length g) else slot_of g n) ≡ Some s → (slot_of g n ≡ Some s → s < length g) → s < length (x ∷ g)
+    by true h f = let same : length g ≡ s = cc in omega arith
+    by false h f = let lt = f h in omega arith
+
+element_below : (ds : List Declaration) (base : ℕ) (n : List ℕ) (c : ℕ) → element_of (cells_from base ds) n ≡ Some c → c < base + elements_in ds
+element_below [] base n c e = cc
+element_below (cell x line len i ∷ ds) base n c e = by (bytes_eq n x) e (λ h. element_below ds (base + elements len) n c h)
+  where
+    has_one : (len : ℕ) → 0 < elements len
+    has_one zero = omega arith
+    has_one (suc n) = omega arith
+
+    by : (y : Bool) → (if y then Some base else element_of (cells_from (base + elements len) ds) n) ≡ Some c → (element_of (cells_from (base + elements len) ds) n ≡ Some c → c < base + elements len + elements_in ds) → c < base + (elements len + elements_in ds)
+    by true h f = let same : base ≡ c = cc in omega (arith, has_one len)
+    by false h f = let lt = f h in omega arith
+element_below (func x line ps b ∷ ds) base n c e = element_below ds base n c e
+
+-- a name of the program that may be used stands for an element
+named_element : (ds : List Declaration) (n : List ℕ) (line : ℕ) → used (find n (globals ds)) line ≡ None → element (element_of (cells_of ds) n) < elements_in ds
+named_element ds n line e =
+    let there = element_there ds 0 n line e in
+    let lt = element_below ds 0 n there.0 there.1 in
+    let lt2 : there.0 < elements_in ds = omega arith in
+    subst (λ o. element o < elements_in ds) (sym there.1) lt2
+
+module _ (ds : List Declaration) (f : Func) where
+  abbrev code : Code
+  code = code_of ds
+
+  abbrev cells : List CellInfo
+  cells = cells_of ds
+
+  abbrev Up : ℕ → ℕ → Situation → Type 0
+  Up = Walks code f
+
+  abbrev Expects : ℕ → Situation → Type 0
+  Expects p s = expected code f p ≡ s
+
+  -- ## Instructions
+
+  module _ (g : Slots) (visible : length g ≤ f.locals) (p h b k : ℕ) (from : f.start ≤ p) (to : p + 1 < f.end) where
+    local_fits : (n : ℕ) → n < length g → slice_get code.instrs p ≡ Some (instr.local n) → Expects p (at h b k) → Up p (p + 1) (at (suc h) b k)
+    local_fits n lt is here =
+        let one_more : h - 0 + 1 ≡ suc h = omega arith in
+        simply code f p (instr.local n) (Some effect.Local) h b k (suc h) refl from is here (ap (λ x. at x b k) one_more) (no_fault _ _ p (ap not (lt-ltb n f.locals (omega arith)))) (omega arith) refl refl refl to
+
+    load_fits : (n : ℕ) → n < elements_in ds → slice_get code.instrs p ≡ Some (instr.load n) → Expects p (at h b k) → Up p (p + 1) (at (suc h) b k)
+    load_fits n lt is here =
+        let one_more : h - 0 + 1 ≡ suc h = omega arith in
+        simply code f p (instr.load n) (Some effect.Load) h b k (suc h) refl from is here (ap (λ x. at x b k) one_more) (no_fault _ _ p (ap not (lt-ltb n (elements_in ds) lt))) (omega arith) refl refl refl to
+
+    pub set_fits : (n : ℕ) → n < f.locals → slice_get code.instrs p ≡ Some (instr.set n) → Expects p (at (suc h) b k) → Up p (p + 1) (at h b k)
+    set_fits n lt is here =
+        let one_less : suc h - 1 + 0 ≡ h = omega arith in
+        simply code f p (instr.set n) (Some effect.Set) (suc h) b k h refl from is here (ap (λ x. at x b k) one_less) (no_fault _ _ p (ap not (lt-ltb n f.locals lt))) (omega arith) refl refl refl to
+
+    store_fits : (n : ℕ) → n < elements_in ds → slice_get code.instrs p ≡ Some (instr.store n) → Expects p (at (suc h) b k) → Up p (p + 1) (at h b k)
+    store_fits n lt is here =
+        let one_less : suc h - 1 + 0 ≡ h = omega arith in
+        simply code f p (instr.store n) (Some effect.Store) (suc h) b k h refl from is here (ap (λ x. at x b k) one_less) (no_fault _ _ p (ap not (lt-ltb n (elements_in ds) lt))) (omega arith) refl refl refl to
+
+    -- a name that is read, and one that is written
+    reads_fits : (x : List ℕ) (line : ℕ) → used (find x (scope_of ds g)) line ≡ None → slice_get code.instrs p ≡ Some (reads cells (slot_of g x) x) → Expects p (at h b k) → Up p (p + 1) (at (suc h) b k)
+    reads_fits x line fine is here = by (slot_of g x) refl is
+      where
+        by : (o : Option ℕ) → slot_of g x ≡ o → slice_get code.instrs p ≡ Some (reads cells o x) → Up p (p + 1) (at (suc h) b k)
+        by (Some n) e is = local_fits n (slot_below g x n e) is here
+        by None e is = load_fits (element (element_of cells x)) (named_element ds x line (subst (λ t. used t line ≡ None) (find_out ds g x e) fine)) is here
+
+    pub writes_fits : (x : List ℕ) (line : ℕ) → used (find x (scope_of ds g)) line ≡ None → slice_get code.instrs p ≡ Some (writes cells (slot_of g x) x) → Expects p (at (suc h) b k) → Up p (p + 1) (at h b k)
+    writes_fits x line fine is here = by (slot_of g x) refl is
+      where
+        by : (o : Option ℕ) → slot_of g x ≡ o → slice_get code.instrs p ≡ Some (writes cells o x) → Up p (p + 1) (at h b k)
+        by (Some n) e is = let lt = slot_below g x n e in set_fits n (omega arith) is here
+        by None e is = store_fits (element (element_of cells x)) (named_element ds x line (subst (λ t. used t line ≡ None) (find_out ds g x e) fine)) is here
+
+    pub push_fits : (z : ℤ) → slice_get code.instrs p ≡ Some (instr.push z) → Expects p (at h b k) → Up p (p + 1) (at (suc h) b k)
+    push_fits z is here =
+        let one_more : h - 0 + 1 ≡ suc h = omega arith in
+        simply code f p (instr.push z) (Some effect.Push) h b k (suc h) refl from is here (ap (λ x. at x b k) one_more) refl (omega arith) refl refl refl to
+
+    lift_fits : (o : Operator) → effect_at (number_of o) ≡ Some (effect.Lift o) → slice_get code.instrs p ≡ Some (plain (number_of o)) → Expects p (at (suc h) b k) → Up p (p + 1) (at (suc h) b k)
+    lift_fits o does is here =
+        let same : suc h - 1 + 1 ≡ suc h = omega arith in
+        simply code f p (plain (number_of o)) (Some (effect.Lift o)) (suc h) b k (suc h) does from is here (ap (λ x. at x b k) same) refl (omega arith) refl refl refl to
+
+    join_fits : (o : Option Operator) → Joins ds code.instrs o → slice_get code.instrs p ≡ Some (join_code o) → Expects p (at (suc (suc h)) b k) → Up p (p + 1) (at (suc h) b k)
+    join_fits (Some o) does is here =
+        let one_less : suc (suc h) - 2 + 1 ≡ suc h = omega arith in
+        simply code f p (plain (number_of o)) (Some (effect.Join o)) (suc (suc h)) b k (suc h) does from is here (ap (λ x. at x b k) one_less) refl (omega arith) refl refl refl to
+    join_fits None does is here =
+        let one_less : suc (suc h) - 1 + 0 ≡ suc h = omega arith in
+        simply code f p instr.discard (Some effect.Drop) (suc (suc h)) b k (suc h) refl from is here (ap (λ x. at x b k) one_less) refl (omega arith) refl refl refl to
+
+  -- ## Expressions
+
+  module _ (g : Slots) (visible : length g ≤ f.locals) where
+    lifts_fit : (o : Option Operator) → Lifts ds code.instrs o → (p h b k : ℕ) → f.start ≤ p → HasAt code.instrs p (lift_code o) → p + length (lift_code o) < f.end → Expects p (at (suc h) b k) → Up p (p + length (lift_code o)) (at (suc h) b k)
+    lifts_fit None does p h b k from has to here = let same : p ≡ p + 0 = omega arith in subst (λ q. Up p q (at (suc h) b k)) same (nothing code f p (at (suc h) b k) here)
+    lifts_fit (Some o) does p h b k from has to here = lift_fits g visible p h b k from to o does has.0 here
+
+    pub term_fits : (e : Term) (p h b k : ℕ) → in_term (scope_of ds g) e ≡ None → f.start ≤ p → HasAt code.instrs p (term_code cells g e) → p + length (term_code cells g e) < f.end → Expects p (at h b k) → Up p (p + length (term_code cells g e)) (at (suc h) b k)
+    term_fits (number n) p h b k fine from has to here = push_fits g visible p h b k from to n has.0 here
+    term_fits (name w) p h b k fine from has to here = reads_fits g visible p h b k from to w.name w.line fine has.0 here
+    term_fits (unary o e) p h b k fine from has to here =
+        let first = term_code cells g e in
+        let rest = lift_code (lifted o) in
+        let q = p + length first in
+        let ends : q + length rest ≡ p + length (first ++ rest) = omega (arith, length-append first rest) in
+        subst (λ r. Up p r (at (suc h) b k)) ends
+        (further code f p q (q + length rest) (at (suc h) b k) (at (suc h) b k)
+        (term_fits e p h b k fine from (front code.instrs p first rest has) (omega (arith, length-append first rest)) here)
+        (λ w. lifts_fit (lifted o) (lifted_lifts ds code.instrs o) q h b k (omega arith) (behind code.instrs p first rest has) (omega arith) w))
+    term_fits (binary o l r) p h b k fine from has to here =
+        let one = term_code cells g l in
+        let two = term_code cells g r in
+        let joins = join_code (joining o) ∷ [] in
+        let q = p + length one in
+        let u = q + length two in
+        let rest = behind code.instrs p one (two ++ joins) has in
+        let parts = fit.no_fault (in_term (scope_of ds g) l) (in_term (scope_of ds g) r) fine in
+        let ends : u + 1 ≡ p + length (one ++ (two ++ joins)) = omega (arith, length-append one (two ++ joins), length-append two joins) in
+        subst (λ x. Up p x (at (suc h) b k)) ends
+        (further code f p q (u + 1) (at (suc h) b k) (at (suc h) b k)
+        (term_fits l p h b k parts.0 from (front code.instrs p one (two ++ joins) has) (omega (arith, length-append one (two ++ joins), length-append two joins)) here)
+        (λ w. further code f q u (u + 1) (at (suc (suc h)) b k) (at (suc h) b k)
+        (term_fits r q (suc h) b k parts.1 (omega arith) (front code.instrs q two joins rest) (omega (arith, length-append one (two ++ joins), length-append two joins)) w)
+        (λ v. join_fits g visible u h b k (omega arith) (omega arith) (joining o) (joining_joins ds code.instrs o) (behind code.instrs q two joins rest).0 v)))

@@ -1,0 +1,205 @@
+-- The code of a program: one function of its tree.
+--
+-- Each statement starts with a tick. The functions lie one behind the other in the order of the text. The parameters are the first locals;
+-- a `let` takes the number of locals that are visible there, so that the numbers of a block that has ended are used again.
+use Rattle.std.specs.Prelude.{ℕ, ◌+◌, List, [], ◌∷◌, ◌++◌, length, max, Option, Some, None, if◌then◌else◌, codes, ℤ, pos}
+use Rattle.std.specs.Str.{bytes_eq}
+use Rattle.cw_text.specs.declared.ast.Word.{Word}
+use Rattle.cw_text.specs.Syntax.{Term, number, name, unary, binary, Statement, declare, assign, out, atomic, spawn, sync, Block, empty, first, Declaration, cell, func}
+use Rattle.cw_code.specs.declared.CellInfo.{CellInfo}
+use Rattle.cw_code.specs.declared.instruction.Instr.{Instr}
+use Rattle.cw_code.specs.declared.instruction.Func.{Func}
+use Rattle.cw_code.specs.declared.instruction.Code.{Code}
+use Rattle.cw_code.specs.declared.effects.Operator.{Operator}
+use Rattle.cw_code.specs.declared.effects.Operator.TheVariants.{Add as add, Sub as sub, Mul as mul, Div as div, Rem as rem, Neg as neg, Not as logical_not, Eq as eq, Ne as ne, Lt as lt, Le as le, Gt as gt, Ge as ge}
+use Rattle.cw_strand.specs.Names.{elements, cells_of}
+use Rattle.cw_strand.specs.Meaning.{element_of, lifted, joining}
+
+-- ## Instructions
+
+-- one without operands, whose number this is, or with one
+abbrev pub plain : ℕ → Instr
+plain n = record { op = n; a = pos 0; b = 0 }
+
+abbrev pub with_a : ℕ → ℕ → Instr
+with_a n a = record { op = n; a = pos a; b = 0 }
+
+abbrev pub push : ℤ → Instr
+push z = record { op = 1; a = z; b = 0 }
+
+abbrev pub local : ℕ → Instr
+local = with_a 2
+
+abbrev pub set : ℕ → Instr
+set = with_a 3
+
+abbrev pub load : ℕ → Instr
+load = with_a 4
+
+abbrev pub store : ℕ → Instr
+store = with_a 6
+
+abbrev pub ret : Instr
+ret = plain 24
+
+abbrev pub discard : Instr
+discard = plain 25
+
+abbrev pub show : Instr
+show = plain 26
+
+abbrev pub begin : Instr
+begin = plain 27
+
+abbrev pub end : Instr
+end = plain 28
+
+abbrev pub fork : ℕ → Instr
+fork = with_a 29
+
+abbrev pub wait : Instr
+wait = plain 30
+
+abbrev pub done : Instr
+done = plain 31
+
+abbrev pub tick : Instr
+tick = plain 32
+
+-- the number of an operator's instruction
+abbrev pub number_of : Operator → ℕ
+number_of add = 8
+number_of sub = 9
+number_of mul = 10
+number_of div = 11
+number_of rem = 12
+number_of neg = 13
+number_of logical_not = 14
+number_of eq = 15
+number_of ne = 16
+number_of lt = 17
+number_of le = 18
+number_of gt = 19
+number_of ge = 20
+
+-- an operator of one operand, which else changes nothing
+abbrev pub lift_code : Option Operator → List Instr
+lift_code None = []
+lift_code (Some o) = plain (number_of o) ∷ []
+
+-- an operator of two operands, which else gives the first
+abbrev pub join_code : Option Operator → Instr
+join_code None = discard
+join_code (Some o) = plain (number_of o)
+
+-- ## Names
+
+-- the names of the locals that are visible, the newest first: the oldest has number 0
+abbrev pub Slots : Type 0
+Slots = List (List ℕ)
+
+abbrev pub slot_of : Slots → List ℕ → Option ℕ
+slot_of [] n = None
+slot_of (x ∷ xs) n = if bytes_eq n x then Some (length xs) else slot_of xs n
+
+abbrev pub with_params : List Word → Slots → Slots
+with_params [] g = g
+with_params (w ∷ ws) g = with_params ws (w.name ∷ g)
+
+abbrev pub slots_after : Statement → Slots → Slots
+slots_after (declare w e) g = w.name ∷ g
+slots_after s g = g
+
+-- the number of an element, or 0 where there is none
+abbrev pub element : Option ℕ → ℕ
+element None = 0
+element (Some c) = c
+
+-- ## Expressions and statements
+
+module _ (cells : List CellInfo) where
+  abbrev pub reads : Option ℕ → List ℕ → Instr
+  reads (Some n) x = local n
+  reads None x = load (element (element_of cells x))
+
+  abbrev pub writes : Option ℕ → List ℕ → Instr
+  writes (Some n) x = set n
+  writes None x = store (element (element_of cells x))
+
+  abbrev pub term_code : Slots → Term → List Instr
+  term_code g (number n) = push n ∷ []
+  term_code g (name w) = reads (slot_of g w.name) w.name ∷ []
+  term_code g (unary o e) = term_code g e ++ lift_code (lifted o)
+  term_code g (binary o l r) = term_code g l ++ (term_code g r ++ join_code (joining o) ∷ [])
+
+  abbrev mutual
+    -- the code of a statement whose first instruction stands at the place p
+    pub statement_code : Slots → ℕ → Statement → List Instr
+    statement_code g p (declare w e) = tick ∷ (term_code g e ++ set (length g) ∷ [])
+    statement_code g p (assign w e) = tick ∷ (term_code g e ++ writes (slot_of g w.name) w.name ∷ [])
+    statement_code g p (out e) = tick ∷ (term_code g e ++ show ∷ [])
+    statement_code g p (atomic b) = tick ∷ begin ∷ (block_code g (p + 1 + 1) b ++ (wait ∷ end ∷ []))
+    statement_code g p (spawn b) =
+        let body = block_code g (p + 1 + 1) b in
+        tick ∷ fork (p + 1 + 1 + length body + 1 + 1) ∷ (body ++ (wait ∷ done ∷ []))
+    statement_code g p sync = tick ∷ wait ∷ []
+
+    pub block_code : Slots → ℕ → Block → List Instr
+    block_code g p empty = []
+    block_code g p (first s b) =
+        let here = statement_code g p s in here ++ block_code (slots_after s g) (p + length here) b
+
+  -- the function's value is 0
+  abbrev pub function_code : ℕ → List Word → Block → List Instr
+  function_code p params body = block_code (with_params params []) p body ++ (wait ∷ push (pos 0) ∷ ret ∷ [])
+
+-- how many locals are visible at once at most, where so many are visible before
+abbrev mutual
+  pub most_in : ℕ → Statement → ℕ
+  most_in n (declare w e) = n + 1
+  most_in n (atomic b) = most n b
+  most_in n (spawn b) = most n b
+  most_in n s = n
+
+  pub most : ℕ → Block → ℕ
+  most n empty = n
+  most n (first s b) = max (most_in n s) (most (visible_after s n) b)
+
+  pub visible_after : Statement → ℕ → ℕ
+  visible_after (declare w e) n = n + 1
+  visible_after s n = n
+
+-- ## Programs
+
+module _ (cells : List CellInfo) where
+  -- the functions from the place p on
+  abbrev pub instrs_from : ℕ → List Declaration → List Instr
+  instrs_from p [] = []
+  instrs_from p (cell x l len i ∷ ds) = instrs_from p ds
+  instrs_from p (func x l ps b ∷ ds) = let here = function_code cells p ps b in here ++ instrs_from (p + length here) ds
+
+  abbrev pub funcs_from : ℕ → List Declaration → List Func
+  funcs_from p [] = []
+  funcs_from p (cell x l len i ∷ ds) = funcs_from p ds
+  funcs_from p (func x l ps b ∷ ds) =
+      let behind = p + length (function_code cells p ps b) in
+      record { params = length ps; locals = most (length ps) b; start = p; end = behind } ∷ funcs_from behind ds
+
+-- how many elements the cells have
+abbrev pub elements_in : List Declaration → ℕ
+elements_in [] = 0
+elements_in (cell x l len i ∷ ds) = elements len + elements_in ds
+elements_in (func x l ps b ∷ ds) = elements_in ds
+
+abbrev pub code_of : List Declaration → Code
+code_of ds = record { cells = elements_in ds; funcs = funcs_from (cells_of ds) 0 ds; instrs = instrs_from (cells_of ds) 0 ds }
+
+-- the number of a function, counted from this one on; the number behind the last one where there is none
+abbrev pub number_from : ℕ → List ℕ → List Declaration → ℕ
+number_from k n [] = k
+number_from k n (cell x l len i ∷ ds) = number_from k n ds
+number_from k n (func x l ps b ∷ ds) = if bytes_eq x n then k else number_from (k + 1) n ds
+
+-- the number of main
+abbrev pub main_function : List Declaration → ℕ
+main_function ds = number_from 0 (codes "main") ds

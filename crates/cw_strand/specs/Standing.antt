@@ -1,0 +1,50 @@
+-- Where a strand of code stands: each of its functions at a place of the code, with the locals and the operands that stand there.
+use Rattle.std.specs.Prelude.{◌≡◌, ◌≤◌, ℕ, suc, true, List, [], ◌∷◌, length, Contains, Some, ℤ}
+use Rattle.cw_code.specs.declared.Limits.{Limits}
+use Rattle.cw_code.specs.declared.instruction.Func.{Func}
+use Rattle.cw_code.specs.declared.instruction.Code.{Code}
+use Rattle.cw_code.specs.declared.situation.Situation.{Situation}
+use Rattle.cw_code.specs.Rules.{inside, known_at, places}
+use Rattle.cw_strand.specs.declared.want.Want.{Want}
+use Rattle.cw_strand.specs.declared.want.Want.TheVariants.{Fork}
+use Rattle.cw_strand.specs.declared.want.Given.{Given}
+use Rattle.cw_strand.specs.Strands.{is_over}
+use Rattle.cw_strand.specs.Running.{stand}
+use Rattle.cw_strand.specs.Coded.{Frame, State, left, with_value, runs}
+
+abbrev pub NoneOver : ℕ → List ℕ → Type 0
+NoneOver most [] = Unit {0}
+NoneOver most (n ∷ ns) = (n ≤ most) × NoneOver most ns
+
+module _ (code : Code) where
+  -- At a place of a function of the code something stands: so many operands. The function has so many locals.
+  pub record StandsAt (place locals operands : ℕ) : Type 0 where
+    pub func : Func
+    pub declared : Contains code.funcs func
+    pub within : inside func place ≡ true
+    pub situation : Situation
+    pub known : known_at func (places code func) place ≡ Some situation
+    pub operands_there : situation.height ≡ operands
+    pub locals_there : func.locals ≡ locals
+
+  -- each function that waits has one operand more where it goes on: what is returned to it
+  abbrev pub WaitAt : List Frame → Type 0
+  WaitAt [] = Unit {0}
+  WaitAt (f ∷ fs) = StandsAt f.place (length f.locals) (suc (length f.operands)) × WaitAt fs
+
+  -- Each function of the strand stands at a place of the code, with as many locals as the function has and as many operands as stand there;
+  -- and no scope waits for more forks than were counted.
+  pub record StandsIn (s : State) : Type 0 where
+    pub current : StandsAt s.current.place (length s.current.locals) (length s.current.operands)
+    pub callers : WaitAt s.callers
+    pub scopes : NoneOver s.size s.scopes
+
+  -- At its want: so does the left strand of its fork, and one that has ended has counted no more than it may.
+  pub record StandsWanting (w : Want) (s : State) : Type 0 where
+    pub stands : StandsIn s
+    pub beside : w ≡ Fork → StandsIn (left s)
+    pub within : is_over w ≡ true → s.size ≤ s.limits.size
+
+  -- The want to which a strand comes by itself once it was given this, and the state at it: in every run of the code.
+  abbrev pub NextFrom : State → Given → Want → State → Type 0
+  NextFrom s given w t = (main : ℕ) (words : List ℤ) (limits : Limits) → record { want = w; state = t } ≡ stand (runs code main words limits) (with_value given s)

@@ -1,0 +1,150 @@
+ghost use Rattle.std.specs.Prelude.{◌≡◌, ◌≤◌, length, IfOk, OnOk};
+
+mod acting;
+mod calls;
+mod cells;
+mod locals;
+mod operands;
+mod scopes;
+
+use crate::led::Led;
+use crate::{Given, Want};
+use calls::take_locals;
+use cw_base::{OutOfMemory, Stack};
+use cw_code::{Limits, Program};
+use std::alloc::Global;
+use std::marker::Model;
+
+/// A function that waits for a return.
+#[derive(Drop)]
+struct Frame {
+    /// Where it goes on.
+    place: usize,
+    operands: Stack<i64>,
+    locals: Vec<i64>,
+}
+
+impl Model for Frame {
+    ghost use Rattle.cw_strand.specs.Coded.{Frame as Standing};
+
+    ghost Value = { Standing };
+
+    ghost view = { λ f. record { place = f.place; operands = f.operands; locals = f.locals.items } };
+}
+
+/// A strand of code: the function that stands, those that wait for it, and what was counted.
+#[derive(Drop)]
+pub struct Strand {
+    place: usize,
+    operands: Stack<i64>,
+    locals: Vec<i64>,
+    callers: Stack<Frame>,
+    /// For each scope that waits at its end, how many forks it has to wait for.
+    scopes: Stack<u32>,
+    fuel: u64,
+    /// More than the limit only where two strands were joined.
+    size: u64,
+    /// Where the left strand of the newest fork begins.
+    beside: usize,
+    limits: Limits,
+}
+
+impl Model for Strand {
+    ghost use Rattle.cw_strand.specs.Coded.{State};
+
+    ghost Value = { State };
+
+    ghost view = { λ s. record {
+      current = record { place = s.place; operands = s.operands; locals = s.locals.items };
+      callers = s.callers;
+      scopes = s.scopes;
+      fuel = s.fuel;
+      size = s.size;
+      beside = s.beside;
+      limits = s.limits;
+    } };
+}
+
+impl Strand {
+    ghost use Rattle.cw_strand.specs.Coded.{MainTakes, runs, left as left_of, joined as joined_of};
+    ghost use Rattle.cw_strand.specs.Standing.{StandsIn, StandsWanting, NextFrom};
+
+    /// The strand of a program's main, with the words of the command, before its first step.
+    pub fn main(
+        alloc: Global,
+        program: &Program,
+        words: &[i64],
+        limits: Limits,
+    ) -> Result<Strand, OutOfMemory>
+        requires { MainTakes program.now.code program.now.main (length words.now) }
+        ensures first { IfOk result (λ s. s ≡ (runs program.now.code program.now.main words.now limits).first) }
+        ensures stands { IfOk result (λ s. StandsIn program.now.code s) }
+    {
+        let Some(func) = program.code.code().func(u64::from(program.main)) else {
+            unreachable!()
+        };
+        let mut arguments = Stack::new(alloc);
+        for word in words {
+            arguments.push(*word)?;
+        }
+        let mut scopes = Stack::new(alloc);
+        scopes.push(0)?;
+        Ok(Strand {
+            place: func.start as usize,
+            operands: Stack::new(alloc),
+            locals: take_locals(alloc, &mut arguments, &func)?,
+            callers: Stack::new(alloc),
+            scopes,
+            fuel: 0,
+            size: 0,
+            beside: 0,
+            limits,
+        })
+    }
+
+    /// Goes on from its want, with what that was given, to the next.
+    pub fn next(&mut self, program: &Program, given: Given) -> Result<Want, OutOfMemory>
+        requires { StandsIn program.now.code self.old }
+        ensures next { IfOk result (λ w. NextFrom program.now.code self.old given w self.new) }
+        ensures stands { IfOk result (λ w. StandsWanting program.now.code w self.new) }
+    {
+        let code = program.code.code();
+        self.answer(given)?;
+        'steps: loop {
+            match self.step(code)? {
+                Led::On => {}
+                Led::Wants(want) => return Ok(want),
+            }
+        }
+    }
+
+    /// The left strand of the newest fork, before its first step. This one goes on as the right strand.
+    pub fn fork(&mut self, alloc: Global) -> Result<Strand, OutOfMemory>
+        ensures left { IfOk result (λ s. s ≡ left_of self.old) }
+        ensures right { self.new ≡ self.old }
+    {
+        let mut scopes = Stack::new(alloc);
+        scopes.push(0)?;
+        Ok(Strand {
+            place: self.beside,
+            operands: Stack::new(alloc),
+            locals: self.locals.clone()?,
+            callers: Stack::new(alloc),
+            scopes,
+            fuel: self.fuel,
+            size: 0, // what it counts is added where it is joined
+            beside: self.beside,
+            limits: self.limits,
+        })
+    }
+
+    /// The right strand, where it ended, goes on as the strand that forked.
+    pub fn joined(&mut self, left: Strand)
+        requires right { self.old.size ≤ self.old.limits.size }
+        requires left { left.size ≤ left.limits.size }
+        ensures { self.new ≡ joined_of self.old left }
+    {
+        self.fuel = self.fuel.max(left.fuel);
+        self.size += left.size;
+    }
+}

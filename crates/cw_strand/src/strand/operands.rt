@@ -1,0 +1,108 @@
+ghost use Rattle.std.specs.Prelude.{◌≡◌, ◌<◌, ℕ, length, IfOk};
+ghost use Rattle.cw_code.specs.declared.instruction.Code.{Code};
+ghost use Rattle.cw_code.specs.declared.instruction.Instr.{Instr};
+ghost use Rattle.cw_code.specs.declared.effects.Effect.TheVariants.{Push as push, Drop as drop_top, Lift as lift, Join as join, Jump as jump, JumpZero as jump_zero};
+ghost use Rattle.cw_strand.specs.Coded.{index};
+
+use super::Strand;
+use crate::Want;
+use crate::led::Led;
+use crate::operators::{one, two};
+use cw_base::OutOfMemory;
+use cw_code::{Instr, Operator};
+
+/// The place, the local, the cell or the function that an operand names.
+pub fn index(a: i64) -> usize
+    ensures { result ≡ index a }
+{
+    match u64::try_from(a) {
+        Ok(number) => number as usize,
+        Err(_) => 0,
+    }
+}
+
+impl Strand {
+    ghost use Rattle.cw_strand.specs.Acting.{Acts};
+
+    /// One operand more.
+    pub fn push(&mut self, instr: Instr, next: usize) -> Result<Led, OutOfMemory>
+        ensures { (code : Code) → IfOk result (λ l. Acts code push instr next self.old l self.new) }
+    {
+        self.operands.push(instr.a)?;
+        self.place = next;
+        Ok(Led::On)
+    }
+
+    /// One operand less.
+    pub fn drop_top(&mut self, next: usize) -> Led
+        requires { 0 < length self.old.current.operands }
+        ensures { (code : Code) (i : Instr) → Acts code drop_top i next self.old result self.new }
+    {
+        let _ = self.operands.pop();
+        self.place = next;
+        Led::On
+    }
+
+    /// An operator's result takes the place of its one operand.
+    pub fn lift(&mut self, operator: Operator, next: usize) -> Result<Led, OutOfMemory>
+        requires { 0 < length self.old.current.operands }
+        ensures { (code : Code) (i : Instr) → IfOk result (λ l. Acts code (lift operator) i next self.old l self.new) }
+    {
+        let Some(x) = self.operands.pop() else {
+            unreachable!()
+        };
+        match one(operator, x) {
+            Ok(value) => {
+                self.operands.push(value)?;
+                self.place = next;
+                Ok(Led::On)
+            }
+            Err(fault) => {
+                self.operands.push(x)?;
+                Ok(Led::Wants(Want::Fault(fault)))
+            }
+        }
+    }
+
+    /// An operator's result takes the place of its two operands.
+    pub fn join(&mut self, operator: Operator, next: usize) -> Result<Led, OutOfMemory>
+        requires { 1 < length self.old.current.operands }
+        ensures { (code : Code) (i : Instr) → IfOk result (λ l. Acts code (join operator) i next self.old l self.new) }
+    {
+        let (Some(y), Some(x)) = (self.operands.pop(), self.operands.pop()) else {
+            unreachable!()
+        };
+        match two(operator, x, y) {
+            Ok(value) => {
+                self.operands.push(value)?;
+                self.place = next;
+                Ok(Led::On)
+            }
+            Err(fault) => {
+                self.operands.push(x)?;
+                self.operands.push(y)?;
+                Ok(Led::Wants(Want::Fault(fault)))
+            }
+        }
+    }
+
+    /// Goes on elsewhere.
+    pub fn jump(&mut self, instr: Instr) -> Led
+        ensures { (code : Code) (p : ℕ) → Acts code jump instr p self.old result self.new }
+    {
+        self.place = index(instr.a);
+        Led::On
+    }
+
+    /// Goes on elsewhere where the newest operand is 0.
+    pub fn jump_zero(&mut self, instr: Instr, next: usize) -> Led
+        requires { 0 < length self.old.current.operands }
+        ensures { (code : Code) → Acts code jump_zero instr next self.old result self.new }
+    {
+        let Some(value) = self.operands.pop() else {
+            unreachable!()
+        };
+        self.place = if value == 0 { index(instr.a) } else { next };
+        Led::On
+    }
+}

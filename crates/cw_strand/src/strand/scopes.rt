@@ -1,0 +1,67 @@
+ghost use Rattle.std.specs.Prelude.{◌≡◌, ℕ, IfOk};
+ghost use Rattle.cw_code.specs.declared.instruction.Code.{Code};
+ghost use Rattle.cw_code.specs.declared.instruction.Instr.{Instr};
+ghost use Rattle.cw_code.specs.declared.effects.Effect.TheVariants.{Begin as begin, End as end, Fork as fork, Sync as sync};
+
+use super::Strand;
+use super::operands::index;
+use crate::Want;
+use crate::led::Led;
+use cw_base::OutOfMemory;
+use cw_code::{FaultKind, Instr};
+
+impl Strand {
+    ghost use Rattle.cw_strand.specs.Acting.{Acts};
+    ghost use Rattle.cw_strand.specs.Standing.{NoneOver};
+
+    /// A block begins, with a scope.
+    pub fn begin(&mut self, next: usize) -> Result<Led, OutOfMemory>
+        ensures { (code : Code) (i : Instr) → IfOk result (λ l. Acts code begin i next self.old l self.new) }
+    {
+        self.scopes.push(0)?;
+        self.place = next;
+        Ok(self.count(Want::Begin))
+    }
+
+    /// A block ends, and its scope.
+    pub fn end(&mut self, next: usize) -> Led
+        ensures { (code : Code) (i : Instr) → Acts code end i next self.old result self.new }
+    {
+        let _ = self.scopes.pop();
+        self.place = next;
+        Led::Wants(Want::End)
+    }
+
+    /// A strand is to begin behind the fork; this one goes on at the fork's target, and the innermost scope has one fork more to wait for.
+    pub fn spawn(&mut self, instr: Instr, next: usize) -> Result<Led, OutOfMemory>
+        requires { NoneOver self.old.size self.old.scopes }
+        ensures { (code : Code) → IfOk result (λ l. Acts code fork instr next self.old l self.new) }
+    {
+        if self.size >= u64::from(self.limits.size) {
+            return Ok(Led::Wants(Want::Fault(FaultKind::Size)));
+        }
+        self.size += 1;
+        let forks = self.scopes.pop().unwrap_or(0);
+        self.scopes.push(forks + 1)?;
+        self.place = index(instr.a);
+        self.beside = next;
+        Ok(Led::Wants(Want::Fork))
+    }
+
+    /// Ends as the right strand of a fork that the innermost scope has to wait for, or goes on.
+    pub fn wait(&mut self, next: usize) -> Result<Led, OutOfMemory>
+        ensures { (code : Code) (i : Instr) → IfOk result (λ l. Acts code sync i next self.old l self.new) }
+    {
+        match self.scopes.newest() {
+            Some(forks) if forks > 0 => {
+                let _ = self.scopes.pop();
+                self.scopes.push(forks - 1)?;
+                Ok(Led::Wants(Want::Sync))
+            }
+            _ => {
+                self.place = next;
+                Ok(Led::On)
+            }
+        }
+    }
+}

@@ -1,0 +1,83 @@
+-- How the words behind a command are read: as the options that they give, each with its value, and the words that belong to
+-- no option. And the number that an option has.
+use Rattle.std.specs.Prelude.{ℕ, ◌==◌, ◌&&◌, Bool, not, List, [], ◌∷◌, drop, Option, Some, None, if◌then◌else◌, codes, nat_eq, nat_le, option_map}
+use Rattle.std.specs.List.{after_first, before_first, list_all, list_any, starts_with}
+use Rattle.std.specs.Str.{all_ascii_digits, bytes_eq, byte}
+use Rattle.std.specs.Str.Parse.{digits_value}
+
+-- ## What words give
+
+-- an option that is given: its name and its value
+abbrev pub GivenOption : Type 0
+GivenOption = List ℕ × List ℕ
+
+-- what words give: options, and the words that belong to none
+pub record Given : Type 0 where
+  pub options : List GivenOption
+  pub words : List (List ℕ)
+
+abbrev pub with_option : (name value : List ℕ) → Given → Given
+with_option name value g = record { options = (name, value) ∷ g.options; words = g.words }
+
+abbrev pub with_word : List ℕ → Given → Given
+with_word w g = record { options = g.options; words = w ∷ g.words }
+
+-- ## How they are read
+
+abbrev pub has_hyphen : List ℕ → Bool
+has_hyphen w = starts_with nat_eq w (codes "-")
+
+abbrev pub is_option : List ℕ → Bool
+is_option w = starts_with nat_eq w (codes "--")
+
+abbrev pub is_equals : ℕ → Bool
+is_equals c = c == byte "="
+
+-- What words give: `--name=value`, or `--name` with the value as the next word, which may then not begin with a hyphen. Here
+-- `name` is that of the option whose value is still to come, if there is one.
+abbrev pub given_on : (name : Option (List ℕ)) → List (List ℕ) → Option Given
+given_on None [] = Some (record { options = []; words = [] })
+given_on (Some name) [] = None
+given_on (Some name) (w ∷ ws) = if has_hyphen w then None else option_map (with_option name w) (given_on None ws)
+given_on None (w ∷ ws) =
+    let text = drop 2 w in
+    if not (has_hyphen w) then option_map (with_word w) (given_on None ws)
+    else (if not (is_option w) then None
+    else (if list_any is_equals text then option_map (with_option (before_first is_equals text) (after_first is_equals text)) (given_on None ws)
+    else given_on (Some text) ws))
+
+abbrev pub given : List (List ℕ) → Option Given
+given ws = given_on None ws
+
+-- ## The number of an option
+
+-- an option whose value is a number: its name, the least number that it may be, and the greatest
+pub record NumberOption : Type 0 where
+  pub name : List ℕ
+  pub least : ℕ
+  pub most : ℕ
+
+-- the number within these bounds that a text spells, which is one decimal digit or more, and nothing else
+abbrev pub number_within : (least most : ℕ) → List ℕ → Option ℕ
+number_within least most [] = None
+number_within least most (d ∷ ds) =
+    let n = digits_value 10 (d ∷ ds) in
+    if all_ascii_digits (d ∷ ds) && nat_le least n && nat_le n most then Some n else None
+
+-- the values that an option of this name is given
+abbrev pub values_of : (name : List ℕ) → List GivenOption → List (List ℕ)
+values_of name [] = []
+values_of name (o ∷ os) = if bytes_eq o.0 name then o.1 ∷ values_of name os else values_of name os
+
+-- An option has one value at most. Where it has none, another number stands for it.
+abbrev pub number_in : NumberOption → (default : ℕ) → (values : List (List ℕ)) → Option ℕ
+number_in o default [] = Some default
+number_in o default (v ∷ []) = number_within o.least o.most v
+number_in o default (v ∷ w ∷ vs) = None
+
+abbrev pub number_of : NumberOption → (default : ℕ) → List GivenOption → Option ℕ
+number_of o default os = number_in o default (values_of o.name os)
+
+-- Each option that is given is one of these.
+abbrev pub are_known : List NumberOption → List GivenOption → Bool
+are_known known os = list_all (λ o. list_any (λ k. bytes_eq o.0 k.name) known) os
