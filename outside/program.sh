@@ -64,6 +64,17 @@ try 'a fault of main' 6 $'fault Overflow in 0\n' '' run
 printf 'fn main() { spawn { out 9223372036854775807 * 2; } }' > source
 try 'a fault of a spawned strand' 6 $'fault Overflow in 0.1l\n' '' run
 
+# ## Arrays
+
+printf 'cell a[2] = -3; fn main() { a[1] = 9; out a[0] / 2; out a[0] %% 2; }' > source
+try 'an array' 0 $'out -1\nout -1\na[0] = -3\na[1] = 9\nend\n' '' run
+printf 'cell a[2]; fn main() { a[2] = 1; }' > source
+try 'an index out of range' 6 $'fault Range in 0\n' '' run --size 1
+printf 'cell c; cell a[2]; fn main() { c = 1; a[2] = 1; }' > source
+try 'a range is tested before an access counts' 6 $'fault Range in 0\n' '' run --size 1
+printf 'cell a[2]; fn main() { a[2] = 1 / 0; }' > source
+try 'the value of an element comes before its range' 6 $'fault Zero in 0\n' '' run
+
 # ## Fuel and size
 
 printf 'cell c; fn main() { c = c + 1; out c; }' > source

@@ -1,7 +1,8 @@
-pub mod NamingRules
 pub mod Declarations
-pub mod KnownNames
-pub mod Numbers
 pub mod Emitting
+pub mod Extents
+pub mod KnownNames
 pub mod Most
+pub mod NamingRules
+pub mod Numbers
 pub mod Programs

@@ -1,7 +1,8 @@
 -- Locals and elements with their numbers.
-use Rattle.std.specs.Prelude.{◌≡◌, ℕ, List, [], ◌∷◌, length}
+use Rattle.std.specs.Prelude.{◌≡◌, ℕ, List, [], ◌∷◌, length, option_map}
 use Rattle.cw_code.specs.declared.CellInfo.{CellInfo}
-use Rattle.cw_strand.specs.Meaning.{element_of}
+use Rattle.cw_strand.specs.Meaning.{cell_of}
+use Rattle.cw_compile.specs.declared.elements.Extent.{Extent}
 use Rattle.cw_compile.specs.declared.names.Names.{Names}
 use Rattle.cw_compile.specs.Named.{value_named}
 
@@ -10,6 +11,10 @@ abbrev pub AreNumbered : List (List ℕ × ℕ) → Type 0
 AreNumbered [] = Unit {0}
 AreNumbered (x ∷ xs) = (x.1 ≡ length xs) × AreNumbered xs
 
+-- the elements of a cell
+abbrev pub extent_of : CellInfo → Extent
+extent_of c = record { base = c.base; len = c.len }
+
 -- the names stand for the cells' elements
-abbrev pub HasElements : Names ℕ → List CellInfo → Type 0
-HasElements numbers cells = (n : List ℕ) → value_named numbers n ≡ element_of cells n
+abbrev pub HasElements : Names Extent → List CellInfo → Type 0
+HasElements extents cells = (n : List ℕ) → value_named extents n ≡ option_map extent_of (cell_of cells n)

@@ -1,5 +1,6 @@
-ghost use Rattle.std.specs.Prelude.{◌≡◌, IfOk};
-ghost use Rattle.cw_strand.specs.Meaning.{element_of};
+ghost use Rattle.std.specs.Prelude.{◌≡◌, IfOk, option_map};
+ghost use Rattle.cw_strand.specs.Meaning.{cell_of, element_of};
+ghost use Rattle.cw_compile.specs.Numbered.{extent_of};
 
 use crate::names::Names;
 use cw_base::OutOfMemory;
@@ -7,11 +8,18 @@ use cw_code::CellInfo;
 use std::alloc::Global;
 use std::marker::Model;
 
-/// Cells, with the numbers of their first elements by their names, of which the first counts. Contracts see the cells.
+/// The elements of a cell: the number of the first one, and how many they are, or 0 for a plain cell.
+#[derive(Clone, Copy)]
+pub(crate) struct Extent {
+    pub(crate) base: u32,
+    pub(crate) len: u32,
+}
+
+/// Cells, with their elements by their names, of which the first counts. Contracts see the cells.
 #[derive(Drop)]
 pub(crate) struct Elements<'a> {
     cells: &'a [CellInfo],
-    numbers: Names<'a, u32>,
+    extents: Names<'a, Extent>,
 }
 
 impl<'a> Model for Elements<'a> {
@@ -23,7 +31,7 @@ impl<'a> Model for Elements<'a> {
 
     ghost view = { λ e. e.cells.now };
 
-    ghost invariant = { λ e. HasElements e.numbers e.cells.now };
+    ghost invariant = { λ e. HasElements e.extents e.cells.now };
 }
 
 impl<'a> Elements<'a> {
@@ -33,17 +41,31 @@ impl<'a> Elements<'a> {
     ) -> Result<Elements<'a>, OutOfMemory>
         ensures { IfOk result (λ e. e ≡ cells.now) }
     {
-        let mut numbers = Names::new(alloc);
+        let mut extents = Names::new(alloc);
         for cell in cells.iter().rev() {
-            numbers.set(cell.name.as_str(), Some(cell.base))?;
+            let extent = Extent {
+                base: cell.base,
+                len: cell.len,
+            };
+            extents.set(cell.name.as_str(), Some(extent))?;
         }
-        Ok(Elements { cells, numbers })
+        Ok(Elements { cells, extents })
+    }
+
+    /// The elements of the cell of a name.
+    pub(crate) fn find(&self, name: &str) -> Option<Extent>
+        ensures { result ≡ option_map extent_of (cell_of self.now name.now) }
+    {
+        self.extents.get(name)
     }
 
     /// The number of the element that a name stands for.
     pub(crate) fn get(&self, name: &str) -> Option<u32>
         ensures { result ≡ element_of self.now name.now }
     {
-        self.numbers.get(name)
+        match self.find(name) {
+            Some(extent) => Some(extent.base),
+            None => None,
+        }
     }
 }

@@ -1,11 +1,12 @@
 ghost use Rattle.std.specs.Prelude.{◌≡◌, ◌∷◌, ◌++◌, [], length, OnOk, IfOk};
+ghost use Rattle.cw_strand.specs.Meaning.{cell_of};
 ghost use Rattle.cw_text.specs.Syntax.{term_of, statement_of, block_of};
-ghost use Rattle.cw_strand.specs.Compilation.{reads, writes, slot_of, term_code, with_params, function_code, most};
+ghost use Rattle.cw_strand.specs.Compilation.{loads_at, stores_at, reads, writes, slot_of, term_code, with_params, function_code, most};
 
 use crate::elements::Elements;
 use crate::instructions::{
-    BEGIN, DONE, END, RET, SHOW, TICK, WAIT, arithmetic, fork, join, lifted, load, local, plain,
-    push, set, store,
+    BEGIN, DONE, END, RET, SHOW, TICK, WAIT, arithmetic, fork, join, lifted, load, load_at, local,
+    plain, push, set, store, store_at,
 };
 use crate::listing::Listing;
 use crate::slots::Slots;
@@ -65,6 +66,26 @@ impl<'a> Emitter<'a> {
         }
     }
 
+    /// The instruction that reads an element of the array of a name.
+    fn read_at(&self, name: &Text) -> Instr
+        ensures { result ≡ loads_at self.now.elements (cell_of self.now.elements name.now) }
+    {
+        match self.elements.find(name.as_str()) {
+            Some(extent) => load_at(extent.base, extent.len),
+            None => load_at(0, 0),
+        }
+    }
+
+    /// The instruction that writes an element of the array of a name.
+    fn write_at(&self, name: &Text) -> Instr
+        ensures { result ≡ stores_at self.now.elements (cell_of self.now.elements name.now) }
+    {
+        match self.elements.find(name.as_str()) {
+            Some(extent) => store_at(extent.base, extent.len),
+            None => store_at(0, 0),
+        }
+    }
+
     /// The code of an expression.
     fn term(&mut self, term: &Expr) -> Result<(), OutOfMemory>
         ensures { OnOk result (self.new ≡ with_code self.old (term_code self.old.elements self.old.slots (term_of term.now))) }
@@ -72,6 +93,10 @@ impl<'a> Emitter<'a> {
         match term {
             Expr::Number(number) => self.emit(push(*number)),
             Expr::Name(word) => self.emit(self.read(&word.name)),
+            Expr::At { name, at } => {
+                self.term(at)?;
+                self.emit(self.read_at(&name.name))
+            }
             Expr::Unary { op, of } => {
                 self.term(of)?;
                 match lifted(*op) {
@@ -103,6 +128,11 @@ impl<'a> Emitter<'a> {
             Stmt::Assign { name, value } => {
                 self.term(value)?;
                 self.emit(self.write(&name.name))
+            }
+            Stmt::AssignAt { name, at, value } => {
+                self.term(at)?;
+                self.term(value)?;
+                self.emit(self.write_at(&name.name))
             }
             Stmt::Out(value) => {
                 self.term(value)?;

@@ -16,7 +16,11 @@ const SET: u8 = 3;
 
 const LOAD: u8 = 4;
 
+const LOAD_AT: u8 = 5;
+
 const STORE: u8 = 6;
+
+const STORE_AT: u8 = 7;
 
 pub(crate) const RET: u8 = 24;
 
@@ -88,6 +92,28 @@ pub(crate) fn store(element: u32) -> Instr
     with_a(STORE, element)
 }
 
+/// Loads of so many elements from this one on that of an index.
+pub(crate) fn load_at(element: u32, len: u32) -> Instr
+    ensures { result ≡ code.load_at element len }
+{
+    Instr {
+        op: LOAD_AT,
+        a: i64::from(element),
+        b: len,
+    }
+}
+
+/// Stores in so many elements from this one on that of an index.
+pub(crate) fn store_at(element: u32, len: u32) -> Instr
+    ensures { result ≡ code.store_at element len }
+{
+    Instr {
+        op: STORE_AT,
+        a: i64::from(element),
+        b: len,
+    }
+}
+
 pub(crate) fn fork(place: u32) -> Instr
     ensures { result ≡ code.fork place }
 {
@@ -129,7 +155,7 @@ pub(crate) fn lifted(op: Op) -> Option<Operator>
     match op {
         Op::Neg => Some(Operator::Neg),
         Op::Not => Some(Operator::Not),
-        Op::Add | Op::Sub | Op::Mul => None,
+        Op::Add | Op::Sub | Op::Mul | Op::Div | Op::Rem => None,
         Op::Eq | Op::Ne | Op::Lt | Op::Le | Op::Gt | Op::Ge => None,
     }
 }
@@ -142,6 +168,8 @@ fn joining(op: Op) -> Option<Operator>
         Op::Add => Some(Operator::Add),
         Op::Sub => Some(Operator::Sub),
         Op::Mul => Some(Operator::Mul),
+        Op::Div => Some(Operator::Div),
+        Op::Rem => Some(Operator::Rem),
         Op::Eq => Some(Operator::Eq),
         Op::Ne => Some(Operator::Ne),
         Op::Lt => Some(Operator::Lt),

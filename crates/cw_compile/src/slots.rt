@@ -2,7 +2,7 @@ ghost use Rattle.std.specs.Prelude.{◌≡◌, ◌-◌, [], ◌∷◌, drop, len
 ghost use Rattle.cw_strand.specs.Compilation.{slot_of};
 
 use crate::locals::Locals;
-use cw_base::{OutOfMemory, Text};
+use cw_base::OutOfMemory;
 use std::alloc::Global;
 use std::marker::Model;
 

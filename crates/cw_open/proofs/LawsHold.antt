@@ -94,7 +94,7 @@ module _ (first : List ℤ) (m : Machine) (s : IsState first m) (none : NoneUndo
   stamps : AreStamps t
   stamps = s.well.sound.stamps
 
-  same_list : live m c ≡ map (stamp_of t) (live_accesses t c)
+  pub same_list : live m c ≡ map (stamp_of t) (live_accesses t c)
   same_list =
       rises_same (live m c) (map (stamp_of t) (live_accesses t c)) (s.listed.rises c)
       (by_key_rises (stamp_of t) (filter lives (all_nodes t)) (rises_filter lives (all_nodes t) (below_rises (length t)))
@@ -117,7 +117,7 @@ ended first m r c = ((chain_states first m r).chained c).ended
 
 -- ## Refused at once
 
-any_time : (m : Machine) (e : Step) → Allowed at_once m e → Allowed newest_alone m e
+pub any_time : (m : Machine) (e : Step) → Allowed at_once m e → Allowed newest_alone m e
 any_time m (forks s stamp) a = a
 any_time m (begins s stamp) a = a
 any_time m (accesses s c w stamp) a = a

@@ -18,3 +18,4 @@ pub mod States
 pub mod ChainStates
 pub mod Told
 pub mod LawsHold
+pub mod Victims

@@ -31,7 +31,7 @@ none_of p [] n e = refl
 none_of p (x ∷ xs) zero e = (or_parts (p x) (list_any p xs) e).0
 none_of p (x ∷ xs) (suc n) e = none_of p xs n (or_parts (p x) (list_any p xs) e).1
 
-none_new : (p : Node → Bool) (t xs : List Node) (n : ℕ) → list_any p xs ≡ false → length t ≤ n → is_node p (t ++ xs) n ≡ false
+pub none_new : (p : Node → Bool) (t xs : List Node) (n : ℕ) → list_any p xs ≡ false → length t ≤ n → is_node p (t ++ xs) n ≡ false
 none_new p [] xs n e le = none_of p xs n e
 none_new p (x ∷ t) xs zero e le = absurd (omega arith)
 none_new p (x ∷ t) xs (suc n) e le = none_new p t xs n e (omega arith)
@@ -111,7 +111,7 @@ module _ (m : Machine) (r : IsRooted m.tree) (a : AreListed m) (p c stamp : ℕ)
     | inr ne ↦ (let P : List ℕ → Type 0 = λ us. Rises us in subst P (sym (other d ne)) (a.rises d))
   ]
 
-  kept : (d s : ℕ) → In s (live m d) → In s (listed ls d)
+  pub kept : (d s : ℕ) → In s (live m d) → In s (listed ls d)
   kept d s i =
       let P : List ℕ → Type 0 = λ us. In s us in
       elim (cases_eq d c) [
@@ -145,7 +145,7 @@ module _ (m : Machine) (r : IsRooted m.tree) (a : AreListed m) (p c stamp : ℕ)
     | inr z ↦ absurd ((next.fresh n (node_there (λ y. touches_kind d y.kind) t n e)).0 z.1)
   ]
 
-  new_in : (d n : ℕ) → length t ≤ n → touches u d n ≡ true → In (stamp_of u n) (listed ls d) × (is_live u n ≡ true)
+  pub new_in : (d n : ℕ) → length t ≤ n → touches u d n ≡ true → In (stamp_of u n) (listed ls d) × (is_live u n ≡ true)
   new_in d n le e =
       let low = node_there (λ y. touches_kind d y.kind) u n e in
       let at : n ≡ length t = omega (arith, length_more t x) in

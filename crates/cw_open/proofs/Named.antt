@@ -1,6 +1,6 @@
 -- Accesses by their stamps, and which nodes are live, as the tree changes.
-use Rattle.std.proofs.Common.{◌≡◌, ℕ, ◌<◌, List, [], ◌∷◌, ◌++◌, length, refl, ap, sym, ◌∙◌, arith, Bool, true, false, cond, Some, inl, inr, nat_eq}
-use Rattle.std.specs.Prelude.{◌&&◌, ◌||◌, not}
+use Rattle.std.proofs.Common.{◌≡◌, ℕ, ◌<◌, List, [], ◌∷◌, ◌++◌, length, refl, ap, sym, ◌∙◌, arith, Bool, true, false, cond, Option, Some, None, inl, inr, nat_eq}
+use Rattle.std.specs.Prelude.{◌&&◌, ◌||◌, not, unwrap_or}
 use Rattle.std.specs.List.{find, list_all}
 use Rattle.std.proofs.lemmas.Bool.{and_parts, and_from, and_right, or_from, not-true, not_from_false, false_from_ne_true, eqb-true, ltb-true}
 use Rattle.cw_tree.specs.declared.node.Node.{Node}
@@ -10,6 +10,7 @@ use Rattle.cw_tree.specs.declared.node.BlockState.{BlockState}
 use Rattle.cw_tree.specs.declared.node.BlockState.TheVariants.{Pending, Committed, Aborted}
 use Rattle.cw_tree.specs.Nodes.{is_strand_kind, is_tried_kind, is_block_kind, is_pending_state, is_aborted_state, touches_kind, stamp_of, is_strand, is_tried, is_block, is_pending, is_aborted, touches, all_nodes}
 use Rattle.cw_tree.specs.Walks.{IsRooted, path, above, is_ancestor, is_above}
+use Rattle.cw_tree.specs.Series.{strand_of}
 use Rattle.cw_tree.specs.Shape.{AreStamps}
 use Rattle.cw_tree.specs.Accesses.{is_live}
 use Rattle.cw_tree.specs.Stacks.{access_at}
@@ -30,6 +31,13 @@ find_passes p (x ∷ xs) m e = by (p x) refl e (find_passes p xs m) where
   by : (b : Bool) → p x ≡ b → cond b (Some x) (find p xs) ≡ Some m → (find p xs ≡ Some m → p m ≡ true) → p m ≡ true
   by true is f more = let same : x ≡ m = cc f in sym (ap p same) ∙ is
   by false is f more = more f
+
+-- the strand of a node is one
+pub strand_is : (t : List Node) → is_strand t 0 ≡ true → (n : ℕ) → is_strand t (strand_of t n) ≡ true
+strand_is t root n = by (find (is_strand t) (path t n)) refl where
+  by : (o : Option ℕ) → find (is_strand t) (path t n) ≡ o → is_strand t (unwrap_or o 0) ≡ true
+  by None e = root
+  by (Some s) e = find_passes (is_strand t) (path t n) s e
 
 access_kind_no : (c : ℕ) (k : Kind) → touches_kind c k ≡ true → (is_strand_kind k ≡ false) × (is_tried_kind k ≡ false) × (is_block_kind k ≡ false)
 access_kind_no c (Read d v) e = (refl, refl, refl)

@@ -59,7 +59,7 @@ pub record StandsAt (t : List Node) (s p : ℕ) : Type 0 where
   pub kind : (p ≡ s) ⊎ (is_pending t p ≡ true)
   pub last : (b : ℕ) → p < b → is_pending t b ≡ true → strand_of t b ≡ s → ⊥
 
-strand_itself : (t : List Node) → IsRooted t → (s : ℕ) → is_strand t s ≡ true → strand_of t s ≡ s
+pub strand_itself : (t : List Node) → IsRooted t → (s : ℕ) → is_strand t s ≡ true → strand_of t s ≡ s
 strand_itself t r zero e = strand_of_root t
 strand_itself t r (suc s) e = strand_of_strand t r (suc s) (omega arith) (node_there (λ y. is_strand_kind y.kind) t (suc s) e) e
 

@@ -1,7 +1,7 @@
 -- What each step keeps of the tree: it is sound, its open nodes are nested, and no stamp is above the clock.
 use Rattle.std.proofs.Common.{◌≡◌, ◌≢◌, ℕ, suc, ◌<◌, ◌≤◌, List, [], ◌∷◌, ◌++◌, length, refl, ap, sym, ◌∙◌, subst, arith, true, false, inl, inr, max}
 use Rattle.std.specs.Prelude.{◌&&◌, ◌||◌, not}
-use Rattle.std.proofs.lemmas.Bool.{and_parts, and_from, and_left, or_from, or_cases, or_right, cases_eq, not-true, not_from_true, false_from_ne_true, eqb-true, eq-eqb, ne_eqb, lt-ltb}
+use Rattle.std.proofs.lemmas.Bool.{and_from, and_left, or_from, or_right, cases_eq, false_from_ne_true}
 use Rattle.cw_tree.specs.declared.node.Node.{Node}
 use Rattle.cw_tree.specs.declared.node.Kind.{Kind}
 use Rattle.cw_tree.specs.declared.node.Kind.TheVariants.{Strand, Fork, Tried}
@@ -30,7 +30,7 @@ pub record IsWell (m : Machine) : Type 0 where
   pub clock : (n : ℕ) → n < length m.tree → (stamp_of m.tree n ≤ m.clock) × (end_of m.tree n ≤ m.clock)
 
 -- the tests of a node that tell whether it is open
-open_more : (m : Machine) (xs : List Node) (n : ℕ) → n < length m.tree → is_open (record m { tree = m.tree ++ xs }) n ≡ is_open m n
+pub open_more : (m : Machine) (xs : List Node) (n : ℕ) → n < length m.tree → is_open (record m { tree = m.tree ++ xs }) n ≡ is_open m n
 open_more m xs n h =
     ap
     (λ o. (passes (λ y. is_strand_kind y.kind) o && not (has_finished m n)) || (passes (λ y. is_fork_kind y.kind) o && not (has m.joined n)) || passes (λ y. is_block_kind y.kind && is_pending_state y.state) o)

@@ -1,17 +1,18 @@
 -- What is true of every state that a run leads to. The laws are over runs in which an access may be refused at any time, whatever is said of
 -- it: every run of a machine that asks more of that is one of these.
-use Rattle.std.specs.Prelude.{◌≡◌, ℕ, ℤ, ◌<◌, ◌≤◌, IsTrue, List, length, map, Option}
+use Rattle.std.specs.Prelude.{◌≡◌, ℕ, ℤ, ◌<◌, ◌≤◌, ◌⊎◌, ◌&&◌, false, IsTrue, All, List, length, map, Option}
 use Rattle.std.specs.List.Sorted.{IsStrictlyIncreasing}
 use Rattle.cw_tree.specs.declared.node.Node.{Node}
-use Rattle.cw_tree.specs.Nodes.{stamp_of, end_of, is_pending, touches}
+use Rattle.cw_tree.specs.Nodes.{stamp_of, end_of, is_block, is_pending, touches}
 use Rattle.cw_tree.specs.Walks.{has, is_above}
 use Rattle.cw_tree.specs.Series.{place}
 use Rattle.cw_tree.specs.Accesses.{is_live, live_accesses, IsChainOf}
 use Rattle.cw_tree.specs.Journals.{FitsCells, AllEndedBetween}
 use Rattle.cw_tree.specs.Stacks.{access_at}
+use Rattle.cw_tree.specs.Refusals.{is_victim}
 use Rattle.cw_tree.specs.Newest.{newest}
 use Rattle.cw_tree.specs.NextNodes.{IsSound, IsPlace}
-use Rattle.cw_open.specs.Machine.{Machine, live, is_running}
+use Rattle.cw_open.specs.Machine.{Machine, live, is_running, in_block, is_dying, is_free, rolls_back}
 use Rattle.cw_open.specs.Steps.{Met, refuses}
 use Rattle.cw_open.specs.Runs.{IsMet, Allowed, Reached, at_once, at_any_time}
 use Rattle.cw_open.specs.Open.{is_open, AreNested}
@@ -70,6 +71,21 @@ ListsAreChains = OfEachWithNewest (λ first m. (c : ℕ) → IsChainOf m.tree c 
 -- each block above an access and not above the next one of its list is committed, and ended before it
 abbrev pub BlocksHaveEnded : Type 0
 BlocksHaveEnded = OfEachWithNewest (λ first m. (c : ℕ) → AllEndedBetween m.tree (map (access_at m.tree) (live m c)))
+
+-- ## Victims
+
+-- a conflict has no victim, or that is a block above its asker
+abbrev pub VictimsAreAbove : Type 0
+VictimsAreAbove =
+    OfEachState (λ first m. All (λ c. (c.victim ≡ 0) ⊎ ((b : ℕ) × IsTrue (is_block m.tree b && is_above m.tree b c.asker) × (stamp_of m.tree b ≡ c.victim))) m.conflicts)
+
+-- a running strand that is dying rolls back the block in which it stands, if it stands in one
+abbrev pub DyingRollBack : Type 0
+DyingRollBack = OfEachState (λ first m. (s : ℕ) → IsTrue (is_running m s && in_block m s && is_dying m s) → IsTrue (rolls_back m s))
+
+-- and where it is not, that block is no victim
+abbrev pub FreeAreSafe : Type 0
+FreeAreSafe = OfEachState (λ first m. (s : ℕ) → IsTrue (is_free m s && in_block m s) → is_victim m.tree m.conflicts (place m.tree s) ≡ false)
 
 -- ## Where an access is refused as soon as it conflicts
 

@@ -6,7 +6,7 @@
 //! every state that a run leads to); `specs/Rows.antt` tries them.
 #![tactic(auto)]
 
-ghost use Rattle.cw_open.specs.Laws.{AtOnceIsAtAnyTime, BlocksHaveEnded, CellsFit, ClocksAreLatest, ListsAreChains, ListsAreLive, ListsHaveAll, ListsRise, OpenAreNested, RefusalsAreTold, StrandsStandAtPlaces, TreesAreSound};
+ghost use Rattle.cw_open.specs.Laws.{AtOnceIsAtAnyTime, BlocksHaveEnded, CellsFit, ClocksAreLatest, DyingRollBack, FreeAreSafe, ListsAreChains, ListsAreLive, ListsHaveAll, ListsRise, OpenAreNested, RefusalsAreTold, StrandsStandAtPlaces, TreesAreSound, VictimsAreAbove};
 ghost use Rattle.cw_open.specs.Rows.{Beneath, Inside, InnerCommitted, Outer, Twice};
 
 /// The tree of every state: it is sound, its open nodes are nested, its running strands stand at places, and the clock is at its latest
@@ -30,6 +30,14 @@ pub fn lists_of_runs()
 pub fn chains_of_runs()
     ensures chains { ListsAreChains }
     ensures ended { BlocksHaveEnded }
+{}
+
+/// Victims are above those for whom they fall: a running strand that is dying rolls back the block in which it stands, if it stands in one,
+/// and where it is not that block is no victim.
+pub fn victims_of_runs()
+    ensures above { VictimsAreAbove }
+    ensures dying { DyingRollBack }
+    ensures free { FreeAreSafe }
 {}
 
 /// What is said of runs holds where an access is refused as soon as it conflicts with the newest one, and what it met is as a conflict

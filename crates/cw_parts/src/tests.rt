@@ -2,8 +2,6 @@ mod checks;
 mod grown;
 mod machines;
 mod orders;
-mod queries;
 mod strands;
 mod texts;
-mod traces;
 mod trees;

@@ -1,25 +1,17 @@
 -- What is before and after in series, in a tree that one worker builds and where a fork has one more strand.
-use Rattle.std.proofs.Common.{◌≡◌, ℕ, zero, suc, ◌<◌, List, [], ◌∷◌, length, ap, sym, ◌∙◌, arith, true, false, inl, inr}
+use Rattle.std.proofs.Common.{◌≡◌, ℕ, ◌<◌, List, [], ◌∷◌, length, ap, sym, ◌∙◌, arith, true, false, inl, inr}
 use Rattle.std.proofs.lemmas.Bool.{cases_eq, false_from_ne_true}
 use Rattle.cw_tree.specs.declared.node.Node.{Node}
 use Rattle.cw_tree.specs.declared.node.Kind.TheVariants.{Strand}
 use Rattle.cw_tree.specs.Nodes.{is_fork_kind, parent_of, is_fork, fresh_node}
-use Rattle.cw_tree.specs.Walks.{IsRooted, is_ancestor, is_above}
+use Rattle.cw_tree.specs.Walks.{IsRooted, is_ancestor}
 use Rattle.cw_tree.specs.Series.{is_before}
 use Rattle.cw_tree.proofs.Agreeing.{one_more, agree_back, before_to}
-use Rattle.cw_tree.proofs.Ancestors.{ancestor_self, above_parent, ancestor_step, ancestor_le, ancestor_trans}
+use Rattle.cw_tree.proofs.Ancestors.{ancestor_self, ancestor_step, ancestor_le, ancestor_trans}
 use Rattle.cw_tree.proofs.Growing.{node_grown}
 use Rattle.cw_tree.proofs.Kin.{of_before, before_of, children_apart}
 use Rattle.cw_record.specs.Drawn.{added}
 use Rattle.cw_record.proofs.Building.{IsBuilt}
-
--- what is above a node has a smaller number
-pub above_less : (t : List Node) → IsRooted t → (a n : ℕ) → n < length t → is_above t a n ≡ true → a < n
-above_less t r a zero h e = absurd (cc e)
-above_less t r a (suc n) h e =
-    let low : parent_of t (suc n) < suc n = r (suc n) (omega arith) h in
-    let le = ancestor_le t r a (parent_of t (suc n)) (omega arith) (sym (above_parent t r a (suc n) (omega arith) h) ∙ e) in
-    omega arith
 
 -- nothing comes after a node on the way to the place
 pub none_after : (t : List Node) (p clock : ℕ) → IsBuilt t p clock → (n m : ℕ) → is_ancestor t n p ≡ true → m < length t → is_before t n m ≡ false

@@ -16,7 +16,7 @@ use Rattle.cw_tree.proofs.Lists.{In, at_or_before}
 use Rattle.cw_tree.proofs.LiveAccesses.{live_there, live_stays}
 use Rattle.cw_record.specs.Drawn.{added}
 use Rattle.cw_record.proofs.GrowingJournals.{same_more}
-use Rattle.cw_record.proofs.Lists.{each_more}
+use Rattle.cw_tree.proofs.NextTrees.{each_more}
 use Rattle.cw_record.proofs.Unstarted.{with_strands, by_strand}
 
 -- ## Cells

@@ -24,8 +24,8 @@ use Rattle.cw_tree.proofs.Members.{in_below, in_filter}
 use Rattle.cw_tree.proofs.There.{node_there}
 use Rattle.cw_record.specs.Drawn.{added, forked}
 use Rattle.cw_record.proofs.Building.{IsBuilt}
-use Rattle.cw_record.proofs.InSeries.{above_less}
-use Rattle.cw_record.proofs.Lists.{each_two}
+use Rattle.cw_tree.proofs.NextBefore.{above_less}
+use Rattle.cw_tree.proofs.NextStamps.{each_two}
 use Rattle.cw_record.proofs.NoneAborted.{not_aborted}
 
 pub record IsRising (t : List Node) : Type 0 where

@@ -1,10 +1,9 @@
 -- What lists come to where a filter, a search or a map goes over them, and where one more comes last.
-use Rattle.std.proofs.Common.{◌≡◌, ℕ, ◌<◌, List, [], ◌∷◌, ◌++◌, length, map, refl, ap, sym, ◌∙◌, subst, arith, Bool, true, false, cond, Some, inl, inr}
+use Rattle.std.proofs.Common.{◌≡◌, ℕ, List, [], ◌∷◌, ◌++◌, map, refl, ap, sym, ◌∙◌, Bool, true, false, cond, Some, inl, inr}
 use Rattle.std.specs.Prelude.{◌&&◌, All}
 use Rattle.std.specs.List.{filter, find, flat_map}
 use Rattle.std.proofs.lemmas.List.Elements.{All-head, All-tail}
-use Rattle.cw_tree.proofs.Lists.{In, at_or_before}
-use Rattle.cw_tree.proofs.Growing.{length_more}
+use Rattle.cw_tree.proofs.Lists.{In}
 
 pub filter_filter : {X : Type 0} (p q : X → Bool) (xs : List X) → filter q (filter p xs) ≡ filter (λ x. p x && q x) xs
 filter_filter p q [] = refl
@@ -42,13 +41,3 @@ flat_filter_same p f g P (x ∷ xs) h same =
 pub flat_same : {X Y : Type 0} (f g : X → List Y) (P : X → Type 0) (xs : List X) → All P xs → ((x : X) → P x → f x ≡ g x) → flat_map f xs ≡ flat_map g xs
 flat_same f g P [] h same = refl
 flat_same f g P (x ∷ xs) h same = ap (λ ys. ys ++ flat_map f xs) (same x (All-head P x xs h)) ∙ ap (λ ys. g x ++ ys) (flat_same f g P xs (All-tail P x xs h) same)
-
--- what is true of all places that were there, and of the last one
-pub each_more : {X : Type 0} (xs : List X) (x : X) (P : ℕ → Type 0) → ((n : ℕ) → n < length xs → P n) → P (length xs) → (n : ℕ) → n < length (xs ++ x ∷ []) → P n
-each_more xs x P old new n h = elim (at_or_before n (length xs) (omega (arith, length_more xs x))) [ inl l ↦ old n l | inr e ↦ subst P e new ]
-
--- and of all two
-pub each_two : {X : Type 0} (xs : List X) (x : X) (P : ℕ → ℕ → Type 0) → ((n m : ℕ) → n < length xs → m < length xs → P n m) → ((n : ℕ) → n < length xs → P n (length xs)) → ((m : ℕ) → m < length xs → P (length xs) m) → P (length xs) (length xs)
-    → (n m : ℕ) → n < length (xs ++ x ∷ []) → m < length (xs ++ x ∷ []) → P n m
-each_two xs x P old later earlier new n m hn hm =
-    each_more xs x (λ n. P n m) (λ n h. each_more xs x (P n) (λ m l. old n m h l) (later n h) m hm) (each_more xs x (P (length xs)) earlier new m hm) n hn

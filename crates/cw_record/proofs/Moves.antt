@@ -15,7 +15,7 @@ use Rattle.cw_tree.proofs.Growing.{length_more, node_grown, number_grown, ancest
 use Rattle.cw_tree.proofs.Closing.{length_closed, node_closed, node_closed_other, number_closed, number_closed_other, state_closed, end_closed, rooted_closed, ancestor_closed}
 use Rattle.cw_record.proofs.Building.{IsBuilt}
 use Rattle.cw_record.specs.Drawn.{added}
-use Rattle.cw_record.proofs.Lists.{each_more}
+use Rattle.cw_tree.proofs.NextTrees.{each_more}
 use Rattle.cw_record.proofs.NodeKinds.{strand_alone, new_open}
 use Rattle.cw_tree.proofs.There.{node_there}
 

@@ -15,8 +15,9 @@ use Rattle.cw_tree.proofs.Growing.{node_grown, node_new, rooted_more, is_above_g
 use Rattle.cw_record.specs.Drawn.{added}
 use Rattle.cw_record.proofs.Building.{IsBuilt}
 use Rattle.cw_record.proofs.Faults.{pending_over}
-use Rattle.cw_record.proofs.InSeries.{above_less, none_after, before_fork}
-use Rattle.cw_record.proofs.Lists.{each_more}
+use Rattle.cw_tree.proofs.NextBefore.{above_less}
+use Rattle.cw_record.proofs.InSeries.{none_after, before_fork}
+use Rattle.cw_tree.proofs.NextTrees.{each_more}
 use Rattle.cw_record.proofs.Shaped.{IsShaped, shaped_strand}
 use Rattle.cw_tree.proofs.There.{node_there}
 use Rattle.cw_record.proofs.Unstarted.{with_strands}

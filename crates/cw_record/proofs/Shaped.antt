@@ -19,7 +19,7 @@ use Rattle.cw_tree.proofs.Closing.{length_closed, node_closed, number_closed, sa
 use Rattle.cw_record.specs.Drawn.{added, forked}
 use Rattle.cw_record.specs.Walked.{is_child}
 use Rattle.cw_record.proofs.DepthFirst.{no_children}
-use Rattle.cw_record.proofs.Lists.{each_more}
+use Rattle.cw_tree.proofs.NextTrees.{each_more}
 use Rattle.cw_record.proofs.NodeKinds.{fork_alone}
 use Rattle.cw_tree.proofs.There.{node_there}
 use Rattle.cw_record.proofs.There.{children_are}

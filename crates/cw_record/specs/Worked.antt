@@ -1,11 +1,10 @@
 -- What one worker holds in memory, and what its steps do to it.
-use Rattle.std.specs.Prelude.{◌≡◌, ℕ, true, List, [], ◌∷◌, All}
+use Rattle.std.specs.Prelude.{◌≡◌, ℕ, List, [], ◌∷◌, All}
 use Rattle.cw_strand.specs.declared.want.Want.{Want}
-use Rattle.cw_strand.specs.Strands.{Strands, is_over}
+use Rattle.cw_strand.specs.Strands.{Strands}
 use Rattle.cw_serial.specs.Wants.{memory_after, outputs_after}
-use Rattle.cw_serial.specs.Jobs.{Job, bare}
+use Rattle.cw_serial.specs.Jobs.{Job}
 use Rattle.cw_serial.specs.Room.Strands.{StrandState, IsOf, state_of, strands_of}
-use Rattle.cw_serial.specs.declared.standing.Standing.{Standing}
 use Rattle.cw_code.specs.declared.program.Program.{Program}
 use Rattle.cw_record.specs.declared.worker.Task.{Task}
 use Rattle.cw_record.specs.declared.worker.Branch.{Branch}
@@ -52,14 +51,10 @@ unstarted (Right f left ∷ rest) = unstarted rest
 
 -- ## Strands of the program
 
--- what a strand of a program wants
-abbrev pub want_in : Program → Standing → Want
-want_in p x = (strands_of (bare p)).want (state_of x)
-
--- the strand that waits there is one of the program, and a left one has ended
+-- the strand that waits there is one of the program
 abbrev pub BranchStands : Program → Branch → Type 0
 BranchStands p (Left f right) = IsOf p right
-BranchStands p (Right f left) = IsOf p left × (is_over (want_in p left) ≡ true)
+BranchStands p (Right f left) = IsOf p left
 
 abbrev pub AllBranchesStand : Program → List Branch → Type 0
 AllBranchesStand p branches = All (BranchStands p) branches

@@ -1,5 +1,5 @@
 //! What a run keeps: its tree, its journals, its order and its end; and the run of one worker.
-//! Stands on `cw_base`, `cw_code`, `cw_text`, `cw_strand`, `cw_tree` and `cw_serial`.
+//! Stands on `cw_base`, `cw_code`, `cw_strand`, `cw_tree` and `cw_serial`, with `cw_text` in proofs alone.
 //! Contracts cite `specs/Order.antt` (the order of a record, from `specs/Items.antt` and `specs/Listed.antt`), `specs/Replay.antt` (that
 //! one memory does what a record says), `specs/Checking.antt` (what a check says), `specs/Records.antt` (the run of one worker), and
 //! `specs/Coherent.antt` (what a coherent record is), `specs/WorkedRecord.antt` and `specs/WorkedEnds.antt` (small records that are, the

@@ -1,17 +1,17 @@
 ghost use Rattle.std.specs.Prelude.{◌≡◌, ◌<◌, ◌++◌, [], ◌∷◌, true, All, IfOk, IsTrue, OnOk, length, map};
 ghost use Rattle.cw_strand.specs.Names.{first_memory};
-ghost use Rattle.cw_strand.specs.Strands.{is_over, takes_answer};
+ghost use Rattle.cw_strand.specs.Strands.{takes_answer};
 ghost use Rattle.cw_strand.specs.declared.want.Want.TheVariants as Want;
 ghost use Rattle.cw_tree.specs.Nodes.{fresh_node, is_block};
 ghost use Rattle.cw_tree.specs.Series.{strand_of};
 ghost use Rattle.cw_tree.specs.declared.node.Kind.TheVariants.{Strand as AStrand};
 ghost use Rattle.cw_strand.specs.Programs.{IsCompiled};
-ghost use Rattle.cw_serial.specs.Jobs.{Job, Takes};
+ghost use Rattle.cw_serial.specs.Jobs.{Takes};
 ghost use Rattle.cw_serial.specs.Room.Strands.{IsOf, state_of};
 ghost use Rattle.cw_serial.specs.Wants.{answer_to};
 ghost use Rattle.cw_record.specs.Drawn.{after_fork, after_join, after_start, blank, drawn};
 ghost use Rattle.cw_record.specs.Records.{IsWorkerRun};
-ghost use Rattle.cw_record.specs.Worked.{Acts, AllBranchesStand, AllStand, SwitchesStrand, WaitsOnLeft, job_of, law_of, unstarted, want_in, want_of};
+ghost use Rattle.cw_record.specs.Worked.{Acts, AllBranchesStand, AllStand, SwitchesStrand, WaitsOnLeft, job_of, law_of, unstarted, want_of};
 ghost use Rattle.cw_record.specs.declared.worker.Branch.TheVariants.{Right as OnRight};
 ghost use Rattle.cw_record.specs.declared.record_end.RecordEnd.TheVariants as ending;
 
@@ -184,7 +184,7 @@ impl<'a> Worker<'a> {
         ensures stands { OnOk result (AllBranchesStand self.old.task.program.now self.old.branches → AllStand self.new) }
     {
         let fork = self.drawing.forks()?;
-        let left = self.strand.fork(alloc, self.task.program)?;
+        let left = self.strand.fork(self.task.program)?;
         let right = std::mem::replace(&mut self.strand, left);
         self.branches.push(Branch::Left { fork, right })
     }
@@ -205,9 +205,7 @@ impl<'a> Worker<'a> {
     /// Goes on with the strand that forked, where both strands of the fork have ended.
     fn join(&mut self, fork: u32, left: Standing) -> Result<(), OutOfMemory>
         requires there { fork < length self.old.drawing.tree }
-        requires ended { is_over (want_of self.old) ≡ true }
-        requires right { IsOf self.old.task.program.now self.old.strand }
-        requires left { IsOf self.old.task.program.now left × (is_over (want_in self.old.task.program.now left) ≡ true) }
+        requires stands { IsOf self.old.task.program.now self.old.strand }
         ensures keeps { OnOk result (SwitchesStrand self.old self.new) }
         ensures drawing { OnOk result (drawn self.new.drawing ≡ after_join fork (drawn self.old.drawing)) }
         ensures branches { OnOk result (self.new.branches ≡ self.old.branches) }

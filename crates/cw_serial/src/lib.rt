@@ -1,5 +1,5 @@
 //! The machine with one memory: the strands of a program, and the machine's end under given picks.
-//! Stands on `cw_base`, `cw_code`, `cw_strand` and `cw_tree`.
+//! Stands on `cw_base`, `cw_code`, `cw_strand` and `cw_tree`, with `cw_text` in proofs alone.
 //! Contracts cite `specs/Jobs.antt` (what is run), `specs/Room/Strands.antt` (its strands, which all else knows by their law alone),
 //! `specs/StrandTree.antt`, `specs/Wants.antt` and `specs/Machine.antt` (the machine, over any strands), `specs/MachineOf.antt` (that of
 //! a job), `specs/Forks.antt` (how forks and joins are made), `specs/InMemory.antt` with `specs/Held.antt`, `specs/Spots.antt` and

@@ -1,7 +1,6 @@
 //! The strands of a run, at their wants, over the code of its program. This file, with `specs/Room` and `proofs/Room`, is the one room that
 //! knows what a strand is made of: all else knows the law of strands alone.
-ghost use Rattle.std.specs.Prelude.{◌≡◌, true, length, IfOk, OnOk};
-ghost use Rattle.cw_strand.specs.Strands.{is_over};
+ghost use Rattle.std.specs.Prelude.{◌≡◌, length, IfOk, OnOk};
 ghost use Rattle.cw_strand.specs.declared.want.Want.TheVariants as Want;
 
 use cw_base::OutOfMemory;
@@ -57,7 +56,7 @@ impl Standing {
     }
 
     /// The left strand of the fork that this one wants. This one goes on as the right strand.
-    pub fn fork(&mut self, alloc: Global, program: &Program) -> Result<Standing, OutOfMemory>
+    pub fn fork(&mut self, program: &Program) -> Result<Standing, OutOfMemory>
         requires stands { IsOf program.now self.old }
         requires fork { (strands_of (bare program.now)).want (state_of self.old) ≡ Want.Fork }
         ensures left { IfOk result (λ left. (job : Job) → job.program ≡ program.now →
@@ -67,7 +66,7 @@ impl Standing {
         ensures left_stands { IfOk result (λ left. IsOf program.now left) }
         ensures right_stands { OnOk result (IsOf program.now self.new) }
     {
-        let mut strand = self.strand.fork(alloc)?;
+        let mut strand = self.strand.fork()?;
         let want = strand.next(program, Given::Nothing)?;
         self.want = self.strand.next(program, Given::Nothing)?;
         Ok(Standing { strand, want })
@@ -76,8 +75,7 @@ impl Standing {
     /// As the right strand of a fork, at its end, becomes the strand that forked and goes on to the next want. The left strand is at its
     /// end, too.
     pub fn join(&mut self, left: Standing, program: &Program) -> Result<(), OutOfMemory>
-        requires right { IsOf program.now self.old × (is_over ((strands_of (bare program.now)).want (state_of self.old)) ≡ true) }
-        requires left { IsOf program.now left × (is_over ((strands_of (bare program.now)).want (state_of left)) ≡ true) }
+        requires { IsOf program.now self.old }
         ensures joined { OnOk result ((job : Job) → job.program ≡ program.now →
             state_of self.new ≡ (strands_of job).joined (state_of self.old) (state_of left)) }
         ensures stands { OnOk result (IsOf program.now self.new) }

@@ -1,4 +1,4 @@
-ghost use Rattle.std.specs.Prelude.{◌≡◌, ◌+◌, ◌<◌, ◌++◌, ◌∷◌, List, [], true, Some, IfOk, OnOk, slice_get, vec_len, length};
+ghost use Rattle.std.specs.Prelude.{◌≡◌, ◌+◌, ◌<◌, ◌∷◌, List, [], true, Some, IfOk, OnOk, slice_get, vec_len, length};
 
 use crate::Name;
 use crate::standing::Standing;
@@ -272,7 +272,7 @@ impl Table<Standing> {
         let Place::Stands(mut strand) = self.put(number, Place::Waits) else {
             unreachable!()
         };
-        let left = strand.fork(alloc, program)?;
+        let left = strand.fork(program)?;
         let fork = self.note(number, sides)?;
         let parent = number;
         let right = false;

@@ -16,10 +16,10 @@ use Rattle.cw_strand.specs.Coded as c
 use Rattle.cw_strand.specs.Coded.{Frame}
 use Rattle.cw_strand.specs.Compilation.{Slots, code_of, push}
 use Rattle.cw_strand.specs.Compilation as instr
-use Rattle.cw_strand.proofs.Doing.{HasAt, Does, does_value, does_lift, does_join, does_discard, does_perform, does_bind, does_store, does_show, does_forget, does_wait, does_commit, does_finish, does_return}
+use Rattle.cw_strand.proofs.Doing.{HasAt, Does, does_value, does_lift, does_join, does_discard, does_perform, does_bind, does_store, does_show, does_forget, does_wait, does_commit, does_finish, does_return, does_load_at, does_store_at}
 use Rattle.cw_strand.proofs.Sharing.{Alike, Works, Returns, Shared, syntax_at, code_at, IsSmall, Ahead, alike, both_want, acts}
 use Rattle.cw_strand.proofs.Following.{goes, stays}
-use Rattle.cw_strand.proofs.Tasks.{value_follows, lift_follows, join_follows, discard_follows, show_follows, bind_follows, store_follows, forget_follows, wait_follows, commit_follows}
+use Rattle.cw_strand.proofs.Tasks.{value_follows, lift_follows, join_follows, discard_follows, show_follows, bind_follows, store_follows, forget_follows, wait_follows, commit_follows, load_at_follows, store_at_follows}
 use Rattle.cw_strand.proofs.Statements.{perform_follows}
 
 module _ (ds : List Declaration) (words : List ℤ) (limits : Limits) where
@@ -74,6 +74,11 @@ module _ (ds : List Declaration) (words : List ℤ) (limits : Limits) where
   follow (does_bind {p = p} {x = a} {k = k} less there rest) x small (v ∷ vs) high = bind_follows ds words limits x small p a v vs k less there (as_high (omega (arith, high)) rest)
   follow (does_store {p = p} {x = a} {k = k} line named there rest) x small [] high = absurd (omega (arith, high))
   follow (does_store {p = p} {x = a} {k = k} line named there rest) x small (v ∷ vs) high = store_follows ds words limits x small p a line v vs k named there (as_high (omega (arith, high)) rest)
+  follow (does_load_at {p = p} {x = a} {k = k} line named there rest) x small [] high = absurd (omega (arith, high))
+  follow (does_load_at {p = p} {x = a} {k = k} line named there rest) x small (i ∷ vs) high = load_at_follows ds words limits x small p a line i vs k named there (as_high high rest)
+  follow (does_store_at {p = p} {x = a} {k = k} line named there rest) x small [] high = absurd (omega (arith, high))
+  follow (does_store_at {p = p} {x = a} {k = k} line named there rest) x small (v ∷ []) high = absurd (omega (arith, high))
+  follow (does_store_at {p = p} {x = a} {k = k} line named there rest) x small (v ∷ i ∷ vs) high = store_at_follows ds words limits x small p a line v i vs k named there (as_high (omega (arith, high)) rest)
   follow (does_show {p = p} {k = k} there rest) x small [] high = absurd (omega (arith, high))
   follow (does_show {p = p} {k = k} there rest) x small (v ∷ vs) high = show_follows ds words limits x small p v vs k there (as_high (omega (arith, high)) rest)
   follow (does_forget {p = p} {o = o} {k = k} rest) x small vs high = forget_follows ds words limits x small p o vs k (as_high high rest)

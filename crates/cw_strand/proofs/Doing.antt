@@ -8,11 +8,11 @@ use Rattle.cw_code.specs.declared.instruction.Instr.{Instr}
 use Rattle.cw_code.specs.declared.effects.Operator.{Operator}
 use Rattle.cw_code.specs.declared.effects.Effect.TheVariants as effect
 use Rattle.cw_code.specs.Table.{effect_at}
-use Rattle.cw_strand.specs.Names.{find, used, in_term, in_block, cells_of}
-use Rattle.cw_strand.specs.Meaning.{Task, value, lift, join, perform, bind, store_in, show, forget, wait, commit, finish, lifted, joining, lifts, joins}
+use Rattle.cw_strand.specs.Names.{find, used, indexed, in_term, in_block, cells_of}
+use Rattle.cw_strand.specs.Meaning.{cell_of, Task, value, lift, join, perform, bind, store_in, load_at, store_at, show, forget, wait, commit, finish, lifted, joining, lifts, joins}
 use Rattle.cw_strand.specs.Meaning as meaning
 use Rattle.cw_strand.specs.Coded.{Frame}
-use Rattle.cw_strand.specs.Compilation.{Slots, slot_of, term_code, block_code, most, plain, number_of, lift_code, join_code, writes, set, push}
+use Rattle.cw_strand.specs.Compilation.{Slots, slot_of, term_code, block_code, most, plain, number_of, lift_code, join_code, writes, loads_at, stores_at, set, push}
 use Rattle.cw_strand.specs.Compilation as instr
 use Rattle.cw_strand.proofs.Numbering.{scope_of, slots_behind}
 
@@ -57,6 +57,8 @@ module _ (ds : List Declaration) (code : List Instr) where
     does_perform : {n h p : ℕ} {g : Slots} {b : Block} {k : List Task} {fs : List Frame} → in_block (scope_of ds g) b ≡ None → most (length g) b ≤ n → HasAt code p (block_code (cells_of ds) g p b) → Does n (slots_behind b g) h k (p + length (block_code (cells_of ds) g p b)) fs → Does n g h (perform b ∷ k) p fs
     does_bind : {n h p : ℕ} {g : Slots} {x : List ℕ} {k : List Task} {fs : List Frame} → length g < n → slice_get code p ≡ Some (set (length g)) → Does n (x ∷ g) h k (p + 1) fs → Does n g (suc h) (bind x ∷ k) p fs
     does_store : {n h p : ℕ} {g : Slots} {x : List ℕ} {k : List Task} {fs : List Frame} (line : ℕ) → used (find x (scope_of ds g)) line ≡ None → slice_get code p ≡ Some (writes (cells_of ds) (slot_of g x) x) → Does n g h k (p + 1) fs → Does n g (suc h) (store_in x ∷ k) p fs
+    does_load_at : {n h p : ℕ} {g : Slots} {x : List ℕ} {k : List Task} {fs : List Frame} (line : ℕ) → indexed (find x (scope_of ds g)) line ≡ None → slice_get code p ≡ Some (loads_at (cells_of ds) (cell_of (cells_of ds) x)) → Does n g (suc h) k (p + 1) fs → Does n g (suc h) (load_at x ∷ k) p fs
+    does_store_at : {n h p : ℕ} {g : Slots} {x : List ℕ} {k : List Task} {fs : List Frame} (line : ℕ) → indexed (find x (scope_of ds g)) line ≡ None → slice_get code p ≡ Some (stores_at (cells_of ds) (cell_of (cells_of ds) x)) → Does n g h k (p + 1) fs → Does n g (suc (suc h)) (store_at x ∷ k) p fs
     does_show : {n h p : ℕ} {g : Slots} {k : List Task} {fs : List Frame} → slice_get code p ≡ Some instr.show → Does n g h k (p + 1) fs → Does n g (suc h) (show ∷ k) p fs
     does_forget : {n h p o : ℕ} {g : Slots} {k : List Task} {fs : List Frame} → Does n (drop (length g - o) g) h k p fs → Does n g h (forget o ∷ k) p fs
     does_wait : {n h p : ℕ} {g : Slots} {k : List Task} {fs : List Frame} → slice_get code p ≡ Some instr.wait → Does n g h k (p + 1) fs → Does n g h (wait ∷ k) p fs

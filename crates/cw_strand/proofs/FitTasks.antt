@@ -1,9 +1,10 @@
 -- What a strand has still to do finds its operands and what its names stand for, and ends the blocks that the strand began.
 use Rattle.std.specs.Prelude.{nat_le, nat_lt}
-use Rattle.std.proofs.Common.{◌≡◌, ℕ, zero, suc, Bool, true, false, cond, ◌+◌, ◌-◌, List, [], ◌∷◌, ◌++◌, length, drop, Option, Some, None, Result, Ok, Err, ℤ, refl, subst, sym, append_assoc, length-append, add-one, arith, ap}
+use Rattle.std.proofs.Common.{◌≡◌, ℕ, zero, suc, Bool, true, false, cond, ◌+◌, ◌-◌, List, [], ◌∷◌, ◌++◌, length, drop, Option, Some, None, Result, Ok, Err, ℤ, pos, negsuc, refl, subst, sym, append_assoc, length-append, add-one, arith, ap}
 use Rattle.std.proofs.lemmas.List.{nil_from_length, length-map}
 use Rattle.std.proofs.Math.Seq.{drop-append_seam}
-use Rattle.cw_text.specs.Syntax.{Statement, Block, Declaration, number, name, unary, binary, declare, assign, out, atomic, spawn, sync, empty, first}
+use Rattle.cw_text.specs.Syntax.{Statement, Block, Declaration, number, name, at, unary, binary, declare, assign, assign_at, out, atomic, spawn, sync, empty, first}
+use Rattle.cw_code.specs.declared.CellInfo.{CellInfo}
 use Rattle.cw_code.specs.declared.FaultKind.{FaultKind}
 use Rattle.cw_code.specs.declared.Limits.{Limits}
 use Rattle.cw_code.specs.declared.effects.Operator.{Operator}
@@ -13,11 +14,11 @@ use Rattle.cw_strand.specs.declared.want.Given.{Given}
 use Rattle.cw_strand.specs.declared.want.Given.TheVariants.{Nothing, Value}
 use Rattle.cw_strand.specs.Strands.{own_after, MayWant}
 use Rattle.cw_strand.specs.Arithmetic.{one, two}
-use Rattle.cw_strand.specs.Names.{◌then◌, used, find, in_term, in_block, globals, cells_of}
+use Rattle.cw_strand.specs.Names.{◌then◌, used, indexed, find, in_term, in_block, globals, cells_of}
 use Rattle.cw_strand.specs.Names as names
 use Rattle.cw_strand.specs.Running.{on, wants, stuck}
-use Rattle.cw_strand.specs.Meaning.{State, Locals, Task, value, lift, join, discard, perform, bind, store_in, show, forget, wait, commit, finish, lifted, joining, lifts, joins, Step, step, step_of, result, read_name, write_name, begin_with, wait_in, element_of, local_of, in_place, with_value}
-use Rattle.cw_strand.proofs.StandingNames.{IsFound, names_of, with_names, name_found, names_kept, names_dropped}
+use Rattle.cw_strand.specs.Meaning.{State, Locals, Task, value, lift, join, discard, perform, bind, store_in, load_at, store_at, show, forget, wait, commit, finish, lifted, joining, lifts, joins, Step, step, step_of, result, read_name, write_name, begin_with, wait_in, element_of, cell_of, in_range, local_of, in_place, with_value}
+use Rattle.cw_strand.proofs.StandingNames.{IsFound, IsCell, names_of, with_names, name_found, name_indexed, names_kept, names_dropped}
 
 pub no_fault : (f g : names.Fault) → f then g ≡ None → (f ≡ None) × (g ≡ None)
 no_fault None g h = (refl, h)
@@ -43,6 +44,10 @@ module _ (ds : List Declaration) (limits : Limits) where
   abbrev MayUse : List (List ℕ) → List ℕ → Type 0
   MayUse names n = (line : ℕ) × (used (find n (with_names names (globals ds))) line ≡ None)
 
+  -- the name of an array, where the locals have these names
+  abbrev MayIndex : List (List ℕ) → List ℕ → Type 0
+  MayIndex names n = (line : ℕ) × (indexed (find n (with_names names (globals ds))) line ≡ None)
+
   -- These tasks, begun with so many operands where the locals have these names, find their operands one after another, use only
   -- names that they may use, and end these scopes one after another. After a block the locals that it made are there, until they
   -- are forgotten, and its scope may have any number of forks to wait for.
@@ -54,6 +59,8 @@ module _ (ds : List Declaration) (limits : Limits) where
   Fits (perform b ∷ k) c names (n ∷ ns) = (in_block (with_names names (globals ds)) b ≡ None) × ((more : List (List ℕ)) (m : ℕ) → Fits k c (more ++ names) (m ∷ ns))
   Fits (bind n ∷ k) (suc c) names ns = Fits k c (n ∷ names) ns
   Fits (store_in n ∷ k) (suc c) names ns = MayUse names n × Fits k c names ns
+  Fits (load_at n ∷ k) (suc c) names ns = MayIndex names n × Fits k (suc c) names ns
+  Fits (store_at n ∷ k) (suc (suc c)) names ns = MayIndex names n × Fits k c names ns
   Fits (show ∷ k) (suc c) names ns = Fits k c names ns
   Fits (forget n ∷ k) c names ns = Fits k c (drop (length names - n) names) ns
   Fits (wait ∷ k) c names (n ∷ ns) = Fits k c names (0 ∷ ns)
@@ -113,6 +120,12 @@ module _ (ds : List Declaration) (limits : Limits) where
     write_goes None (Some c) n v found h = either own (nat_le limits.size t.size) _ _ (tt, tt) (tt, record { scoped = r; fits = h })
     write_goes None None n v found h = absurd found
 
+  -- an element of an array is found, or the index is none
+  range_goes : (own : List ℕ) (o : Option CellInfo) (i : ℤ) (s : State) (go : ℕ → Step) → IsCell o → ((c : ℕ) → Goes own (go c)) → Goes own (in_range (cells_of ds) limits o i s go)
+  range_goes own None i s go found h = absurd found
+  range_goes own (Some c) (negsuc m) s go found h = (tt, tt)
+  range_goes own (Some c) (pos m) s go found h = either own (nat_lt m c.len) _ _ (h (c.base + m)) (tt, tt)
+
   -- what comes behind a block finds its names also once one more is declared
   one_more_name : (k : List Task) (c : ℕ) (n : List ℕ) (names : List (List ℕ)) (ns : List ℕ) → ((more : List (List ℕ)) (m : ℕ) → Fits k c (more ++ names) (m ∷ ns)) → (more : List (List ℕ)) (m : ℕ) → Fits k c (more ++ (n ∷ names)) (m ∷ ns)
   one_more_name k c n names ns h more m = rw append_assoc at (h (more ++ (n ∷ [])) m)
@@ -127,6 +140,11 @@ module _ (ds : List Declaration) (limits : Limits) where
           let (here, later) = no_fault _ _ h.0 in
           let (use_fault, term_fault) = no_fault _ _ here in
           record { scoped = r; fits = (term_fault, ((w.line, use_fault), (later, h.1))) }
+      first_goes (assign_at w i e) c h =
+          let (here, later) = no_fault _ _ h.0 in
+          let (index_fault, rest) = no_fault _ _ here in
+          let (first_fault, second_fault) = no_fault _ _ rest in
+          record { scoped = r; fits = (first_fault, (second_fault, ((w.line, index_fault), (later, h.1)))) }
       first_goes (out e) c h = let (here, later) = no_fault _ _ h.0 in record { scoped = r; fits = (here, (later, h.1)) }
       first_goes (atomic d) c h =
           let (here, later) = no_fault _ _ h.0 in
@@ -159,6 +177,7 @@ module _ (ds : List Declaration) (limits : Limits) where
         → Goes own (step_of (cells_of ds) limits todo (record { todo = todo; values = vs; locals = ls; scopes = ns; fuel = fuel; size = size; beside = beside }))
     tasks_go (value (number n) ∷ k) vs own ns r h = record { scoped = r; fits = h.1 }
     tasks_go (value (name w) ∷ k) vs own ns r h = read_goes own _ r (local_of ls w.name) (element_of (cells_of ds) w.name) (name_found ds ls w.name w.line h.0) h.1
+    tasks_go (value (at w i) ∷ k) vs own ns r h = let (index_fault, term_fault) = no_fault _ _ h.0 in record { scoped = r; fits = (term_fault, ((w.line, index_fault), h.1)) }
     tasks_go (value (unary o e) ∷ k) vs own ns r h = record { scoped = r; fits = (h.0, lifts_fit (lifted o) k _ _ _ h.1) }
     tasks_go (value (binary o x y) ∷ k) vs own ns r h = let (left, right) = no_fault _ _ h.0 in record { scoped = r; fits = (left, (right, joins_fit (joining o) k _ _ _ h.1)) }
     tasks_go (lift o ∷ k) (x ∷ vs) own ns r h = result_goes own _ r (one o x) vs h
@@ -169,6 +188,10 @@ module _ (ds : List Declaration) (limits : Limits) where
     tasks_go (perform (first st c) ∷ k) vs (b ∷ bs) (n ∷ ns) r h = either (b ∷ bs) (nat_le limits.fuel fuel) _ _ (tt, tt) (first_goes ls (fuel + 1) size beside k vs b n bs ns r st c h)
     tasks_go (bind n ∷ k) (v ∷ vs) own ns r h = record { scoped = r; fits = h }
     tasks_go (store_in n ∷ k) (v ∷ vs) own ns r h = write_goes own _ r (local_of ls n) (element_of (cells_of ds) n) n v (name_found ds ls n h.0.0 h.0.1) h.1
+    tasks_go (load_at n ∷ k) (i ∷ vs) own ns r h =
+        range_goes own (cell_of (cells_of ds) n) i _ _ (name_indexed ds (names_of ls) n h.0.0 h.0.1) (λ c. either own (nat_le limits.size size) _ _ (tt, tt) (tt, record { scoped = r; fits = h.1 }))
+    tasks_go (store_at n ∷ k) (v ∷ i ∷ vs) own ns r h =
+        range_goes own (cell_of (cells_of ds) n) i _ _ (name_indexed ds (names_of ls) n h.0.0 h.0.1) (λ c. either own (nat_le limits.size size) _ _ (tt, tt) (tt, record { scoped = r; fits = h.1 }))
     tasks_go (show ∷ k) (v ∷ vs) own ns r h = either own (nat_le limits.size size) _ _ (tt, tt) (tt, record { scoped = r; fits = h })
     tasks_go (forget n ∷ k) vs own ns r h = record { scoped = r; fits = rw names_dropped at h }
     tasks_go (wait ∷ k) vs own ns r h = wait_goes k vs r h

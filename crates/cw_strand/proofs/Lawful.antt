@@ -143,7 +143,7 @@ module _ (ds : List Declaration) (words : List ℤ) (limits : Limits) where
         let fit = fork_fits own b fork (goes_to_fits goes h) in
         let there = goes_to_fits goes_right (right_fits own b.state fit) in
         let at = joined_fits own n b.state right.want right.state fit over there.may there.after in
-        stand_fits own (joined right.state l.state) (record { scoped = at.scoped; fits = at.fits })
+        stand_fits own (joined limits right.state l.state) (record { scoped = at.scoped; fits = at.fits })
 
     reached_fits : {own : List ℕ} {a : Standing State} → Reached (strands_of ds words limits) own a → Stands own a
     reached_fits (of_main goes) = goes_to_fits goes start_fits

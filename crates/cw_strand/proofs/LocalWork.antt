@@ -1,7 +1,7 @@
 -- Over the syntax each step by itself leaves less to do, and a want leaves no more than its depth says.
-use Rattle.std.proofs.Common.{◌≡◌, ◌<◌, ◌≤◌, ◌+◌, ℕ, zero, suc, Bool, true, false, List, [], ◌∷◌, Option, Some, None, Result, Ok, Err, ℤ, subst, arith, cond}
+use Rattle.std.proofs.Common.{◌≡◌, ◌<◌, ◌≤◌, ◌+◌, ℕ, zero, suc, Bool, true, false, List, [], ◌∷◌, Option, Some, None, Result, Ok, Err, ℤ, pos, negsuc, subst, arith, cond}
 use Rattle.std.specs.Prelude.{nat_le, nat_lt, max}
-use Rattle.cw_text.specs.Syntax.{number, name, unary, binary, Statement, declare, assign, out, atomic, spawn, sync, Block, empty, first, Declaration}
+use Rattle.cw_text.specs.Syntax.{number, name, at, unary, binary, Statement, declare, assign, assign_at, out, atomic, spawn, sync, Block, empty, first, Declaration}
 use Rattle.cw_code.specs.declared.CellInfo.{CellInfo}
 use Rattle.cw_code.specs.declared.Limits.{Limits}
 use Rattle.cw_code.specs.declared.FaultKind.{FaultKind}
@@ -11,7 +11,7 @@ use Rattle.cw_strand.specs.declared.want.Given.TheVariants.{Nothing, Value}
 use Rattle.cw_strand.specs.Arithmetic.{one, two}
 use Rattle.cw_strand.specs.Running.{on, wants, stuck, depth_of, IsBounded}
 use Rattle.cw_strand.specs.Names.{cells_of}
-use Rattle.cw_strand.specs.Meaning.{State, Locals, Step, Task, value, lift, join, discard, perform, bind, store_in, show, forget, wait, commit, finish, lifted, joining, lifts, joins, result, wait_in, read_name, write_name, begin_with, local_of, element_of, step, step_of, work, with_value, runs}
+use Rattle.cw_strand.specs.Meaning.{State, Locals, Step, Task, value, lift, join, discard, perform, bind, store_in, load_at, store_at, show, forget, wait, commit, finish, lifted, joining, lifts, joins, result, wait_in, read_name, write_name, begin_with, local_of, element_of, cell_of, in_range, step, step_of, work, with_value, runs}
 
 module _ (ds : List Declaration) (words : List ℤ) (limits : Limits) (cells : List CellInfo) where
   abbrev Leaves : ℕ → Step → Type 0
@@ -37,6 +37,11 @@ module _ (ds : List Declaration) (words : List ℤ) (limits : Limits) (cells : L
   write_leaves n None None x v s h = tt
   write_leaves n None (Some c) x v s h = let low : work s.todo ≤ n = omega arith in either n (nat_le limits.size s.size) _ _ low h
 
+  range_leaves : (n : ℕ) (o : Option CellInfo) (i : ℤ) (s : State) (go : ℕ → Step) → work s.todo ≤ n → ((c : ℕ) → Leaves n (go c)) → Leaves n (in_range cells limits o i s go)
+  range_leaves n None i s go low h = tt
+  range_leaves n (Some c) (negsuc m) s go low h = low
+  range_leaves n (Some c) (pos m) s go low h = either n (nat_lt m c.len) _ _ (h (c.base + m)) low
+
   wait_leaves : (n : ℕ) (ns : List ℕ) (k : List Task) (s : State) → work k < n → Leaves n (wait_in ns k s)
   wait_leaves n [] k s h = h
   wait_leaves n (zero ∷ ns) k s h = h
@@ -58,6 +63,7 @@ module _ (ds : List Declaration) (words : List ℤ) (limits : Limits) (cells : L
     begin_leaves : (st : Statement) (b : Block) (k : List Task) → Leaves (work (perform (first st b) ∷ k)) (begin_with cells limits st (perform b ∷ k) (with_todo (perform (first st b) ∷ k)))
     begin_leaves (declare w e) b k = omega arith
     begin_leaves (assign w e) b k = omega arith
+    begin_leaves (assign_at w i e) b k = omega arith
     begin_leaves (out e) b k = omega arith
     begin_leaves (atomic c) b k =
         let low : work (perform c ∷ forget 0 ∷ wait ∷ commit ∷ perform b ∷ k) < work (perform (first (atomic c) b) ∷ k) = omega arith in
@@ -74,6 +80,7 @@ module _ (ds : List Declaration) (words : List ℤ) (limits : Limits) (cells : L
     leaves [] vs = tt
     leaves (value (number n) ∷ k) vs = omega arith
     leaves (value (name w) ∷ k) vs = read_leaves _ (local_of ls w.name) (element_of cells w.name) _ (omega arith)
+    leaves (value (at w i) ∷ k) vs = omega arith
     leaves (value (unary o e) ∷ k) vs = omega (arith, lifts_work (lifted o) k)
     leaves (value (binary o l r) ∷ k) vs = omega (arith, joins_work (joining o) k)
     leaves (lift o ∷ k) (x ∷ vs) = result_leaves _ (one o x) vs _ (omega arith)
@@ -85,6 +92,16 @@ module _ (ds : List Declaration) (words : List ℤ) (limits : Limits) (cells : L
         either _ (nat_le limits.fuel fuel) _ _ least (begin_leaves vs ls ns (fuel + 1) size beside st b k)
     leaves (bind n ∷ k) (v ∷ vs) = omega arith
     leaves (store_in n ∷ k) (v ∷ vs) = write_leaves _ (local_of ls n) (element_of cells n) n v _ (omega arith)
+    leaves (load_at n ∷ k) (i ∷ vs) =
+        let least : work k ≤ work (load_at n ∷ k) = omega arith in
+        let low : work k < work (load_at n ∷ k) = omega arith in
+        let same : work (load_at n ∷ k) ≤ work (load_at n ∷ k) = omega arith in
+        range_leaves _ (cell_of cells n) i _ _ same (λ c. either _ (nat_le limits.size size) _ _ least low)
+    leaves (store_at n ∷ k) (v ∷ i ∷ vs) =
+        let least : work k ≤ work (store_at n ∷ k) = omega arith in
+        let low : work k < work (store_at n ∷ k) = omega arith in
+        let same : work (store_at n ∷ k) ≤ work (store_at n ∷ k) = omega arith in
+        range_leaves _ (cell_of cells n) i _ _ same (λ c. either _ (nat_le limits.size size) _ _ least low)
     leaves (show ∷ k) (v ∷ vs) =
         let least : work k ≤ work (show ∷ k) = omega arith in
         let low : work k < work (show ∷ k) = omega arith in

@@ -1,5 +1,5 @@
 -- A strand over the syntax and one over its code that stand at the same, and how the code goes on with it.
-use Rattle.std.proofs.Common.{◌≡◌, ◌∙◌, ℕ, ◌+◌, Bool, true, false, List, [], ◌∷◌, length, max, refl, ap, subst, Some, ℤ, nat_lt, ◌⊎◌, inl, inr}
+use Rattle.std.proofs.Common.{◌≡◌, ◌∙◌, ℕ, ◌+◌, Bool, true, false, List, [], ◌∷◌, length, max, refl, sym, ap, subst, Some, ℤ, nat_lt, ◌⊎◌, inl, inr}
 use Rattle.std.specs.Prelude.{slice_get, if◌then◌else◌, nat_le}
 use Rattle.cw_text.specs.Syntax.{Block, Declaration}
 use Rattle.cw_code.specs.declared.instruction.Instr.{Instr}
@@ -16,7 +16,7 @@ use Rattle.cw_strand.specs.declared.want.Given.TheVariants.{Nothing, Value}
 use Rattle.cw_strand.specs.Running.{Running, on, wants}
 use Rattle.cw_strand.specs.Names.{cells_of}
 use Rattle.cw_strand.specs.Meaning as m
-use Rattle.cw_strand.specs.Meaning.{Task, Locals, finish, in_place}
+use Rattle.cw_strand.specs.Meaning.{Task, Locals, finish, in_place, both_counts}
 use Rattle.cw_strand.specs.Coded as c
 use Rattle.cw_strand.specs.Coded.{Frame}
 use Rattle.cw_strand.specs.Compilation.{Slots, code_of, main_function}
@@ -77,16 +77,19 @@ module _ (ds : List Declaration) (words : List ℤ) (limits : Limits) where
       by (inr r) = inr (record { todo = r.todo; there = r.there; result = v; below = r.below; operands = ap (in_place v) r.operands; callers = r.callers })
 
   -- and where two were joined
-  pub joined_alike : (right left : m.State) (d e : c.State) → Alike right d → Alike left e → Alike (m.joined right left) (c.joined d e)
+  pub joined_alike : (right left : m.State) (d e : c.State) → Alike right d → Alike left e → Alike (m.joined limits right left) (c.joined d e)
   joined_alike right left d e h l = record {
     stands = by h.stands;
     scopes = h.scopes;
     fuel = ap (λ x. max x right.fuel) l.fuel ∙ ap (λ x. max e.fuel x) h.fuel;
-    size = ap (λ x. x + right.size) l.size ∙ ap (λ x. e.size + x) h.size;
+    size =
+        ap (λ x. both_counts limits right.size x) l.size
+        ∙ ap (λ x. both_counts limits x e.size) h.size
+        ∙ ap (λ x. both_counts x d.size e.size) (sym h.within);
     within = h.within;
   }
     where
-      by : Works right d ⊎ Returns right d → Works (m.joined right left) (c.joined d e) ⊎ Returns (m.joined right left) (c.joined d e)
+      by : Works right d ⊎ Returns right d → Works (m.joined limits right left) (c.joined d e) ⊎ Returns (m.joined limits right left) (c.joined d e)
       by (inl w) = inl (record { slots = w.slots; height = w.height; does = w.does; agree = w.agree; operands = w.operands; high = w.high })
       by (inr r) = inr (record { todo = r.todo; there = r.there; result = r.result; below = r.below; operands = r.operands; callers = r.callers })
 

@@ -1,6 +1,7 @@
 -- A strand of code without faults always has what its next instruction needs.
-use Rattle.std.proofs.Common.{◌≡◌, ℕ, zero, suc, ◌+◌, ◌-◌, ◌<◌, ◌≤◌, Bool, true, false, List, [], ◌∷◌, length, drop, reverse, Option, Some, Result, Ok, Err, refl, sym, ap, ◌∙◌, subst, arith, ℤ, pos, negsuc, length-append, length-drop, nat_lt}
+use Rattle.std.proofs.Common.{◌≡◌, ℕ, zero, suc, ◌+◌, ◌-◌, ◌<◌, ◌≤◌, Bool, true, false, max, min, List, [], ◌∷◌, length, drop, reverse, Option, Some, Result, Ok, Err, refl, sym, ap, ◌∙◌, subst, arith, ℤ, pos, negsuc, length-append, length-drop, nat_lt}
 use Rattle.std.specs.Prelude.{slice_get, Contains, if◌then◌else◌, nat_le}
+use Rattle.std.proofs.Math.Nat.{le-max_left}
 use Rattle.std.proofs.lemmas.List.{length-reverse, length-set, length-replicate, length-take-le}
 use Rattle.std.proofs.lemmas.Bool.{ltb-false, ltb-true}
 use Rattle.cw_code.specs.declared.instruction.Instr.{Instr}
@@ -19,13 +20,12 @@ use Rattle.cw_strand.specs.declared.want.Want.{Want}
 use Rattle.cw_strand.specs.declared.want.Want.TheVariants.{Begin, End, Fork, Sync, Done, Fault}
 use Rattle.cw_strand.specs.declared.want.Given.{Given}
 use Rattle.cw_strand.specs.declared.want.Given.TheVariants.{Nothing, Value}
-use Rattle.cw_strand.specs.Strands.{is_over}
 use Rattle.cw_strand.specs.Running.{on, wants, stuck, Visits, starts, steps, answers, goes_left, goes_right, joins}
 use Rattle.cw_strand.specs.Arithmetic.{is_zero}
-use Rattle.cw_strand.specs.Meaning.{in_place, one_more}
+use Rattle.cw_strand.specs.Meaning.{in_place, one_more, both_counts}
 use Rattle.cw_strand.specs.Coded as coded
-use Rattle.cw_strand.specs.Coded.{Frame, State, Step, index, goes_to, with_value, locals_for, left, joined, counted, counts, spends, result, in_range, read_local, write_local, returned, wait_in, most_frames, starts_at}
-use Rattle.cw_strand.specs.Standing.{StandsAt, WaitAt, NoneOver, StandsIn, StandsWanting}
+use Rattle.cw_strand.specs.Coded.{Frame, State, Step, index, goes_to, with_value, locals_for, joined, counted, counts, spends, result, in_range, read_local, write_local, returned, wait_in, most_frames, starts_at}
+use Rattle.cw_strand.specs.Standing.{StandsAt, WaitAt, NoneOver, StandsIn, StandsWanting, Stands}
 
 there : {X : Type 0} (xs : List X) (n : ℕ) → n < length xs → (x : X) × (slice_get xs n ≡ Some x)
 there [] n lt = absurd (omega arith)
@@ -49,25 +49,16 @@ over_more m (k ∷ ns) low = (omega (arith, low.0), over_less m (m + 1) ns (omeg
 -- ## Steps
 
 module _ (code : Code) where
-  -- what a step leads to stands, and it is not stuck
-  abbrev pub Stands : Step → Type 0
-  Stands (on s) = StandsIn code s
-  Stands (wants w s) = StandsWanting code w s
-  Stands stuck = ⊥
-
-  stands_either : (b : Bool) (x y : Step) → (b ≡ true → Stands x) → (b ≡ false → Stands y) → Stands (if b then x else y)
+  stands_either : (b : Bool) (x y : Step) → (b ≡ true → Stands code x) → (b ≡ false → Stands code y) → Stands code (if b then x else y)
   stands_either true x y g h = g refl
   stands_either false x y g h = h refl
 
-  -- at a want that no strand forks at and none ends at
-  goes_on : (w : Want) (s : State) → (w ≡ Fork → ⊥) → is_over w ≡ false → StandsIn code s → StandsWanting code w s
-  goes_on w s other lasts h = record { stands = h; beside = λ is. absurd (other is); within = λ is. absurd (let z : false ≡ true = sym lasts ∙ is in cc) }
+  -- at a want that no strand forks at
+  at_want : (w : Want) (s : State) → (w ≡ Fork → ⊥) → StandsIn code s → StandsWanting code w s
+  at_want w s other h = record { stands = h; beside = λ is. absurd (other is) }
 
-  at_fault : (k : FaultKind) (s : State) → StandsIn code s → Stands (wants (Fault k) s)
-  at_fault k s h = goes_on (Fault k) s (λ is. cc) refl h
-
-  at_end : (w : Want) (s : State) → (w ≡ Fork → ⊥) → s.size ≤ s.limits.size → StandsIn code s → StandsWanting code w s
-  at_end w s other le h = record { stands = h; beside = λ is. absurd (other is); within = λ is. le }
+  at_fault : (k : FaultKind) (s : State) → StandsIn code s → Stands code (wants (Fault k) s)
+  at_fault k s h = at_want (Fault k) s (λ is. cc) h
 
   pub given_stands : (given : Given) (s : State) → StandsIn code s → StandsIn code (with_value given s)
   given_stands Nothing s h = h
@@ -77,8 +68,12 @@ module _ (code : Code) where
       same_length [] = refl
       same_length (x ∷ vs) = refl
 
+  -- with more fuel spent, and no less counted
+  pub grown_stands : (s : State) (fuel size : ℕ) → s.size ≤ size → StandsIn code s → StandsIn code (record s { fuel = fuel; size = size })
+  grown_stands s fuel size le h = record { current = h.current; callers = h.callers; scopes = over_less s.size size s.scopes le h.scopes }
+
   pub joined_stands : (s t : State) → StandsIn code s → StandsIn code (joined s t)
-  joined_stands s t h = record { current = h.current; callers = h.callers; scopes = over_less s.size (t.size + s.size) s.scopes (omega arith) h.scopes }
+  joined_stands s t = grown_stands s (max t.fuel s.fuel) (both_counts s.limits s.size t.size) (le-max_left s.size (min (suc s.limits.size) (t.size + s.size)))
 
 module _ (code : Code) (ok : faults code ≡ []) where
   -- what is known at an instruction
@@ -128,8 +123,8 @@ module _ (code : Code) (ok : faults code ≡ []) where
   counted_stands : (s : State) (go : State → Step) → StandsIn code s → Stands code (go (record s { size = s.size + 1 })) → Stands code (counted s go)
   counted_stands s go f g = stands_either code (nat_le s.limits.size s.size) _ _ (λ e. at_fault code Size s f) (λ e. g)
 
-  wants_counted : (w : Want) (s : State) → (w ≡ Fork → ⊥) → is_over w ≡ false → StandsIn code s → Stands code (counts w s)
-  wants_counted w s other lasts f = counted_stands s (λ u. wants w u) f (goes_on code w (record s { size = s.size + 1 }) other lasts (record { current = f.current; callers = f.callers; scopes = over_less s.size (s.size + 1) s.scopes (omega arith) f.scopes }))
+  wants_counted : (w : Want) (s : State) → (w ≡ Fork → ⊥) → StandsIn code s → Stands code (counts w s)
+  wants_counted w s other f = counted_stands s (λ u. wants w u) f (at_want code w (record s { size = s.size + 1 }) other (record { current = f.current; callers = f.callers; scopes = over_less s.size (s.size + 1) s.scopes (omega arith) f.scopes }))
 
   spent_stands : (s : State) (go : State → Step) → StandsIn code s → Stands code (go (record s { fuel = s.fuel + 1 })) → Stands code (spends s go)
   spent_stands s go f g = stands_either code (nat_le s.limits.fuel s.fuel) _ _ (λ e. at_fault code Fuel s f) (λ e. g)
@@ -151,14 +146,14 @@ module _ (code : Code) (ok : faults code ≡ []) where
       (λ e. record { current = subst (λ m. StandsAt code p m (length vs)) (sym (length-set s.current.locals n v)) h; callers = f.callers; scopes = f.scopes })
       (λ e. absurd (omega (arith, lt, ltb-false n (length s.current.locals) e)))
 
-  waited_stands : (ns : List ℕ) (p : ℕ) (vs : List ℤ) (s : State) → NoneOver s.size ns → s.size ≤ s.limits.size → StandsIn code s → StandsIn code (goes_to p vs s) → Stands code (wait_in ns p vs s)
-  waited_stands [] p vs s low le f g = g
-  waited_stands (zero ∷ ns) p vs s low le f g = g
-  waited_stands (suc n ∷ ns) p vs s low le f g = at_end code Sync (record s { scopes = n ∷ ns }) (λ is. cc) le (record { current = f.current; callers = f.callers; scopes = (omega (arith, low.0), low.1) })
+  waited_stands : (ns : List ℕ) (p : ℕ) (vs : List ℤ) (s : State) → NoneOver s.size ns → StandsIn code s → StandsIn code (goes_to p vs s) → Stands code (wait_in ns p vs s)
+  waited_stands [] p vs s low f g = g
+  waited_stands (zero ∷ ns) p vs s low f g = g
+  waited_stands (suc n ∷ ns) p vs s low f g = at_want code Sync (record s { scopes = n ∷ ns }) (λ is. cc) (record { current = f.current; callers = f.callers; scopes = (omega (arith, low.0), low.1) })
 
-  returned_stands : (fs : List Frame) (v : ℤ) (s : State) → s.size ≤ s.limits.size → StandsIn code s → WaitAt code fs → Stands code (returned fs v s)
-  returned_stands [] v s le f w = at_end code Done s (λ is. cc) le f
-  returned_stands (g ∷ fs) v s le f w = record { current = w.0; callers = w.1; scopes = over_behind s.size s.scopes f.scopes }
+  returned_stands : (fs : List Frame) (v : ℤ) (s : State) → StandsIn code s → WaitAt code fs → Stands code (returned fs v s)
+  returned_stands [] v s f w = at_want code Done s (λ is. cc) f
+  returned_stands (g ∷ fs) v s f w = record { current = w.0; callers = w.1; scopes = over_behind s.size s.scopes f.scopes }
 
   -- a function begins, with its arguments and zeros
   pub begins : (g : Func) (vs : List ℤ) → Contains code.funcs g → g.params ≤ length vs → StandsAt code g.start (length (locals_for g vs)) 0
@@ -174,7 +169,7 @@ module _ (code : Code) (ok : faults code ≡ []) where
       (λ few. absurd (omega (arith, le, ltb-true (length vs) g.params few)))
       (λ enough. stands_either code (nat_le most_frames (length s.callers + 1)) _ _ (λ deep. at_fault code Depth s f) (λ room. record { current = begins g vs co le; callers = (h, f.callers); scopes = (omega arith, f.scopes) })))
 
-  module _ (i : Instr) (s : State) (f : StandsIn code s) (le : s.size ≤ s.limits.size) where
+  module _ (i : Instr) (s : State) (f : StandsIn code s) where
     -- a place and operands at which the current function stands
     moved : (p : ℕ) (vs : List ℤ) → StandsAt code p (length s.current.locals) (length vs) → StandsIn code (goes_to p vs s)
     moved p vs h = record { current = h; callers = f.callers; scopes = f.scopes }
@@ -190,10 +185,10 @@ module _ (code : Code) (ok : faults code ≡ []) where
         let n = below_names i.a w.at.func.locals (tested _ _ _ w.operands) in
         let lt : index i.a < length s.current.locals = subst (λ z. index z < length s.current.locals) (sym n.1) (omega (arith, n.2, w.at.locals_there)) in
         write_stands (index i.a) v (s.current.place + 1) vs s lt f (onward w refl _ (omega arith))
-    act_stands t.Load vs w = wants_counted _ _ (λ is. cc) refl (moved _ (pos 0 ∷ vs) (onward w refl _ (omega arith)))
-    act_stands t.LoadAt (n ∷ vs) w = range_stands _ n s _ f (wants_counted _ _ (λ is. cc) refl (moved _ (pos 0 ∷ vs) (onward w refl _ (omega arith))))
-    act_stands t.Store (v ∷ vs) w = wants_counted _ _ (λ is. cc) refl (moved _ vs (onward w refl _ (omega arith)))
-    act_stands t.StoreAt (v ∷ n ∷ vs) w = range_stands _ n s _ f (wants_counted _ _ (λ is. cc) refl (moved _ vs (onward w refl _ (omega arith))))
+    act_stands t.Load vs w = wants_counted _ _ (λ is. cc) (moved _ (pos 0 ∷ vs) (onward w refl _ (omega arith)))
+    act_stands t.LoadAt (n ∷ vs) w = range_stands _ n s _ f (wants_counted _ _ (λ is. cc) (moved _ (pos 0 ∷ vs) (onward w refl _ (omega arith))))
+    act_stands t.Store (v ∷ vs) w = wants_counted _ _ (λ is. cc) (moved _ vs (onward w refl _ (omega arith)))
+    act_stands t.StoreAt (v ∷ n ∷ vs) w = range_stands _ n s _ f (wants_counted _ _ (λ is. cc) (moved _ vs (onward w refl _ (omega arith))))
     act_stands (t.Lift o) (x ∷ vs) w = result_stands _ (s.current.place + 1) vs s f (onward w refl _ (omega arith))
     act_stands (t.Join o) (y ∷ x ∷ vs) w = result_stands _ (s.current.place + 1) vs s f (onward w refl _ (omega arith))
     act_stands t.Jump vs w = moved _ vs (jumped w refl (tested _ _ _ w.operands) _ (omega arith))
@@ -212,20 +207,19 @@ module _ (code : Code) (ok : faults code ≡ []) where
         let spent = record s { fuel = s.fuel + 1 } in
         spent_stands s (λ u. coded.called (slice_get code.funcs (index i.a)) (s.current.place + 1) vs u) f
         (called_stands (slice_get code.funcs (index i.a)) x.0 here (contained code.funcs n.0 x.0 x.1) (s.current.place + 1) vs spent (omega (arith, w.room, count)) (record { current = f.current; callers = f.callers; scopes = f.scopes }) (onward w refl _ (omega (arith, w.room, count, length-drop x.0.params vs))))
-    act_stands t.Ret (v ∷ vs) w = returned_stands s.callers v s le f f.callers
+    act_stands t.Ret (v ∷ vs) w = returned_stands s.callers v s f f.callers
     act_stands t.Drop (v ∷ vs) w = moved _ vs (onward w refl _ (omega arith))
-    act_stands t.Out (v ∷ vs) w = wants_counted _ _ (λ is. cc) refl (moved _ vs (onward w refl _ (omega arith)))
-    act_stands t.Begin vs w = wants_counted Begin (record (goes_to (s.current.place + 1) vs s) { scopes = 0 ∷ s.scopes }) (λ is. cc) refl (record { current = onward w refl _ (omega arith); callers = f.callers; scopes = (omega arith, f.scopes) })
-    act_stands t.End vs w = goes_on code End (record (goes_to (s.current.place + 1) vs s) { scopes = drop 1 s.scopes }) (λ is. cc) refl (record { current = onward w refl _ (omega arith); callers = f.callers; scopes = over_behind s.size s.scopes f.scopes })
+    act_stands t.Out (v ∷ vs) w = wants_counted _ _ (λ is. cc) (moved _ vs (onward w refl _ (omega arith)))
+    act_stands t.Begin vs w = wants_counted Begin (record (goes_to (s.current.place + 1) vs s) { scopes = 0 ∷ s.scopes }) (λ is. cc) (record { current = onward w refl _ (omega arith); callers = f.callers; scopes = (omega arith, f.scopes) })
+    act_stands t.End vs w = at_want code End (record (goes_to (s.current.place + 1) vs s) { scopes = drop 1 s.scopes }) (λ is. cc) (record { current = onward w refl _ (omega arith); callers = f.callers; scopes = over_behind s.size s.scopes f.scopes })
     act_stands t.Fork vs w =
         let none : length vs ≡ 0 = omega (arith, w.at.operands_there, w.around.border refl) in
         counted_stands s (λ u. wants Fork (record (goes_to (index i.a) vs u) { scopes = one_more u.scopes; beside = s.current.place + 1 })) f (record {
           stands = record { current = jumped w refl (tested _ _ _ w.operands) _ (omega arith); callers = f.callers; scopes = over_more s.size s.scopes f.scopes };
           beside = λ is. record { current = onward w refl _ (omega arith); callers = tt; scopes = (omega arith, tt) };
-          within = λ is. absurd cc;
         })
-    act_stands t.Sync vs w = waited_stands s.scopes (s.current.place + 1) vs s f.scopes le f (moved _ vs (onward w refl _ (omega arith)))
-    act_stands t.Done vs w = at_end code Done s (λ is. cc) le f
+    act_stands t.Sync vs w = waited_stands s.scopes (s.current.place + 1) vs s f.scopes f (moved _ vs (onward w refl _ (omega arith)))
+    act_stands t.Done vs w = at_want code Done s (λ is. cc) f
     act_stands t.Tick vs w = spent_stands s (λ u. on (goes_to (s.current.place + 1) vs u)) f (record { current = onward w refl _ (omega arith); callers = f.callers; scopes = f.scopes })
     act_stands t.Set [] w = absurd (omega (arith, w.room))
     act_stands t.LoadAt [] w = absurd (omega (arith, w.room))
@@ -268,7 +262,7 @@ module _ (code : Code) (ok : faults code ≡ []) where
       (λ e. at_fault code Size s f)
       (λ e. subst (λ o. Stands code (coded.step_at code o s)) (sym n.here.is)
       (subst (λ o. Stands code (coded.act_of code o n.instr s)) (sym n.does)
-      (act_stands n.instr s f (ltb-false s.limits.size s.size e) n.effect s.current.operands n.here)))
+      (act_stands n.instr s f n.effect s.current.operands n.here)))
 
   module _ (main : ℕ) (words : List ℤ) (limits : Limits) (takes : coded.MainTakes code main (length words)) where
     first_stands : StandsIn code (coded.runs code main words limits).first
@@ -282,7 +276,7 @@ module _ (code : Code) (ok : faults code ≡ []) where
     pub stands_first : (s : State) → s ≡ (coded.runs code main words limits).first → StandsIn code s
     stands_first s is = subst (StandsIn code) (sym is) first_stands
 
-    visited_stands : (s : State) → Visits (coded.runs code main words limits) s → StandsIn code s
+    pub visited_stands : (s : State) → Visits (coded.runs code main words limits) s → StandsIn code s
     visited_stands s starts = first_stands
     visited_stands t (steps {s = s} v is) = subst (Stands code) is (step_stands s (visited_stands s v))
     visited_stands u (answers {s = s} {t = t} v is given) = given_stands code given t (subst (Stands code) is (step_stands s (visited_stands s v))).stands

@@ -1,7 +1,7 @@
 -- The code goes on with each statement, and so with all that the syntax does.
 use Rattle.std.proofs.Common.{◌≡◌, ℕ, ◌+◌, ◌≤◌, List, [], ◌∷◌, ◌++◌, length, refl, sym, subst, arith, None, ℤ, length-append}
 use Rattle.std.specs.Prelude.{nat_le}
-use Rattle.cw_text.specs.Syntax.{Statement, declare, assign, out, atomic, spawn, sync, Block, empty, first, Declaration}
+use Rattle.cw_text.specs.Syntax.{Statement, declare, assign, assign_at, out, atomic, spawn, sync, Block, empty, first, Declaration}
 use Rattle.cw_code.specs.declared.CellInfo.{CellInfo}
 use Rattle.cw_code.specs.declared.instruction.Instr.{Instr}
 use Rattle.cw_code.specs.declared.effects.Effect.TheVariants as effect
@@ -10,13 +10,13 @@ use Rattle.cw_code.specs.declared.FaultKind.TheVariants.{Size}
 use Rattle.cw_strand.specs.declared.want.Want.TheVariants.{Begin, Fork, Fault}
 use Rattle.cw_strand.specs.Names.{in_statement, in_block, cells_of}
 use Rattle.cw_strand.specs.Meaning as m
-use Rattle.cw_strand.specs.Meaning.{Task, value, perform, bind, store_in, show, forget, wait, commit, finish, one_more}
+use Rattle.cw_strand.specs.Meaning.{Task, value, perform, bind, store_in, store_at, show, forget, wait, commit, finish, one_more, cell_of}
 use Rattle.cw_strand.specs.Coded.{Frame}
-use Rattle.cw_strand.specs.Compilation.{Slots, code_of, term_code, statement_code, block_code, slots_after, slot_of, most, most_in, writes, set, tick, begin, end, fork, push}
+use Rattle.cw_strand.specs.Compilation.{Slots, code_of, term_code, statement_code, block_code, slots_after, slot_of, most, most_in, writes, set, tick, begin, end, fork, stores_at}
 use Rattle.cw_strand.specs.Compilation as instr
 use Rattle.cw_strand.proofs.Numbering.{scope_of, slots_behind, scope_behind, count_behind, dropped_behind, same_count}
 use Rattle.cw_strand.proofs.FitTasks.{no_fault}
-use Rattle.cw_strand.proofs.Doing.{HasAt, front, behind, Does, does_value, does_perform, does_bind, does_store, does_show, does_forget, does_wait, does_commit, does_finish}
+use Rattle.cw_strand.proofs.Doing.{HasAt, front, behind, Does, does_value, does_perform, does_bind, does_store, does_show, does_forget, does_wait, does_commit, does_finish, does_store_at}
 use Rattle.cw_strand.proofs.Sharing.{Shared, syntax_at, code_at, IsSmall, Ahead, Keeps, alike, same_place, both_choose, acts, ticks}
 use Rattle.cw_strand.proofs.Tasks.{counts_follow}
 
@@ -94,6 +94,19 @@ module _ (ds : List Declaration) (words : List ℤ) (limits : Limits) where
         ticks ds words limits x p vs small todo (λ t. m.begin_with cells limits (assign w e) k t) has.0 (λ z.
         let y : Shared ds words limits g n fs = record x { fuel = z } in
         same_place ds words limits y (p + 1) vs (value e ∷ store_in w.name ∷ k) does refl)
+    statement_follows (assign_at w i e) todo named room has rest =
+        let a = term_code cells g i in
+        let b = term_code cells g e in
+        let j = stores_at cells (cell_of cells w.name) in
+        let tail = behind instrs (p + 1) a (b ++ j ∷ []) has.1 in
+        let past : p + length (tick ∷ (a ++ (b ++ j ∷ []))) ≡ p + 1 + length a + length b + 1 = omega (arith, length-append a (b ++ j ∷ []), length-append b (j ∷ [])) in
+        let parts = no_fault _ _ (no_fault _ _ named).1 in
+        let last = does_store_at w.line (no_fault _ _ named).0 (behind instrs (p + 1 + length a) b (j ∷ []) tail).0 (subst (λ q. Does ds instrs n g (length vs) k q fs) past rest) in
+        let second = does_value parts.1 (front instrs (p + 1 + length a) b (j ∷ []) tail) last in
+        let does = does_value parts.0 (front instrs (p + 1) a (b ++ j ∷ []) has.1) second in
+        ticks ds words limits x p vs small todo (λ t. m.begin_with cells limits (assign_at w i e) k t) has.0 (λ z.
+        let y : Shared ds words limits g n fs = record x { fuel = z } in
+        same_place ds words limits y (p + 1) vs (value i ∷ value e ∷ store_at w.name ∷ k) does refl)
     statement_follows (out e) todo named room has rest =
         let a = term_code cells g e in
         let past : p + length (tick ∷ (a ++ instr.show ∷ [])) ≡ p + 1 + length a + 1 = omega (arith, length-append a (instr.show ∷ [])) in

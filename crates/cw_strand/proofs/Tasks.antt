@@ -1,33 +1,34 @@
 -- The instrs goes on with each task of the syntax that is no statement.
-use Rattle.std.proofs.Common.{◌≡◌, ◌∙◌, ℕ, zero, suc, ◌+◌, ◌-◌, ◌<◌, List, [], ◌∷◌, ◌++◌, length, drop, refl, sym, ap, subst, arith, Option, Some, None, Result, Ok, Err, ℤ, pos, inl, inr, length-append}
-use Rattle.std.specs.Prelude.{slice_get, slice_set, if◌then◌else◌, nat_le}
+use Rattle.std.proofs.Common.{◌≡◌, ◌∙◌, Bool, true, false, ℕ, zero, suc, ◌+◌, ◌-◌, ◌<◌, List, [], ◌∷◌, ◌++◌, length, drop, refl, sym, ap, subst, arith, Option, Some, None, Result, Ok, Err, ℤ, pos, negsuc, inl, inr, length-append}
+use Rattle.std.specs.Prelude.{slice_get, slice_set, if◌then◌else◌, nat_le, nat_lt}
 use Rattle.std.proofs.lemmas.Option.{slice_get_within}
 use Rattle.std.proofs.lemmas.List.{length-set}
 use Rattle.std.proofs.lemmas.Bool.{lt-ltb}
 use Rattle.cw_text.specs.declared.ast.Word.{Word}
-use Rattle.cw_text.specs.Syntax.{Term, number, name, unary, binary, Declaration}
+use Rattle.cw_text.specs.Syntax.{Term, number, name, at, unary, binary, Declaration}
 use Rattle.cw_code.specs.declared.CellInfo.{CellInfo}
 use Rattle.cw_code.specs.declared.instruction.Instr.{Instr}
 use Rattle.cw_code.specs.declared.effects.Operator.{Operator}
 use Rattle.cw_code.specs.declared.effects.Effect.TheVariants as effect
 use Rattle.cw_code.specs.declared.Limits.{Limits}
 use Rattle.cw_code.specs.declared.FaultKind.{FaultKind}
-use Rattle.cw_code.specs.declared.FaultKind.TheVariants.{Size}
+use Rattle.cw_code.specs.declared.FaultKind.TheVariants.{Range, Size}
 use Rattle.cw_code.specs.Table.{effect_at}
 use Rattle.cw_strand.specs.declared.want.Want.{Want}
 use Rattle.cw_strand.specs.declared.want.Want.TheVariants.{Load, Store, Out, End, Sync, Fault}
 use Rattle.cw_strand.specs.Arithmetic.{one, two}
-use Rattle.cw_strand.specs.Running.{on, stuck}
-use Rattle.cw_strand.specs.Names.{find, used, in_term, cells_of}
+use Rattle.cw_strand.specs.Running.{on, wants, stuck}
+use Rattle.cw_strand.specs.Names.{find, used, indexed, in_term, cells_of}
 use Rattle.cw_strand.specs.Meaning as m
-use Rattle.cw_strand.specs.Meaning.{Task, value, lift, join, discard, bind, store_in, show, forget, wait, commit, finish, local_of, with_local, element_of, lifted, joining, lifts, joins}
+use Rattle.cw_strand.specs.Meaning.{Task, value, lift, join, discard, bind, store_in, load_at, store_at, show, forget, wait, commit, local_of, with_local, element_of, cell_of, lifted, joining, lifts, joins}
 use Rattle.cw_strand.specs.Coded as c
 use Rattle.cw_strand.specs.Coded.{Frame}
-use Rattle.cw_strand.specs.Compilation.{Slots, code_of, slot_of, term_code, plain, number_of, lift_code, join_code, reads, writes, element, push, set}
+use Rattle.cw_strand.specs.Compilation.{Slots, code_of, slot_of, term_code, plain, number_of, lift_code, join_code, reads, writes, loads_at, stores_at, element, push, set}
 use Rattle.cw_strand.specs.Compilation as instr
-use Rattle.cw_strand.proofs.Numbering.{Agree, scope_of, Slotted, slotted, find_out, element_there, get_set, agree_newer, same_count, agree_drop}
+use Rattle.cw_strand.proofs.Numbering.{Agree, scope_of, Slotted, slotted, find_out, element_there, get_set, agree_newer, same_count, agree_drop, array_there}
+use Rattle.cw_strand.proofs.StandingNames.{IsCell}
 use Rattle.cw_strand.proofs.FitTasks.{no_fault}
-use Rattle.cw_strand.proofs.Doing.{HasAt, front, behind, Does, does_value, does_wait, does_lifts, does_joins}
+use Rattle.cw_strand.proofs.Doing.{HasAt, front, behind, Does, does_value, does_load_at, does_wait, does_lifts, does_joins}
 use Rattle.cw_strand.proofs.Sharing.{Shared, syntax_at, code_at, IsSmall, Ahead, Keeps, alike, same_place, moves, both_want, both_choose, acts}
 use Rattle.cw_strand.proofs.Following.{stays}
 
@@ -77,6 +78,12 @@ module _ (ds : List Declaration) (words : List ℤ) (limits : Limits) {g : Slots
   pub value_follows : (e : Term) (vs : List ℤ) (k : List Task) → in_term (scope_of ds g) e ≡ None → HasAt instrs p (term_code cells g e) → Does ds instrs n g (suc (length vs)) k (p + length (term_code cells g e)) fs → Follows (m.act cells limits (value e) vs k (source (value e ∷ k) vs)) vs
   value_follows (number v) vs k named has rest = pushes vs v k (acts ds words limits x p vs small (push v) effect.Push has.0 refl) rest
   value_follows (name w) vs k named has rest = name_follows w vs k (local_of x.locals w.name) (slot_of g w.name) (slotted x.locals g x.numbers w.name x.agree) refl named has.0 rest
+  value_follows (at w i) vs k named has rest =
+      let a = term_code cells g i in
+      let j = loads_at cells (cell_of cells w.name) in
+      let past : p + length (a ++ j ∷ []) ≡ p + length a + 1 = omega (arith, length-append a (j ∷ [])) in
+      let last = does_load_at w.line (no_fault _ _ named).0 (behind instrs p a (j ∷ []) has).0 (subst (λ q. Does ds instrs n g (suc (length vs)) k q fs) past rest) in
+      same_place ds words limits x p vs (value i ∷ load_at w.name ∷ k) (does_value (no_fault _ _ named).1 (front instrs p a (j ∷ []) has) last) refl
   value_follows (unary o e) vs k named has rest =
       let a = term_code cells g e in
       let b = lift_code (lifted o) in
@@ -152,6 +159,38 @@ module _ (ds : List Declaration) (words : List ℤ) (limits : Limits) {g : Slots
           let step = acts ds words limits x p (v ∷ vs) small (instr.store e.0) effect.Store there refl in
           let both = counts_follow (v ∷ vs) (Store e.0 v) x k (p + 1) vs step (alike ds words limits (record x { size = x.size + 1 }) k (p + 1) vs rest refl) in
           subst (λ z. Follows (m.write_name cells limits z (element_of cells a) a v (source k vs)) (v ∷ vs)) (sym r.0) (subst (λ z. Follows (m.write_name cells limits None z a v (source k vs)) (v ∷ vs)) (sym e.1) both)
+
+  -- ## Elements of arrays
+
+  -- an index that is one of an array's, or else a fault
+  range_follows : (d : CellInfo) (i : ℤ) (us : List ℤ) (k : List Task) (go : ℕ → m.Step) (on_code : ℕ → c.Step) → Steps us (c.in_range d.len i (coded p us) (on_code (c.index i)))
+      → ((j : ℕ) → Steps us (on_code j) → Follows (go (d.base + j)) us) → Follows (m.in_range cells limits (Some d) i (source k us) go) us
+  range_follows d (negsuc j) us k go on_code step h = both_want ds words limits x p us (Fault Range) (source k us) (coded p us) step tt
+  range_follows d (pos j) us k go on_code step h = by (nat_lt j d.len) step
+    where
+      by : (b : Bool) → Steps us (if b then on_code j else wants (Fault Range) (coded p us)) → Follows (if b then go (d.base + j) else wants (Fault Range) (source k us)) us
+      by true step = h j step
+      by false step = both_want ds words limits x p us (Fault Range) (source k us) (coded p us) step tt
+
+  pub load_at_follows : (a : List ℕ) (line : ℕ) (i : ℤ) (vs : List ℤ) (k : List Task) → indexed (find a (scope_of ds g)) line ≡ None → slice_get instrs p ≡ Some (loads_at cells (cell_of cells a)) → DoesNext (suc (length vs)) k → Follows (m.act cells limits (load_at a) (i ∷ vs) k (source (load_at a ∷ k) (i ∷ vs))) (i ∷ vs)
+  load_at_follows a line i vs k named stands rest = by (cell_of cells a) refl (array_there ds g a line named)
+    where
+      by : (o : Option CellInfo) → cell_of cells a ≡ o → IsCell o → Follows (m.in_range cells limits o i (source (load_at a ∷ k) (i ∷ vs)) (λ e. m.counts cells limits (Load e) (source k (pos 0 ∷ vs)))) (i ∷ vs)
+      by None e none = absurd none
+      by (Some d) e some =
+          let there = stands ∙ ap (λ z. Some (loads_at cells z)) e in
+          range_follows d i (i ∷ vs) (load_at a ∷ k) _ (λ j. c.counts (Load (d.base + j)) (coded (p + 1) (pos 0 ∷ vs))) (acts ds words limits x p (i ∷ vs) small (instr.load_at d.base d.len) effect.LoadAt there refl)
+          (λ j step. counts_follow (i ∷ vs) (Load (d.base + j)) x k (p + 1) (pos 0 ∷ vs) step (alike ds words limits (record x { size = x.size + 1 }) k (p + 1) (pos 0 ∷ vs) rest refl))
+
+  pub store_at_follows : (a : List ℕ) (line : ℕ) (v i : ℤ) (vs : List ℤ) (k : List Task) → indexed (find a (scope_of ds g)) line ≡ None → slice_get instrs p ≡ Some (stores_at cells (cell_of cells a)) → DoesNext (length vs) k → Follows (m.act cells limits (store_at a) (v ∷ i ∷ vs) k (source (store_at a ∷ k) (v ∷ i ∷ vs))) (v ∷ i ∷ vs)
+  store_at_follows a line v i vs k named stands rest = by (cell_of cells a) refl (array_there ds g a line named)
+    where
+      by : (o : Option CellInfo) → cell_of cells a ≡ o → IsCell o → Follows (m.in_range cells limits o i (source (store_at a ∷ k) (v ∷ i ∷ vs)) (λ e. m.counts cells limits (Store e v) (source k vs))) (v ∷ i ∷ vs)
+      by None e none = absurd none
+      by (Some d) e some =
+          let there = stands ∙ ap (λ z. Some (stores_at cells z)) e in
+          range_follows d i (v ∷ i ∷ vs) (store_at a ∷ k) _ (λ j. c.counts (Store (d.base + j) v) (coded (p + 1) vs)) (acts ds words limits x p (v ∷ i ∷ vs) small (instr.store_at d.base d.len) effect.StoreAt there refl)
+          (λ j step. counts_follow (v ∷ i ∷ vs) (Store (d.base + j) v) x k (p + 1) vs step (alike ds words limits (record x { size = x.size + 1 }) k (p + 1) vs rest refl))
 
   -- ## The ends of blocks, and of strands
 

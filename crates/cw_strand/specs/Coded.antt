@@ -20,7 +20,7 @@ use Rattle.cw_strand.specs.declared.want.Given.TheVariants.{Nothing, Value}
 use Rattle.cw_strand.specs.Strands.{Strands}
 use Rattle.cw_strand.specs.Running as running
 use Rattle.cw_strand.specs.Running.{Running, Standing, on, wants, stuck}
-use Rattle.cw_strand.specs.Meaning.{one_more, in_place}
+use Rattle.cw_strand.specs.Meaning.{one_more, in_place, both_counts}
 use Rattle.cw_strand.specs.Arithmetic.{one, two, is_zero}
 
 -- a function that stands: where it goes on, its operands, the newest first, and its locals by number
@@ -77,7 +77,7 @@ left s = record s {
 
 -- the strand that forked has what the right one has, the greater fuel, and both counts
 abbrev pub joined : (right left : State) → State
-joined right left = record right { fuel = max left.fuel right.fuel; size = left.size + right.size }
+joined right left = record right { fuel = max left.fuel right.fuel; size = both_counts right.limits right.size left.size }
 
 -- what counts one goes on while that is within the limit
 abbrev pub counted : State → (State → Step) → Step

@@ -5,7 +5,7 @@
 use Rattle.std.specs.Prelude.{ℕ, ◌+◌, List, [], ◌∷◌, ◌++◌, length, max, Option, Some, None, if◌then◌else◌, codes, ℤ, pos}
 use Rattle.std.specs.Str.{bytes_eq}
 use Rattle.cw_text.specs.declared.ast.Word.{Word}
-use Rattle.cw_text.specs.Syntax.{Term, number, name, unary, binary, Statement, declare, assign, out, atomic, spawn, sync, Block, empty, first, Declaration, cell, func}
+use Rattle.cw_text.specs.Syntax.{Term, number, name, at, unary, binary, Statement, declare, assign, assign_at, out, atomic, spawn, sync, Block, empty, first, Declaration, cell, func}
 use Rattle.cw_code.specs.declared.CellInfo.{CellInfo}
 use Rattle.cw_code.specs.declared.instruction.Instr.{Instr}
 use Rattle.cw_code.specs.declared.instruction.Func.{Func}
@@ -13,7 +13,7 @@ use Rattle.cw_code.specs.declared.instruction.Code.{Code}
 use Rattle.cw_code.specs.declared.effects.Operator.{Operator}
 use Rattle.cw_code.specs.declared.effects.Operator.TheVariants.{Add as add, Sub as sub, Mul as mul, Div as div, Rem as rem, Neg as neg, Not as logical_not, Eq as eq, Ne as ne, Lt as lt, Le as le, Gt as gt, Ge as ge}
 use Rattle.cw_strand.specs.Names.{elements, cells_of}
-use Rattle.cw_strand.specs.Meaning.{element_of, lifted, joining}
+use Rattle.cw_strand.specs.Meaning.{element_of, cell_of, lifted, joining}
 
 -- ## Instructions
 
@@ -38,6 +38,13 @@ load = with_a 4
 
 abbrev pub store : ℕ → Instr
 store = with_a 6
+
+-- an element of the cells from this one on, so many
+abbrev pub load_at : ℕ → ℕ → Instr
+load_at c len = record { op = 5; a = pos c; b = len }
+
+abbrev pub store_at : ℕ → ℕ → Instr
+store_at c len = record { op = 7; a = pos c; b = len }
 
 abbrev pub ret : Instr
 ret = plain 24
@@ -126,9 +133,18 @@ module _ (cells : List CellInfo) where
   writes (Some n) x = set n
   writes None x = store (element (element_of cells x))
 
+  abbrev pub loads_at : Option CellInfo → Instr
+  loads_at None = load_at 0 0
+  loads_at (Some c) = load_at c.base c.len
+
+  abbrev pub stores_at : Option CellInfo → Instr
+  stores_at None = store_at 0 0
+  stores_at (Some c) = store_at c.base c.len
+
   abbrev pub term_code : Slots → Term → List Instr
   term_code g (number n) = push n ∷ []
   term_code g (name w) = reads (slot_of g w.name) w.name ∷ []
+  term_code g (at w i) = term_code g i ++ loads_at (cell_of cells w.name) ∷ []
   term_code g (unary o e) = term_code g e ++ lift_code (lifted o)
   term_code g (binary o l r) = term_code g l ++ (term_code g r ++ join_code (joining o) ∷ [])
 
@@ -137,6 +153,7 @@ module _ (cells : List CellInfo) where
     pub statement_code : Slots → ℕ → Statement → List Instr
     statement_code g p (declare w e) = tick ∷ (term_code g e ++ set (length g) ∷ [])
     statement_code g p (assign w e) = tick ∷ (term_code g e ++ writes (slot_of g w.name) w.name ∷ [])
+    statement_code g p (assign_at w i e) = tick ∷ (term_code g i ++ (term_code g e ++ stores_at (cell_of cells w.name) ∷ []))
     statement_code g p (out e) = tick ∷ (term_code g e ++ show ∷ [])
     statement_code g p (atomic b) = tick ∷ begin ∷ (block_code g (p + 1 + 1) b ++ (wait ∷ end ∷ []))
     statement_code g p (spawn b) =

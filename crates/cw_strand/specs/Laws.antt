@@ -7,12 +7,13 @@ use Rattle.cw_code.specs.Rules.{faults}
 use Rattle.cw_strand.specs.declared.want.Want.{Want}
 use Rattle.cw_strand.specs.declared.want.Want.TheVariants.{Load, Store, Done}
 use Rattle.cw_strand.specs.Strands.{Strands, Reached, IsDeep, Closes, IsLawful}
-use Rattle.cw_strand.specs.Running.{Standing, Settles, NeverStuck}
+use Rattle.cw_strand.specs.Running.{Standing, Settles, NeverStuck, Visits}
 use Rattle.cw_strand.specs.Pasts.{Past, became, CanBe, WantTheSame}
 use Rattle.cw_strand.specs.Names.{naming_fault}
 use Rattle.cw_strand.specs.Meaning as meaning
 use Rattle.cw_strand.specs.Meaning.{State, finish}
 use Rattle.cw_strand.specs.Coded as coded
+use Rattle.cw_strand.specs.Standing.{StandsIn, Stands}
 use Rattle.cw_strand.specs.Compilation.{code_of, main_function}
 
 -- ## Over the syntax
@@ -57,6 +58,16 @@ abbrev pub CodeIsNeverStuck : Type 0
 CodeIsNeverStuck =
     (code : Code) (main : ℕ) (words : List ℤ) (limits : Limits) → faults code ≡ [] → coded.MainTakes code main (length words)
     → NeverStuck (coded.runs code main words limits)
+
+-- Where each function of a strand stands at a place of the code, with what stands there, it does so wherever the strand's next step leads.
+abbrev pub StandsOn : Type 0
+StandsOn = (code : Code) (s : coded.State) → faults code ≡ [] → StandsIn code s → Stands code (coded.step code s)
+
+-- Each state stands so through which the strands of a main go, whatever they are answered and whichever are joined.
+abbrev pub VisitedStand : Type 0
+VisitedStand =
+    (code : Code) (main : ℕ) (words : List ℤ) (limits : Limits) → faults code ≡ [] → coded.MainTakes code main (length words)
+    → (s : coded.State) → Visits (coded.runs code main words limits) s → StandsIn code s
 
 -- A strand never goes on by itself for ever.
 abbrev pub CodeWorkEnds : Type 0

@@ -8,18 +8,18 @@
 -- and the strand that forked goes on from there once both have ended.
 --
 -- Each statement costs a unit of fuel when it begins. A load, a store, an output, the begin of a block and a fork count one each.
-use Rattle.std.specs.Prelude.{◌≡◌, ℕ, suc, ◌+◌, ◌-◌, List, [], ◌∷◌, length, drop, reverse, max, Option, Some, None, Result, Ok, Err, if◌then◌else◌, nat_lt, nat_le, codes, ℤ, pos}
+use Rattle.std.specs.Prelude.{◌≡◌, ℕ, suc, ◌+◌, ◌-◌, List, [], ◌∷◌, length, drop, reverse, max, min, Option, Some, None, Result, Ok, Err, if◌then◌else◌, nat_lt, nat_le, codes, ℤ, pos, negsuc}
 use Rattle.std.specs.Str.{bytes_eq}
 use Rattle.cw_text.specs.declared.ast.Word.{Word}
 use Rattle.cw_text.specs.declared.ast.Op.{Op}
 use Rattle.cw_text.specs.declared.ast.Op.TheVariants as op
-use Rattle.cw_text.specs.Syntax.{Term, number, name, unary, binary, Statement, declare, assign, out, atomic, spawn, sync, Block, empty, first, Declaration, cell, func}
+use Rattle.cw_text.specs.Syntax.{Term, number, name, at, unary, binary, Statement, declare, assign, assign_at, out, atomic, spawn, sync, Block, empty, first, Declaration, cell, func}
 use Rattle.cw_code.specs.declared.FaultKind.{FaultKind}
-use Rattle.cw_code.specs.declared.FaultKind.TheVariants.{Fuel, Size}
+use Rattle.cw_code.specs.declared.FaultKind.TheVariants.{Range, Fuel, Size}
 use Rattle.cw_code.specs.declared.CellInfo.{CellInfo}
 use Rattle.cw_code.specs.declared.Limits.{Limits}
 use Rattle.cw_code.specs.declared.effects.Operator.{Operator}
-use Rattle.cw_code.specs.declared.effects.Operator.TheVariants.{Add as add, Sub as sub, Mul as mul, Neg as neg, Not as logical_not, Eq as eq, Ne as ne, Lt as lt, Le as le, Gt as gt, Ge as ge}
+use Rattle.cw_code.specs.declared.effects.Operator.TheVariants.{Add as add, Sub as sub, Mul as mul, Div as div, Rem as rem, Neg as neg, Not as logical_not, Eq as eq, Ne as ne, Lt as lt, Le as le, Gt as gt, Ge as ge}
 use Rattle.cw_strand.specs.declared.want.Want.{Want}
 use Rattle.cw_strand.specs.declared.want.Want.TheVariants.{Load, Store, Out, Begin, End, Fork, Sync, Done, Fault}
 use Rattle.cw_strand.specs.declared.want.Given.{Given}
@@ -36,6 +36,11 @@ use Rattle.cw_strand.specs.Arithmetic.{one, two}
 abbrev pub element_of : List CellInfo → List ℕ → Option ℕ
 element_of [] n = None
 element_of (c ∷ cs) n = if bytes_eq n c.name then Some c.base else element_of cs n
+
+-- the cell of a name
+abbrev pub cell_of : List CellInfo → List ℕ → Option CellInfo
+cell_of [] n = None
+cell_of (c ∷ cs) n = if bytes_eq n c.name then Some c else cell_of cs n
 
 -- locals, the newest first
 abbrev pub Locals : Type 0
@@ -86,6 +91,8 @@ abbrev pub joining : Op → Option Operator
 joining op.Add = Some add
 joining op.Sub = Some sub
 joining op.Mul = Some mul
+joining op.Div = Some div
+joining op.Rem = Some rem
 joining op.Eq = Some eq
 joining op.Ne = Some ne
 joining op.Lt = Some lt
@@ -109,6 +116,9 @@ pub data Task : Type 0 where
   perform : Block → Task
   bind : List ℕ → Task
   store_in : List ℕ → Task
+  -- an element of an array is loaded, or stored, whose index is an operand
+  load_at : List ℕ → Task
+  store_at : List ℕ → Task
   show : Task
   -- the end of a block that had so many locals before it
   forget : ℕ → Task
@@ -174,9 +184,13 @@ with_value (Value v) s = record s { values = in_place v s.values }
 abbrev pub left : State → State
 left s = record s { todo = perform s.beside ∷ wait ∷ finish ∷ []; values = []; scopes = 0 ∷ []; size = 0 }
 
+-- both counts, no further than past the limit
+abbrev pub both_counts : Limits → (right left : ℕ) → ℕ
+both_counts limits right left = max right (min (suc limits.size) (left + right))
+
 -- the strand that forked has what the right one has, the greater fuel, and both counts
-abbrev pub joined : (right left : State) → State
-joined right left = record right { fuel = max left.fuel right.fuel; size = left.size + right.size }
+abbrev pub joined : Limits → (right left : State) → State
+joined limits right left = record right { fuel = max left.fuel right.fuel; size = both_counts limits right.size left.size }
 
 module _ (cells : List CellInfo) (limits : Limits) where
   -- what counts one goes on while that is within the limit
@@ -201,10 +215,17 @@ module _ (cells : List CellInfo) (limits : Limits) where
   write_name None (Some c) n v s = counts (Store c v) s
   write_name None None n v s = stuck
 
+  -- the element of an array with this index, and what is done with it
+  abbrev pub in_range : Option CellInfo → ℤ → State → (ℕ → Step) → Step
+  in_range None i s go = stuck
+  in_range (Some c) (negsuc n) s go = wants (Fault Range) s
+  in_range (Some c) (pos n) s go = if nat_lt n c.len then go (c.base + n) else wants (Fault Range) s
+
   -- a statement whose unit is spent, and what is done after it
   abbrev pub begin_with : Statement → List Task → State → Step
   begin_with (declare w e) k s = on (to_do (value e ∷ bind w.name ∷ k) s)
   begin_with (assign w e) k s = on (to_do (value e ∷ store_in w.name ∷ k) s)
+  begin_with (assign_at w i e) k s = on (to_do (value i ∷ value e ∷ store_at w.name ∷ k) s)
   begin_with (out e) k s = on (to_do (value e ∷ show ∷ k) s)
   begin_with (atomic b) k s = counts Begin (record s { todo = perform b ∷ forget (length s.locals) ∷ wait ∷ commit ∷ k; scopes = 0 ∷ s.scopes })
   begin_with (spawn b) k s = counted s (λ t. wants Fork (record t { todo = k; scopes = one_more t.scopes; beside = b }))
@@ -214,6 +235,7 @@ module _ (cells : List CellInfo) (limits : Limits) where
   abbrev pub act : Task → List ℤ → List Task → State → Step
   act (value (number n)) vs k s = on (record s { todo = k; values = n ∷ vs })
   act (value (name w)) vs k s = read_name (local_of s.locals w.name) (element_of cells w.name) (to_do k s)
+  act (value (at w i)) vs k s = on (to_do (value i ∷ load_at w.name ∷ k) s)
   act (value (unary o e)) vs k s = on (to_do (value e ∷ lifts (lifted o) k) s)
   act (value (binary o l r)) vs k s = on (to_do (value l ∷ value r ∷ joins (joining o) k) s)
   act (lift o) (x ∷ vs) k s = result (one o x) vs (to_do k s)
@@ -223,6 +245,8 @@ module _ (cells : List CellInfo) (limits : Limits) where
   act (perform (first st b)) vs k s = spends s (λ t. begin_with st (perform b ∷ k) t)
   act (bind n) (v ∷ vs) k s = on (record s { todo = k; values = vs; locals = (n, v) ∷ s.locals })
   act (store_in n) (v ∷ vs) k s = write_name (local_of s.locals n) (element_of cells n) n v (record s { todo = k; values = vs })
+  act (load_at n) (i ∷ vs) k s = in_range (cell_of cells n) i s (λ c. counts (Load c) (record s { todo = k; values = pos 0 ∷ vs }))
+  act (store_at n) (v ∷ i ∷ vs) k s = in_range (cell_of cells n) i s (λ c. counts (Store c v) (record s { todo = k; values = vs }))
   act show (v ∷ vs) k s = counts (Out v) (record s { todo = k; values = vs })
   act (forget n) vs k s = on (record s { todo = k; locals = drop (length s.locals - n) s.locals })
   act wait vs k s = wait_in s.scopes k s
@@ -244,6 +268,7 @@ module _ (cells : List CellInfo) (limits : Limits) where
 abbrev pub term_work : Term → ℕ
 term_work (number n) = 1
 term_work (name w) = 1
+term_work (at w i) = term_work i + 2
 term_work (unary o e) = term_work e + 2
 term_work (binary o l r) = term_work l + term_work r + 2
 
@@ -251,6 +276,7 @@ abbrev mutual
   pub statement_work : Statement → ℕ
   statement_work (declare w e) = term_work e + 1
   statement_work (assign w e) = term_work e + 1
+  statement_work (assign_at w i e) = term_work i + term_work e + 2
   statement_work (out e) = term_work e + 1
   statement_work (atomic b) = block_work b + 3
   statement_work (spawn b) = block_work b + 2
@@ -291,7 +317,7 @@ runs ds words limits = record {
   step = step (cells_of ds) limits;
   answered = with_value;
   left = left;
-  joined = joined;
+  joined = joined limits;
   bound = λ s. work s.todo;
 }
 

@@ -5,7 +5,7 @@ use Rattle.std.specs.Prelude.{ℕ, zero, suc, ◌+◌, List, [], ◌∷◌, repl
 use Rattle.std.specs.List.{flat_map}
 use Rattle.cw_text.specs.declared.ast.Word.{Word}
 use Rattle.std.specs.Str.{bytes_eq}
-use Rattle.cw_text.specs.Syntax.{Term, number, name, unary, binary, Statement, declare, assign, out, atomic, spawn, sync, Block, empty, first, Declaration, cell, func}
+use Rattle.cw_text.specs.Syntax.{Term, number, name, at, unary, binary, Statement, declare, assign, assign_at, out, atomic, spawn, sync, Block, empty, first, Declaration, cell, func}
 use Rattle.cw_code.specs.declared.CellInfo.{CellInfo}
 use Rattle.cw_strand.specs.declared.naming.NameKind.{NameKind}
 use Rattle.cw_strand.specs.declared.naming.NameKind.TheVariants as kind
@@ -14,7 +14,9 @@ use Rattle.cw_strand.specs.declared.naming.NameFault.{NameFault}
 -- what a name stands for
 pub data Thing : Type 0 where
   a_local : Thing
+  -- a plain cell, and one with elements
   a_cell : Thing
+  an_array : Thing
   a_function : Thing
 
 -- names and what they stand for, the newest first
@@ -44,7 +46,14 @@ abbrev pub used : Option Thing → ℕ → Fault
 used None l = fault kind.Unknown l
 used (Some a_local) l = None
 used (Some a_cell) l = None
+used (Some an_array) l = fault kind.NotACell l
 used (Some a_function) l = fault kind.NotALocal l
+
+-- a name that is read or assigned with an index
+abbrev pub indexed : Option Thing → ℕ → Fault
+indexed None l = fault kind.Unknown l
+indexed (Some an_array) l = None
+indexed (Some t) l = fault kind.NotACell l
 
 -- a name that is declared
 abbrev pub declared_new : Option Thing → ℕ → Fault
@@ -54,6 +63,7 @@ declared_new (Some t) l = fault kind.Twice l
 abbrev pub in_term : Scope → Term → Fault
 in_term g (number n) = None
 in_term g (name w) = used (find w.name g) w.line
+in_term g (at w i) = indexed (find w.name g) w.line then in_term g i
 in_term g (unary o e) = in_term g e
 in_term g (binary o l r) = in_term g l then in_term g r
 
@@ -66,6 +76,7 @@ abbrev mutual
   pub in_statement : Scope → Statement → Fault
   in_statement g (declare w e) = declared_new (find w.name g) w.line then in_term g e
   in_statement g (assign w e) = used (find w.name g) w.line then in_term g e
+  in_statement g (assign_at w i e) = indexed (find w.name g) w.line then in_term g i then in_term g e
   in_statement g (out e) = in_term g e
   in_statement g (atomic b) = in_block g b
   in_statement g (spawn b) = in_block g b
@@ -91,10 +102,15 @@ abbrev pub elements : ℕ → ℕ
 elements zero = 1
 elements (suc n) = suc n
 
+-- what a cell of this length is
+abbrev pub cell_thing : ℕ → Thing
+cell_thing zero = a_cell
+cell_thing (suc n) = an_array
+
 -- what the items declare
 abbrev pub globals : List Declaration → Scope
 globals [] = []
-globals (cell n l len i ∷ ds) = (n, a_cell) ∷ globals ds
+globals (cell n l len i ∷ ds) = (n, cell_thing len) ∷ globals ds
 globals (func n l ps b ∷ ds) = (n, a_function) ∷ globals ds
 
 -- the items, with the names before them and the number of their elements
@@ -103,7 +119,7 @@ in_items g n [] = None
 in_items g n (cell x l len i ∷ ds) =
     declared_new (find x g) l
     then (if nat_lt 4096 (n + elements len) then fault kind.TooManyCells l else None)
-    then in_items ((x, a_cell) ∷ g) (n + elements len) ds
+    then in_items ((x, cell_thing len) ∷ g) (n + elements len) ds
 in_items g n (func x l ps b ∷ ds) = declared_new (find x g) l then in_items ((x, a_function) ∷ g) n ds
 
 abbrev pub in_functions : Scope → List Declaration → Fault

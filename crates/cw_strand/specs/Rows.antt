@@ -1,12 +1,12 @@
 -- Worked programs: their naming faults, their code, and what their strands want, over the syntax and over the code.
-use Rattle.std.specs.Prelude.{ℕ, zero, suc, ◌≡◌, List, [], ◌∷◌, codes, Result, Ok, Err, None, ℤ, pos}
+use Rattle.std.specs.Prelude.{ℕ, zero, suc, ◌≡◌, List, [], ◌∷◌, codes, Result, Ok, Err, None, ℤ, pos, negsuc}
 use Rattle.cw_text.specs.declared.fault.TextFault.{TextFault}
 use Rattle.cw_text.specs.Syntax.{Declaration}
 use Rattle.cw_text.specs.Rows.{read}
-use Rattle.cw_code.specs.declared.FaultKind.TheVariants.{Overflow, Fuel, Size}
+use Rattle.cw_code.specs.declared.FaultKind.TheVariants.{Zero, Overflow, Range, Fuel, Size}
 use Rattle.cw_code.specs.declared.Limits.{Limits}
 use Rattle.cw_code.specs.declared.instruction.Code.{Code}
-use Rattle.cw_strand.specs.declared.naming.NameKind.TheVariants.{Unknown, Twice, NoMain, NotALocal}
+use Rattle.cw_strand.specs.declared.naming.NameKind.TheVariants.{Unknown, Twice, NoMain, NotACell, NotALocal, TooManyCells}
 use Rattle.cw_strand.specs.declared.want.Want.{Want}
 use Rattle.cw_strand.specs.declared.want.Want.TheVariants.{Load, Store, Out, Begin, End, Fork, Sync, Done, Fault}
 use Rattle.cw_strand.specs.declared.want.Given.{Given}
@@ -40,6 +40,11 @@ Faults =
     × (faulty (codes "fn main() { atomic { let x = 1; } let x = 2; spawn { let y = x; } let y = x; }") ≡ None)
     × (faulty (codes "fn main() { let x = 1; spawn {\n let x = 2; } }") ≡ names.fault Twice 2)
     × (faulty (codes "fn main() { spawn { atomic {\n out x; } } let x = 2; }") ≡ names.fault Unknown 2)
+    × (faulty (codes "cell a[4097]; fn main() {}") ≡ names.fault TooManyCells 1)
+    × (faulty (codes "cell c; fn main() { c[0] = 1; }") ≡ names.fault NotACell 1)
+    × (faulty (codes "cell a[2]; fn main() { out a; }") ≡ names.fault NotACell 1)
+    × (faulty (codes "fn main() { out main[0]; }") ≡ names.fault NotACell 1)
+    × (faulty (codes "fn main() { out g[0]; }") ≡ names.fault Unknown 1)
 
 -- The strand of a fork that is not at work: the right one, before it begins, or the left one, at its end.
 pub data Other (A : Type 0) : Type 0 where
@@ -91,6 +96,14 @@ Traces =
     Wants 9 9 count_one (pos 0 ∷ pos 1 ∷ []) (Load 0 ∷ Store 0 (pos 1) ∷ Load 0 ∷ Out (pos 1) ∷ Done ∷ [])
     × Wants 9 9 (codes "cell a; cell b; fn main() { let x = a - b; x = x * x; b = !x; out x >= 4; }") (pos 1 ∷ pos 3 ∷ []) (Load 0 ∷ Load 1 ∷ Store 1 (pos 0) ∷ Out (pos 1) ∷ Done ∷ [])
     × Wants 9 9 (codes "fn main() { out 9223372036854775807 + 1; }") [] (Fault Overflow ∷ [])
+
+-- An index is tested before it counts, behind the value that is stored; the remainder of the least number by -1 is a fault.
+abbrev pub Arrays : Type 0
+Arrays =
+    Wants 9 9 (codes "cell a[3] = 2; fn main() { a[1] = a[0] * 5; a[3] = 1; }") (pos 2 ∷ []) (Load 0 ∷ Store 1 (pos 10) ∷ Fault Range ∷ [])
+    × Wants 9 9 (codes "cell a[2]; fn main() { a[2] = 1 / 0; }") [] (Fault Zero ∷ [])
+    × Wants 9 1 (codes "cell c; cell a[2]; fn main() { c = 1; a[2] = 1; }") [] (Store 0 (pos 1) ∷ Fault Range ∷ [])
+    × Wants 9 9 (codes "fn main() { out 7 / 2; out -7 / 2; out -7 % 2; out 7 % -2; out (0 - 9223372036854775807 - 1) % -1; }") [] (Out (pos 3) ∷ Out (negsuc 2) ∷ Out (negsuc 0) ∷ Out (pos 1) ∷ Fault Overflow ∷ [])
 
 -- After a fork come the wants of its left strand up to the end, those of its right one up to its sync, and then those of the
 -- strand that forked.

@@ -8,9 +8,8 @@ use Rattle.cw_code.specs.Rules.{inside, known_at, places}
 use Rattle.cw_strand.specs.declared.want.Want.{Want}
 use Rattle.cw_strand.specs.declared.want.Want.TheVariants.{Fork}
 use Rattle.cw_strand.specs.declared.want.Given.{Given}
-use Rattle.cw_strand.specs.Strands.{is_over}
-use Rattle.cw_strand.specs.Running.{stand}
-use Rattle.cw_strand.specs.Coded.{Frame, State, left, with_value, runs}
+use Rattle.cw_strand.specs.Running.{stand, on, wants, stuck}
+use Rattle.cw_strand.specs.Coded.{Frame, State, Step, left, with_value, runs}
 
 abbrev pub NoneOver : ℕ → List ℕ → Type 0
 NoneOver most [] = Unit {0}
@@ -39,11 +38,16 @@ module _ (code : Code) where
     pub callers : WaitAt s.callers
     pub scopes : NoneOver s.size s.scopes
 
-  -- At its want: so does the left strand of its fork, and one that has ended has counted no more than it may.
+  -- At its want: so does the left strand of its fork.
   pub record StandsWanting (w : Want) (s : State) : Type 0 where
     pub stands : StandsIn s
     pub beside : w ≡ Fork → StandsIn (left s)
-    pub within : is_over w ≡ true → s.size ≤ s.limits.size
+
+  -- so does what its next step leads to, and there is one
+  abbrev pub Stands : Step → Type 0
+  Stands (on s) = StandsIn s
+  Stands (wants w s) = StandsWanting w s
+  Stands stuck = ⊥
 
   -- The want to which a strand comes by itself once it was given this, and the state at it: in every run of the code.
   abbrev pub NextFrom : State → Given → Want → State → Type 0

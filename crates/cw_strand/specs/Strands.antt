@@ -1,5 +1,5 @@
--- The law of strands: all that a machine, a record or a replay knows of one. It is given from the syntax tree in
--- `Meaning`; whatever else gives it, as compiled code, takes that one's place.
+-- The law of strands: all that a machine, a record or a replay knows of one. It is given twice: from
+-- the syntax tree in `Meaning`, and from compiled code in `Coded`.
 use Rattle.std.specs.Prelude.{◌≡◌, ℕ, zero, suc, ◌<◌, ◌≤◌, Bool, true, false, List, [], ◌∷◌}
 use Rattle.cw_strand.specs.declared.want.Want.{Want}
 use Rattle.cw_strand.specs.declared.want.Want.TheVariants.{Load, Store, Out, Begin, End, Fork, Sync, Done, Fault}

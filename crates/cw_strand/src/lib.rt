@@ -7,10 +7,10 @@
 #![tactic(auto)]
 
 ghost use Rattle.cw_strand.specs.Laws.{LocalWorkEnds, ForksEnd, EndsOnlyWhenDone, BlocksClose, StrandsAreLawful};
-ghost use Rattle.cw_strand.specs.Laws.{CodeIsNeverStuck, CodeWorkEnds, CodeForksEnd, CodeNamesElements};
+ghost use Rattle.cw_strand.specs.Laws.{CodeIsNeverStuck, StandsOn, VisitedStand, CodeWorkEnds, CodeForksEnd, CodeNamesElements};
 ghost use Rattle.cw_strand.specs.Laws.{BreaksNoRule, WantsOfTheSource, CodeEndsOnlyWhenDone, CodeIsLawful, ClosesWithIt};
 ghost use Rattle.cw_strand.specs.Pasts.{CanBe, Past, WantTheSame};
-ghost use Rattle.cw_strand.specs.Rows.{Faults, Traces, Forks, Spent, Codes, Endings};
+ghost use Rattle.cw_strand.specs.Rows.{Arrays, Faults, Traces, Forks, Spent, Codes, Endings};
 ghost use Rattle.cw_strand.specs.Strands.{Strands};
 ghost use Rattle.std.specs.Prelude.{◌↔◌};
 
@@ -29,6 +29,7 @@ pub fn worked_programs()
     ensures faults { Faults }
     ensures codes { Codes }
     ensures traces { Traces }
+    ensures arrays { Arrays }
     ensures forks { Forks }
     ensures spent { Spent }
 {}
@@ -61,9 +62,12 @@ pub fn strands_are_lawful()
     ensures { StrandsAreLawful }
 {}
 
-/// Over code that breaks no rule no strand ever lacks what it needs.
+/// Over code that breaks no rule no strand ever lacks what it needs: each of its functions stands at a place of the code, with the locals and
+/// the operands that stand there, and so it does wherever the strand goes.
 pub fn code_is_never_stuck()
-    ensures { CodeIsNeverStuck }
+    ensures lacks { CodeIsNeverStuck }
+    ensures on { StandsOn }
+    ensures visited { VisitedStand }
 {}
 
 /// Over code that breaks no rule no strand goes on by itself for ever.

@@ -1,4 +1,4 @@
-ghost use Rattle.std.specs.Prelude.{◌≡◌, ◌≤◌, length, IfOk, OnOk};
+ghost use Rattle.std.specs.Prelude.{◌≡◌, length, IfOk};
 
 mod acting;
 mod calls;
@@ -42,7 +42,7 @@ pub struct Strand {
     /// For each scope that waits at its end, how many forks it has to wait for.
     scopes: Stack<u32>,
     fuel: u64,
-    /// More than the limit only where two strands were joined.
+    /// Past the limit only where two strands were joined.
     size: u64,
     /// Where the left strand of the newest fork begins.
     beside: usize,
@@ -66,6 +66,8 @@ impl Model for Strand {
 }
 
 impl Strand {
+    ghost use Rattle.cw_code.specs.declared.instruction.Code.{Code};
+    ghost use Rattle.cw_strand.specs.declared.want.Want.TheVariants.{Fork};
     ghost use Rattle.cw_strand.specs.Coded.{MainTakes, runs, left as left_of, joined as joined_of};
     ghost use Rattle.cw_strand.specs.Standing.{StandsIn, StandsWanting, NextFrom};
 
@@ -119,10 +121,12 @@ impl Strand {
     }
 
     /// The left strand of the newest fork, before its first step. This one goes on as the right strand.
-    pub fn fork(&mut self, alloc: Global) -> Result<Strand, OutOfMemory>
+    pub fn fork(&mut self) -> Result<Strand, OutOfMemory>
         ensures left { IfOk result (λ s. s ≡ left_of self.old) }
         ensures right { self.new ≡ self.old }
+        ensures stands { (code : Code) → StandsWanting code Fork self.old → IfOk result (λ s. StandsIn code s) }
     {
+        let alloc = *self.locals.allocator();
         let mut scopes = Stack::new(alloc);
         scopes.push(0)?;
         Ok(Strand {
@@ -140,11 +144,11 @@ impl Strand {
 
     /// The right strand, where it ended, goes on as the strand that forked.
     pub fn joined(&mut self, left: Strand)
-        requires right { self.old.size ≤ self.old.limits.size }
-        requires left { left.size ≤ left.limits.size }
-        ensures { self.new ≡ joined_of self.old left }
+        ensures joined { self.new ≡ joined_of self.old left }
+        ensures stands { (code : Code) → StandsIn code self.old → StandsIn code self.new }
     {
         self.fuel = self.fuel.max(left.fuel);
-        self.size += left.size;
+        let past = u64::from(self.limits.size) + 1;
+        self.size = self.size.max(left.size.saturating_add(self.size).min(past));
     }
 }

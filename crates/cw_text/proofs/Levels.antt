@@ -2,13 +2,14 @@
 use Rattle.std.proofs.Common.{◌≡◌, ℕ, zero, suc, ◌+◌, ◌<◌, ◌≤◌, max, List, ◌∷◌, ◌∙◌, subst, inl, inr, arith}
 use Rattle.std.proofs.lemmas.Bool.{cases_lt}
 use Rattle.cw_text.specs.declared.ast.Op.{Op}
+use Rattle.cw_text.specs.declared.ast.Word.{Word}
 use Rattle.cw_text.specs.declared.terminal.Terminal.TheVariants as m
-use Rattle.cw_text.specs.Lexemes.{Lexemes, comes, terminal}
-use Rattle.cw_text.specs.Syntax.{Term, binary, unary, height}
-use Rattle.cw_text.specs.Grammar.{Symbol, Values, a_term, act, closing, comparison, comparison_of, expr, join, lifted, operand, pending, product_of, products, read, read_from, sum_of, sums}
+use Rattle.cw_text.specs.Lexemes.{Lexemes, comes, terminal, name as a_name}
+use Rattle.cw_text.specs.Syntax.{Term, name, at, binary, unary, height}
+use Rattle.cw_text.specs.Grammar.{Symbol, Values, a_term, act, brackets, closing, comparison, comparison_of, expr, index_done, join, lifted, operand, pending, product_of, products, push, read, read_from, sum_of, sums}
 use Rattle.cw_text.specs.Printed.{terminal_of, tightness}
-use Rattle.cw_text.proofs.Operators.{NotNext, takes_product, takes_sum, takes_comparison, takes_prefix, skips_products, skips_sums, skips_comparison, product_of-terminal_of, sum_of-terminal_of, comparison_of-terminal_of, no_sum}
-use Rattle.cw_text.proofs.Steps.{read-expr, read-join, read-lifted, taken_open}
+use Rattle.cw_text.proofs.Operators.{NoBracket, NotNext, takes_product, takes_sum, takes_comparison, takes_prefix, skips_products, skips_sums, skips_comparison, product_of-terminal_of, sum_of-terminal_of, comparison_of-terminal_of, no_sum}
+use Rattle.cw_text.proofs.Steps.{read-act, read-expr, read-index, read-join, read-lifted, taken_open}
 
 -- the symbols of an expression, and those that are left once it was read
 abbrev pub begins : ℕ → List Symbol → List Symbol
@@ -29,17 +30,23 @@ pub record Reads (more n : ℕ) (e : Term) (xs ys : Lexemes) : Type 0 where
 
 -- what comes behind an expression does not belong to it
 abbrev pub Ends : ℕ → Lexemes → Type 0
-Ends zero xs = NotNext product_of xs × NotNext sum_of xs × NotNext comparison_of xs
-Ends (suc zero) xs = NotNext product_of xs
-Ends (suc (suc n)) xs = Unit {0}
+Ends zero xs = NoBracket xs × NotNext product_of xs × NotNext sum_of xs × NotNext comparison_of xs
+Ends (suc zero) xs = NoBracket xs × NotNext product_of xs
+Ends (suc (suc n)) xs = NoBracket xs
+
+-- an operand that is a name is over
+pub ends_name : (n : ℕ) (xs : Lexemes) → Ends n xs → NoBracket xs
+ends_name zero xs ends = ends.0
+ends_name (suc zero) xs ends = ends.0
+ends_name (suc (suc n)) xs ends = ends
 
 pub ends_tighter : (n t : ℕ) (xs : Lexemes) → n ≤ t → Ends n xs → Ends t xs
 ends_tighter zero zero xs within ends = ends
-ends_tighter zero (suc zero) xs within ends = ends.0
+ends_tighter zero (suc zero) xs within ends = (ends.0, ends.1)
 ends_tighter (suc zero) (suc zero) xs within ends = ends
 ends_tighter (suc (suc n)) (suc zero) xs within ends = absurd (omega arith)
 ends_tighter (suc n) zero xs within ends = absurd (omega arith)
-ends_tighter n (suc (suc t)) xs within ends = tt
+ends_tighter n (suc (suc t)) xs within ends = ends_name n xs ends
 
 pub Reads-more : {n : ℕ} {e : Term} {xs ys : Lexemes} (more most : ℕ) → more ≤ most → Reads more n e xs ys → Reads most n e xs ys
 Reads-more more most within r = record { reading = λ k vs low. r.reading k vs (omega arith) }
@@ -47,8 +54,8 @@ Reads-more more most within r = record { reading = λ k vs low. r.reading k vs (
 -- ## Where less tightness is wanted
 
 one_looser : {more : ℕ} {e : Term} {xs ys : Lexemes} (n : ℕ) → Ends n ys → Reads more (suc n) e xs ys → Reads more n e xs ys
-one_looser {e = e} {ys = ys} zero ends r = record { reading = λ k vs low. r.reading (comparison ∷ k) vs low ∙ skips_sums (comparison ∷ k) (a_term e ∷ vs) ys ends.1 ∙ skips_comparison k (a_term e ∷ vs) ys ends.2 }
-one_looser {e = e} {ys = ys} (suc zero) ends r = record { reading = λ k vs low. r.reading (sums ∷ k) vs low ∙ skips_products (sums ∷ k) (a_term e ∷ vs) ys ends }
+one_looser {e = e} {ys = ys} zero ends r = record { reading = λ k vs low. r.reading (comparison ∷ k) vs low ∙ skips_sums (comparison ∷ k) (a_term e ∷ vs) ys ends.2 ∙ skips_comparison k (a_term e ∷ vs) ys ends.3 }
+one_looser {e = e} {ys = ys} (suc zero) ends r = record { reading = λ k vs low. r.reading (sums ∷ k) vs low ∙ skips_products (sums ∷ k) (a_term e ∷ vs) ys ends.1 }
 one_looser (suc (suc zero)) ends r = record { reading = λ k vs low. r.reading (products ∷ k) vs low }
 one_looser (suc (suc (suc n))) ends r = record { reading = λ k vs low. r.reading k vs low }
 
@@ -71,6 +78,23 @@ in_brackets {l = l} {j = j} {e = e} {xs = xs} {ys = ys} r = record {
       ∙ taken_open k (a_term e ∷ vs) j (comes (terminal m.ParenClose) j ys) (omega arith);
 }
 
+pub of_name : {more l j : ℕ} {i : Term} {xs ys : Lexemes} (w : Word) → height (at w i) ≤ 200 → Reads more 0 i xs (comes (terminal m.SquareClose) j ys) →
+    Reads (more + 1) 3 (at w i) (comes (a_name w.name) w.line (comes (terminal m.SquareOpen) l xs)) ys
+of_name {l = l} {j = j} {i = i} {xs = xs} {ys = ys} w high r = record {
+  reading = λ k vs low.
+      let index = comes (terminal m.SquareOpen) l xs in
+      let done = act index_done ∷ read_from w.line ∷ k in
+      let inside = closing m.SquareClose ∷ done in
+      let values = a_term (name w) ∷ vs in
+      taken_open (act (push (a_term (name w))) ∷ brackets w.line ∷ k) vs w.line (comes (a_name w.name) w.line index) (omega arith)
+      ∙ read-act (push (a_term (name w))) (brackets w.line ∷ k) vs index
+      ∙ taken_open (expr ∷ inside) values l index (omega arith)
+      ∙ read-expr inside values xs
+      ∙ r.reading inside values (omega arith)
+      ∙ taken_open done (a_term i ∷ values) j (comes (terminal m.SquareClose) j ys) (omega arith)
+      ∙ read-index w.line w i k vs ys high;
+}
+
 pub of_one : {more l : ℕ} {e : Term} {xs ys : Lexemes} (o : Op) → tightness o ≡ 3 → height (unary o e) ≤ 200 → Reads more 3 e xs ys → Reads (more + 1) 3 (unary o e) (comes (terminal (terminal_of o)) l xs) ys
 of_one {l = l} {e = e} {xs = xs} {ys = ys} o prefix high r = record {
   reading = λ k vs low.
@@ -88,7 +112,7 @@ of_two {l = l} {e = e} {f = f} {ys = ys} {zs = zs} o zero is two high ends a b =
       ∙ skips_sums (comparison ∷ k) (a_term e ∷ vs) (comes (terminal (terminal_of o)) l ys) (no_sum o is)
       ∙ takes_comparison (terminal_of o) o l k (a_term e ∷ vs) ys (comparison_of-terminal_of o is) (omega arith)
       ∙ b.reading (act (join o) ∷ read_from l ∷ k) (a_term e ∷ vs) low
-      ∙ skips_sums (act (join o) ∷ read_from l ∷ k) (a_term f ∷ a_term e ∷ vs) zs ends.1
+      ∙ skips_sums (act (join o) ∷ read_from l ∷ k) (a_term f ∷ a_term e ∷ vs) zs ends.2
       ∙ read-join o l e f k vs zs high;
 }
 of_two {l = l} {e = e} {f = f} {ys = ys} {zs = zs} o (suc zero) is two high ends a b = record {
@@ -96,7 +120,7 @@ of_two {l = l} {e = e} {f = f} {ys = ys} {zs = zs} o (suc zero) is two high ends
       a.reading k vs low
       ∙ takes_sum (terminal_of o) o l k (a_term e ∷ vs) ys (sum_of-terminal_of o is) (omega arith)
       ∙ b.reading (act (join o) ∷ read_from l ∷ sums ∷ k) (a_term e ∷ vs) low
-      ∙ skips_products (act (join o) ∷ read_from l ∷ sums ∷ k) (a_term f ∷ a_term e ∷ vs) zs ends
+      ∙ skips_products (act (join o) ∷ read_from l ∷ sums ∷ k) (a_term f ∷ a_term e ∷ vs) zs ends.1
       ∙ read-join o l e f (sums ∷ k) vs zs high;
 }
 of_two {l = l} {e = e} {f = f} {ys = ys} {zs = zs} o (suc (suc zero)) is two high ends a b = record {

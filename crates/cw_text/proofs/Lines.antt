@@ -1,10 +1,10 @@
 -- Of the lines of tokens, only those of names have a part in what is read.
-use Rattle.std.proofs.Common.{◌≡◌, ℕ, ◌+◌, nat_lt, cond, Bool, true, false, List, [], ◌∷◌, ◌++◌, Option, Some, None, Result, Ok, Err, refl, ap, sym, ◌∙◌}
+use Rattle.std.proofs.Common.{◌≡◌, ℕ, zero, ◌+◌, nat_lt, cond, Bool, true, false, List, [], ◌∷◌, ◌++◌, Option, Some, None, Result, Ok, Err, refl, ap, sym, ◌∙◌}
 use Rattle.cw_text.specs.declared.fault.TextFault.{TextFault}
 use Rattle.cw_text.specs.declared.terminal.Terminal.TheVariants as m
-use Rattle.cw_text.specs.Lexemes.{Token, Lexemes, end_on, comes, terminal, name as a_name, end}
+use Rattle.cw_text.specs.Lexemes.{Token, Lexemes, end_on, comes, terminal, name as a_name, number as a_number, end}
 use Rattle.cw_text.specs.Syntax.{Declaration}
-use Rattle.cw_text.specs.Grammar.{Symbol, Values, State, Next, take, skip, refuse, act, expansion, block, cell_init, closing, comparison, comparison_of, declared, expr, feed, go_on, infix_by, operand_by, init, items, lift, lifted, newest_height, opened, operand, pending, product_of, products, program_in, program_of, read, read_from, rest_of_expr, stmts, sum_of, sums, then_read}
+use Rattle.cw_text.specs.Grammar.{Symbol, Values, State, Next, take, skip, refuse, act, assignment, expansion, block, brackets, cell_init, cell_size, closing, comparison, comparison_of, declared, expr, feed, go_on, infix_by, operand_by, init, items, lift, lifted, newest_height, opened, operand, pending, product_of, products, program_in, program_of, read, read_from, rest_of_expr, size, stmts, sum_of, sums, then_read}
 use Rattle.cw_text.specs.Printed.{only_name_lines}
 
 -- ## Symbols without their lines
@@ -13,6 +13,7 @@ abbrev pub plain : List Symbol → List Symbol
 plain [] = []
 plain (lifted o l ∷ k) = lifted o 1 ∷ plain k
 plain (read_from l ∷ k) = read_from 1 ∷ plain k
+plain (brackets l ∷ k) = brackets 1 ∷ plain k
 plain (s ∷ k) = s ∷ plain k
 
 pending-plain : (k : List Symbol) → pending (plain k) ≡ pending k
@@ -25,12 +26,14 @@ plain-plain : (k : List Symbol) → plain (plain k) ≡ plain k
 plain-plain [] = refl
 plain-plain (lifted o l ∷ k) = ap (λ k. lifted o 1 ∷ k) (plain-plain k)
 plain-plain (read_from l ∷ k) = ap (λ k. read_from 1 ∷ k) (plain-plain k)
+plain-plain (brackets l ∷ k) = ap (λ k. brackets 1 ∷ k) (plain-plain k)
 plain-plain (s ∷ k) = ap (λ k. s ∷ k) (plain-plain k)
 
 plain-append : (ss k : List Symbol) → plain (ss ++ k) ≡ plain ss ++ plain k
 plain-append [] k = refl
 plain-append (lifted o l ∷ ss) k = ap (λ k. lifted o 1 ∷ k) (plain-append ss k)
 plain-append (read_from l ∷ ss) k = ap (λ k. read_from 1 ∷ k) (plain-append ss k)
+plain-append (brackets l ∷ ss) k = ap (λ k. brackets 1 ∷ k) (plain-append ss k)
 plain-append (s ∷ ss) k = ap (λ k. s ∷ k) (plain-append ss k)
 
 abbrev plain_next : Next → Next
@@ -70,6 +73,15 @@ expansion-plain sums (terminal a) i l same = elim (sum_of a) as (λ o. plain_nex
 expansion-plain comparison (terminal a) i l same = elim (comparison_of a) as (λ o. plain_next (infix_by o (products ∷ sums ∷ []) [] i) ≡ plain_next (infix_by o (products ∷ sums ∷ []) [] l)) [ None ↦ refl | Some o ↦ refl ]
 expansion-plain items (terminal m.Cell) i l same = refl
 expansion-plain items t i l same = refl
+expansion-plain cell_size (terminal m.SquareOpen) i l same = refl
+expansion-plain cell_size t i l same = refl
+expansion-plain size (a_number zero) i l same = refl
+expansion-plain size t i l same = refl
+expansion-plain assignment (terminal m.Assign) i l same = refl
+expansion-plain assignment (terminal m.SquareOpen) i l same = refl
+expansion-plain assignment t i l same = refl
+expansion-plain (brackets n) (terminal m.SquareOpen) i l same = refl
+expansion-plain (brackets n) t i l same = refl
 expansion-plain cell_init (terminal m.Assign) i l same = refl
 expansion-plain cell_init t i l same = refl
 expansion-plain init (terminal m.Minus) i l same = refl
@@ -79,6 +91,11 @@ expansion-plain block t i l same = refl
 expansion-plain stmts (terminal m.Let) i l same = refl
 expansion-plain stmts t i l same = refl
 expansion-plain s t i l same = refl
+
+-- the line of the name before does not count
+brackets-plain : (n : ℕ) (t : Token) (i l : ℕ) → plain_next (expansion (brackets 1) t i) ≡ plain_next (expansion (brackets n) t l)
+brackets-plain n (terminal m.SquareOpen) i l = refl
+brackets-plain n t i l = refl
 
 guard-plain : (b c : Bool) (f g : TextFault) (r q : Result State TextFault) → b ≡ c → plain_state r ≡ plain_state q → plain_state (cond b (Err f) r) ≡ plain_state (cond c (Err g) q)
 guard-plain true true f g r q same h = refl
@@ -107,6 +124,7 @@ feed-plain [] vs t i l same = refl
 feed-plain (act f ∷ k) vs t i l same = feed-plain k (f vs) t i l same
 feed-plain (lifted o j ∷ k) vs t i l same = guard-plain (nat_lt 200 (newest_height (lift o vs))) _ _ _ _ _ refl (feed-plain k (lift o vs) t i l same)
 feed-plain (read_from j ∷ k) vs t i l same = guard-plain (nat_lt 200 (newest_height vs)) _ _ _ _ _ refl (feed-plain k vs t i l same)
+feed-plain (brackets n ∷ k) vs t i l same = go_on-plain (expansion (brackets 1) t i) (expansion (brackets n) t l) k vs i l (feed (plain k) vs t i) (feed k vs t l) (brackets-plain n t i l) (feed-plain k vs t i l same)
 feed-plain (s ∷ k) vs t i l same = go_on-plain (expansion s t i) (expansion s t l) k vs i l (feed (plain k) vs t i) (feed k vs t l) (expansion-plain s t i l same) (feed-plain k vs t i l same)
 
 same_line : (t : Token) (l : ℕ) → SameLine t l l

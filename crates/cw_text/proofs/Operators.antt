@@ -4,8 +4,9 @@ use Rattle.std.proofs.lemmas.Bool.{le-ltb}
 use Rattle.cw_text.specs.declared.ast.Op.{Op}
 use Rattle.cw_text.specs.declared.ast.Op.TheVariants as op
 use Rattle.cw_text.specs.declared.terminal.Terminal.{Terminal}
+use Rattle.cw_text.specs.declared.terminal.Terminal.TheVariants as m
 use Rattle.cw_text.specs.Lexemes.{Lexemes, end_on, comes, terminal}
-use Rattle.cw_text.specs.Grammar.{Symbol, Values, act, comparison, comparison_of, join, lifted, operand, pending, product_of, products, read, read_from, sum_of, sums}
+use Rattle.cw_text.specs.Grammar.{Symbol, Values, act, brackets, comparison, comparison_of, join, lifted, operand, pending, product_of, products, read, read_from, sum_of, sums}
 use Rattle.cw_text.specs.Printed.{terminal_of, tightness}
 
 -- the next token is no operator of this kind
@@ -47,10 +48,25 @@ skips_comparison k vs (end_on l) h = refl
 skips_comparison k vs (comes (terminal a) l xs) h = rw h refl
 skips_comparison k vs (comes t l xs) h = refl
 
+-- ## Brackets behind a name
+
+-- the next token opens no bracket that may stand behind a name
+abbrev pub NoBracket : Lexemes → Type 0
+NoBracket (comes (terminal m.SquareOpen) l xs) = ⊥
+NoBracket xs = Unit {0}
+
+pub skips_brackets : (n : ℕ) (k : List Symbol) (vs : Values) (xs : Lexemes) → NoBracket xs → read (brackets n ∷ k) vs xs ≡ read k vs xs
+skips_brackets n k vs (end_on l) h = refl
+skips_brackets n k vs (comes (terminal m.SquareOpen) l xs) h = absurd h
+skips_brackets n k vs (comes (terminal a) l xs) h = refl
+skips_brackets n k vs (comes t l xs) h = refl
+
 -- ## The terminal of an operator
 
 pub product_of-terminal_of : (o : Op) → tightness o ≡ 2 → product_of (terminal_of o) ≡ Some o
 product_of-terminal_of op.Mul h = refl
+product_of-terminal_of op.Div h = refl
+product_of-terminal_of op.Rem h = refl
 product_of-terminal_of o h = absurd (omega arith)
 
 pub sum_of-terminal_of : (o : Op) → tightness o ≡ 1 → sum_of (terminal_of o) ≡ Some o
@@ -62,6 +78,8 @@ pub comparison_of-terminal_of : (o : Op) → tightness o ≡ 0 → comparison_of
 comparison_of-terminal_of op.Add h = absurd (omega arith)
 comparison_of-terminal_of op.Sub h = absurd (omega arith)
 comparison_of-terminal_of op.Mul h = absurd (omega arith)
+comparison_of-terminal_of op.Div h = absurd (omega arith)
+comparison_of-terminal_of op.Rem h = absurd (omega arith)
 comparison_of-terminal_of op.Neg h = absurd (omega arith)
 comparison_of-terminal_of op.Not h = absurd (omega arith)
 comparison_of-terminal_of o h = refl

@@ -7,10 +7,11 @@ use Rattle.cw_text.specs.declared.ast.Word.{Word}
 use Rattle.cw_text.specs.declared.terminal.Terminal.{Terminal}
 use Rattle.cw_text.specs.declared.terminal.Terminal.TheVariants as m
 use Rattle.cw_text.specs.Lexemes.{Lexemes, comes, terminal, name as a_name, number as a_number}
-use Rattle.cw_text.specs.Syntax.{Term, number, name, unary, binary, height}
-use Rattle.cw_text.specs.Grammar.{a_term, act, push}
-use Rattle.cw_text.specs.Printed.{Placed, before, sign, terminal_of, tightness, of_left, of_right, bracketed, term_tokens, IsWellFormed, most_open}
-use Rattle.cw_text.proofs.Levels.{Reads, Reads-more, Ends, ends_tighter, looser, in_brackets, of_one, of_two}
+use Rattle.cw_text.specs.Syntax.{Term, number, name, at, unary, binary, height}
+use Rattle.cw_text.specs.Grammar.{a_term, act, brackets, push}
+use Rattle.cw_text.specs.Printed.{Placed, before, sign, terminal_of, tightness, of_left, of_right, bracketed, in_squares, word_tokens, term_tokens, IsWellFormed, most_open}
+use Rattle.cw_text.proofs.Levels.{Reads, Reads-more, Ends, ends_name, ends_tighter, looser, in_brackets, of_name, of_one, of_two}
+use Rattle.cw_text.proofs.Operators.{NoBracket, skips_brackets}
 use Rattle.cw_text.proofs.Steps.{read-act, taken_open}
 
 pub before-append : (ps qs : List Placed) (xs : Lexemes) → before (ps ++ qs) xs ≡ before ps (before qs xs)
@@ -24,19 +25,22 @@ number_read n xs = record {
       ∙ read-act (push (a_term (number (pos n)))) k vs xs;
 }
 
-name_read : (w : Word) (xs : Lexemes) → Reads 0 3 (name w) (comes (a_name w.name) w.line xs) xs
-name_read w xs = record {
+name_read : (w : Word) (xs : Lexemes) → NoBracket xs → Reads 0 3 (name w) (comes (a_name w.name) w.line xs) xs
+name_read w xs over = record {
   reading = λ k vs low.
-      taken_open (act (push (a_term (name w))) ∷ k) vs w.line (comes (a_name w.name) w.line xs) (omega arith)
-      ∙ read-act (push (a_term (name w))) k vs xs;
+      taken_open (act (push (a_term (name w))) ∷ brackets w.line ∷ k) vs w.line (comes (a_name w.name) w.line xs) (omega arith)
+      ∙ read-act (push (a_term (name w))) (brackets w.line ∷ k) vs xs
+      ∙ skips_brackets w.line k (a_term (name w) ∷ vs) xs over;
 }
 
 -- what comes behind the left operand does not belong to it
 ends_left : (o : Op) (xs : Lexemes) → Ends (of_left o) (comes (terminal (terminal_of o)) 1 xs)
 ends_left op.Mul xs = tt
+ends_left op.Div xs = tt
+ends_left op.Rem xs = tt
 ends_left op.Neg xs = tt
 ends_left op.Not xs = tt
-ends_left o xs = refl
+ends_left o xs = (tt, refl)
 
 bracketed_before : (ps : List Placed) (xs : Lexemes) → before (bracketed true ps) xs ≡ comes (terminal m.ParenOpen) 1 (before ps (comes (terminal m.ParenClose) 1 xs))
 bracketed_before ps xs = ap (comes (terminal m.ParenOpen) 1) (before-append ps (sign m.ParenClose) xs)
@@ -46,12 +50,16 @@ in_place : (more n t : ℕ) (e : Term) (ps : List Placed) (xs : Lexemes) (b : Bo
     ((zs : Lexemes) → Ends t zs → Reads more t e (before ps zs) zs) → Reads (more + cond b 1 0) n e (before (bracketed b ps) xs) xs
 in_place more n t e ps xs true looser_than within low ends bare =
     let close = comes (terminal m.ParenClose) 1 xs in
-    let closed : Ends 0 close = (refl, refl, refl) in
+    let closed : Ends 0 close = (tt, refl, refl, refl) in
     let inner = looser 0 t (omega arith) closed (bare close (ends_tighter 0 t close (omega arith) closed)) in
     subst (λ zs. Reads (more + 1) n e zs xs) (sym (bracketed_before ps xs)) (looser n 3 within ends (in_brackets inner))
 in_place more n t e ps xs false tight within low ends bare =
     let enough = ltb-false t n tight in
     Reads-more more (more + 0) (omega arith) (looser n t enough ends (bare xs (ends_tighter n t xs enough ends)))
+
+squares_before : (w : Word) (ps : List Placed) (xs : Lexemes) →
+    before (word_tokens w ++ in_squares ps) xs ≡ comes (a_name w.name) w.line (comes (terminal m.SquareOpen) 1 (before ps (comes (terminal m.SquareClose) 1 xs)))
+squares_before w ps xs = ap (λ ys. comes (a_name w.name) w.line (comes (terminal m.SquareOpen) 1 ys)) (before-append ps (sign m.SquareClose) xs)
 
 infix_before : (ps qs : List Placed) (a : Terminal) (xs : Lexemes) → before (ps ++ sign a ++ qs) xs ≡ before ps (comes (terminal a) 1 (before qs xs))
 infix_before ps qs a xs = before-append (ps ++ sign a) qs xs ∙ before-append ps (sign a) (before qs xs)
@@ -59,8 +67,12 @@ infix_before ps qs a xs = before-append (ps ++ sign a) qs xs ∙ before-append p
 pub term_read : (n : ℕ) (e : Term) (xs : Lexemes) → n ≤ 3 → IsWellFormed e → height e ≤ 200 → Ends n xs → Reads (most_open n e) n e (before (term_tokens n e) xs) xs
 term_read n (number (pos z)) xs within formed low ends = looser n 3 within ends (number_read z xs)
 term_read n (number (negsuc z)) xs within formed low ends = absurd formed
-term_read n (name w) xs within formed low ends = looser n 3 within ends (name_read w xs)
-term_read n (unary o e) xs within formed low ends = looser n 3 within ends (of_one o formed.0 low (term_read 3 e xs (omega arith) formed.1 (omega arith) tt))
+term_read n (name w) xs within formed low ends = looser n 3 within ends (name_read w xs (ends_name n xs ends))
+term_read n (at w i) xs within formed low ends =
+    let close = comes (terminal m.SquareClose) 1 xs in
+    let inner = term_read 0 i close (omega arith) formed (omega arith) (tt, refl, refl, refl) in
+    subst (λ zs. Reads (most_open 0 i + 1) n (at w i) zs xs) (sym (squares_before w (term_tokens 0 i) xs)) (looser n 3 within ends (of_name w low inner))
+term_read n (unary o e) xs within formed low ends = looser n 3 within ends (of_one o formed.0 low (term_read 3 e xs (omega arith) formed.1 (omega arith) (ends_name n xs ends)))
 term_read n (binary o l r) xs within formed low ends =
     let most = max (most_open (of_left o) l) (most_open (of_right o) r) in
     let left = λ (ys : Lexemes).

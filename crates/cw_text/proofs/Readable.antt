@@ -3,9 +3,10 @@ use Rattle.std.proofs.Common.{◌≡◌, ℕ, ◌+◌, ◌<◌, ◌≤◌, max, 
 use Rattle.std.proofs.lemmas.Bool.{le-ltb}
 use Rattle.std.proofs.lemmas.Bool.Decides.{nat_tests}
 use Rattle.cw_text.specs.declared.ast.Op.{Op}
+use Rattle.cw_text.specs.declared.ast.Word.{Word}
 use Rattle.cw_text.specs.declared.terminal.Terminal.{Terminal}
 use Rattle.cw_text.specs.declared.terminal.Terminal.TheVariants as m
-use Rattle.cw_text.specs.Syntax.{Term, Statement, number, name, unary, binary, Block, empty, first, with_statement, height}
+use Rattle.cw_text.specs.Syntax.{Term, Statement, number, name, at, unary, binary, Block, empty, first, with_statement, height}
 use Rattle.cw_text.specs.Grammar.{product_of, sum_of, comparison_of}
 use Rattle.cw_text.specs.Printed.{IsReadableStatement, most_open, tightness, of_left, of_right, IsWellFormed, IsReadableTerm, IsReadableBlock}
 
@@ -26,12 +27,14 @@ bit_small false = omega arith
 most_open_looser : (n t : ℕ) (e : Term) → n ≤ t → most_open n e ≤ most_open t e
 most_open_looser n t (number z) within = omega arith
 most_open_looser n t (name w) within = omega arith
+most_open_looser n t (at w i) within = omega arith
 most_open_looser n t (unary o e) within = omega arith
 most_open_looser n t (binary o l r) within = omega (arith, bit_looser (tightness o) n t within)
 
 most_open_bracketed : (n : ℕ) (e : Term) → most_open n e ≤ most_open 0 e + 1
 most_open_bracketed n (number z) = omega arith
 most_open_bracketed n (name w) = omega arith
+most_open_bracketed n (at w i) = omega arith
 most_open_bracketed n (unary o e) = omega arith
 most_open_bracketed n (binary o l r) = omega (arith, bit_small (nat_lt (tightness o) n))
 
@@ -40,6 +43,9 @@ readable_looser {e = e} n t within h = record { formed = h.formed; low = h.low; 
 
 pub readable_bracketed : {around : ℕ} {e : Term} → IsReadableAt 0 (around + 1) e → IsReadableAt 3 around e
 readable_bracketed {e = e} h = record { formed = h.formed; low = h.low; shallow = omega (arith, most_open_bracketed 3 e, h.shallow) }
+
+pub readable_index : {around : ℕ} {i : Term} (w : Word) → height (at w i) ≤ 200 → IsReadableAt 0 (around + 1) i → IsReadableAt 3 around (at w i)
+readable_index w low h = record { formed = h.formed; low = low; shallow = omega (arith, h.shallow) }
 
 pub readable_unary : {around : ℕ} {e : Term} (o : Op) → tightness o ≡ 3 → height (unary o e) ≤ 200 → IsReadableAt 3 (around + 1) e → IsReadableAt 3 around (unary o e)
 readable_unary o is low h = record { formed = (is, h.formed); low = low; shallow = omega (arith, h.shallow) }
@@ -64,6 +70,8 @@ readable_binary {around} {e} {f} o t is two low =
 
 pub product_tightness : (a : Terminal) (o : Op) → product_of a ≡ Some o → tightness o ≡ 2
 product_tightness m.Star o h = cc
+product_tightness m.Slash o h = cc
+product_tightness m.Percent o h = cc
 product_tightness a o h = cc
 
 pub sum_tightness : (a : Terminal) (o : Op) → sum_of a ≡ Some o → tightness o ≡ 1

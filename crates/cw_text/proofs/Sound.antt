@@ -13,10 +13,10 @@ use Rattle.cw_text.specs.declared.terminal.Terminal.TheVariants as m
 use Rattle.cw_text.specs.Lexemes.{Token, terminal, name as a_name, number as a_number, bad, end}
 use Rattle.std.specs.Str.{bytes_eq}
 use Rattle.std.specs.Cmp.Lexicographic.{same_text}
-use Rattle.cw_text.specs.Syntax.{Term, Statement, declare, assign, out, atomic, spawn, sync, cell, func, number, name, unary, binary, Block, empty, with_statement}
-use Rattle.cw_text.specs.Grammar.{Symbol, Values, State, a_term, a_word, a_block, an_init, declared, act, block, cell_init, cell_done, func_done, let_done, assign_done, out_done, atomic_done, spawn_done, sync_done, closing, comparison, exactly, expr, feed, init, items, lift, lifted, main_word, negated, newest_height, operand, pending, products, read_from, stmts, sums, go_on, infix_by, opened, operand_by, take, refuse, rest_of_expr, same_terminal, join, push, product_of, sum_of, comparison_of, with_init, word, word_at}
+use Rattle.cw_text.specs.Syntax.{Term, Statement, declare, assign, assign_at, out, atomic, spawn, sync, cell, func, number, name, at, unary, binary, Block, empty, with_statement}
+use Rattle.cw_text.specs.Grammar.{Symbol, Values, State, a_term, a_word, a_size, a_block, an_init, declared, act, assignment, block, brackets, cell_init, cell_size, cell_done, func_done, let_done, assign_done, assign_at_done, out_done, atomic_done, spawn_done, sync_done, closing, comparison, exactly, expr, feed, index_done, init, items, lift, lifted, main_word, negated, newest_height, operand, pending, products, read_from, stmts, sums, go_on, infix_by, opened, operand_by, take, refuse, rest_of_expr, same_terminal, join, push, product_of, sum_of, comparison_of, size, with_init, with_size, word, word_at}
 use Rattle.cw_text.specs.Printed.{IsReadableDeclaration, IsReadableStatement, IsReadableBlock, IsReadable}
-use Rattle.cw_text.proofs.Readable.{IsReadableAt, readable_looser, readable_bracketed, readable_unary, readable_binary, product_tightness, sum_tightness, comparison_tightness, readable_with, whole}
+use Rattle.cw_text.proofs.Readable.{IsReadableAt, readable_looser, readable_bracketed, readable_index, readable_unary, readable_binary, product_tightness, sum_tightness, comparison_tightness, readable_with, whole}
 
 -- the declarations, and nothing else
 abbrev pub HasDeclared : Values → Type 0
@@ -27,6 +27,10 @@ HasDeclared vs = ⊥
 abbrev pub HasTerm : (Term → Values → Type 0) → Values → Type 0
 HasTerm P (a_term e ∷ vs) = P e vs
 HasTerm P vs = ⊥
+
+abbrev pub HasName : (Term → Values → Type 0) → Values → Type 0
+HasName P (a_term (name w) ∷ vs) = P (name w) vs
+HasName P vs = ⊥
 
 abbrev pub HasBlock : (Block → Values → Type 0) → Values → Type 0
 HasBlock P (a_block b ∷ vs) = P b vs
@@ -45,16 +49,22 @@ Sound (lifted o l ∷ k) vs = newest_height (lift o vs) ≤ 200 → Sound k (lif
 Sound (read_from l ∷ k) vs = newest_height vs ≤ 200 → Sound k vs
 Sound (word ∷ k) vs = (w : Word) → Sound k (a_word w ∷ vs)
 Sound (main_word ∷ k) vs = (l : ℕ) → Sound k (a_word (word_at (codes "main") l) ∷ vs)
+Sound (cell_size ∷ k) vs = Sound k vs × ((n : ℕ) → n < 2 ^ 63 → Sound k (with_size n vs))
+Sound (size ∷ k) vs = (n : ℕ) → n < 2 ^ 63 → Sound k (with_size n vs)
 Sound (init ∷ k) vs = (z : ℤ) → nat_abs z < 2 ^ 63 → Sound k (with_init z vs)
 Sound (negated ∷ k) vs = (z : ℤ) → nat_abs z < 2 ^ 63 → Sound k (with_init z vs)
 Sound (cell_init ∷ k) vs = Sound k vs × ((z : ℤ) → nat_abs z < 2 ^ 63 → Sound k (with_init z vs))
 Sound (operand ∷ k) vs = Goes 3 (pending k) (Sound k) vs
 Sound (expr ∷ k) vs = Goes 0 (pending k) (Sound k) vs
+Sound (brackets l ∷ k) vs = HasName (λ e ws. IsReadableAt 3 (pending k) e × Goes 3 (pending k) (Sound k) ws) vs
 Sound (products ∷ k) vs = HasTerm (λ e ws. IsReadableAt 2 (pending k) e × Goes 2 (pending k) (Sound k) ws) vs
 Sound (sums ∷ k) vs = HasTerm (λ e ws. IsReadableAt 1 (pending k) e × Goes 1 (pending k) (Sound k) ws) vs
 Sound (comparison ∷ k) vs = HasTerm (λ e ws. IsReadableAt 1 (pending k) e × Goes 0 (pending k) (Sound k) ws) vs
 Sound (block ∷ k) vs = (b : Block) → pending k < 200 → IsReadableBlock (pending k + 1) b → Sound k (a_block b ∷ vs)
 Sound (stmts ∷ k) vs = HasBlock (λ b ws. IsReadableBlock (pending k) b × ((c : Block) → IsReadableBlock (pending k) c → Sound k (a_block c ∷ ws))) vs
+Sound (assignment ∷ k) vs =
+    ((e : Term) → IsReadableAt 0 (pending k) e → Sound k (assign_done (a_term e ∷ vs)))
+    × ((i e : Term) → IsReadableAt 0 (pending k + 1) i → IsReadableAt 0 (pending k) e → Sound k (assign_at_done (a_term e ∷ a_term i ∷ vs)))
 Sound (items ∷ []) vs = HasDeclared vs
 Sound (items ∷ s ∷ k) vs = ⊥
 
@@ -92,8 +102,8 @@ operand_leads ss k vs (a_number n) l rest fits sound =
     opened_leads (act (push (a_term (number (pos n)))) ∷ (ss ++ k)) vs (a_number n) l
     (λ low. sound (number (pos n)) (record { formed = fits; low = lit≤ tt; shallow = omega arith }))
 operand_leads ss k vs (a_name n) l rest fits sound =
-    opened_leads (act (push (a_term (name (word_at n l)))) ∷ (ss ++ k)) vs (a_name n) l
-    (λ low. sound (name (word_at n l)) (record { formed = tt; low = lit≤ tt; shallow = omega arith }))
+    opened_leads (act (push (a_term (name (word_at n l)))) ∷ brackets l ∷ (ss ++ k)) vs (a_name n) l
+    (λ low. (record { formed = tt; low = lit≤ tt; shallow = omega arith }, sound))
 operand_leads ss k vs (terminal m.ParenOpen) l rest fits sound =
     opened_leads (expr ∷ closing m.ParenClose ∷ (ss ++ k)) vs (terminal m.ParenOpen) l
     (λ low e h. sound e (readable_bracketed h))
@@ -135,6 +145,11 @@ step (word ∷ k) vs (a_name n) l fits sound = opened_leads (act (push (a_word (
 step (word ∷ k) vs t l fits sound = tt
 step (main_word ∷ k) vs (a_name n) l fits sound = main_leads (bytes_eq n (codes "main")) n k vs l _ refl sound
 step (main_word ∷ k) vs t l fits sound = tt
+step (cell_size ∷ k) vs (terminal m.SquareOpen) l fits sound = opened_leads (size ∷ closing m.SquareClose ∷ k) vs (terminal m.SquareOpen) l (λ low. sound.1)
+step (cell_size ∷ k) vs t l fits sound = step k vs t l fits sound.0
+step (size ∷ k) vs (a_number zero) l fits sound = tt
+step (size ∷ k) vs (a_number (suc n)) l fits sound = opened_leads (act (with_size (suc n)) ∷ k) vs (a_number (suc n)) l (λ low. sound (suc n) fits)
+step (size ∷ k) vs t l fits sound = tt
 step (init ∷ k) vs (a_number n) l fits sound = opened_leads (act (with_init (pos n)) ∷ k) vs (a_number n) l (λ low. sound (pos n) fits)
 step (init ∷ k) vs (terminal m.Minus) l fits sound = opened_leads (negated ∷ k) vs (terminal m.Minus) l (λ low. sound)
 step (init ∷ k) vs t l fits sound = tt
@@ -145,6 +160,11 @@ step (cell_init ∷ k) vs t l fits sound = step k vs t l fits sound.0
 step (operand ∷ k) vs t l fits sound = operand_leads [] k vs t l _ fits sound
 step (expr ∷ k) vs t l fits sound = operand_leads rest_of_expr k vs t l _ fits (λ e h.
     (readable_looser 2 3 (lit≤ tt) h, λ e h. (readable_looser 1 2 (lit≤ tt) h, λ e h. (h, sound))))
+step (brackets j ∷ k) (a_term (name w) ∷ vs) (terminal m.SquareOpen) l fits sound =
+    opened_leads (expr ∷ closing m.SquareClose ∷ act index_done ∷ read_from j ∷ k) (a_term (name w) ∷ vs) (terminal m.SquareOpen) l
+    (λ low i h high. sound.1 (at w i) (readable_index w high h))
+step (brackets j ∷ k) (a_term (name w) ∷ vs) t l fits sound = step k (a_term (name w) ∷ vs) t l fits (sound.1 (name w) sound.0)
+step (brackets j ∷ k) vs t l fits sound = absurd sound
 step (products ∷ k) (a_term e ∷ vs) (terminal a) l fits sound =
     infix_leads (product_of a) [] (products ∷ []) k (a_term e ∷ vs) a l _
     (λ o is f h high. (readable_binary o 2 (product_tightness a o is) (lit< tt) high sound.0 h, sound.1))
@@ -172,8 +192,9 @@ step (stmts ∷ k) (a_block b ∷ vs) (terminal m.Out) l fits sound =
     opened_leads (expr ∷ exactly m.Semicolon ∷ act out_done ∷ stmts ∷ k) (a_block b ∷ vs) (terminal m.Out) l
     (λ low e h. more_sound k vs b (out e) sound (whole h))
 step (stmts ∷ k) (a_block b ∷ vs) (a_name n) l fits sound =
-    opened_leads (act (push (a_word (word_at n l))) ∷ exactly m.Assign ∷ expr ∷ exactly m.Semicolon ∷ act assign_done ∷ stmts ∷ k) (a_block b ∷ vs) (a_name n) l
-    (λ low e h. more_sound k vs b (assign (word_at n l) e) sound (whole h))
+    opened_leads (act (push (a_word (word_at n l))) ∷ assignment ∷ stmts ∷ k) (a_block b ∷ vs) (a_name n) l
+    (λ low.
+    (λ e h. more_sound k vs b (assign (word_at n l) e) sound (whole h), λ i e g h. more_sound k vs b (assign_at (word_at n l) i e) sound (whole g, whole h)))
 step (stmts ∷ k) (a_block b ∷ vs) (terminal m.Atomic) l fits sound =
     opened_leads (block ∷ act atomic_done ∷ stmts ∷ k) (a_block b ∷ vs) (terminal m.Atomic) l
     (λ low c room h. more_sound k vs b (atomic c) sound (room, h))
@@ -185,11 +206,17 @@ step (stmts ∷ k) (a_block b ∷ vs) (terminal m.Sync) l fits sound =
     (λ low. more_sound k vs b sync sound tt)
 step (stmts ∷ k) (a_block b ∷ vs) t l fits sound = step k (a_block b ∷ vs) t l fits (sound.1 b sound.0)
 step (stmts ∷ k) vs t l fits sound = absurd sound
+step (assignment ∷ k) vs (terminal m.Assign) l fits sound =
+    opened_leads (expr ∷ exactly m.Semicolon ∷ act assign_done ∷ k) vs (terminal m.Assign) l (λ low. sound.0)
+step (assignment ∷ k) vs (terminal m.SquareOpen) l fits sound =
+    opened_leads (expr ∷ closing m.SquareClose ∷ exactly m.Assign ∷ expr ∷ exactly m.Semicolon ∷ act assign_at_done ∷ k) vs (terminal m.SquareOpen) l
+    (λ low i g e h. sound.1 i e g h)
+step (assignment ∷ k) vs t l fits sound = tt
 step (items ∷ []) (declared ds ∷ []) (terminal m.Cell) l fits sound =
-    opened_leads (word ∷ act (push (an_init (pos 0))) ∷ cell_init ∷ exactly m.Semicolon ∷ act cell_done ∷ items ∷ []) (declared ds ∷ []) (terminal m.Cell) l
+    opened_leads (word ∷ act (push (a_size 0)) ∷ cell_size ∷ act (push (an_init (pos 0))) ∷ cell_init ∷ exactly m.Semicolon ∷ act cell_done ∷ items ∷ []) (declared ds ∷ []) (terminal m.Cell) l
     (λ low w.
-    let one = λ (z : ℤ) (h : nat_abs z < 2 ^ 63). All-push IsReadableDeclaration ds (cell w.name w.line 0 z) sound (refl, h) in
-    (one (pos 0) (lit< tt), one))
+    let one = λ (n : ℕ) (g : n < 2 ^ 63) (z : ℤ) (h : nat_abs z < 2 ^ 63). All-push IsReadableDeclaration ds (cell w.name w.line n z) sound (g, h) in
+    ((one 0 (lit< tt) (pos 0) (lit< tt), one 0 (lit< tt)), λ n g. (one n g (pos 0) (lit< tt), one n g)))
 step (items ∷ []) (declared ds ∷ []) (terminal m.Fn) l fits sound =
     opened_leads (main_word ∷ exactly m.ParenOpen ∷ closing m.ParenClose ∷ block ∷ act func_done ∷ items ∷ []) (declared ds ∷ []) (terminal m.Fn) l
     (λ low j b _ h. All-push IsReadableDeclaration ds (func (codes "main") j [] b) sound (refl, refl, h))

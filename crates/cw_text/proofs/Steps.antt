@@ -6,10 +6,13 @@ use Rattle.cw_text.specs.declared.ast.Stmt.{Stmt}
 use Rattle.cw_text.specs.declared.fault.TextKind.TheVariants.{TooDeep}
 use Rattle.cw_text.specs.declared.terminal.Terminal.TheVariants as m
 use Rattle.cw_text.specs.Cursor.{rest_of}
-use Rattle.cw_text.specs.Lexemes.{Lexemes, end_on, comes, number, name, terminal, bad, end}
-use Rattle.cw_text.specs.Syntax.{Term, binary, block_of, first, height, statement_of, unary, with_statement}
-use Rattle.cw_text.specs.Grammar.{Symbol, Values, a_term, read, pending, lifted, fault, act, join, read_from, operand, expr, products, sums, comparison, closing, exactly}
-use Rattle.cw_text.specs.Parser.{taken, GoesOn}
+use Rattle.cw_text.specs.declared.cursor.Token.TheVariants as token
+use Rattle.cw_text.specs.declared.parser.Parser.{Parser}
+use Rattle.cw_text.specs.Lexemes.{Lexemes, end_on, comes, number as a_number, name as a_name, terminal, bad, end}
+use Rattle.cw_text.specs.declared.ast.Word.{Word}
+use Rattle.cw_text.specs.Syntax.{Term, at, binary, block_of, first, height, name, statement_of, unary, with_statement}
+use Rattle.cw_text.specs.Grammar.{Symbol, Values, a_term, read, pending, lifted, fault, act, assign_done, assignment, index_done, join, read_from, operand, expr, products, sums, comparison, closing, exactly}
+use Rattle.cw_text.specs.Parser.{ahead, taken, GoesOn}
 use Rattle.cw_text.specs.declared.fault.TextFault.{TextFault}
 use Rattle.cw_text.specs.declared.fault.TextRefusal.{TextRefusal}
 use Rattle.cw_text.specs.declared.terminal.Terminal.{Terminal}
@@ -41,6 +44,20 @@ pub read-join-high : (o : Op) (l : ℕ) (a b : Term) (k : List Symbol) (vs : Val
 read-join-high o l a b k vs (end_on n) h = rw (lt-ltb 200 (max (height a) (height b) + 1) h) refl
 read-join-high o l a b k vs (comes t n xs) h = rw (lt-ltb 200 (max (height a) (height b) + 1) h) refl
 
+-- an index behind a name
+pub read-index : (l : ℕ) (w : Word) (i : Term) (k : List Symbol) (vs : Values) (xs : Lexemes) → height i + 1 ≤ 200 → read (act index_done ∷ read_from l ∷ k) (a_term i ∷ a_term (name w) ∷ vs) xs ≡ read k (a_term (at w i) ∷ vs) xs
+read-index l w i k vs (end_on n) h = rw (le-ltb 200 (height i + 1) h) refl
+read-index l w i k vs (comes t n xs) h = rw (le-ltb 200 (height i + 1) h) refl
+
+pub read-index-high : (l : ℕ) (w : Word) (i : Term) (k : List Symbol) (vs : Values) (xs : Lexemes) → 200 < height i + 1 → read (act index_done ∷ read_from l ∷ k) (a_term i ∷ a_term (name w) ∷ vs) xs ≡ fault TooDeep l
+read-index-high l w i k vs (end_on n) h = rw (lt-ltb 200 (height i + 1) h) refl
+read-index-high l w i k vs (comes t n xs) h = rw (lt-ltb 200 (height i + 1) h) refl
+
+-- a sign for a value behind the name that a statement begins with
+pub value_begins : (p : Parser) (k : List Symbol) (vs : Values) → p.cursor.token ≡ token.Terminal m.Assign →
+    read (assignment ∷ k) vs (ahead p) ≡ read (exactly m.Assign ∷ expr ∷ exactly m.Semicolon ∷ act assign_done ∷ k) vs (ahead p)
+value_begins p k vs is = rw is refl
+
 -- one more statement of a block
 pub block_of-append : (b : List Stmt) (s : Stmt) → block_of (b ++ s ∷ []) ≡ with_statement (block_of b) (statement_of s)
 block_of-append [] s = refl
@@ -49,8 +66,8 @@ block_of-append (x ∷ b) s = ap (first (statement_of x)) (block_of-append b s)
 -- an expression is operands with products, sums and a comparison
 pub read-expr : (k : List Symbol) (vs : Values) (xs : Lexemes) → read (expr ∷ k) vs xs ≡ read (operand ∷ products ∷ sums ∷ comparison ∷ k) vs xs
 read-expr k vs (end_on l) = refl
-read-expr k vs (comes (number n) l xs) = refl
-read-expr k vs (comes (name n) l xs) = refl
+read-expr k vs (comes (a_number n) l xs) = refl
+read-expr k vs (comes (a_name n) l xs) = refl
 read-expr k vs (comes (terminal m.ParenOpen) l xs) = refl
 read-expr k vs (comes (terminal m.Minus) l xs) = refl
 read-expr k vs (comes (terminal m.Bang) l xs) = refl
@@ -61,13 +78,13 @@ read-expr k vs (comes end l xs) = refl
 -- the end of a bracket is one terminal
 pub read-closing : (a : Terminal) (k : List Symbol) (vs : Values) (xs : Lexemes) → read (closing a ∷ k) vs xs ≡ read (exactly a ∷ k) vs xs
 read-closing a k vs (end_on l) = refl
-read-closing a k vs (comes (number n) l xs) = refl
-read-closing a k vs (comes (name n) l xs) = refl
+read-closing a k vs (comes (a_number n) l xs) = refl
+read-closing a k vs (comes (a_name n) l xs) = refl
 read-closing a k vs (comes (terminal b) l xs) = refl
 read-closing a k vs (comes (bad b) l xs) = refl
 read-closing a k vs (comes end l xs) = refl
 
-pub ruleset steps = (taken_open, read-act, read-lifted, read-lifted-high, read-join, read-join-high, read-expr, read-closing, block_of-append)
+pub ruleset steps = (taken_open, read-act, read-lifted, read-lifted-high, read-join, read-join-high, read-index, read-index-high, read-expr, read-closing, block_of-append)
 
 -- A reading that is as another one goes on as that one.
 pub goes_on : {T : Type 0} (r : Result T TextRefusal) (a b : Result Values TextFault) (behind : T → Lexemes → Result Values TextFault) (left : Lexemes) → a ≡ b → GoesOn r b behind left → GoesOn r a behind left

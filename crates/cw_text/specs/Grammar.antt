@@ -5,22 +5,23 @@
 -- the nearest symbol does not allow is the first fault. What has been read is a list of values, the newest first;
 -- the symbol `act` makes a tree of the newest ones. `expansion` is the grammar: what may come in place of a symbol
 -- once a token was read.
-use Rattle.std.specs.Prelude.{ℕ, ◌+◌, Bool, List, [], ◌∷◌, ◌++◌, Option, Some, None, Result, Ok, Err, if◌then◌else◌, nat_lt, codes, ℤ, pos, neg_ℤ}
+use Rattle.std.specs.Prelude.{ℕ, zero, suc, ◌+◌, Bool, List, [], ◌∷◌, ◌++◌, Option, Some, None, Result, Ok, Err, if◌then◌else◌, nat_lt, codes, ℤ, pos, neg_ℤ}
 use Rattle.cw_text.specs.declared.ast.Op.{Op}
 use Rattle.cw_text.specs.declared.ast.Op.TheVariants as op
 use Rattle.cw_text.specs.declared.ast.Word.{Word}
 use Rattle.cw_text.specs.declared.fault.TextKind.{TextKind}
-use Rattle.cw_text.specs.declared.fault.TextKind.TheVariants.{Unexpected, TooDeep}
+use Rattle.cw_text.specs.declared.fault.TextKind.TheVariants.{BadNumber, Unexpected, TooDeep}
 use Rattle.cw_text.specs.declared.fault.TextFault.{TextFault}
 use Rattle.cw_text.specs.declared.terminal.Terminal.{Terminal}
 use Rattle.cw_text.specs.declared.terminal.Terminal.TheVariants as m
-use Rattle.cw_text.specs.Syntax.{Term, number, name, unary, binary, Statement, declare, assign, out, atomic, spawn, sync, Block, empty, Declaration, cell, func, with_statement, height}
+use Rattle.cw_text.specs.Syntax.{Term, number, name, at, unary, binary, Statement, declare, assign, assign_at, out, atomic, spawn, sync, Block, empty, Declaration, cell, func, with_statement, height}
 use Rattle.cw_text.specs.Lexemes.{Token, Lexemes, end_on, comes, name as a_name, number as a_number, terminal, bad, end, spelling}
 use Rattle.std.specs.Str.{bytes_eq}
 
 -- what has been read
 pub data Value : Type 0 where
   a_word : Word → Value
+  a_size : ℕ → Value
   an_init : ℤ → Value
   a_term : Term → Value
   a_block : Block → Value
@@ -31,9 +32,11 @@ Values = List Value
 
 -- what may still come
 pub data Symbol : Type 0 where
-  items main_word cell_init init negated : Symbol
-  block stmts : Symbol
+  items main_word cell_size size cell_init init negated : Symbol
+  block stmts assignment : Symbol
   expr operand products sums comparison : Symbol
+  -- what may follow a name in an expression; the line is that of the name
+  brackets : ℕ → Symbol
   word : Symbol
   exactly : Terminal → Symbol
   -- the end of a bracket
@@ -42,7 +45,7 @@ pub data Symbol : Type 0 where
   act : (Values → Values) → Symbol
   -- the operand before was that of an operator, which stands on this line
   lifted : Op → ℕ → Symbol
-  -- the expression before is not too high; the line is that of its operator
+  -- the expression before is not too high; the line is that of its operator, or of the name of an element
   read_from : ℕ → Symbol
 
 -- a token begins these symbols; or none of them is there; or the token may not stand here
@@ -56,12 +59,16 @@ pub data Next : Type 0 where
 abbrev pub push : Value → Values → Values
 push v vs = v ∷ vs
 
+abbrev pub with_size : ℕ → Values → Values
+with_size n (a_size z ∷ vs) = a_size n ∷ vs
+with_size n vs = vs
+
 abbrev pub with_init : ℤ → Values → Values
 with_init n (an_init z ∷ vs) = an_init n ∷ vs
 with_init n vs = vs
 
 abbrev pub cell_done : Values → Values
-cell_done (an_init i ∷ a_word w ∷ declared ds ∷ vs) = declared (ds ++ cell w.name w.line 0 i ∷ []) ∷ vs
+cell_done (an_init i ∷ a_size n ∷ a_word w ∷ declared ds ∷ vs) = declared (ds ++ cell w.name w.line n i ∷ []) ∷ vs
 cell_done vs = vs
 
 abbrev pub func_done : Values → Values
@@ -80,6 +87,10 @@ let_done vs = vs
 abbrev pub assign_done : Values → Values
 assign_done (a_term e ∷ a_word w ∷ vs) = stated (assign w e) vs
 assign_done vs = vs
+
+abbrev pub assign_at_done : Values → Values
+assign_at_done (a_term e ∷ a_term i ∷ a_word w ∷ vs) = stated (assign_at w i e) vs
+assign_at_done vs = vs
 
 abbrev pub out_done : Values → Values
 out_done (a_term e ∷ vs) = stated (out e) vs
@@ -103,6 +114,10 @@ lift o vs = vs
 abbrev pub join : Op → Values → Values
 join o (a_term r ∷ a_term l ∷ vs) = a_term (binary o l r) ∷ vs
 join o vs = vs
+
+abbrev pub index_done : Values → Values
+index_done (a_term i ∷ a_term (name w) ∷ vs) = a_term (at w i) ∷ vs
+index_done vs = vs
 
 abbrev pub newest_height : Values → ℕ
 newest_height (a_term e ∷ vs) = height e
@@ -133,6 +148,8 @@ prefix_of a = None
 
 abbrev pub product_of : Terminal → Option Op
 product_of m.Star = Some op.Mul
+product_of m.Slash = Some op.Div
+product_of m.Percent = Some op.Rem
 product_of a = None
 
 abbrev pub sum_of : Terminal → Option Op
@@ -165,7 +182,7 @@ rest_of_expr = products ∷ sums ∷ comparison ∷ []
 -- how an operand begins, with what follows it
 abbrev pub operand_by : List Symbol → Token → ℕ → Next
 operand_by k (a_number n) l = take (act (push (a_term (number (pos n)))) ∷ k)
-operand_by k (a_name n) l = take (act (push (a_term (name (word_at n l)))) ∷ k)
+operand_by k (a_name n) l = take (act (push (a_term (name (word_at n l)))) ∷ brackets l ∷ k)
 operand_by k (terminal m.ParenOpen) l = take (expr ∷ closing m.ParenClose ∷ k)
 operand_by k (terminal a) l = prefix_by (prefix_of a) k l
 operand_by k t l = refuse (why t)
@@ -180,10 +197,16 @@ expansion (exactly a) (terminal b) l = only a b
 expansion (exactly a) t l = refuse (why t)
 expansion (closing a) (terminal b) l = only a b
 expansion (closing a) t l = refuse (why t)
-expansion items (terminal m.Cell) l = take (word ∷ act (push (an_init (pos 0))) ∷ cell_init ∷ exactly m.Semicolon ∷ act cell_done ∷ items ∷ [])
+expansion items (terminal m.Cell) l = take (word ∷ act (push (a_size 0)) ∷ cell_size ∷ act (push (an_init (pos 0))) ∷ cell_init ∷ exactly m.Semicolon ∷ act cell_done ∷ items ∷ [])
 expansion items (terminal m.Fn) l = take (main_word ∷ exactly m.ParenOpen ∷ closing m.ParenClose ∷ block ∷ act func_done ∷ items ∷ [])
 expansion items end l = take []
 expansion items t l = refuse (why t)
+expansion cell_size (terminal m.SquareOpen) l = take (size ∷ closing m.SquareClose ∷ [])
+expansion cell_size t l = skip
+-- an array has elements
+expansion size (a_number zero) l = refuse BadNumber
+expansion size (a_number (suc n)) l = take (act (with_size (suc n)) ∷ [])
+expansion size t l = refuse (why t)
 expansion cell_init (terminal m.Assign) l = take (init ∷ [])
 expansion cell_init t l = skip
 expansion init (terminal m.Minus) l = take (negated ∷ [])
@@ -195,11 +218,14 @@ expansion block (terminal m.BraceOpen) l = take (act (push (a_block empty)) ∷ 
 expansion block t l = refuse (why t)
 expansion stmts (terminal m.Let) l = take (word ∷ exactly m.Assign ∷ expr ∷ exactly m.Semicolon ∷ act let_done ∷ stmts ∷ [])
 expansion stmts (terminal m.Out) l = take (expr ∷ exactly m.Semicolon ∷ act out_done ∷ stmts ∷ [])
-expansion stmts (a_name n) l = take (act (push (a_word (word_at n l))) ∷ exactly m.Assign ∷ expr ∷ exactly m.Semicolon ∷ act assign_done ∷ stmts ∷ [])
+expansion stmts (a_name n) l = take (act (push (a_word (word_at n l))) ∷ assignment ∷ stmts ∷ [])
 expansion stmts (terminal m.Atomic) l = take (block ∷ act atomic_done ∷ stmts ∷ [])
 expansion stmts (terminal m.Spawn) l = take (block ∷ act spawn_done ∷ stmts ∷ [])
 expansion stmts (terminal m.Sync) l = take (exactly m.Semicolon ∷ act sync_done ∷ stmts ∷ [])
 expansion stmts t l = skip
+expansion assignment (terminal m.Assign) l = take (expr ∷ exactly m.Semicolon ∷ act assign_done ∷ [])
+expansion assignment (terminal m.SquareOpen) l = take (expr ∷ closing m.SquareClose ∷ exactly m.Assign ∷ expr ∷ exactly m.Semicolon ∷ act assign_at_done ∷ [])
+expansion assignment t l = refuse (why t)
 expansion expr t l = operand_by rest_of_expr t l
 expansion operand t l = operand_by [] t l
 expansion products (terminal a) l = infix_by (product_of a) [] (products ∷ []) l
@@ -208,6 +234,8 @@ expansion sums (terminal a) l = infix_by (sum_of a) (products ∷ []) (sums ∷ 
 expansion sums t l = skip
 expansion comparison (terminal a) l = infix_by (comparison_of a) (products ∷ sums ∷ []) [] l
 expansion comparison t l = skip
+expansion (brackets n) (terminal m.SquareOpen) l = take (expr ∷ closing m.SquareClose ∷ act index_done ∷ read_from n ∷ [])
+expansion (brackets n) t l = skip
 expansion (act f) t l = skip
 expansion (lifted o k) t l = skip
 expansion (read_from k) t l = skip

@@ -6,7 +6,7 @@ use Rattle.cw_text.specs.declared.ast.Op.TheVariants as op
 use Rattle.cw_text.specs.declared.ast.Word.{Word}
 use Rattle.cw_text.specs.declared.terminal.Terminal.{Terminal}
 use Rattle.cw_text.specs.declared.terminal.Terminal.TheVariants as m
-use Rattle.cw_text.specs.Syntax.{Term, number, name, unary, binary, Statement, declare, assign, out, atomic, spawn, sync, Block, empty, first, Declaration, cell, func, height}
+use Rattle.cw_text.specs.Syntax.{Term, number, name, at, unary, binary, Statement, declare, assign, assign_at, out, atomic, spawn, sync, Block, empty, first, Declaration, cell, func, height}
 use Rattle.cw_text.specs.Lexemes.{Token, Lexemes, end_on, comes, name as a_name, number as a_number, terminal}
 
 -- a token and its line
@@ -38,6 +38,8 @@ abbrev pub terminal_of : Op → Terminal
 terminal_of op.Add = m.Plus
 terminal_of op.Sub = m.Minus
 terminal_of op.Mul = m.Star
+terminal_of op.Div = m.Slash
+terminal_of op.Rem = m.Percent
 terminal_of op.Neg = m.Minus
 terminal_of op.Not = m.Bang
 terminal_of op.Eq = m.EqEq
@@ -52,6 +54,8 @@ abbrev pub tightness : Op → ℕ
 tightness op.Add = 1
 tightness op.Sub = 1
 tightness op.Mul = 2
+tightness op.Div = 2
+tightness op.Rem = 2
 tightness op.Neg = 3
 tightness op.Not = 3
 tightness o = 0
@@ -67,10 +71,14 @@ abbrev pub bracketed : Bool → List Placed → List Placed
 bracketed true ps = sign m.ParenOpen ++ ps ++ sign m.ParenClose
 bracketed false ps = ps
 
+abbrev pub in_squares : List Placed → List Placed
+in_squares ps = sign m.SquareOpen ++ ps ++ sign m.SquareClose
+
 -- an expression where so much tightness is wanted
 abbrev pub term_tokens : ℕ → Term → List Placed
 term_tokens n (number z) = number_tokens z
 term_tokens n (name w) = word_tokens w
+term_tokens n (at w i) = word_tokens w ++ in_squares (term_tokens 0 i)
 term_tokens n (unary o e) = sign (terminal_of o) ++ term_tokens 3 e
 term_tokens n (binary o l r) = bracketed (nat_lt (tightness o) n) (term_tokens (of_left o) l ++ sign (terminal_of o) ++ term_tokens (of_right o) r)
 
@@ -79,10 +87,15 @@ term_tokens n (binary o l r) = bracketed (nat_lt (tightness o) n) (term_tokens (
 abbrev pub in_braces : List Placed → List Placed
 in_braces ps = sign m.BraceOpen ++ ps ++ sign m.BraceClose
 
+-- a value that is assigned, up to the end of its statement
+abbrev pub value_tokens : Term → List Placed
+value_tokens e = sign m.Assign ++ term_tokens 0 e ++ sign m.Semicolon
+
 abbrev mutual
   pub statement_tokens : Statement → List Placed
-  statement_tokens (declare w e) = sign m.Let ++ word_tokens w ++ sign m.Assign ++ term_tokens 0 e ++ sign m.Semicolon
-  statement_tokens (assign w e) = word_tokens w ++ sign m.Assign ++ term_tokens 0 e ++ sign m.Semicolon
+  statement_tokens (declare w e) = sign m.Let ++ word_tokens w ++ value_tokens e
+  statement_tokens (assign w e) = word_tokens w ++ value_tokens e
+  statement_tokens (assign_at w i e) = word_tokens w ++ in_squares (term_tokens 0 i) ++ value_tokens e
   statement_tokens (out e) = sign m.Out ++ term_tokens 0 e ++ sign m.Semicolon
   statement_tokens (atomic b) = sign m.Atomic ++ in_braces (statements_tokens b)
   statement_tokens (spawn b) = sign m.Spawn ++ in_braces (statements_tokens b)
@@ -95,7 +108,7 @@ abbrev mutual
 -- a plain cell has no size
 abbrev pub size_tokens : ℕ → List Placed
 size_tokens zero = []
-size_tokens (suc n) = sign m.SquareOpen ++ number_tokens (pos (suc n)) ++ sign m.SquareClose
+size_tokens (suc n) = in_squares (number_tokens (pos (suc n)))
 
 -- 0 is not written
 abbrev pub init_tokens : ℤ → List Placed
@@ -123,6 +136,7 @@ abbrev pub IsWellFormed : Term → Type 0
 IsWellFormed (number (pos n)) = n < 2 ^ 63
 IsWellFormed (number (negsuc n)) = ⊥
 IsWellFormed (name w) = Unit {0}
+IsWellFormed (at w i) = IsWellFormed i
 IsWellFormed (unary o e) = (tightness o ≡ 3) × IsWellFormed e
 IsWellFormed (binary o l r) = (tightness o < 3) × IsWellFormed l × IsWellFormed r
 
@@ -130,6 +144,7 @@ IsWellFormed (binary o l r) = (tightness o < 3) × IsWellFormed l × IsWellForme
 abbrev pub most_open : ℕ → Term → ℕ
 most_open n (number z) = 0
 most_open n (name w) = 0
+most_open n (at w i) = most_open 0 i + 1
 most_open n (unary o e) = most_open 3 e + 1
 most_open n (binary o l r) = max (most_open (of_left o) l) (most_open (of_right o) r) + (if nat_lt (tightness o) n then 1 else 0)
 
@@ -144,6 +159,7 @@ abbrev mutual
   pub IsReadableStatement : (around : ℕ) → Statement → Type 0
   IsReadableStatement n (declare w e) = IsReadableTerm n e
   IsReadableStatement n (assign w e) = IsReadableTerm n e
+  IsReadableStatement n (assign_at w i e) = IsReadableTerm (n + 1) i × IsReadableTerm n e
   IsReadableStatement n (out e) = IsReadableTerm n e
   IsReadableStatement n (atomic b) = (n < 200) × IsReadableBlock (n + 1) b
   IsReadableStatement n (spawn b) = (n < 200) × IsReadableBlock (n + 1) b
@@ -153,9 +169,9 @@ abbrev mutual
   IsReadableBlock n empty = Unit {0}
   IsReadableBlock n (first s b) = IsReadableStatement n s × IsReadableBlock n b
 
--- So far a cell is plain, and the only function is main, without parameters.
+-- So far the only function is main, without parameters.
 abbrev pub IsReadableDeclaration : Declaration → Type 0
-IsReadableDeclaration (cell n l len z) = (len ≡ 0) × (nat_abs z < 2 ^ 63)
+IsReadableDeclaration (cell n l len z) = (len < 2 ^ 63) × (nat_abs z < 2 ^ 63)
 IsReadableDeclaration (func n l ps b) = (n ≡ codes "main") × (ps ≡ []) × IsReadableBlock 1 b
 
 abbrev pub IsReadable : List Declaration → Type 0

@@ -1,6 +1,6 @@
 -- A worked tree, and the text that it is printed as: brackets stand where the tree needs them, and nowhere else.
 use Rattle.std.specs.Prelude.{◌≡◌, List, [], ◌∷◌, codes, pos, negsuc}
-use Rattle.cw_text.specs.Syntax.{Term, name, number, unary, binary, declare, assign, out, atomic, spawn, sync, empty, first, Declaration, cell, func}
+use Rattle.cw_text.specs.Syntax.{Term, name, number, at, unary, binary, declare, assign, assign_at, out, atomic, spawn, sync, empty, first, Declaration, cell, func}
 use Rattle.cw_text.specs.Lexemes.{keywords, lexemes}
 use Rattle.cw_text.specs.Printed.{printed}
 use Rattle.cw_text.specs.Rows.{word}
@@ -21,10 +21,14 @@ difference = binary op.Sub a b
 abbrev pub product : Term
 product = binary op.Mul a b
 
+abbrev pub element : Term → Term
+element i = at (word (codes "c")) i
+
 abbrev pub tree : List Declaration
 tree =
     cell (codes "a") 1 0 (pos 0)
     ∷ cell (codes "b") 1 0 (negsuc 2)
+    ∷ cell (codes "c") 1 3 (pos 7)
     ∷ func (codes "main") 1 []
     (first (declare (word (codes "x")) (binary op.Eq less less))
     (first (assign (word (codes "a")) (binary op.Le difference product))
@@ -35,11 +39,13 @@ tree =
     (first (out (binary op.Mul product (unary op.Not less)))
     (first (out (unary op.Neg (unary op.Neg (unary op.Not difference))))
     (first (out (binary op.Add (unary op.Neg product) (unary op.Neg (number (pos 0)))))
+    (first (assign_at (word (codes "c")) difference (element less))
+    (first (out (binary op.Rem (binary op.Div a product) (unary op.Neg (element (unary op.Neg (element a))))))
     (first (atomic (first (spawn (first (out a) empty)) (first sync empty)))
-    empty))))))))))
+    empty))))))))))))
     ∷ []
 
 abbrev pub Worked : Type 0
 Worked =
-    lexemes keywords (codes "cell a ; cell b = - 3 ; fn main ( ) { let x = ( a < b ) == ( a < b ) ; a = a - b <= a * b ; out ( a < b ) + ( a - b ) - ( a < b ) ; out a - b - a * b + ( a * b + 7 ) ; out ( a < b ) * ( a * b ) * ( a < b ) ; out ( a - b ) * - a * ( a - b ) ; out a * b * ! ( a < b ) ; out - - ! ( a - b ) ; out - ( a * b ) + - 0 ; atomic { spawn { out a ; } sync ; } }")
+    lexemes keywords (codes "cell a ; cell b = - 3 ; cell c [ 3 ] = 7 ; fn main ( ) { let x = ( a < b ) == ( a < b ) ; a = a - b <= a * b ; out ( a < b ) + ( a - b ) - ( a < b ) ; out a - b - a * b + ( a * b + 7 ) ; out ( a < b ) * ( a * b ) * ( a < b ) ; out ( a - b ) * - a * ( a - b ) ; out a * b * ! ( a < b ) ; out - - ! ( a - b ) ; out - ( a * b ) + - 0 ; c [ a - b ] = c [ a < b ] ; out a / ( a * b ) % - c [ - c [ a ] ] ; atomic { spawn { out a ; } sync ; } }")
     ≡ printed tree

@@ -1,7 +1,7 @@
 -- Worked texts: what they read as, or their first fault.
 use Rattle.std.specs.Prelude.{Result, ◌++◌, pos, negsuc, replicate, ℕ, zero, suc, ◌≡◌, List, [], ◌∷◌, codes, Ok, Err}
 use Rattle.std.specs.List.{flat_map}
-use Rattle.cw_text.specs.Syntax.{Declaration, func, cell, Block, empty, first, declare, assign, out, atomic, spawn, sync, binary, name, number, unary}
+use Rattle.cw_text.specs.Syntax.{Declaration, func, cell, Block, empty, first, declare, assign, assign_at, out, atomic, spawn, sync, Term, at, binary, name, number, unary}
 use Rattle.cw_text.specs.Lexemes.{end_on, comes, name as a_name, number as a_number, terminal, bad, lexemes, keywords}
 use Rattle.cw_text.specs.Grammar.{program_of}
 use Rattle.cw_text.specs.declared.fault.TextKind.{TextKind}
@@ -33,16 +33,35 @@ Programs =
     × (read (codes "cell c = -3; fn main() { let x = c + 1 * 2; c = x; out -c < (3 - c) - 1; }") ≡ Ok (cell (codes "c") 1 0 (negsuc 2) ∷ func (codes "main") 1 [] (first (declare (word (codes "x")) (binary op.Add (name (word (codes "c"))) (binary op.Mul (number (pos 1)) (number (pos 2))))) (first (assign (word (codes "c")) (name (word (codes "x")))) (first (out (binary op.Lt (unary op.Neg (name (word (codes "c")))) (binary op.Sub (binary op.Sub (number (pos 3)) (name (word (codes "c")))) (number (pos 1))))) empty))) ∷ []))
     × (read (codes "fn main() { atomic { spawn { atomic { } } sync; } }") ≡ Ok (func (codes "main") 1 [] (first (atomic (first (spawn (first (atomic empty) empty)) (first sync empty))) empty) ∷ []))
 
+abbrev pub element : ℕ → Term
+element i = at (word (codes "a")) (number (pos i))
+
+abbrev pub Arrays : Type 0
+Arrays =
+    (read (codes "cell a[3] = -2; cell b[1]; fn main() { a[a[0] - 1] = -a[2] * a[1] / 5 % 3; }") ≡ Ok (cell (codes "a") 1 3 (negsuc 1) ∷ cell (codes "b") 1 1 (pos 0) ∷ func (codes "main") 1 [] (first (assign_at (word (codes "a")) (binary op.Sub (element 0) (number (pos 1))) (binary op.Rem (binary op.Div (binary op.Mul (unary op.Neg (element 2)) (element 1)) (number (pos 5))) (number (pos 3)))) empty) ∷ []))
+    × (read (codes "cell a[\n0]; fn main() {}") ≡ refused BadNumber 2)
+    × (read (codes "cell a[]; fn main() {}") ≡ refused Unexpected 1)
+    × (read (codes "cell a[-1]; fn main() {}") ≡ refused Unexpected 1)
+    × (read (codes "cell a[2\n= 1; fn main() {}") ≡ refused Unexpected 2)
+    × (read (codes "fn main() { a[0\n}") ≡ refused Unexpected 2)
+    × (read (codes "fn main() { a[0]\n; }") ≡ refused Unexpected 2)
+    × (read (codes "fn main() { out a[0]\n[1]; }") ≡ refused Unexpected 2)
+    × (read (codes "fn main() { out (a)\n[0]; }") ≡ refused Unexpected 2)
+
 -- n ones, with signs between them
 abbrev pub ones : ℕ → List ℕ
 ones n = flat_map {X = ℕ} (λ x. codes "1+") (replicate n 32) ++ codes "1"
 
--- An expression of height 200 passes, and one of height 201 is refused at its operator.
+-- An expression of height 200 passes, and one of height 201 is refused at its operator, or at its name. The index and
+-- the value of an assignment have each their own height.
 abbrev pub Heights : Type 0
 Heights =
     (read (codes "fn main() { out\n" ++ (ones 199 ++ codes ";@")) ≡ refused BadChar 2)
     × (read (codes "fn main() { out 1\n+\n" ++ (ones 199 ++ codes ";@")) ≡ refused TooDeep 3)
     × (read (codes "fn main() { out\n" ++ (ones 199 ++ codes "\n== 1;")) ≡ refused TooDeep 3)
+    × (read (codes "fn main() { out a[" ++ (ones 198 ++ codes "];@")) ≡ refused BadChar 1)
+    × (read (codes "fn main() { out\na\n[" ++ (ones 199 ++ codes "];")) ≡ refused TooDeep 2)
+    × (read (codes "fn main() { a[" ++ (ones 199 ++ (codes "] = " ++ (ones 199 ++ codes ";@")))) ≡ refused BadChar 1)
 
 -- so many atomic blocks, each in the one before, and the text that they begin with
 abbrev pub nested : ℕ → Block
@@ -59,6 +78,20 @@ Brackets =
     × (read (codes "fn main() { out " ++ (replicate 199 40 ++ (codes "1" ++ (replicate 199 41 ++ codes "; }")))) ≡ Ok (func (codes "main") 1 [] (first (out (number (pos 1))) empty) ∷ []))
     × (read (codes "fn main() {" ++ (nested_begin 199 ++ codes "atomic\n{")) ≡ refused TooDeep 2)
     × (read (codes "fn main() {" ++ (nested_begin 199 ++ replicate 200 125)) ≡ Ok (func (codes "main") 1 [] (nested 199) ∷ []))
+
+-- so many elements, each the index of the one before
+abbrev pub elements : ℕ → Term
+elements zero = number (pos 1)
+elements (suc n) = at (word (codes "a")) (elements n)
+
+abbrev pub elements_begin : ℕ → List ℕ
+elements_begin n = flat_map {X = ℕ} (λ x. codes "a[") (replicate n 32)
+
+-- The bracket of an index is one of the 200 too.
+abbrev pub Indexes : Type 0
+Indexes =
+    (read (codes "fn main() { out " ++ (elements_begin 199 ++ codes "a\n[")) ≡ refused TooDeep 2)
+    × (read (codes "fn main() { out " ++ (elements_begin 199 ++ (codes "1" ++ (replicate 199 93 ++ codes "; }")))) ≡ Ok (func (codes "main") 1 [] (first (out (elements 199)) empty) ∷ []))
 
 abbrev pub Refusals : Type 0
 Refusals =

@@ -3,7 +3,7 @@ use Rattle.std.specs.Prelude.{ℕ, ◌+◌, max, List, [], ◌∷◌, map, ℤ}
 use Rattle.cw_text.specs.declared.ast.Op.{Op}
 use Rattle.cw_text.specs.declared.ast.Word.{Word}
 use Rattle.cw_text.specs.declared.ast.Expr.{Expr}
-use Rattle.cw_text.specs.declared.ast.Expr.TheVariants.{Number, Name, Unary', Binary'}
+use Rattle.cw_text.specs.declared.ast.Expr.TheVariants.{Number, Name, At', Unary', Binary'}
 use Rattle.cw_text.specs.declared.ast.Stmt.{Stmt, Row_of-Stmt, end_of-Stmt, more_of-Stmt}
 use Rattle.cw_text.specs.declared.ast.Stmt.TheVariants as stmt
 use Rattle.cw_text.specs.declared.ast.Item.{Item}
@@ -14,6 +14,8 @@ use Rattle.cw_text.specs.declared.ast.Ast.{Ast}
 pub data Term : Type 0 where
   number : ℤ → Term
   name : Word → Term
+  -- an element of an array
+  at : Word → Term → Term
   unary : Op → Term → Term
   binary : Op → Term → Term → Term
 
@@ -21,6 +23,8 @@ mutual
   pub data Statement : Type 0 where
     declare : Word → Term → Statement
     assign : Word → Term → Statement
+    -- to an element of an array: its index, then its value
+    assign_at : Word → Term → Term → Statement
     out : Term → Statement
     atomic : Block → Statement
     spawn : Block → Statement
@@ -43,6 +47,7 @@ with_statement (first x b) s = first x (with_statement b s)
 abbrev pub height : Term → ℕ
 height (number n) = 1
 height (name w) = 1
+height (at w i) = height i + 1
 height (unary op e) = height e + 1
 height (binary op l r) = max (height l) (height r) + 1
 
@@ -50,6 +55,7 @@ height (binary op l r) = max (height l) (height r) + 1
 abbrev pub term_of : Expr → Term
 term_of (Number n) = number n
 term_of (Name w) = name w
+term_of (At' w p i) = at w (term_of i)
 term_of (Unary' op p e) = unary op (term_of e)
 term_of (Binary' op p l q r) = binary op (term_of l) (term_of r)
 
@@ -57,6 +63,7 @@ abbrev mutual
   pub statement_of : Stmt → Statement
   statement_of (stmt.Let w e) = declare w (term_of e)
   statement_of (stmt.Assign w e) = assign w (term_of e)
+  statement_of (stmt.AssignAt w i e) = assign_at w (term_of i) (term_of e)
   statement_of (stmt.Out e) = out (term_of e)
   statement_of (stmt.Atomic' s b) = atomic (inner_of b)
   statement_of (stmt.Spawn' s b) = spawn (inner_of b)

@@ -35,6 +35,8 @@ pub struct Word {
 pub enum Stmt {
     Let { name: Word, value: Expr },
     Assign { name: Word, value: Expr },
+    /// An assignment to an element of an array.
+    AssignAt { name: Word, at: Expr, value: Expr },
     Out(Expr),
     /// An atomic block.
     Atomic(Vec<Stmt>),
@@ -48,6 +50,11 @@ pub enum Stmt {
 pub enum Expr {
     Number(i64),
     Name(Word),
+    /// An element of an array.
+    At {
+        name: Word,
+        at: Box<Expr>,
+    },
     Unary {
         op: Op,
         of: Box<Expr>,
@@ -65,6 +72,8 @@ pub enum Op {
     Add,
     Sub,
     Mul,
+    Div,
+    Rem,
     Neg,
     Not,
     Eq,

@@ -1,15 +1,16 @@
 ghost use Rattle.std.specs.Prelude.{◌≡◌, ◌≤◌, ◌<◌, ◌∷◌, [], List, OnOk, IfSome, IfNone};
 ghost use Rattle.cw_text.specs.Cursor.{count_of, rest_of};
-ghost use Rattle.cw_text.specs.Grammar.{Symbol, Values, a_term, act, closing, comparison, expr, join, lifted, operand, pending, products, push, read, read_from, sums};
+ghost use Rattle.cw_text.specs.Grammar.{Symbol, Values, a_term, act, brackets, closing, comparison, expr, index_done, join, lifted, operand, pending, products, push, read, read_from, sums, word_at};
 ghost use Rattle.cw_text.specs.Lexemes.{Lexemes};
 ghost use Rattle.cw_text.specs.Parser.{Begins, GoesOn, Parses, Skips, ahead, taken};
-ghost use Rattle.cw_text.specs.Syntax.{height as height_of, term_of};
+ghost use Rattle.cw_text.specs.Syntax.{height as height_of, name as a_name, term_of};
 ghost use Rattle.cw_text.specs.declared.terminal.Terminal.TheVariants as Terminal;
 
 use crate::cursor::Token;
+use crate::letters::Letters;
 use crate::parser::{DEEPEST, Parser, refusal};
 use crate::terminal::{comparison_of, prefix_of, product_of, sum_of};
-use crate::{Expr, Op, Terminal, TextKind, TextRefusal};
+use crate::{Expr, Op, Terminal, TextKind, TextRefusal, Word};
 use std::alloc::Global;
 
 /// An expression that is not too high, and its height.
@@ -22,7 +23,8 @@ pub(crate) struct Measured {
 }
 
 impl<'a> Parser<'a> {
-    /// An operand: a number, a name, an expression in round brackets, or an operator and its operand.
+    /// An operand: a number, a name with its index or without, an expression in round brackets, or an operator and
+    /// its operand.
     #[cycle(expression)]
     #[tactic(auto, using(crate::proofs::Steps::steps))]
     fn operand(&mut self) -> Result<Measured, TextRefusal>
@@ -40,16 +42,39 @@ impl<'a> Parser<'a> {
                     height: 1,
                 })
             }
-            Token::Name(letters) => Ok(Measured {
-                expr: Expr::Name(self.word_of(letters)?),
-                height: 1,
-            }),
-            Token::Terminal(Terminal::ParenOpen) => self.bracketed(),
+            Token::Name(letters) => self.named(letters),
+            Token::Terminal(Terminal::ParenOpen) => self.bracketed(Terminal::ParenClose),
             Token::Terminal(terminal) => match prefix_of(terminal) {
                 Some(op) => self.prefixed(op),
                 None => Err(self.unexpected()),
             },
             _ => Err(self.unexpected()),
+        }
+    }
+
+    /// A name that is next, and its index, if it has one.
+    #[cycle(expression)]
+    #[tactic(auto, using(crate::proofs::Steps::steps))]
+    fn named(&mut self, letters: Letters<'a>) -> Result<Measured, TextRefusal>
+        requires { self.old.depth ≤ 200 }
+        ensures same { OnOk result (self.new.depth ≡ self.old.depth) }
+        ensures shorter { OnOk result (count_of (ahead self.new) ≤ count_of (rest_of (ahead self.old))) }
+        ensures read { let line = self.old.cursor.line in
+            let word = word_at letters.entry.bytes.now line in
+            Parses result self.old.depth (act (push (a_term (a_name word))) ∷ brackets line ∷ [])
+            (λ e. push (a_term (term_of e.expr))) (rest_of (ahead self.old)) (ahead self.new) }
+    {
+        let line = self.cursor.line;
+        let name = self.word_of(letters)?;
+        match self.cursor.token {
+            Token::Terminal(Terminal::SquareOpen) => {
+                let at = self.bracketed(Terminal::SquareClose)?;
+                indexed(self.alloc, line, name, at)
+            }
+            _ => Ok(Measured {
+                expr: Expr::Name(name),
+                height: 1,
+            }),
         }
     }
 
@@ -81,21 +106,21 @@ impl<'a> Parser<'a> {
         })
     }
 
-    /// An expression whose bracket is next.
+    /// An expression whose bracket is next, up to this other one.
     #[cycle(expression)]
     #[tactic(auto, using(crate::proofs::Steps::steps))]
-    fn bracketed(&mut self) -> Result<Measured, TextRefusal>
+    pub(crate) fn bracketed(&mut self, close: Terminal) -> Result<Measured, TextRefusal>
         requires { self.old.depth ≤ 200 }
         ensures same { OnOk result (self.new.depth ≡ self.old.depth) }
         ensures shorter { OnOk result (count_of (ahead self.new) < count_of (rest_of (ahead self.old))) }
         ensures read { (k : List Symbol) (vs : Values) → pending k ≡ self.old.depth →
             let line = self.old.cursor.line in
-            GoesOn result (taken (expr ∷ closing Terminal.ParenClose ∷ k) vs line (ahead self.old))
+            GoesOn result (taken (expr ∷ closing close ∷ k) vs line (ahead self.old))
             (λ e. read k (a_term (term_of e.expr) ∷ vs)) (ahead self.new) }
     {
         self.enter()?;
         let inner = self.expr()?;
-        self.expect(Terminal::ParenClose)?;
+        self.expect(close)?;
         self.depth -= 1;
         Ok(inner)
     }
@@ -142,7 +167,7 @@ impl<'a> Parser<'a> {
         Ok(left)
     }
 
-    /// Operands, with `*` between them.
+    /// Operands, with `*`, `/` or `%` between them.
     #[cycle(expression)]
     #[tactic(auto, using(crate::proofs::Steps::steps))]
     fn product(&mut self) -> Result<Measured, TextRefusal>
@@ -197,6 +222,26 @@ impl<'a> Parser<'a> {
             _ => None,
         }
     }
+}
+
+/// An element of an array, whose name stands on this line.
+#[tactic(auto, using(crate::proofs::Steps::steps))]
+fn indexed(alloc: Global, line: u32, name: Word, at: Measured) -> Result<Measured, TextRefusal>
+    ensures { (k : List Symbol) (vs : Values) (xs : Lexemes) →
+        let parts = a_term (term_of at.expr) ∷ a_term (a_name name) ∷ vs in
+        GoesOn result (read (act index_done ∷ read_from line ∷ k) parts xs)
+        (λ e. read k (a_term (term_of e.expr) ∷ vs)) xs }
+{
+    if at.height == DEEPEST {
+        return Err(refusal(TextKind::TooDeep, line));
+    }
+    Ok(Measured {
+        height: at.height + 1,
+        expr: Expr::At {
+            name,
+            at: Box::new(alloc, at.expr)?,
+        },
+    })
 }
 
 /// Two expressions with an operator between them, which stands on this line.

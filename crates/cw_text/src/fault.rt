@@ -8,7 +8,7 @@ pub enum TextKind {
     NotUtf8 = 1,
     /// A character that begins no token.
     BadChar = 2,
-    /// A number that is too large, or runs into a letter.
+    /// A number that is too large, or runs into a letter, or an array length of 0.
     BadNumber = 3,
     /// A token that may not stand in its place, or an end that comes too early.
     Unexpected = 4,

@@ -1,13 +1,13 @@
 ghost use Rattle.std.specs.Prelude.{◌≡◌, ◌≤◌, ◌<◌, ◌++◌, ◌∷◌, [], List, OnOk, IfOk, OnSome, pos};
 ghost use Rattle.cw_text.specs.Cursor.{count_of, rest_of};
-ghost use Rattle.cw_text.specs.Grammar.{Symbol, Values, a_word, act, an_init, block, cell_done, cell_init, closing, declared, exactly, func_done, init, items, main_word, negated, pending, push, read, word};
+ghost use Rattle.cw_text.specs.Grammar.{Symbol, Values, a_size, a_word, act, an_init, block, cell_done, cell_init, cell_size, closing, declared, exactly, func_done, init, items, main_word, negated, pending, push, read, size, word};
 ghost use Rattle.cw_text.specs.Parser.{GoesOn, ahead, item_read};
 ghost use Rattle.cw_text.specs.Syntax.{Declaration, declaration_of};
 ghost use Rattle.cw_text.specs.declared.terminal.Terminal.TheVariants as Terminal;
 
 use crate::cursor::Token;
-use crate::parser::Parser;
-use crate::{Item, Terminal, TextRefusal, Word};
+use crate::parser::{Parser, refusal};
+use crate::{Item, Terminal, TextKind, TextRefusal, Word};
 
 impl<'a> Parser<'a> {
     /// The next cell or function, unless the text ends here.
@@ -36,20 +36,64 @@ impl<'a> Parser<'a> {
         ensures same { OnOk result (self.new.depth ≡ self.old.depth) }
         ensures shorter { OnOk result (count_of (ahead self.new) < count_of (rest_of (ahead self.old))) }
         ensures read { (k : List Symbol) (vs : Values) (ds : List Declaration) → pending k ≡ self.old.depth →
-            let parts = word ∷ act (push (an_init (pos 0))) ∷ cell_init ∷ exactly Terminal.Semicolon ∷ act cell_done ∷ k in
+            let parts = word ∷ act (push (a_size 0)) ∷ cell_size ∷ act (push (an_init (pos 0))) ∷ cell_init ∷ exactly Terminal.Semicolon ∷ act cell_done ∷ k in
             GoesOn result (read parts (declared ds ∷ vs) (rest_of (ahead self.old)))
             (λ i. read k (declared (ds ++ declaration_of i ∷ []) ∷ vs)) (ahead self.new) }
     {
         self.cursor.advance();
         let Word { name, line } = self.word()?;
+        let len = self.cell_size()?;
         let init = self.initial_value()?;
         self.expect(Terminal::Semicolon)?;
         Ok(Item::Cell {
             name,
             line,
-            len: 0,
+            len,
             init,
         })
+    }
+
+    /// The number of elements of an array, or 0 for a plain cell.
+    #[tactic(auto, using(crate::proofs::Steps::steps))]
+    fn cell_size(&mut self) -> Result<u64, TextRefusal>
+        requires { self.old.depth < 200 }
+        ensures same { OnOk result (self.new.depth ≡ self.old.depth) }
+        ensures shorter { OnOk result (count_of (ahead self.new) ≤ count_of (ahead self.old)) }
+        ensures read { (k : List Symbol) (vs : Values) → pending k ≡ self.old.depth →
+            GoesOn result (read (cell_size ∷ k) (a_size 0 ∷ vs) (ahead self.old))
+            (λ n. read k (a_size n ∷ vs)) (ahead self.new) }
+    {
+        match self.cursor.token {
+            Token::Terminal(Terminal::SquareOpen) => {
+                self.enter()?;
+                let size = self.size()?;
+                self.expect(Terminal::SquareClose)?;
+                self.depth -= 1;
+                Ok(size)
+            }
+            _ => Ok(0),
+        }
+    }
+
+    /// A number of elements, of which an array has some.
+    fn size(&mut self) -> Result<u64, TextRefusal>
+        requires { self.old.depth ≤ 200 }
+        ensures same { OnOk result (self.new.depth ≡ self.old.depth) }
+        ensures shorter { OnOk result (count_of (ahead self.new) < count_of (ahead self.old)) }
+        ensures read { (k : List Symbol) (vs : Values) → pending k ≡ self.old.depth →
+            GoesOn result (read (size ∷ k) (a_size 0 ∷ vs) (ahead self.old))
+            (λ n. read k (a_size n ∷ vs)) (ahead self.new) }
+    {
+        match self.cursor.token {
+            Token::Number(number) => {
+                if number.value == 0 {
+                    return Err(refusal(TextKind::BadNumber, self.cursor.line));
+                }
+                self.cursor.advance();
+                Ok(number.value)
+            }
+            _ => Err(self.unexpected()),
+        }
     }
 
     /// The initial value of a cell, which is 0 where none is given.

@@ -1,5 +1,6 @@
 //! Texts of programs: the syntax tree, and the reader that gives it.
-//! A program is cells and `main`, with the statements `let`, assignment, `out`, `atomic`, `spawn` and `sync`.
+//! A program is cells, plain ones and arrays, and `main`, with the statements `let`, assignment, `out`, `atomic`,
+//! `spawn` and `sync`.
 //! Stands on `cw_base`.
 //! Contracts cite `specs/Text.antt`, which says what a whole text reads as, over `specs/Lexemes.antt` (tokens),
 //! `specs/Grammar.antt` (which tokens are a program, and the first fault of those that are none) and `specs/Syntax.antt`
@@ -16,7 +17,7 @@ ghost use Rattle.cw_text.specs.Printed.{HasSmallNumbers, IsReadable, only_name_l
 ghost use Rattle.cw_text.specs.PrintedRow.{Worked};
 ghost use Rattle.cw_text.specs.Syntax.{Declaration};
 ghost use Rattle.cw_text.specs.Text.{program};
-ghost use Rattle.cw_text.specs.Rows.{Tokens, Programs, Heights, Brackets, Refusals};
+ghost use Rattle.cw_text.specs.Rows.{Tokens, Programs, Arrays, Heights, Brackets, Indexes, Refusals};
 
 mod ast;
 mod cursor;
@@ -40,8 +41,10 @@ pub use text::read_program;
 pub fn worked_texts()
     ensures tokens { Tokens }
     ensures programs { Programs }
+    ensures arrays { Arrays }
     ensures heights { Heights }
     ensures brackets { Brackets }
+    ensures indexes { Indexes }
     ensures refusals { Refusals }
 {}
 

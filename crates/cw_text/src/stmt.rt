@@ -1,6 +1,6 @@
 ghost use Rattle.std.specs.Prelude.{◌≡◌, ◌≤◌, ◌<◌, ◌∷◌, [], List, OnOk, IfNone, IfOk, OnSome};
 ghost use Rattle.cw_text.specs.Cursor.{count_of, rest_of};
-ghost use Rattle.cw_text.specs.Grammar.{Symbol, Values, a_block, a_term, a_word, act, assign_done, atomic_done, block, exactly, expr, let_done, out_done, pending, push, read, spawn_done, stated, stmts, sync_done, word, word_at};
+ghost use Rattle.cw_text.specs.Grammar.{Symbol, Values, a_block, a_term, a_word, act, assignment, atomic_done, block, exactly, expr, let_done, out_done, pending, push, read, spawn_done, stated, stmts, sync_done, word, word_at};
 ghost use Rattle.cw_text.specs.Parser.{GoesOn, Parses, ahead, statement_read};
 ghost use Rattle.cw_text.specs.Syntax.{block_of, statement_of, term_of};
 ghost use Rattle.cw_text.specs.declared.terminal.Terminal.TheVariants as Terminal;
@@ -130,19 +130,29 @@ impl<'a> Parser<'a> {
     }
 
     /// An assignment, whose name is next.
-    #[tactic(auto, using(crate::proofs::Steps::steps))]
+    #[tactic(auto, using(crate::proofs::Steps::steps, crate::proofs::Steps::value_begins))]
     fn assignment(&mut self, letters: Letters<'a>) -> Result<Stmt, TextRefusal>
         requires { self.old.depth ≤ 200 }
         ensures same { OnOk result (self.new.depth ≡ self.old.depth) }
         ensures shorter { OnOk result (count_of (ahead self.new) < count_of (rest_of (ahead self.old))) }
         ensures read { let name = word_at letters.entry.bytes.now self.old.cursor.line in
             Parses result self.old.depth
-            (act (push (a_word name)) ∷ exactly Terminal.Assign ∷ expr ∷ exactly Terminal.Semicolon ∷ act assign_done ∷ [])
+            (act (push (a_word name)) ∷ assignment ∷ [])
             (λ s. stated (statement_of s)) (rest_of (ahead self.old)) (ahead self.new) }
     {
         let name = self.word_of(letters)?;
-        let value = self.assigned_value()?;
-        Ok(Stmt::Assign { name, value })
+        match self.cursor.token {
+            Token::Terminal(Terminal::Assign) => {
+                let value = self.assigned_value()?;
+                Ok(Stmt::Assign { name, value })
+            }
+            Token::Terminal(Terminal::SquareOpen) => {
+                let at = self.bracketed(Terminal::SquareClose)?.expr;
+                let value = self.assigned_value()?;
+                Ok(Stmt::AssignAt { name, at, value })
+            }
+            _ => Err(self.unexpected()),
+        }
     }
 
     /// `=`, a value and the end of a statement.

@@ -57,6 +57,8 @@ pub fn product_of(terminal: Terminal) -> Option<Op>
 {
     match terminal {
         Terminal::Star => Some(Op::Mul),
+        Terminal::Slash => Some(Op::Div),
+        Terminal::Percent => Some(Op::Rem),
         _ => None,
     }
 }

@@ -22,12 +22,13 @@ fn line_of(text: &[u8], place: usize) -> u32
 
 /// Reads a program. The answer is the tree that the text spells, or the text's first fault with its line.
 ///
-/// A program is cells and the function `main`. Its statements are `let`, assignments, `out`, `sync`, and the blocks
-/// `atomic` and `spawn`, which may stand in one another.
+/// A program is cells, plain ones and arrays, and the function `main`. Its statements are `let`, assignments to names
+/// and to elements of arrays, `out`, `sync`, and the blocks `atomic` and `spawn`, which may stand in one another.
 ///
 /// A text has at most 1,048,576 bytes, or it is `TooLong`, on line 0. Then a byte that is in no whole UTF-8 character
 /// is `NotUtf8`, wherever it stands. Only then the tokens are read one by one, up to the first that is no token
-/// (`BadChar`, `BadNumber`), that may not stand in its place (`Unexpected`) or with which the text is `TooDeep`.
+/// (`BadChar`, `BadNumber`), that may not stand in its place (`Unexpected`) or with which the text is `TooDeep`. An
+/// array length of 0 is a `BadNumber` too.
 /// Lines are counted from 1, and the end of the text stands on its last line. `OutOfMemory` says nothing of the text.
 #[tactic(auto, using(crate::proofs::Readings::reading_is))]
 pub fn read_program(alloc: Global, bytes: &[u8]) -> Result<Ast, TextRefusal>

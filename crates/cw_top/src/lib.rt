@@ -1,8 +1,9 @@
 //! The top call: all that the program does, from the words of its command and the bytes read to the bytes written and
 //! its status.
 //! Stands on all crates below.
-//! Contracts cite `specs/Words.antt` (which words are which command), `specs/Refusals.antt` (why a source is refused),
-//! `specs/Reasons.antt` (why there is no run), `specs/Texts.antt` (what is written) and `specs/Outcome.antt` (what a status says).
+//! Contracts cite `specs/Words.antt` (which words are which command, from `specs/Options.antt`, how words give options),
+//! `specs/Refusals.antt` (why a source is refused), `specs/Reasons.antt` (why there is no run), `specs/Texts.antt` (what is written) and
+//! `specs/Outcome.antt` (what a status says).
 #![tactic(auto)]
 
 mod command;

@@ -156,8 +156,9 @@ fn answer<S: Source, K: Sink>(
     }
 }
 
-/// Does all that the program does. `words` are the command's words without the program's name; so far the only command is the
-/// one word `run`, which reads a program from the source, runs it, and writes its text (`result_text`) to the sink.
+/// Does all that the program does. `words` are the command's words without the program's name; so far the only command is
+/// `run`, with the options `--fuel` and `--size`. It reads a program from the source, runs it, and writes its text
+/// (`result_text`) to the sink.
 ///
 /// The statuses are those of `Reply`. At most 1,048,577 bytes are read, one more than a text may have, and never more are asked
 /// for. Refusals are looked for in this order: words, read, text, names, run, write; want of memory may stand at any place.

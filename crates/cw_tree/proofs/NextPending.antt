@@ -122,7 +122,7 @@ sound_grows t p kind stamp s w no_strand other made next =
     let e = end_of_place t p w in
     record {
       tree = tree_more t p kind stamp tree w.there w.holds no_strand other;
-      stamps = stamps_more t tree.rooted s.stamps p e kind stamp (lt-ltb 0 stamp next.some ∙ sym (ap not (ap (λ b. b || is_tried_kind kind) no_strand ∙ made))) (λ some. next);
+      stamps = stamps_more t tree.rooted s.stamps p w.there kind stamp (lt-ltb 0 stamp next.some ∙ sym (ap not (ap (λ b. b || is_tried_kind kind) no_strand ∙ made))) (λ some. (e, next));
       pending_last = last_more t tree.rooted p e kind stamp s.pending_last (λ f. w.within);
     }
 
@@ -142,7 +142,7 @@ sound_refuses t p kind s w tried =
     let k = no_other kind tried in
     record {
       tree = tree_more t p kind 0 tree w.there w.holds k.0 k.1;
-      stamps = stamps_more t tree.rooted s.stamps p e kind 0 (sym (ap not (ap (λ b. b || is_tried_kind kind) k.0 ∙ tried))) (λ some. absurd (omega arith));
+      stamps = stamps_more t tree.rooted s.stamps p w.there kind 0 (sym (ap not (ap (λ b. b || is_tried_kind kind) k.0 ∙ tried))) (λ some. absurd (omega arith));
       pending_last = last_more t tree.rooted p e kind 0 s.pending_last (λ f. w.within);
     }
 
@@ -163,13 +163,13 @@ sound_forks t p stamp s w next =
     let q = hung_two t p stamp tree there holds in
     let e_one = end_new t tree.rooted p e Fork stamp refl in
     let e_two = end_stays one r.rooted n e_one Strand 0 fork refl in
-    let stamps_one = stamps_more t tree.rooted s.stamps p e Fork stamp (lt-ltb 0 stamp next.some) (λ some. next) in
-    let stamps_two = stamps_more one r.rooted stamps_one n e_one Strand 0 refl (λ some. absurd (omega arith)) in
+    let stamps_one = stamps_more t tree.rooted s.stamps p w.there Fork stamp (lt-ltb 0 stamp next.some) (λ some. (e, next)) in
+    let stamps_two = stamps_more one r.rooted stamps_one n e_one.there Strand 0 refl (λ some. absurd (omega arith)) in
     let last_one = last_more t tree.rooted p e Fork stamp s.pending_last (λ f. w.within) in
     let last_two = last_more one r.rooted n e_one Strand 0 last_one (λ f. absurd (cc (f, fork))) in
     subst IsSound (sym (in_turn t p stamp tree there holds)) (record {
       tree = forked_tree t p stamp tree there holds;
-      stamps = stamps_more two q.rooted stamps_two n e_two Strand 0 refl (λ some. absurd (omega arith));
+      stamps = stamps_more two q.rooted stamps_two n e_two.there Strand 0 refl (λ some. absurd (omega arith));
       pending_last = last_more two q.rooted n e_two Strand 0 last_two (λ f. absurd (cc (f, fork_two)));
     })
 

@@ -1,7 +1,7 @@
 -- Stamps stay apart, and rise along the tree, as a node is made at a place.
-use Rattle.std.proofs.Common.{◌≡◌, ℕ, ◌<◌, List, [], ◌∷◌, ◌++◌, length, refl, ap, sym, ◌∙◌, arith, Bool, true, false, Option, nat_lt}
+use Rattle.std.proofs.Common.{◌≡◌, ℕ, ◌<◌, List, [], ◌∷◌, ◌++◌, length, refl, ap, sym, ◌∙◌, arith, Bool, true, false, Option, inl, inr, nat_lt}
 use Rattle.std.specs.Prelude.{◌&&◌, ◌||◌, not}
-use Rattle.std.proofs.lemmas.Bool.{and_parts, and_from, not-true}
+use Rattle.std.proofs.lemmas.Bool.{and_parts, and_from, not-true, cases_lt}
 use Rattle.cw_tree.specs.declared.node.Node.{Node}
 use Rattle.cw_tree.specs.declared.node.Kind.{Kind}
 use Rattle.cw_tree.specs.declared.node.Kind.TheVariants.{Block}
@@ -47,7 +47,7 @@ closed_apart t p w b e over =
     absurd (cc (yes, no))
 
 -- a node that has a stamp, which is the next, or has none
-module _ (t : List Node) (r : IsRooted t) (s : AreStamps t) (p : ℕ) (w : IsEnd t p) (kind : Kind) (stamp : ℕ) (fits : nat_lt 0 stamp ≡ not (is_strand_kind kind || is_tried_kind kind)) (next : 0 < stamp → IsNextStamp t p stamp) where
+module _ (t : List Node) (r : IsRooted t) (s : AreStamps t) (p : ℕ) (there : p < length t) (kind : Kind) (stamp : ℕ) (fits : nat_lt 0 stamp ≡ not (is_strand_kind kind || is_tried_kind kind)) (next : 0 < stamp → IsEnd t p × IsNextStamp t p stamp) where
   abbrev x : Node
   x = fresh_node p kind stamp
 
@@ -76,7 +76,7 @@ module _ (t : List Node) (r : IsRooted t) (s : AreStamps t) (p : ℕ) (w : IsEnd
   new_closed = ap closed_test (get_next t x []) ∙ new_unclosed kind
 
   more : IsRooted u
-  more = rooted_more t x r w.there
+  more = rooted_more t x r there
 
   stamps_there : (n : ℕ) → n < length u → nat_lt 0 (stamp_of u n) ≡ has_stamp u n
   stamps_there =
@@ -86,22 +86,40 @@ module _ (t : List Node) (r : IsRooted t) (s : AreStamps t) (p : ℕ) (w : IsEnd
 
   new_before : (n : ℕ) → n < g → is_before u n g ≡ true → 0 < stamp → (stamp_of u n < stamp_of u g) × (end_of u n < stamp_of u g)
   new_before n h e some =
-      let z = (next some).series n h (new_before_at t x r w.there n h e) in
+      let z = (next some).1.series n h (new_before_at t x r there n h e) in
       (omega (arith, z.0, old_stamp n h, new_stamp), omega (arith, z.1, old_end n h, new_stamp))
 
   new_begun : (b : ℕ) → b < g → (is_block u b && is_above u b g) ≡ true → 0 < stamp → stamp_of u b < stamp_of u g
   new_begun b h e some =
-      let was = sym (ap (λ q. q && is_ancestor t b p) (node_grown t (x ∷ []) (λ y. is_block_kind y.kind) b h)) ∙ sym (ap (λ q. is_block u b && q) (ap (λ ns. has ns b) (above_new t x r w.there))) ∙ e in
-      let z = (next some).begun b h was in
+      let was = sym (ap (λ q. q && is_ancestor t b p) (node_grown t (x ∷ []) (λ y. is_block_kind y.kind) b h)) ∙ sym (ap (λ q. is_block u b && q) (ap (λ ns. has ns b) (above_new t x r there))) ∙ e in
+      let z = (next some).1.begun b h was in
       omega (arith, z, old_stamp b h, new_stamp)
+
+  -- it is before no node, but for one without a stamp
+  new_earlier : (n : ℕ) → n < g → is_before u g n ≡ true → 0 < stamp_of u n → (stamp_of u g < stamp_of u n) × (end_of u g < stamp_of u n)
+  new_earlier n h e some =
+      elim (cases_lt 0 stamp) [
+        | inl has ↦ (let w = (next has).0 in absurd (cc (e, new_first t x r there w.last n h)))
+        | inr none ↦ (omega (arith, new_stamp), omega (arith, new_end))
+      ]
+
+  new_beneath : (b : ℕ) → b < g → (is_closed u b && is_above u b g) ≡ true → (stamp_of u g < end_of u b) × (end_of u g < end_of u b)
+  new_beneath b h e =
+      let z = and_parts (is_closed u b) (is_above u b g) e in
+      let shut = sym (old_closed b h) ∙ z.0 in
+      let ended = s.ended b h shut in
+      elim (cases_lt 0 stamp) [
+        | inl some ↦ absurd (closed_apart t p (next some).0 b shut (sym (ap (λ ns. has ns b) (above_new t x r there)) ∙ z.1))
+        | inr none ↦ (omega (arith, new_stamp, old_end b h), omega (arith, new_end, old_end b h))
+      ]
 
   pub stamps_more : AreStamps u
   stamps_more = record {
     there = stamps_there;
     distinct = each_two t x (λ n k. 0 < stamp_of u n → stamp_of u n ≡ stamp_of u k → n ≡ k)
         (λ n k hn hk some e. s.distinct n k hn hk (omega (arith, old_stamp n hn)) (sym (old_stamp n hn) ∙ e ∙ old_stamp k hk))
-        (λ n h some e. absurd (((next (omega (arith, new_stamp))).fresh n h).0 (sym (old_stamp n h) ∙ e ∙ new_stamp)))
-        (λ k h some e. absurd (((next (omega (arith, new_stamp))).fresh k h).0 (sym (old_stamp k h) ∙ sym e ∙ new_stamp)))
+        (λ n h some e. absurd (((next (omega (arith, new_stamp))).1.fresh n h).0 (sym (old_stamp n h) ∙ e ∙ new_stamp)))
+        (λ k h some e. absurd (((next (omega (arith, new_stamp))).1.fresh k h).0 (sym (old_stamp k h) ∙ sym e ∙ new_stamp)))
         (λ some e. refl);
     ends_distinct = each_two t x (λ n k. 0 < end_of u n → end_of u n ≡ end_of u k → n ≡ k)
         (λ n k hn hk some e. s.ends_distinct n k hn hk (omega (arith, old_end n hn)) (sym (old_end n hn) ∙ e ∙ old_end k hk))
@@ -110,16 +128,16 @@ module _ (t : List Node) (r : IsRooted t) (s : AreStamps t) (p : ℕ) (w : IsEnd
         (λ some e. refl);
     apart = each_two t x (λ n k. 0 < end_of u n → end_of u n ≡ stamp_of u k → ⊥)
         (λ n k hn hk some e. s.apart n k hn hk (omega (arith, old_end n hn)) (sym (old_end n hn) ∙ e ∙ old_stamp k hk))
-        (λ n h some e. ((next (omega (arith, new_stamp))).fresh n h).1 (sym (old_end n h) ∙ e ∙ new_stamp))
+        (λ n h some e. ((next (omega (arith, new_stamp))).1.fresh n h).1 (sym (old_end n h) ∙ e ∙ new_stamp))
         (λ k h some e. omega (arith, new_end))
         (λ some e. omega (arith, new_end));
     series = each_two t x (λ n k. is_before u n k ≡ true → 0 < stamp_of u k → (stamp_of u n < stamp_of u k) × (end_of u n < stamp_of u k))
         (λ n k hn hk e some.
-        let z = s.series n k hn hk (old_before t x r w.there n k hn hk e) (omega (arith, old_stamp k hk)) in
+        let z = s.series n k hn hk (old_before t x r there n k hn hk e) (omega (arith, old_stamp k hk)) in
         (omega (arith, z.0, old_stamp n hn, old_stamp k hk), omega (arith, z.1, old_end n hn, old_stamp k hk)))
         (λ n h e some. new_before n h e (omega (arith, new_stamp)))
-        (λ n h e some. absurd (cc (e, new_first t x r w.there w.last n h)))
-        (λ e some. absurd (cc (e, new_apart t x r w.there)));
+        new_earlier
+        (λ e some. absurd (cc (e, new_apart t x r there)));
     begun = each_two t x (λ b k. (is_block u b && is_above u b k) ≡ true → 0 < stamp_of u k → stamp_of u b < stamp_of u k)
         (λ b k hb hk e some.
         let was = sym (ap (λ q. q && is_above t b k) (node_grown t (x ∷ []) (λ y. is_block_kind y.kind) b hb)) ∙ sym (ap (λ q. is_block u b && q) (is_above_grown t (x ∷ []) r b k hk)) ∙ e in
@@ -135,9 +153,7 @@ module _ (t : List Node) (r : IsRooted t) (s : AreStamps t) (p : ℕ) (w : IsEnd
         let was = sym (ap (λ q. q && is_above t b k) (old_closed b hb)) ∙ sym (ap (λ q. is_closed u b && q) (is_above_grown t (x ∷ []) r b k hk)) ∙ e in
         let z = s.beneath b k hb hk was in
         (omega (arith, z.0, old_stamp k hk, old_end b hb), omega (arith, z.1, old_end k hk, old_end b hb)))
-        (λ b h e.
-        let z = and_parts (is_closed u b) (is_above u b g) e in
-        absurd (closed_apart t p w b (sym (old_closed b h) ∙ z.0) (sym (ap (λ ns. has ns b) (above_new t x r w.there)) ∙ z.1)))
+        new_beneath
         (λ k h e. absurd (cc ((and_parts (is_closed u g) (is_above u g k) e).0, new_closed)))
         (λ e. absurd (cc ((and_parts (is_closed u g) (is_above u g g) e).0, new_closed)));
     no_end = each_more t x (λ n. is_closed u n ≡ false → end_of u n ≡ 0)

@@ -6,7 +6,7 @@ use Rattle.cw_text.specs.declared.ast.Word.{Word}
 use Rattle.std.specs.Str.{bytes_eq}
 use Rattle.cw_text.specs.Syntax.{Block, Declaration, cell, func}
 use Rattle.cw_strand.specs.declared.naming.NameKind.TheVariants.{TooManyCells}
-use Rattle.cw_strand.specs.Names.{Thing, Scope, find, a_cell, a_function, fault, declared_new, elements, globals}
+use Rattle.cw_strand.specs.Names.{Thing, Scope, find, cell_thing, a_function, fault, declared_new, elements, globals}
 use Rattle.cw_compile.specs.declared.naming.items.Declared.{Declared}
 use Rattle.cw_compile.specs.NamingRules.Scopes.{IsSame}
 use Rattle.cw_compile.specs.NamingRules.Items.{IsSameWith}
@@ -36,10 +36,10 @@ names_next {g} x line t left none same = same_trans (same_append left same) (sam
 
 module _ {old new : Declared} (x : List ℕ) (line : ℕ) where
   -- a cell whose name is new, and with which there are not too many elements
-  pub adds_cell : (len : ℕ) (init : ℤ) (ds : List Declaration) → declared_new (find x old.names) line ≡ None → (if nat_lt 4096 (old.elements + elements len) then fault TooManyCells line else None) ≡ None → IsSame new.names ((x, a_cell) ∷ old.names) → new.elements ≡ old.elements + elements len → new.cells.items ≡ old.cells.items ++ (record { name = x; len = len; base = old.elements; init = init } ∷ []) → IsSameWith (cell x line len init ∷ ds) old ds new
+  pub adds_cell : (len : ℕ) (init : ℤ) (ds : List Declaration) → declared_new (find x old.names) line ≡ None → (if nat_lt 4096 (old.elements + elements len) then fault TooManyCells line else None) ≡ None → IsSame new.names ((x, cell_thing len) ∷ old.names) → new.elements ≡ old.elements + elements len → new.cells.items ≡ old.cells.items ++ (record { name = x; len = len; base = old.elements; init = init } ∷ []) → IsSameWith (cell x line len init ∷ ds) old ds new
   adds_cell len init ds none room same size cells = record {
     faults = rw (none, room, size, in_items_same same (old.elements + elements len) ds) refl;
-    names = names_next x line a_cell (globals ds) none same;
+    names = names_next x line (cell_thing len) (globals ds) none same;
     cells = rw (cells, size) (append_assoc old.cells.items _ _);
     elements = rw size (omega arith);
   }

@@ -3,8 +3,8 @@ use Rattle.std.proofs.Common.{◌≡◌, ℕ, ◌+◌, List, [], ◌∷◌, ◌+
 use Rattle.std.specs.Option.{option_or, option_map}
 use Rattle.cw_text.specs.declared.ast.Word.{Word}
 use Rattle.std.specs.Str.{bytes_eq}
-use Rattle.cw_text.specs.Syntax.{Term, number, name, unary, binary, Statement, declare, assign, out, atomic, spawn, sync, Block, empty, first, Declaration, cell, func}
-use Rattle.cw_strand.specs.Names.{Thing, Scope, find, a_local, a_cell, a_function, used, in_term, scope_after, in_statement, in_block, in_params, with_params, elements, in_items, in_functions}
+use Rattle.cw_text.specs.Syntax.{Term, number, name, at, unary, binary, Statement, declare, assign, assign_at, out, atomic, spawn, sync, Block, empty, first, Declaration, cell, func}
+use Rattle.cw_strand.specs.Names.{Thing, Scope, find, a_local, cell_thing, a_function, used, in_term, scope_after, in_statement, in_block, in_params, with_params, elements, in_items, in_functions}
 use Rattle.cw_compile.specs.declared.naming.visible.Visible.{Visible}
 use Rattle.cw_compile.specs.Named.{named}
 use Rattle.cw_compile.specs.NamingRules.Scopes.{IsSame, thing_of}
@@ -41,6 +41,7 @@ same_append {g} {h} k same = record { finds = λ n. rw (find-append n g k, find-
 in_term_same : {g h : Scope} → IsSame g h → (t : Term) → in_term g t ≡ in_term h t
 in_term_same same (number n) = refl
 in_term_same same (name w) = ap (λ o. used o w.line) (same.finds w.name)
+in_term_same {g} {h} same (at w i) = rw (same.finds w.name, in_term_same same i) refl
 in_term_same same (unary op e) = in_term_same same e
 in_term_same {g} {h} same (binary op l r) = rw (in_term_same same l, in_term_same same r) refl
 
@@ -52,6 +53,7 @@ mutual
   in_statement_same : {g h : Scope} → IsSame g h → (s : Statement) → in_statement g s ≡ in_statement h s
   in_statement_same same (declare w e) = rw (same.finds w.name, in_term_same same e) refl
   in_statement_same same (assign w e) = rw (same.finds w.name, in_term_same same e) refl
+  in_statement_same same (assign_at w i e) = rw (same.finds w.name, in_term_same same i, in_term_same same e) refl
   in_statement_same same (out e) = in_term_same same e
   in_statement_same same (atomic b) = in_block_same same b
   in_statement_same same (spawn b) = in_block_same same b
@@ -71,7 +73,7 @@ with_params_same same (w ∷ ws) = with_params_same (same_cons (w.name, a_local)
 
 pub in_items_same : {g h : Scope} → IsSame g h → (n : ℕ) (ds : List Declaration) → in_items g n ds ≡ in_items h n ds
 in_items_same same n [] = refl
-in_items_same same n (cell x l len i ∷ ds) = rw (same.finds x, in_items_same (same_cons (x, a_cell) same) (n + elements len) ds) refl
+in_items_same same n (cell x l len i ∷ ds) = rw (same.finds x, in_items_same (same_cons (x, cell_thing len) same) (n + elements len) ds) refl
 in_items_same same n (func x l ps b ∷ ds) = rw (same.finds x, in_items_same (same_cons (x, a_function) same) n ds) refl
 
 pub in_functions_same : {g h : Scope} → IsSame g h → (ds : List Declaration) → in_functions g ds ≡ in_functions h ds

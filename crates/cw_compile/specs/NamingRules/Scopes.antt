@@ -11,6 +11,7 @@ use Rattle.cw_compile.specs.declared.naming.scope.Thing.TheVariants as thing
 abbrev pub thing_of : Thing → names.Thing
 thing_of thing.Local = names.a_local
 thing_of thing.Cell = names.a_cell
+thing_of thing.Array = names.an_array
 thing_of thing.Function = names.a_function
 
 -- the scope of these names, each with what it stands for

@@ -2,7 +2,7 @@ ghost use Rattle.std.specs.Prelude.{◌≡◌, map, OnOk, IfOk, Some};
 ghost use Rattle.std.specs.List.{position_from};
 ghost use Rattle.std.specs.Result.{result_err};
 ghost use Rattle.cw_text.specs.Syntax.{term_of, statement_of, block_of, declaration_of};
-ghost use Rattle.cw_strand.specs.Names.{find, used, in_term, in_statement, scope_after, in_block, in_params, with_params, ◌then◌, in_functions, main_of, naming_fault, without_main};
+ghost use Rattle.cw_strand.specs.Names.{find, used, indexed, in_term, in_statement, scope_after, in_block, in_params, with_params, ◌then◌, in_functions, main_of, naming_fault, without_main};
 ghost use Rattle.cw_compile.specs.NamingRules.Items.{IsAllOf, is_main};
 ghost use Rattle.cw_compile.specs.NamingRules.Scopes.{Finds};
 ghost use Rattle.cw_compile.specs.NamingRules.Visible.{StaysVisible, visible_in};
@@ -21,7 +21,23 @@ fn used(visible: &Visible<'_>, word: &Word) -> Result<(), NameFault>
 {
     let kind = match visible.find(&word.name) {
         Some(Thing::Local | Thing::Cell) => return Ok(()),
+        Some(Thing::Array) => NameKind::NotACell,
         Some(Thing::Function) => NameKind::NotALocal,
+        None => NameKind::Unknown,
+    };
+    Err(NameFault {
+        kind,
+        line: word.line,
+    })
+}
+
+/// The fault of a name that is read or assigned with an index.
+fn indexed(visible: &Visible<'_>, word: &Word) -> Result<(), NameFault>
+    ensures { result_err result ≡ indexed (find word.now.name (visible_in visible.now)) word.now.line }
+{
+    let kind = match visible.find(&word.name) {
+        Some(Thing::Array) => return Ok(()),
+        Some(Thing::Local | Thing::Cell | Thing::Function) => NameKind::NotACell,
         None => NameKind::Unknown,
     };
     Err(NameFault {
@@ -37,6 +53,10 @@ fn in_term(visible: &Visible<'_>, term: &Expr) -> Result<(), NameFault>
     match term {
         Expr::Number(_) => Ok(()),
         Expr::Name(word) => used(visible, word),
+        Expr::At { name, at } => {
+            indexed(visible, name)?;
+            in_term(visible, at)
+        }
         Expr::Unary { of, .. } => in_term(visible, of),
         Expr::Binary { left, right, .. } => {
             in_term(visible, left)?;
@@ -60,6 +80,11 @@ fn in_statement<'a>(visible: &mut Visible<'a>, statement: &'a Stmt) -> Result<()
         }
         Stmt::Assign { name, value } => {
             used(visible, name)?;
+            in_term(visible, value)?;
+        }
+        Stmt::AssignAt { name, at, value } => {
+            indexed(visible, name)?;
+            in_term(visible, at)?;
             in_term(visible, value)?;
         }
         Stmt::Out(value) => in_term(visible, value)?,

@@ -1,7 +1,7 @@
 ghost use Rattle.std.specs.Prelude.{◌≡◌, ◌+◌, ◌≤◌, [], map, IfOk, None, option_map, nat_lt, if◌then◌else◌};
 ghost use Rattle.std.specs.Result.{result_err};
 ghost use Rattle.cw_text.specs.Syntax.{declaration_of};
-ghost use Rattle.cw_strand.specs.Names.{declared_new, elements, fault, in_items};
+ghost use Rattle.cw_strand.specs.Names.{cell_thing, declared_new, elements, fault, in_items};
 ghost use Rattle.cw_compile.specs.NamingRules.Scopes.{thing_of, Finds};
 
 use super::scope::{Scope, Thing};
@@ -36,6 +36,13 @@ pub(crate) fn declared_new(found: Option<Thing>, line: u32) -> Result<(), NameFa
     }
 }
 
+/// What a cell of this length is.
+fn cell_thing(len: u64) -> Thing
+    ensures { thing_of result ≡ cell_thing len }
+{
+    if len == 0 { Thing::Cell } else { Thing::Array }
+}
+
 impl Declared {
     ghost use Rattle.cw_compile.specs.NamingRules.Items.{Declares, IsAllOf};
 
@@ -68,7 +75,7 @@ impl Declared {
             } => {
                 declared_new(self.names.find(name), *line)?;
                 let size = self.size_of(*len, *line)?;
-                self.names.add(alloc, name, Thing::Cell)?;
+                self.names.add(alloc, name, cell_thing(*len))?;
                 self.cells.push(CellInfo {
                     name: name.clone()?,
                     len: *len as u32,

@@ -11,7 +11,10 @@ use std::marker::Model;
 #[derive(Clone, Copy)]
 pub(crate) enum Thing {
     Local,
+    /// A plain cell.
     Cell,
+    /// A cell with elements.
+    Array,
     Function,
 }
 

@@ -1,4 +1,4 @@
-ghost use Rattle.std.specs.Prelude.{◌≤◌, IfOk, OnOk};
+ghost use Rattle.std.specs.Prelude.{IfOk, OnOk};
 ghost use Rattle.cw_strand.specs.Standing.{StandsIn};
 
 use cw_base::{Seq, Text};
@@ -254,7 +254,7 @@ fn forked(alloc: Global, strand: &mut Strand, program: &Program) -> Result<Stran
     ensures right { OnOk result (StandsIn program.now.code strand.new) }
 {
     match strand.next(program, Given::Nothing)? {
-        Want::Fork => Ok(strand.fork(alloc)?),
+        Want::Fork => Ok(strand.fork()?),
         _ => Err("no fork".into()),
     }
 }
@@ -263,7 +263,6 @@ fn forked(alloc: Global, strand: &mut Strand, program: &Program) -> Result<Stran
 fn ends(strand: &mut Strand, program: &Program, number: i64) -> Result<(), Fail>
     requires { StandsIn program.now.code strand.old }
     ensures stands { OnOk result (StandsIn program.now.code strand.new) }
-    ensures within { OnOk result (strand.new.size ≤ strand.new.limits.size) }
 {
     if strand.next(program, Given::Nothing)? != Want::Out(number) {
         return Err("another want".into());

@@ -2,7 +2,7 @@
 use Rattle.std.proofs.Common.{◌≡◌, ◌∙◌, ℕ, ◌+◌, ◌-◌, ◌<◌, ◌≤◌, not, List, [], ◌∷◌, ◌++◌, length, refl, sym, ap, subst, arith, Some, None, length-append}
 use Rattle.std.specs.Prelude.{slice_get}
 use Rattle.std.proofs.lemmas.Bool.{ne_eqb}
-use Rattle.cw_text.specs.Syntax.{Term, Statement, declare, assign, out, atomic, spawn, sync, Block, empty, first, Declaration}
+use Rattle.cw_text.specs.Syntax.{Term, Statement, declare, assign, assign_at, out, atomic, spawn, sync, Block, empty, first, Declaration}
 use Rattle.cw_code.specs.declared.CellInfo.{CellInfo}
 use Rattle.cw_code.specs.declared.instruction.Instr.{Instr}
 use Rattle.cw_code.specs.declared.instruction.Func.{Func}
@@ -12,13 +12,14 @@ use Rattle.cw_code.specs.declared.effects.Effect.TheVariants as effect
 use Rattle.cw_code.specs.Rules.{onwards}
 use Rattle.cw_code.proofs.Passes.{no_fault}
 use Rattle.cw_code.proofs.Walk.{at, expected, expected_behind, Walks, further, nothing, one, simply, no_target, named_target, further_on}
-use Rattle.cw_strand.specs.Names.{cells_of, in_term, in_statement, in_block, scope_after}
-use Rattle.cw_strand.specs.Compilation.{Slots, slots_after, code_of, term_code, statement_code, block_code, most, most_in, visible_after}
+use Rattle.cw_strand.specs.Names.{cells_of, in_term, in_statement, in_block, scope_after, indexed, find, ◌then◌}
+use Rattle.cw_strand.specs.Meaning.{cell_of}
+use Rattle.cw_strand.specs.Compilation.{Slots, slots_after, code_of, term_code, statement_code, block_code, most, most_in, stores_at}
 use Rattle.cw_strand.specs.Compilation as instr
 use Rattle.cw_strand.proofs.Numbering.{scope_of, scope_behind, count_behind, most_from}
 use Rattle.cw_strand.proofs.FitTasks as fit
 use Rattle.cw_strand.proofs.Doing.{HasAt, front, behind}
-use Rattle.cw_strand.proofs.Unbroken.Terms.{set_fits, writes_fits, term_fits}
+use Rattle.cw_strand.proofs.Unbroken.Terms.{set_fits, writes_fits, term_fits, stores_fit}
 
 module _ (ds : List Declaration) (f : Func) where
   abbrev code : Code
@@ -110,6 +111,23 @@ module _ (ds : List Declaration) (f : Func) where
     statement_fits (assign w e) g p b k fine visible room from has to here =
         let parts = fit.no_fault _ _ fine in
         with_value g e _ p b k parts.1 visible from has to here (λ q past more is v. writes_fits ds f g visible q 0 b k past more w.name w.line parts.0 is v)
+    statement_fits (assign_at w i e) g p b k fine visible room from has to here =
+        let one = term_code cells g i in
+        let two = term_code cells g e in
+        let stores = stores_at cells (cell_of cells w.name) ∷ [] in
+        let long = length-append one (two ++ stores) in
+        let long2 = length-append two stores in
+        let q = p + 1 + length one in
+        let u = q + length two in
+        let rest = behind code.instrs (p + 1) one (two ++ stores) has.1 in
+        let parts = fit.no_fault (indexed (find w.name (scope_of ds g)) w.line) (in_term (scope_of ds g) i then in_term (scope_of ds g) e) fine in
+        let terms = fit.no_fault (in_term (scope_of ds g) i) (in_term (scope_of ds g) e) parts.1 in
+        let ends : u + 1 ≡ p + length (instr.tick ∷ (one ++ (two ++ stores))) = omega (arith, long, long2) in
+        subst (λ r. Up p r (at 0 b k)) ends
+        (further code f p (p + 1) (u + 1) (at 0 b k) (at 0 b k) (tick_fits p b k from (omega (arith, long, long2)) has.0 here) (λ z.
+        further code f (p + 1) q (u + 1) (at 1 b k) (at 0 b k) (term_fits ds f g visible i (p + 1) 0 b k terms.0 (omega arith) (front code.instrs (p + 1) one (two ++ stores) has.1) (omega (arith, long, long2)) z) (λ y.
+        further code f q u (u + 1) (at 2 b k) (at 0 b k) (term_fits ds f g visible e q 1 b k terms.1 (omega arith) (front code.instrs q two stores rest) (omega (arith, long, long2)) y) (λ x.
+        stores_fit ds f g visible u 0 b k (omega arith) (omega (arith, long, long2)) w.name w.line parts.0 (behind code.instrs q two stores rest).0 x))))
     statement_fits (out e) g p b k fine visible room from has to here =
         with_value g e instr.show p b k fine visible from has to here (λ q past more is v. show_fits q b k past more is v)
     statement_fits (atomic body) g p b k fine visible room from has to here =

@@ -1,9 +1,11 @@
 -- The code of an expression fits what is expected at its places: it leaves one operand more.
-use Rattle.std.proofs.Common.{◌≡◌, ℕ, zero, suc, ◌+◌, ◌-◌, ◌<◌, ◌≤◌, Bool, true, false, not, List, [], ◌∷◌, ◌++◌, length, refl, sym, ap, subst, arith, Option, Some, None, length-append, ℤ}
+use Rattle.std.proofs.Common.{◌≡◌, ℕ, zero, suc, ◌+◌, ◌-◌, ◌<◌, ◌≤◌, Bool, true, false, not, List, [], ◌∷◌, ◌++◌, length, refl, sym, ap, subst, arith, Option, Some, None, length-append, ℤ, pos}
 use Rattle.std.specs.Prelude.{slice_get, if◌then◌else◌}
 use Rattle.std.specs.Str.{bytes_eq}
-use Rattle.std.proofs.lemmas.Bool.{lt-ltb}
-use Rattle.cw_text.specs.Syntax.{Term, number, name, unary, binary, Declaration, cell, func}
+use Rattle.std.proofs.lemmas.Bool.{lt-ltb, le-leb}
+use Rattle.std.proofs.lemmas.Option.{same_Some}
+use Rattle.cw_code.specs.Rules.{cells_below}
+use Rattle.cw_text.specs.Syntax.{Term, number, name, at as indexed_at, unary, binary, Declaration, cell, func}
 use Rattle.cw_code.specs.declared.CellInfo.{CellInfo}
 use Rattle.cw_code.specs.declared.instruction.Func.{Func}
 use Rattle.cw_code.specs.declared.instruction.Code.{Code}
@@ -13,11 +15,12 @@ use Rattle.cw_code.specs.declared.effects.Effect.TheVariants as effect
 use Rattle.cw_code.specs.Table.{effect_at}
 use Rattle.cw_code.proofs.Passes.{no_fault}
 use Rattle.cw_code.proofs.Walk.{at, expected, Walks, further, nothing, simply}
-use Rattle.cw_strand.specs.Names.{find, used, globals, elements, cells_from, cells_of, in_term}
-use Rattle.cw_strand.specs.Meaning.{element_of, lifted, joining}
-use Rattle.cw_strand.specs.Compilation.{Slots, slot_of, code_of, elements_in, element, reads, writes, plain, number_of, term_code, lift_code, join_code}
+use Rattle.cw_strand.specs.Names.{find, used, indexed, globals, elements, cells_from, cells_of, in_term}
+use Rattle.cw_strand.specs.Meaning.{element_of, cell_of, lifted, joining}
+use Rattle.cw_strand.specs.Compilation.{Slots, slot_of, code_of, elements_in, element, reads, writes, loads_at, stores_at, plain, number_of, term_code, lift_code, join_code}
 use Rattle.cw_strand.specs.Compilation as instr
-use Rattle.cw_strand.proofs.Numbering.{scope_of, find_out, element_there}
+use Rattle.cw_strand.proofs.Numbering.{scope_of, find_out, element_there, array_there}
+use Rattle.cw_strand.proofs.StandingNames.{IsCell}
 use Rattle.cw_strand.proofs.FitTasks as fit
 use Rattle.cw_strand.proofs.Doing.{HasAt, front, behind, Lifts, lifted_lifts, Joins, joining_joins}
 
@@ -43,6 +46,27 @@ element_below (cell x line len i ∷ ds) base n c e = by (bytes_eq n x) e (λ h.
     by true h f = let same : base ≡ c = cc in omega (arith, has_one len)
     by false h f = let lt = f h in omega arith
 element_below (func x line ps b ∷ ds) base n c e = element_below ds base n c e
+
+-- the elements of a cell are among those of the program
+cell_within : (ds : List Declaration) (base : ℕ) (n : List ℕ) (c : CellInfo) → cell_of (cells_from base ds) n ≡ Some c → (c.base < base + elements_in ds) × (c.base + c.len ≤ base + elements_in ds)
+cell_within [] base n c e = absurd cc
+cell_within (cell x line len i ∷ ds) base n c e = by (bytes_eq n x) e (λ h. cell_within ds (base + elements len) n c h)
+  where
+    fits : (len : ℕ) → (0 < elements len) × (len ≤ elements len)
+    fits zero = (omega arith, omega arith)
+    fits (suc n) = (omega arith, omega arith)
+
+    by : (y : Bool) → (if y then Some (record { name = x; len = len; base = base; init = i }) else cell_of (cells_from (base + elements len) ds) n) ≡ Some c
+        → (cell_of (cells_from (base + elements len) ds) n ≡ Some c → (c.base < base + elements len + elements_in ds) × (c.base + c.len ≤ base + elements len + elements_in ds))
+        → (c.base < base + (elements len + elements_in ds)) × (c.base + c.len ≤ base + (elements len + elements_in ds))
+    by true h later =
+        let whole = fits len in
+        subst (λ (d : CellInfo). (d.base < base + (elements len + elements_in ds)) × (d.base + d.len ≤ base + (elements len + elements_in ds))) (same_Some _ c h) (omega (arith, whole.0), omega (arith, whole.1))
+    by false h later = let w = later h in (omega (arith, w.0), omega (arith, w.1))
+cell_within (func x line ps b ∷ ds) base n c e = cell_within ds base n c e
+
+below_all : (n len cells : ℕ) → n < cells → n + len ≤ cells → cells_below (pos n) len cells ≡ true
+below_all n len cells lt le = rw (lt-ltb n cells lt, le-leb (n + len) cells le) refl
 
 -- a name of the program that may be used stands for an element
 named_element : (ds : List Declaration) (n : List ℕ) (line : ℕ) → used (find n (globals ds)) line ≡ None → element (element_of (cells_of ds) n) < elements_in ds
@@ -88,6 +112,31 @@ module _ (ds : List Declaration) (f : Func) where
         let one_less : suc h - 1 + 0 ≡ h = omega arith in
         simply code f p (instr.store n) (Some effect.Store) (suc h) b k h refl from is here (ap (λ x. at x b k) one_less) (no_fault _ _ p (ap not (lt-ltb n (elements_in ds) lt))) (omega arith) refl refl refl to
 
+    load_at_fits : (n len : ℕ) → n < elements_in ds → n + len ≤ elements_in ds → slice_get code.instrs p ≡ Some (instr.load_at n len) → Expects p (at (suc h) b k) → Up p (p + 1) (at (suc h) b k)
+    load_at_fits n len lt le is here =
+        let same : suc h - 1 + 1 ≡ suc h = omega arith in
+        simply code f p (instr.load_at n len) (Some effect.LoadAt) (suc h) b k (suc h) refl from is here (ap (λ x. at x b k) same) (no_fault _ _ p (ap not (below_all n len (elements_in ds) lt le))) (omega arith) refl refl refl to
+
+    pub store_at_fits : (n len : ℕ) → n < elements_in ds → n + len ≤ elements_in ds → slice_get code.instrs p ≡ Some (instr.store_at n len) → Expects p (at (suc (suc h)) b k) → Up p (p + 1) (at h b k)
+    store_at_fits n len lt le is here =
+        let two_less : suc (suc h) - 2 + 0 ≡ h = omega arith in
+        simply code f p (instr.store_at n len) (Some effect.StoreAt) (suc (suc h)) b k h refl from is here (ap (λ x. at x b k) two_less) (no_fault _ _ p (ap not (below_all n len (elements_in ds) lt le))) (omega arith) refl refl refl to
+
+    -- an element of an array that is read, and one that is written
+    loads_fit : (x : List ℕ) (line : ℕ) → indexed (find x (scope_of ds g)) line ≡ None → slice_get code.instrs p ≡ Some (loads_at cells (cell_of cells x)) → Expects p (at (suc h) b k) → Up p (p + 1) (at (suc h) b k)
+    loads_fit x line fine is here = by (cell_of cells x) refl (array_there ds g x line fine) is
+      where
+        by : (o : Option CellInfo) → cell_of cells x ≡ o → IsCell o → slice_get code.instrs p ≡ Some (loads_at cells o) → Up p (p + 1) (at (suc h) b k)
+        by None e none is = absurd none
+        by (Some d) e some is = let within = cell_within ds 0 x d e in load_at_fits d.base d.len (omega (arith, within.0)) (omega (arith, within.1)) is here
+
+    pub stores_fit : (x : List ℕ) (line : ℕ) → indexed (find x (scope_of ds g)) line ≡ None → slice_get code.instrs p ≡ Some (stores_at cells (cell_of cells x)) → Expects p (at (suc (suc h)) b k) → Up p (p + 1) (at h b k)
+    stores_fit x line fine is here = by (cell_of cells x) refl (array_there ds g x line fine) is
+      where
+        by : (o : Option CellInfo) → cell_of cells x ≡ o → IsCell o → slice_get code.instrs p ≡ Some (stores_at cells o) → Up p (p + 1) (at h b k)
+        by None e none is = absurd none
+        by (Some d) e some is = let within = cell_within ds 0 x d e in store_at_fits d.base d.len (omega (arith, within.0)) (omega (arith, within.1)) is here
+
     -- a name that is read, and one that is written
     reads_fits : (x : List ℕ) (line : ℕ) → used (find x (scope_of ds g)) line ≡ None → slice_get code.instrs p ≡ Some (reads cells (slot_of g x) x) → Expects p (at h b k) → Up p (p + 1) (at (suc h) b k)
     reads_fits x line fine is here = by (slot_of g x) refl is
@@ -131,6 +180,16 @@ module _ (ds : List Declaration) (f : Func) where
     pub term_fits : (e : Term) (p h b k : ℕ) → in_term (scope_of ds g) e ≡ None → f.start ≤ p → HasAt code.instrs p (term_code cells g e) → p + length (term_code cells g e) < f.end → Expects p (at h b k) → Up p (p + length (term_code cells g e)) (at (suc h) b k)
     term_fits (number n) p h b k fine from has to here = push_fits g visible p h b k from to n has.0 here
     term_fits (name w) p h b k fine from has to here = reads_fits g visible p h b k from to w.name w.line fine has.0 here
+    term_fits (indexed_at w i) p h b k fine from has to here =
+        let first = term_code cells g i in
+        let loads = loads_at cells (cell_of cells w.name) ∷ [] in
+        let q = p + length first in
+        let parts = fit.no_fault (indexed (find w.name (scope_of ds g)) w.line) (in_term (scope_of ds g) i) fine in
+        let ends : q + 1 ≡ p + length (first ++ loads) = omega (arith, length-append first loads) in
+        subst (λ r. Up p r (at (suc h) b k)) ends
+        (further code f p q (q + 1) (at (suc h) b k) (at (suc h) b k)
+        (term_fits i p h b k parts.1 from (front code.instrs p first loads has) (omega (arith, length-append first loads)) here)
+        (λ v. loads_fit g visible q h b k (omega arith) (omega arith) w.name w.line parts.0 (behind code.instrs p first loads has).0 v))
     term_fits (unary o e) p h b k fine from has to here =
         let first = term_code cells g e in
         let rest = lift_code (lifted o) in

@@ -13,7 +13,7 @@ impl Strand {
     ghost use Rattle.cw_strand.specs.Standing.{StandsIn};
 
     /// A value takes the place of the operand that stands for it.
-    pub fn answer(&mut self, given: Given) -> Result<(), OutOfMemory>
+    pub(crate) fn answer(&mut self, given: Given) -> Result<(), OutOfMemory>
         ensures { OnOk result (self.new ≡ with_value given self.old) }
     {
         if let Given::Value(value) = given
@@ -25,7 +25,7 @@ impl Strand {
     }
 
     /// One step.
-    pub fn step(&mut self, code: &Code) -> Result<Led, OutOfMemory>
+    pub(crate) fn step(&mut self, code: &Code) -> Result<Led, OutOfMemory>
         requires sound { faults code.now ≡ [] }
         requires stands { StandsIn code.now self.old }
         ensures { IfOk result (λ l. step code.now self.old ≡ led_to l self.new) }

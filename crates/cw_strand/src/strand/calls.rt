@@ -42,7 +42,7 @@ impl Strand {
     ghost use Rattle.cw_strand.specs.Acting.{Acts, Takes, entered};
 
     /// Spends a unit of fuel, within the limit.
-    pub fn tick(&mut self, next: usize) -> Led
+    pub(crate) fn tick(&mut self, next: usize) -> Led
         ensures { (code : Code) (i : Instr) → Acts code tick i next self.old result self.new }
     {
         if self.fuel >= self.limits.fuel {
@@ -54,7 +54,12 @@ impl Strand {
     }
 
     /// Begins a function, within the limits. The current one waits for it, to go on behind the call.
-    pub fn call(&mut self, code: &Code, instr: Instr, next: usize) -> Result<Led, OutOfMemory>
+    pub(crate) fn call(
+        &mut self,
+        code: &Code,
+        instr: Instr,
+        next: usize,
+    ) -> Result<Led, OutOfMemory>
         requires there { index instr.a < length code.now.funcs }
         requires takes { (f : Func) → slice_get code.now.funcs (index instr.a) ≡ Some f → Takes f self.old }
         ensures { IfOk result (λ l. Acts code.now call instr next self.old l self.new) }
@@ -91,7 +96,7 @@ impl Strand {
     }
 
     /// Goes back to the function that waits, with one operand more there, or ends where none waits.
-    pub fn ret(&mut self) -> Result<Led, OutOfMemory>
+    pub(crate) fn ret(&mut self) -> Result<Led, OutOfMemory>
         requires { 0 < length self.old.current.operands }
         ensures { (code : Code) (i : Instr) (p : ℕ) → IfOk result (λ l. Acts code ret i p self.old l self.new) }
     {

@@ -1,4 +1,4 @@
-ghost use Rattle.std.specs.Prelude.{◌≡◌, ◌+◌, ◌^◌, ◌<◌, ◌≤◌, ℕ, length, IfOk};
+ghost use Rattle.std.specs.Prelude.{◌≡◌, ◌+◌, ◌^◌, ◌<◌, ◌≤◌, length, IfOk};
 ghost use Rattle.cw_code.specs.declared.instruction.Code.{Code};
 ghost use Rattle.cw_code.specs.declared.instruction.Instr.{Instr};
 ghost use Rattle.cw_code.specs.declared.effects.Effect.TheVariants.{Load as load, LoadAt as load_at, Store as store, StoreAt as store_at, Out as out};
@@ -15,7 +15,7 @@ impl Strand {
     ghost use Rattle.cw_strand.specs.Acting.{Acts, led_to};
 
     /// Wants what counts one, within the limit.
-    pub fn count(&mut self, want: Want) -> Led
+    pub(crate) fn count(&mut self, want: Want) -> Led
         ensures { counts want self.old ≡ led_to result self.new }
     {
         if self.size >= u64::from(self.limits.size) {
@@ -26,7 +26,7 @@ impl Strand {
     }
 
     /// Wants a cell's value, for which an operand stands till it comes.
-    pub fn load(&mut self, instr: Instr, next: usize) -> Result<Led, OutOfMemory>
+    pub(crate) fn load(&mut self, instr: Instr, next: usize) -> Result<Led, OutOfMemory>
         requires { index instr.a < 2 ^ 32 }
         ensures { (code : Code) → IfOk result (λ l. Acts code load instr next self.old l self.new) }
     {
@@ -36,7 +36,7 @@ impl Strand {
     }
 
     /// Wants a cell to have an operand's value.
-    pub fn store(&mut self, instr: Instr, next: usize) -> Led
+    pub(crate) fn store(&mut self, instr: Instr, next: usize) -> Led
         requires there { index instr.a < 2 ^ 32 }
         requires room { 0 < length self.old.current.operands }
         ensures { (code : Code) → Acts code store instr next self.old result self.new }
@@ -49,7 +49,7 @@ impl Strand {
     }
 
     /// Wants the value of the element of an array that an operand names.
-    pub fn load_at(&mut self, instr: Instr, next: usize) -> Result<Led, OutOfMemory>
+    pub(crate) fn load_at(&mut self, instr: Instr, next: usize) -> Result<Led, OutOfMemory>
         requires there { index instr.a + instr.b ≤ 2 ^ 32 }
         requires room { 0 < length self.old.current.operands }
         ensures { (code : Code) → IfOk result (λ l. Acts code load_at instr next self.old l self.new) }
@@ -71,7 +71,7 @@ impl Strand {
     }
 
     /// Wants the element of an array that an operand names to have another operand's value.
-    pub fn store_at(&mut self, instr: Instr, next: usize) -> Result<Led, OutOfMemory>
+    pub(crate) fn store_at(&mut self, instr: Instr, next: usize) -> Result<Led, OutOfMemory>
         requires there { index instr.a + instr.b ≤ 2 ^ 32 }
         requires room { 1 < length self.old.current.operands }
         ensures { (code : Code) → IfOk result (λ l. Acts code store_at instr next self.old l self.new) }
@@ -93,7 +93,7 @@ impl Strand {
     }
 
     /// Wants an operand to be put out.
-    pub fn out(&mut self, next: usize) -> Led
+    pub(crate) fn out(&mut self, next: usize) -> Led
         requires { 0 < length self.old.current.operands }
         ensures { (code : Code) (i : Instr) → Acts code out i next self.old result self.new }
     {

@@ -1,4 +1,4 @@
-ghost use Rattle.std.specs.Prelude.{◌≡◌, ◌<◌, ℕ, length};
+ghost use Rattle.std.specs.Prelude.{◌<◌, length};
 ghost use Rattle.std.specs.Prelude.{IfOk};
 ghost use Rattle.cw_code.specs.declared.instruction.Code.{Code};
 ghost use Rattle.cw_code.specs.declared.effects.Effect.TheVariants.{Local as local, Set as set};
@@ -14,7 +14,7 @@ impl Strand {
     ghost use Rattle.cw_strand.specs.Acting.{Acts};
 
     /// A local's value is one operand more.
-    pub fn read_local(&mut self, instr: Instr, next: usize) -> Result<Led, OutOfMemory>
+    pub(crate) fn read_local(&mut self, instr: Instr, next: usize) -> Result<Led, OutOfMemory>
         requires { index instr.a < length self.old.current.locals }
         ensures { (code : Code) → IfOk result (λ l. Acts code local instr next self.old l self.new) }
     {
@@ -25,7 +25,7 @@ impl Strand {
     }
 
     /// An operand is a local's new value.
-    pub fn write_local(&mut self, instr: Instr, next: usize) -> Led
+    pub(crate) fn write_local(&mut self, instr: Instr, next: usize) -> Led
         requires there { index instr.a < length self.old.current.locals }
         requires room { 0 < length self.old.current.operands }
         ensures { (code : Code) → Acts code set instr next self.old result self.new }

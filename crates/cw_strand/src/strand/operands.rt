@@ -25,7 +25,7 @@ impl Strand {
     ghost use Rattle.cw_strand.specs.Acting.{Acts};
 
     /// One operand more.
-    pub fn push(&mut self, instr: Instr, next: usize) -> Result<Led, OutOfMemory>
+    pub(crate) fn push(&mut self, instr: Instr, next: usize) -> Result<Led, OutOfMemory>
         ensures { (code : Code) → IfOk result (λ l. Acts code push instr next self.old l self.new) }
     {
         self.operands.push(instr.a)?;
@@ -34,7 +34,7 @@ impl Strand {
     }
 
     /// One operand less.
-    pub fn drop_top(&mut self, next: usize) -> Led
+    pub(crate) fn drop_top(&mut self, next: usize) -> Led
         requires { 0 < length self.old.current.operands }
         ensures { (code : Code) (i : Instr) → Acts code drop_top i next self.old result self.new }
     {
@@ -44,7 +44,7 @@ impl Strand {
     }
 
     /// An operator's result takes the place of its one operand.
-    pub fn lift(&mut self, operator: Operator, next: usize) -> Result<Led, OutOfMemory>
+    pub(crate) fn lift(&mut self, operator: Operator, next: usize) -> Result<Led, OutOfMemory>
         requires { 0 < length self.old.current.operands }
         ensures { (code : Code) (i : Instr) → IfOk result (λ l. Acts code (lift operator) i next self.old l self.new) }
     {
@@ -65,7 +65,7 @@ impl Strand {
     }
 
     /// An operator's result takes the place of its two operands.
-    pub fn join(&mut self, operator: Operator, next: usize) -> Result<Led, OutOfMemory>
+    pub(crate) fn join(&mut self, operator: Operator, next: usize) -> Result<Led, OutOfMemory>
         requires { 1 < length self.old.current.operands }
         ensures { (code : Code) (i : Instr) → IfOk result (λ l. Acts code (join operator) i next self.old l self.new) }
     {
@@ -87,7 +87,7 @@ impl Strand {
     }
 
     /// Goes on elsewhere.
-    pub fn jump(&mut self, instr: Instr) -> Led
+    pub(crate) fn jump(&mut self, instr: Instr) -> Led
         ensures { (code : Code) (p : ℕ) → Acts code jump instr p self.old result self.new }
     {
         self.place = index(instr.a);
@@ -95,7 +95,7 @@ impl Strand {
     }
 
     /// Goes on elsewhere where the newest operand is 0.
-    pub fn jump_zero(&mut self, instr: Instr, next: usize) -> Led
+    pub(crate) fn jump_zero(&mut self, instr: Instr, next: usize) -> Led
         requires { 0 < length self.old.current.operands }
         ensures { (code : Code) → Acts code jump_zero instr next self.old result self.new }
     {

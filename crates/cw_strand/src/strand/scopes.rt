@@ -1,4 +1,4 @@
-ghost use Rattle.std.specs.Prelude.{◌≡◌, ℕ, IfOk};
+ghost use Rattle.std.specs.Prelude.{IfOk};
 ghost use Rattle.cw_code.specs.declared.instruction.Code.{Code};
 ghost use Rattle.cw_code.specs.declared.instruction.Instr.{Instr};
 ghost use Rattle.cw_code.specs.declared.effects.Effect.TheVariants.{Begin as begin, End as end, Fork as fork, Sync as sync};
@@ -15,7 +15,7 @@ impl Strand {
     ghost use Rattle.cw_strand.specs.Standing.{NoneOver};
 
     /// A block begins, with a scope.
-    pub fn begin(&mut self, next: usize) -> Result<Led, OutOfMemory>
+    pub(crate) fn begin(&mut self, next: usize) -> Result<Led, OutOfMemory>
         ensures { (code : Code) (i : Instr) → IfOk result (λ l. Acts code begin i next self.old l self.new) }
     {
         self.scopes.push(0)?;
@@ -24,7 +24,7 @@ impl Strand {
     }
 
     /// A block ends, and its scope.
-    pub fn end(&mut self, next: usize) -> Led
+    pub(crate) fn end(&mut self, next: usize) -> Led
         ensures { (code : Code) (i : Instr) → Acts code end i next self.old result self.new }
     {
         let _ = self.scopes.pop();
@@ -33,7 +33,7 @@ impl Strand {
     }
 
     /// A strand is to begin behind the fork; this one goes on at the fork's target, and the innermost scope has one fork more to wait for.
-    pub fn spawn(&mut self, instr: Instr, next: usize) -> Result<Led, OutOfMemory>
+    pub(crate) fn spawn(&mut self, instr: Instr, next: usize) -> Result<Led, OutOfMemory>
         requires { NoneOver self.old.size self.old.scopes }
         ensures { (code : Code) → IfOk result (λ l. Acts code fork instr next self.old l self.new) }
     {
@@ -49,7 +49,7 @@ impl Strand {
     }
 
     /// Ends as the right strand of a fork that the innermost scope has to wait for, or goes on.
-    pub fn wait(&mut self, next: usize) -> Result<Led, OutOfMemory>
+    pub(crate) fn wait(&mut self, next: usize) -> Result<Led, OutOfMemory>
         ensures { (code : Code) (i : Instr) → IfOk result (λ l. Acts code sync i next self.old l self.new) }
     {
         match self.scopes.newest() {

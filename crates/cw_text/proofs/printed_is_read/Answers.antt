@@ -1,3 +1,4 @@
+use Rattle.std.proofs.Common.{refl}
 use Rattle.cw_text.proofs.Lines.{program_of-same}
 use Rattle.cw_text.proofs.PrintedPrograms.{printed_read}
 use Rattle.cw_text.proofs.ReadPrograms.{read_is_readable, text_is_readable}
@@ -14,3 +15,6 @@ returns-clause-texts c = λ text ds h. printed_read ds (text_is_readable text ds
 
 pub returns-clause-lines : goal.returns-clause-lines
 returns-clause-lines c = program_of-same
+
+pub returns-clause-worked : goal.returns-clause-worked
+returns-clause-worked c = refl

@@ -1,8 +1,14 @@
 use Rattle.std.proofs.Common.{refl}
 use Rattle.cw_text.proofs.worked_texts.Goals as goal
 
+pub returns-clause-arrays : goal.returns-clause-arrays
+returns-clause-arrays c = (refl, refl, refl, refl, refl, refl, refl, refl, refl)
+
 pub returns-clause-heights : goal.returns-clause-heights
-returns-clause-heights c = (refl, refl, refl)
+returns-clause-heights c = (refl, refl, refl, refl, refl, refl)
 
 pub returns-clause-brackets : goal.returns-clause-brackets
 returns-clause-brackets c = (refl, refl, refl, refl)
+
+pub returns-clause-indexes : goal.returns-clause-indexes
+returns-clause-indexes c = (refl, refl)

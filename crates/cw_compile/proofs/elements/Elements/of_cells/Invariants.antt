@@ -5,4 +5,4 @@ use Rattle.cw_compile.specs.Numbered.{HasElements}
 use Rattle.cw_compile.proofs.elements.Elements.of_cells.Given as goal
 
 abbrev pub invariant-loop-cell : goal.invariant-loop-cell
-invariant-loop-cell l = HasElements l.numbers (reverse (map (λ (c : Bor CellInfo). c.now) l.yielded))
+invariant-loop-cell l = HasElements l.extents (reverse (map (λ (c : Bor CellInfo). c.now) l.yielded))

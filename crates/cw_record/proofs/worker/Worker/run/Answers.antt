@@ -5,7 +5,7 @@ use Rattle.cw_record.proofs.Conditions.{wanted_by, over_by, answered_by}
 use Rattle.cw_record.proofs.Leaving.{runs_first}
 use Rattle.cw_record.proofs.Shaped.{to_come_there}
 use Rattle.cw_record.proofs.Turning.{first_fork_there, act_run, fork_run, turn_run, join_run, finish_answer, fault_answer, end_at_block}
-use Rattle.cw_record.proofs.Standings.{act_stands, turn_stands, join_stands, taken_stands}
+use Rattle.cw_record.proofs.Standings.{act_stands, turn_stands, join_stands}
 use Rattle.cw_record.proofs.worker.Worker.run.Goals as goal
 
 pub wants-init : goal.wants-init
@@ -46,19 +46,13 @@ turn-requires c = first_fork_there c.wants.invariant.0.1 c.in-Some-Left.ensures 
 pub join-requires-clause-there : goal.join-requires-clause-there
 join-requires-clause-there c = first_fork_there c.wants.invariant.0.1 c.in-Some-Right.ensures c.in-Some-Right.field-0-is
 
-pub join-requires-clause-right : goal.join-requires-clause-right
-join-requires-clause-right c = c.wants.invariant.1.strand
-
-pub join-requires-clause-left : goal.join-requires-clause-left
-join-requires-clause-left c = taken_stands c.wants.worker c.wants.invariant.1 c.in-Some-Right.ensures c.in-Some-Right.field-0-is
-
-pub join-requires-clause-ended : goal.join-requires-clause-ended
-join-requires-clause-ended c = over_by c.wants.worker c.want.ensures c.in-Sync.is
+pub join-requires-clause-stands : goal.join-requires-clause-stands
+join-requires-clause-stands c = c.wants.invariant.1.strand
 
 pub wants-preserved-in-Continue-branch-3 : goal.wants-preserved-in-Continue-branch-3
 wants-preserved-in-Continue-branch-3 c =
     let e = c.in_ok-turn-in-Some-Left.ensures in
-    ((turn_run c.wants.invariant.0.1 (closes_of _ c.requires.compiled c.requires.words) (wants_there _ c.requires.compiled) c.in-Some-Left.ensures (over_by c.wants.worker c.want.ensures c.in-Sync.is) e.keeps c.in-Some-Left.field-0-is e.drawing e.strand e.branches).0, turn_stands c.wants.worker c.wants.invariant.1 c.in-Some-Left.ensures (over_by c.wants.worker c.want.ensures c.in-Sync.is) e.keeps c.in-Some-Left.field-0-is e.strand e.branches)
+    ((turn_run c.wants.invariant.0.1 (closes_of _ c.requires.compiled c.requires.words) (wants_there _ c.requires.compiled) c.in-Some-Left.ensures (over_by c.wants.worker c.want.ensures c.in-Sync.is) e.keeps c.in-Some-Left.field-0-is e.drawing e.strand e.branches).0, turn_stands c.wants.worker c.wants.invariant.1 c.in-Some-Left.ensures e.keeps c.in-Some-Left.field-0-is e.strand e.branches)
 
 pub wants-smaller-in-Continue-branch-3 : goal.wants-smaller-in-Continue-branch-3
 wants-smaller-in-Continue-branch-3 c =

@@ -10,7 +10,7 @@ use Rattle.std.proofs.lemmas.Option.{same_Some}
 use Rattle.cw_tree.specs.declared.picks.Name.{Name}
 use Rattle.cw_serial.proofs.Room.Wants.{same_over_at, rests_over}
 use Rattle.cw_serial.proofs.AreOf.{stood_is_of, put_are_of, nobody_is_of, stands_is_of}
-use Rattle.cw_serial.proofs.Waiting.{awaited_there, over_within, over_stood, over_was, over_still, waits_still, join_made}
+use Rattle.cw_serial.proofs.Waiting.{awaited_there, over_within, over_stood, over_still, waits_still, join_made}
 use Rattle.cw_serial.proofs.table.Table+Standing.join.Goals.{then-not-is_over-via-then-not-is_over, then-not-is_over-via-else-not-is_over+then-not-is_over-2}
 use Rattle.cw_serial.proofs.table.Table+Standing.join.Goals as goal
 
@@ -44,26 +44,12 @@ unreachable-requires-in_default-put-2 c =
     let (st, stood) = over_stood (strands_of job) state_of c.put.new.self c.put-2.new.self sides.right Gone c.put-2.result (over_still (strands_of job) state_of c.args.self.now c.put.new.self sides c.put.result right_over c.put.ensures) c.put-2.ensures in
     c.in_default-put-2.not-Stands st stood
 
-pub join-requires-clause-right : goal.join-requires-clause-right
-join-requires-clause-right c =
-    let job = bare c.args.program.now in
+pub join-requires : goal.join-requires
+join-requires c =
     let sides = c.in-Some-awaited.sides in
     let p = c.args.program.now in
     let gone = put_are_of p c.args.self.now c.put.new.self sides.left Gone _ c.requires.stands c.put.ensures (nobody_is_of p Gone refl) in
-    let right_over : over_at (strands_of job) state_of c.args.self.now.rows.items sides.right ≡ true = sym (c.is_over-else-not-is_over.ensures job) ∙ c.if-not-is_over-2.false in (
-      stood_is_of p c.put.new.self c.put-2.new.self sides.right Gone c.in-Stands-put.right gone (rw c.in-Stands-put.is at c.put-2.ensures),
-      over_was (strands_of job) state_of c.put.new.self c.put-2.new.self sides.right Gone c.put-2.result (over_still (strands_of job) state_of c.args.self.now c.put.new.self sides c.put.result right_over c.put.ensures) c.put-2.ensures c.in-Stands-put.right c.in-Stands-put.is,
-    )
-
-pub join-requires-clause-left : goal.join-requires-clause-left
-join-requires-clause-left c =
-    let job = bare c.args.program.now in
-    let sides = c.in-Some-awaited.sides in
-    let p = c.args.program.now in
-    let left_over : over_at (strands_of job) state_of c.args.self.now.rows.items sides.left ≡ true = sym (c.is_over.ensures job) ∙ c.if-not-is_over.false in (
-      stood_is_of p c.args.self.now c.put.new.self sides.left Gone c.in-Stands.left c.requires.stands (rw c.in-Stands.is at c.put.ensures),
-      over_was (strands_of job) state_of c.args.self.now c.put.new.self sides.left Gone c.put.result left_over c.put.ensures c.in-Stands.left c.in-Stands.is,
-    )
+    stood_is_of p c.put.new.self c.put-2.new.self sides.right Gone c.in-Stands-put.right gone (rw c.in-Stands-put.is at c.put-2.ensures)
 
 pub put-requires-3 : goal.put-requires-3
 put-requires-3 c =

@@ -2,11 +2,11 @@ use Rattle.std.proofs.Common.{◌≡◌, [], ap, subst, sym, ◌∙◌}
 use Rattle.cw_code.specs.declared.instruction.Code.{Code}
 use Rattle.cw_strand.specs.Running.{on, wants, stand}
 use Rattle.cw_strand.specs.Coded.{State, runs, step, with_value}
-use Rattle.cw_strand.specs.Standing.{StandsWanting}
+use Rattle.cw_strand.specs.Standing.{StandsWanting, Stands}
 use Rattle.cw_strand.specs.Acting.{led_to}
 use Rattle.cw_strand.proofs.Bounding.{bounded}
 use Rattle.cw_strand.proofs.Settling.{stand_on, stand_want}
-use Rattle.cw_strand.proofs.Standing.{Stands, given_stands, step_stands}
+use Rattle.cw_strand.proofs.Standing.{given_stands, step_stands}
 use Rattle.cw_strand.proofs.strand.Strand.next.Goals as goal
 use Rattle.cw_strand.proofs.strand.Strand.next.Goals.{In-On, In-Wants}
 

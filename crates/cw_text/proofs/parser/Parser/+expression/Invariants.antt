@@ -6,22 +6,25 @@ use Rattle.cw_text.proofs.Turns.{HasRead}
 use Rattle.cw_text.proofs.parser.Parser.+expression.Given as goal
 
 abbrev pub decreases-prefixed : goal.decreases-prefixed
-decreases-prefixed l = 5 * (200 - l.self.now.depth)
+decreases-prefixed l = 6 * (200 - l.self.now.depth)
 
 abbrev pub decreases-bracketed : goal.decreases-bracketed
-decreases-bracketed l = 5 * (200 - l.self.now.depth)
+decreases-bracketed l = 6 * (200 - l.self.now.depth)
+
+abbrev pub decreases-named : goal.decreases-named
+decreases-named l = 6 * (200 - l.self.now.depth) + 1
 
 abbrev pub decreases-operand : goal.decreases-operand
-decreases-operand l = 5 * (200 - l.self.now.depth) + 1
+decreases-operand l = 6 * (200 - l.self.now.depth) + 2
 
 abbrev pub decreases-product : goal.decreases-product
-decreases-product l = 5 * (200 - l.self.now.depth) + 2
+decreases-product l = 6 * (200 - l.self.now.depth) + 3
 
 abbrev pub decreases-sum : goal.decreases-sum
-decreases-sum l = 5 * (200 - l.self.now.depth) + 3
+decreases-sum l = 6 * (200 - l.self.now.depth) + 4
 
 abbrev pub decreases-expr : goal.decreases-expr
-decreases-expr l = 5 * (200 - l.self.now.depth) + 4
+decreases-expr l = 6 * (200 - l.self.now.depth) + 5
 
 abbrev pub invariant-product-loop-op : goal.invariant-product-loop-op
 invariant-product-loop-op l = HasRead (operand ∷ products ∷ []) products l.fn.self l.self l.left

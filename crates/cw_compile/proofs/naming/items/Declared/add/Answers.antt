@@ -9,7 +9,7 @@ returns-in_ok-push-in-Cell c = λ ds. rw c.in-Cell.is
     (adds_cell _ _ _ _ ds
     (rw (← c.find.ensures) (sym c.in_ok-declared_new-in-Cell.ensures))
     (sym c.in_ok-size-in-Cell.ensures.exact)
-    c.in_ok-add-in-Cell.ensures
+    (rw c.cell_thing.ensures at c.in_ok-add-in-Cell.ensures)
     (ap (λ n. c.args.self.now.elements + n) c.in_ok-size-in-Cell.ensures.size)
     (let fits : SFits w64 c.in-Cell.init = search rules in rw (← c.in_ok-clone-in-Cell.ensures) (simp to_z-of_z at c.in_ok-push-in-Cell.ensures.items)))
 

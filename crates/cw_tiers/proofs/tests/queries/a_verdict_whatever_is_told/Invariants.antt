@@ -1,4 +1,4 @@
-use Rattle.cw_parts.proofs.tests.queries.a_verdict_whatever_is_told.Given as goal
+use Rattle.cw_tiers.proofs.tests.queries.a_verdict_whatever_is_told.Given as goal
 
 abbrev pub ghosts-ask_fickle-K-Ledger : goal.ghosts-ask_fickle-K-Ledger
 ghosts-ask_fickle-K-Ledger g a = record { name = a.blanks.0.name; parts = a.blanks.0.parts }

@@ -1,6 +1,5 @@
 ghost use Rattle.std.specs.Prelude.{◌≡◌, ◌+◌, ◌<◌, ◌≤◌, length};
 
-use super::grown::grown;
 use cw_order::Steps;
 use cw_trace::{Columns, Gaps, Tier};
 use cw_tree::{Kind, Mark, Tree};
@@ -365,6 +364,18 @@ fn verdicts<K: Ledger, L: Ledger>(
     Ok(text)
 }
 
+/// The tree of these nodes beneath the root, each with its parent and stamp.
+fn tree_of(alloc: Global, nodes: Vec<(u32, Kind, u64)>) -> Result<Tree, Fail> {
+    let mut tree = Tree::new(alloc)?;
+    for (parent, kind, stamp) in nodes {
+        if parent as usize >= tree.nodes().len() {
+            return Err("no parent".into());
+        }
+        tree.add(parent, kind, stamp)?;
+    }
+    Ok(tree)
+}
+
 /// A block with a stolen fork, and a block in each of its strands.
 fn stolen_in_a_block(alloc: Global) -> Result<Moment, Fail> {
     let nodes = vec![in alloc;
@@ -382,7 +393,7 @@ fn stolen_in_a_block(alloc: Global) -> Result<Moment, Fail> {
         (9, Kind::Tried { cell: 0 }, 0),
     ]?;
     Ok(Moment {
-        tree: grown(alloc, nodes, &[])?,
+        tree: tree_of(alloc, nodes)?,
         calls: vec![in alloc;
             Call::Word(0, 1),
             Call::Fork(0),
@@ -411,7 +422,7 @@ fn stolen_in_no_block(alloc: Global) -> Result<Moment, Fail> {
         (7, Kind::Tried { cell: 0 }, 0),
     ]?;
     Ok(Moment {
-        tree: grown(alloc, nodes, &[])?,
+        tree: tree_of(alloc, nodes)?,
         calls: vec![in alloc;
             Call::Fork(0),
             Call::Split(1),
@@ -441,7 +452,7 @@ fn merged_before_a_block(alloc: Global) -> Result<Moment, Fail> {
         (9, Kind::Tried { cell: 2 }, 0),
     ]?;
     Ok(Moment {
-        tree: grown(alloc, nodes, &[])?,
+        tree: tree_of(alloc, nodes)?,
         calls: vec![in alloc;
             Call::Fork(0),
             Call::Split(1),

@@ -1,4 +1,4 @@
-use Rattle.cw_parts.proofs.tests.queries.verdicts_and_victims_are_those_of_the_tree.Given as goal
+use Rattle.cw_tiers.proofs.tests.queries.verdicts_and_victims_are_those_of_the_tree.Given as goal
 
 abbrev pub ghosts-verdicts-K-Ledger : goal.ghosts-verdicts-K-Ledger
 ghosts-verdicts-K-Ledger g a = record { name = a.blanks.0.name; parts = a.blanks.0.parts }

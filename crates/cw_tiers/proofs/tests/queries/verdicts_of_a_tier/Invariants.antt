@@ -1,4 +1,4 @@
-use Rattle.cw_parts.proofs.tests.queries.verdicts_of_a_tier.Given as goal
+use Rattle.cw_tiers.proofs.tests.queries.verdicts_of_a_tier.Given as goal
 
 abbrev pub ghosts-answers-K-Ledger : goal.ghosts-answers-K-Ledger
 ghosts-answers-K-Ledger g a = record { name = a.blanks.0.name; parts = a.blanks.0.parts }

@@ -1,0 +1,12 @@
+pub mod Joined
+pub mod Ordering
+pub mod LeftFirst
+pub mod Complete
+pub mod Going
+pub mod Making
+pub mod Closing
+pub mod Forks
+pub mod Accessing
+pub mod Rolling
+pub mod Kept
+pub mod Splits

@@ -1,0 +1,5 @@
+use Rattle.cw_core.proofs.Kept.{cells, strands}
+use Rattle.cw_core.proofs.cores_stand.Goals as goal
+
+pub returns : goal.returns
+returns c = record { chains = cells; goes_on = strands }

@@ -1,0 +1,5 @@
+use Rattle.cw_core.proofs.Kept.{starts, events, lists}
+use Rattle.cw_core.proofs.events_are_runs.Goals as goal
+
+pub returns : goal.returns
+returns c = record { start = starts; events = events; lists = lists }

@@ -1,0 +1,98 @@
+-- Lists of events, and what the definitions say of them.
+use Rattle.std.specs.Prelude.{◌≡◌, List, [], ◌∷◌, Some, None, true, false, pos, map}
+use Rattle.cw_tree.specs.declared.closed.Halt.TheVariants.{Budget, Memory}
+use Rattle.cw_open.specs.Machine.{value_of}
+use Rattle.cw_core.specs.declared.event.Event.{Event}
+use Rattle.cw_core.specs.declared.event.Event.TheVariants as event
+use Rattle.cw_core.specs.declared.event.Reply.TheVariants as reply
+use Rattle.cw_core.specs.State.{State, start}
+use Rattle.cw_core.specs.Events.{fits, all_fit, after, after_events, replies}
+
+-- ## Splits: the fork outward comes first; a fork without columns
+
+abbrev pub out_of_order : List Event
+out_of_order = event.Fork 0 ∷ event.Fork 2 ∷ event.Split 4 ∷ event.Split 1 ∷ event.Split 4 ∷ event.Fork 5 ∷ []
+
+abbrev pub five_columns : State
+five_columns = start (pos 0 ∷ []) 5 100000
+
+pub record Splits : Type 0 where
+  pub fit : all_fit five_columns out_of_order ≡ true
+  pub answers : replies five_columns out_of_order ≡ reply.Forked 2 3 1 ∷ reply.Forked 5 6 4 ∷ reply.Early 1 ∷ reply.Done ∷ reply.Done ∷ reply.Inline 8 9 ∷ []
+  -- the inline fork is not split, and its right strand waits for the left one
+  pub inline : fits (after_events five_columns out_of_order) (event.Split 7) ≡ false
+  pub waits : fits (after_events five_columns out_of_order) (event.Begin 9) ≡ false
+  pub goes_on : fits (after_events five_columns out_of_order) (event.Begin 8) ≡ true
+
+-- ## A block ends after an inner one was committed in it, and rolls back what that wrote
+
+abbrev pub inner_commit : List Event
+inner_commit =
+    event.Fork 0 ∷ event.Split 1 ∷ event.Begin 2 ∷ event.Access 2 2 (Some (pos 1)) ∷ event.Begin 3 ∷ event.Begin 3 ∷ event.Access 3 0 None ∷ event.Access 3 0 (Some (pos 8)) ∷ event.Commit 3 ∷ event.Access 3 1 None ∷ event.Access 3 1 (Some (pos 9))
+    ∷ event.Access 3 2 (Some (pos 2)) ∷ event.Roll 3 ∷ []
+
+abbrev pub three_cells : State
+three_cells = start (pos 7 ∷ pos 8 ∷ pos 0 ∷ []) 100 100000
+
+abbrev pub rolled : State
+rolled = after_events three_cells inner_commit
+
+pub record Rolls : Type 0 where
+  pub fit : all_fit three_cells inner_commit ≡ true
+  pub conflicts : rolled.machine.conflicts ≡ record { cell = 2; last = 3; asker = 12; block = 2; victim = 4; attempt = 1; chain = 3 ∷ [] } ∷ []
+  pub values : map (value_of rolled.machine) (0 ∷ 1 ∷ 2 ∷ []) ≡ pos 7 ∷ pos 8 ∷ pos 1 ∷ []
+  pub clock : rolled.machine.clock ≡ 11
+  pub goes_on : fits rolled (event.Begin 3) ≡ true
+
+-- ## A write in a split fork that is joined in a block, and where there is none
+
+abbrev pub two_cells : State
+two_cells = start (pos 0 ∷ pos 0 ∷ []) 100 100000
+
+abbrev pub joined_within : List Event
+joined_within =
+    event.Fork 0 ∷ event.Split 1 ∷ event.Begin 2 ∷ event.Fork 2 ∷ event.Split 5 ∷ event.Access 7 0 (Some (pos 1)) ∷ event.Access 6 1 (Some (pos 5)) ∷ event.Finish 7 false ∷ event.Finish 6 false ∷ event.Join 5 ∷ event.Access 3 0 (Some (pos 2))
+    ∷ event.Access 2 1 (Some (pos 1)) ∷ event.Access 3 0 (Some (pos 2)) ∷ event.Commit 2 ∷ event.Access 3 0 (Some (pos 2)) ∷ []
+
+abbrev pub joined_before : List Event
+joined_before =
+    event.Fork 0 ∷ event.Split 1 ∷ event.Fork 2 ∷ event.Split 4 ∷ event.Access 6 0 (Some (pos 1)) ∷ event.Access 5 1 (Some (pos 5)) ∷ event.Finish 6 false ∷ event.Finish 5 false ∷ event.Join 4 ∷ event.Begin 2 ∷ event.Access 3 0 (Some (pos 2)) ∷ []
+
+pub record Joins : Type 0 where
+  pub fit : all_fit two_cells joined_within ≡ true
+  pub within : replies two_cells joined_within
+      ≡ reply.Forked 2 3 1 ∷ reply.Done ∷ reply.Done ∷ reply.Forked 6 7 5 ∷ reply.Done ∷ reply.Value (pos 1) ∷ reply.Value (pos 5) ∷ reply.Done ∷ reply.Done ∷ reply.Done
+      ∷ reply.Conflict (record { cell = 0; last = 4; asker = 10; block = 2; victim = 0; attempt = 1; chain = 4 ∷ [] })
+      ∷ reply.Value (pos 1)
+      ∷ reply.Conflict (record { cell = 0; last = 4; asker = 12; block = 2; victim = 0; attempt = 2; chain = 4 ∷ [] })
+      ∷ reply.Done ∷ reply.Value (pos 2) ∷ []
+  pub before_fit : all_fit two_cells joined_before ≡ true
+  pub before : replies two_cells joined_before
+      ≡ reply.Forked 2 3 1 ∷ reply.Done ∷ reply.Forked 5 6 4 ∷ reply.Done ∷ reply.Value (pos 1) ∷ reply.Value (pos 5) ∷ reply.Done ∷ reply.Done ∷ reply.Done ∷ reply.Done ∷ reply.Value (pos 2) ∷ []
+
+-- ## A budget is spent beneath a strand that waits; with another attempt left the strands die, and their parent rolls back
+
+abbrev pub refused_beneath : List Event
+refused_beneath = event.Fork 0 ∷ event.Split 1 ∷ event.Begin 2 ∷ event.Access 2 0 (Some (pos 1)) ∷ event.Begin 3 ∷ event.Fork 3 ∷ event.Access 8 0 (Some (pos 2)) ∷ []
+
+abbrev pub one_attempt : State
+one_attempt = after_events (start (pos 0 ∷ []) 100 1) refused_beneath
+
+abbrev pub two_attempts : State
+two_attempts = after_events (start (pos 0 ∷ []) 100 2) refused_beneath
+
+abbrev pub all_die : List Event
+all_die = event.Finish 8 true ∷ event.Finish 9 true ∷ event.Join 7 ∷ event.Roll 3 ∷ event.Begin 3 ∷ []
+
+pub record Budgets : Type 0 where
+  pub fit : all_fit (start (pos 0 ∷ []) 100 1) refused_beneath ≡ true
+  pub conflicts : one_attempt.machine.conflicts ≡ record { cell = 0; last = 3; asker = 10; block = 2; victim = 4; attempt = 1; chain = 3 ∷ [] } ∷ []
+  pub stops : fits one_attempt (event.Stop (Budget 3)) ≡ true
+  pub not_its : fits one_attempt (event.Stop (Budget 8)) ≡ false
+  pub not_dead : fits one_attempt (event.Finish 8 true) ≡ false
+  pub not_other : fits one_attempt (event.Commit 2) ≡ false
+  pub nothing_then : fits (after one_attempt (event.Stop (Budget 3))) (event.Stop Memory) ≡ false
+  pub die : all_fit two_attempts all_die ≡ true
+  pub no_budget : fits two_attempts (event.Stop (Budget 3)) ≡ false
+  pub dying : fits (after_events two_attempts (event.Finish 8 true ∷ event.Finish 9 true ∷ event.Join 7 ∷ [])) (event.Commit 3) ≡ false
+  pub clock : (after_events two_attempts all_die).machine.clock ≡ 7
