@@ -82,12 +82,30 @@ try 'one counted thing too many' 6 $'fault Size in 0\n' '' run --size 3
 try 'as many counted things and units as it needs' 0 $'out 1\nc = 1\nend\n' '' run --size=4 --fuel 2
 try 'one unit of fuel too few' 6 $'fault Fuel in 0\n' '' run --fuel 1
 try 'leading zeros' 0 $'out 1\nc = 1\nend\n' '' run --size 007
-for words in '--fuel 0' '--fuel 1000000001' '--size 10000001' '--size' '--size=' '--size=+4' '--fuel -1' '--fue 1' '--fuel 1 --fuel=1' '--workers 1' '7'; do
+for words in '--fuel 0' '--fuel 1000000001' '--size 10000001' '--size' '--size=' '--size=+4' '--fuel -1' '--fue 1' '--fuel 1 --fuel=1' '--workers 1' \
+  '7' '-5' '-' '+5' '5a' '9223372036854775808' '-- --' '-- 7 --' '-- -' '-- --size=4' '-- -9223372036854775809' '--size -- 4'; do
   # the words stand apart by blanks
   # shellcheck disable=SC2086
   try "run $words" 2 '' "$usage" run $words
 done
 try 'an option before the command' 2 '' "$usage" --fuel 1 run
+
+# ## Words of main
+
+printf 'fn main() {}' > source
+try 'no words behind the end of the options' 0 $'end\n' '' run --
+try 'an option before the end of the options' 0 $'end\n' '' run --size 4 --
+try 'a word that main has no parameter for' 2 '' "$usage" run 7
+try 'the lowest word' 2 '' "$usage" run -- -9223372036854775808 0
+"$program" run 7 <&- > text 2> note
+judge 'a read fault comes before the number of words' $? 3 '' $'cwstm: read fault\n'
+"$program" run x <&- > text 2> note
+judge 'a word that is no integer comes before a read fault' $? 2 '' "$usage"
+printf 'fn main() {' > source
+try 'a refused text comes before the number of words' 5 '' $'cwstm: line 1: Unexpected\n' run 7
+try 'a word that is no integer comes before a refused text' 2 '' "$usage" run x
+printf 'fn main() { out y; }' > source
+try 'a naming fault comes before the number of words' 5 '' $'cwstm: line 1: Unknown\n' run 7
 
 printf 'fn main() { spawn { out 1; out 2; } sync; out 3; }' > source
 try 'fuel along the longest way' 0 $'out 1\nout 2\nout 3\nend\n' '' run --fuel 4
@@ -97,6 +115,38 @@ printf 'cell c; fn main() { spawn { c = 1; c = 2; } c = 3; }' > source
 try 'the sizes of two strands' 0 $'c = 3\nend\n' '' run --size 4
 try 'their sum over the limit' 6 $'fault Size in 0\n' '' run --size 3
 try 'the size of a left strand' 6 $'fault Size in 0.1l\n' '' run --size 1
+
+printf 'fn main() { while 1 {} }' > source
+try 'a loop without an end' 6 $'fault Fuel in 0\n' '' run --fuel 100
+printf 'fn main() { let i = 0; while i < 49 { i = i + 1; } }' > source
+try 'each test of a loop costs a unit' 0 $'end\n' '' run --fuel 100
+try 'one unit of fuel too few for a loop' 6 $'fault Fuel in 0\n' '' run --fuel 99
+
+# ## Functions, and words of main
+
+printf 'cell a[2] = -3; fn main(x) { a[x] = 9; }' > source
+try 'a word of main' 0 $'a[0] = -3\na[1] = 9\nend\n' '' run 1
+try 'a word that is no index' 6 $'fault Range in 0\n' '' run -- -1
+try 'one word too few' 2 '' "$usage" run
+try 'one word too many' 2 '' "$usage" run 1 2
+printf 'fn main(a, b) { out a - b; }' > source
+try 'words behind the end of the options' 0 $'out 12\nend\n' '' run -- 7 -5
+try 'words on both sides of it' 0 $'out 12\nend\n' '' run 7 -- -5
+try 'words among options' 0 $'out 2\nend\n' '' run 7 --fuel 1 5
+for words in '7' '-5' '-- 7 --'; do
+  # the words stand apart by blanks
+  # shellcheck disable=SC2086
+  try "run $words, of two" 2 '' "$usage" run $words
+done
+printf 'fn main(a, b) { out a; out b; }' > source
+try 'the least number' 0 $'out -9223372036854775808\nout 0\nend\n' '' run -- -9223372036854775808 0
+try 'the greatest number' 0 $'out 9223372036854775807\nout 7\nend\n' '' run 9223372036854775807 007
+try 'one less than the least' 2 '' "$usage" run -- -9223372036854775809 0
+try 'one more than the greatest' 2 '' "$usage" run 9223372036854775808 0
+printf 'fn main(x) { out y; }' > source
+try 'a naming fault of a main with parameters' 5 '' $'cwstm: line 1: Unknown\n' run
+printf 'fn f() { atomic { f(); } } fn main() { f(); }' > source
+try '10,000 functions and blocks in each other' 6 $'fault Depth in 0\n' '' run
 
 # ## Reading and writing that fail
 

@@ -2,7 +2,7 @@
 use Rattle.std.proofs.Common.{◌≡◌, ℕ, ◌-◌, ◌≤◌, List, [], length, drop, max, arith}
 use Rattle.std.proofs.lemmas.List.{drop_all}
 use Rattle.cw_text.specs.declared.ast.Word.{Word}
-use Rattle.cw_text.specs.Syntax.{Statement, declare, assign, assign_at, out, atomic, spawn, sync, Block, empty, first}
+use Rattle.cw_text.specs.Syntax.{Statement, declare, assign, assign_at, run, out, choose, repeat, atomic, spawn, sync, return, Block, empty, first}
 use Rattle.cw_strand.specs.Compilation.{Slots, with_params, most_in, most, visible_after}
 use Rattle.cw_strand.proofs.Numbering.{count_of_params}
 use Rattle.cw_compile.specs.Emitted.{peak_in, peak}
@@ -11,20 +11,28 @@ visible_most : (n : ℕ) (s : Statement) → visible_after s n ≤ max n (peak_i
 visible_most n (declare w e) = omega arith
 visible_most n (assign w e) = omega arith
 visible_most n (assign_at w i e) = omega arith
+visible_most n (run w es) = omega arith
 visible_most n (out e) = omega arith
+visible_most n (choose e a b) = omega arith
+visible_most n (repeat e b) = omega arith
 visible_most n (atomic b) = omega arith
 visible_most n (spawn b) = omega arith
 visible_most n sync = omega arith
+visible_most n (return l e) = omega arith
 
 mutual
   most_in_is_peak : (n : ℕ) (s : Statement) → most_in n s ≡ max n (peak_in n s)
   most_in_is_peak n (declare w e) = omega arith
   most_in_is_peak n (assign w e) = omega arith
   most_in_is_peak n (assign_at w i e) = omega arith
+  most_in_is_peak n (run w es) = omega arith
   most_in_is_peak n (out e) = omega arith
+  most_in_is_peak n (choose e a b) = omega (arith, most_is_peak n a, most_is_peak n b)
+  most_in_is_peak n (repeat e b) = most_is_peak n b
   most_in_is_peak n (atomic b) = most_is_peak n b
   most_in_is_peak n (spawn b) = most_is_peak n b
   most_in_is_peak n sync = omega arith
+  most_in_is_peak n (return l e) = omega arith
 
   -- those that are visible before it, or right behind a `let`
   pub most_is_peak : (n : ℕ) (b : Block) → most n b ≡ max n (peak n b)

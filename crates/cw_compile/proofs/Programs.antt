@@ -6,21 +6,19 @@ use Rattle.cw_text.specs.Syntax.{Declaration, cell, func}
 use Rattle.cw_code.specs.declared.CellInfo.{CellInfo}
 use Rattle.cw_code.specs.declared.instruction.CodeFault.{CodeFault}
 use Rattle.cw_code.specs.Programs.{AreNumbered, IsProgram}
-use Rattle.cw_strand.proofs.FitTasks.{no_fault}
+use Rattle.cw_strand.proofs.StandingNames.{no_fault}
 use Rattle.cw_strand.specs.Names.{◌then◌, main_from, without_main, cells_from, naming_fault, in_items, in_functions, globals, main_of, cells_of}
-use Rattle.cw_strand.specs.Compilation.{number_from, function_code, funcs_from, elements_in, code_of, main_function}
+use Rattle.cw_strand.specs.Compilation.{function_names, number_from, function_code, funcs_from, elements_in, code_of, main_function}
 
 -- where there is a main, its number is one of those of the functions
-main_there : (cells : List CellInfo) (n k p : ℕ) (ds : List Declaration) → without_main (main_from n ds) ≡ None → number_from k (codes "main") ds < k + length (funcs_from cells p ds)
-main_there cells n k p [] none = absurd cc
-main_there cells n k p (cell x l len i ∷ ds) none = main_there cells (suc n) k p ds none
-main_there cells n k p (func x l ps b ∷ ds) none =
-    let behind = p + length (function_code cells p ps b) in
-    by_name (bytes_eq x (codes "main")) none (main_there cells (suc n) (k + 1) behind ds)
+main_there : (cells : List CellInfo) (functions : List (List ℕ)) (n k p : ℕ) (ds : List Declaration) → without_main (main_from n ds) ≡ None → number_from k (codes "main") (function_names ds) < k + length (funcs_from cells functions p ds)
+main_there cells functions n k p [] none = absurd cc
+main_there cells functions n k p (cell x l len i ∷ ds) none = main_there cells functions (suc n) k p ds none
+main_there cells functions n k p (func x l ps b ∷ ds) none = by_name (bytes_eq x (codes "main")) none (main_there cells functions (suc n) (k + 1) (p + length (function_code cells functions p ps b)) ds)
   where
     by_name : (is : Bool) → without_main (cond is (Some n) (main_from (suc n) ds)) ≡ None
-        → (without_main (main_from (suc n) ds) ≡ None → number_from (k + 1) (codes "main") ds < k + 1 + length (funcs_from cells (p + length (function_code cells p ps b)) ds))
-        → cond is k (number_from (k + 1) (codes "main") ds) < k + length (funcs_from cells p (func x l ps b ∷ ds))
+        → (without_main (main_from (suc n) ds) ≡ None → number_from (k + 1) (codes "main") (function_names ds) < k + 1 + length (funcs_from cells functions (p + length (function_code cells functions p ps b)) ds))
+        → cond is k (number_from (k + 1) (codes "main") (function_names ds)) < k + length (funcs_from cells functions p (func x l ps b ∷ ds))
     by_name true none later = omega arith
     by_name false none later = omega (arith, later none)
 
@@ -39,7 +37,7 @@ is_program ds none =
     let later = (no_fault (in_items [] 0 ds) (in_functions (globals ds) ds then without_main (main_of ds)) none).1 in
     let all : 0 + elements_in ds ≡ elements_in ds = omega arith in
     record {
-      main_there = omega (arith, main_there (cells_of ds) 0 0 0 ds (no_fault (in_functions (globals ds) ds) (without_main (main_of ds)) later).1);
+      main_there = omega (arith, main_there (cells_of ds) (function_names ds) 0 0 0 ds (no_fault (in_functions (globals ds) ds) (without_main (main_of ds)) later).1);
       numbered = subst (AreNumbered 0 (cells_of ds)) all (numbered 0 ds);
     }
 

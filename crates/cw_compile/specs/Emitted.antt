@@ -1,14 +1,16 @@
 -- What was emitted so far, and what each part of a program adds to it.
 use Rattle.std.specs.Prelude.{◌≡◌, ℕ, ◌+◌, List, ◌++◌, length, max}
 use Rattle.cw_code.specs.declared.instruction.Instr.{Instr}
-use Rattle.cw_text.specs.Syntax.{Statement, declare, atomic, spawn, Block, empty, first}
-use Rattle.cw_strand.specs.Compilation.{Slots, slots_after, statement_code, block_code, visible_after}
+use Rattle.cw_text.specs.Syntax.{Terms, Statement, declare, choose, repeat, atomic, spawn, Block, empty, first}
+use Rattle.cw_strand.specs.Compilation.{Slots, slots_after, terms_code, statement_code, block_code, visible_after}
 use Rattle.cw_compile.specs.declared.emitter.Emitter.{Emitter}
 
 -- how many locals are visible at most right behind a `let`, where so many are visible before
 abbrev mutual
   pub peak_in : ℕ → Statement → ℕ
   peak_in n (declare w e) = n + 1
+  peak_in n (choose e a b) = max (peak n a) (peak n b)
+  peak_in n (repeat e b) = peak n b
   peak_in n (atomic b) = peak n b
   peak_in n (spawn b) = peak n b
   peak_in n s = 0
@@ -20,9 +22,13 @@ abbrev mutual
 abbrev pub with_code : Emitter → List Instr → Emitter
 with_code e is = record e { code = e.code ++ is }
 
+-- the arguments of a call
+abbrev pub with_terms : Emitter → Terms → Emitter
+with_terms e es = with_code e (terms_code e.elements e.functions e.slots es)
+
 abbrev pub with_statement : Emitter → Statement → Emitter
 with_statement e s = record e {
-  code = e.code ++ statement_code e.elements e.slots (length e.code) s;
+  code = e.code ++ statement_code e.elements e.functions e.slots (length e.code) s;
   slots = slots_after s e.slots;
   most = max e.most (peak_in (length e.slots) s);
 }
@@ -30,13 +36,14 @@ with_statement e s = record e {
 -- what a block declares is visible to its end
 abbrev pub with_block : Emitter → Block → Emitter
 with_block e b = record e {
-  code = e.code ++ block_code e.elements e.slots (length e.code) b;
+  code = e.code ++ block_code e.elements e.functions e.slots (length e.code) b;
   most = max e.most (peak (length e.slots) b);
 }
 
 -- Where the start of a block was emitted, the rest of it still adds what the block adds.
 pub record IsLeft (body : Block) (start : Emitter) (rest : Block) (e : Emitter) : Type 0 where
   pub elements : e.elements ≡ start.elements
+  pub functions : e.functions ≡ start.functions
   pub code : (with_block e rest).code ≡ (with_block start body).code
   pub most : (with_block e rest).most ≡ (with_block start body).most
   pub slots : (inner : Slots) × (e.slots ≡ inner ++ start.slots)

@@ -1,7 +1,8 @@
--- Locals and elements with their numbers.
-use Rattle.std.specs.Prelude.{◌≡◌, ℕ, List, [], ◌∷◌, length, option_map}
+-- Locals, elements and functions with their numbers.
+use Rattle.std.specs.Prelude.{◌≡◌, ℕ, List, [], ◌∷◌, length, option_map, unwrap_or}
 use Rattle.cw_code.specs.declared.CellInfo.{CellInfo}
 use Rattle.cw_strand.specs.Meaning.{cell_of}
+use Rattle.cw_strand.specs.Compilation.{number_from}
 use Rattle.cw_compile.specs.declared.elements.Extent.{Extent}
 use Rattle.cw_compile.specs.declared.names.Names.{Names}
 use Rattle.cw_compile.specs.Named.{value_named}
@@ -18,3 +19,7 @@ extent_of c = record { base = c.base; len = c.len }
 -- the names stand for the cells' elements
 abbrev pub HasElements : Names Extent → List CellInfo → Type 0
 HasElements extents cells = (n : List ℕ) → value_named extents n ≡ option_map extent_of (cell_of cells n)
+
+-- the names stand for the functions' numbers, where the number behind the last one is that of every other name
+abbrev pub HasNumbers : Names ℕ → ℕ → List (List ℕ) → Type 0
+HasNumbers numbers count functions = (n : List ℕ) → unwrap_or (value_named numbers n) count ≡ number_from 0 n functions

@@ -1,33 +1,35 @@
 ghost use Rattle.std.specs.Prelude.{◌≡◌, map, IfOk};
 ghost use Rattle.cw_text.specs.Syntax.{declaration_of, tree_of};
 ghost use Rattle.cw_strand.specs.Names.{naming_fault};
-ghost use Rattle.cw_strand.specs.Compilation.{funcs_from, instrs_from, main_function};
+ghost use Rattle.cw_strand.specs.Compilation.{funcs_from, instrs_from};
 ghost use Rattle.cw_strand.specs.Programs.{IsProgramOf};
 ghost use Rattle.cw_compile.specs.NamingRules.Scopes.{Finds};
 
 use crate::NameRefusal;
 use crate::elements::Elements;
 use crate::emitter::Emitter;
-use crate::naming::{Declared, checked, is_main};
+use crate::functions::Functions;
+use crate::naming::{Declared, checked};
 use cw_base::{OutOfMemory, Seq};
 use cw_code::{Code, CodeRefusal, Program, verify};
 use cw_text::{Ast, Item};
 use std::alloc::Global;
 
-/// The code of the functions among the items, which declare these cells.
+/// The code of the functions among the items, which declare these cells, and which these functions are.
 fn code_of<'a>(
     alloc: Global,
     declared: &'a Declared,
+    functions: Functions<'a>,
     items: &'a [Item],
 ) -> Result<Code, OutOfMemory>
     ensures { IfOk result (λ c. c ≡ record {
       cells = declared.now.elements;
-      funcs = funcs_from declared.now.cells.items 0 (map declaration_of items.now);
-      instrs = instrs_from declared.now.cells.items 0 (map declaration_of items.now);
+      funcs = funcs_from declared.now.cells.items functions.entry 0 (map declaration_of items.now);
+      instrs = instrs_from declared.now.cells.items functions.entry 0 (map declaration_of items.now);
     }) }
 {
     let elements = Elements::of_cells(alloc, declared.cells.as_slice())?;
-    let mut emitter = Emitter::new(alloc, elements);
+    let mut emitter = Emitter::new(alloc, elements, functions);
     let mut funcs = Vec::new(alloc);
     for item in items {
         if let Item::Func { params, body, .. } = item {
@@ -41,22 +43,6 @@ fn code_of<'a>(
     })
 }
 
-/// The number of the function `main`, or the number behind the last function where there is none.
-fn main_function(items: &[Item]) -> Result<u32, OutOfMemory>
-    ensures { IfOk result (λ n. n ≡ main_function (map declaration_of items.now)) }
-{
-    let mut number = 0usize;
-    for item in items {
-        if is_main(item) {
-            break;
-        }
-        if let Item::Func { .. } = item {
-            number += 1;
-        }
-    }
-    u32::try_from(number).map_err(|_| OutOfMemory)
-}
-
 /// The compiled program, or the first naming fault with the line of its name. Items are looked at first, in the order of the text, then
 /// the functions, each from its first token, and last whether there is a `main`. A tree whose code would have 2^32 or more instructions is
 /// refused as if memory ran out: no text that can be read is one.
@@ -66,8 +52,9 @@ pub fn compile(alloc: Global, ast: &Ast) -> Result<Program, NameRefusal>
 {
     let items = ast.items.as_slice();
     let declared = checked(alloc, items)?;
-    let code = code_of(alloc, &declared, items)?;
-    let main = main_function(items)?;
+    let functions = Functions::of_items(alloc, items)?;
+    let main = functions.number("main");
+    let code = code_of(alloc, &declared, functions, items)?;
     match verify(alloc, code) {
         Ok(code) => Ok(Program {
             code,

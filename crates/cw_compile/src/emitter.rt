@@ -1,12 +1,13 @@
-ghost use Rattle.std.specs.Prelude.{◌≡◌, ◌∷◌, ◌++◌, [], length, OnOk, IfOk};
+ghost use Rattle.std.specs.Prelude.{◌≡◌, ◌<◌, ◌+◌, ◌∷◌, ◌++◌, [], length, max, slice_set, OnOk, IfOk};
 ghost use Rattle.cw_strand.specs.Meaning.{cell_of};
-ghost use Rattle.cw_text.specs.Syntax.{term_of, statement_of, block_of};
-ghost use Rattle.cw_strand.specs.Compilation.{loads_at, stores_at, reads, writes, slot_of, term_code, with_params, function_code, most};
+ghost use Rattle.cw_text.specs.Syntax.{term_of, terms_of, statement_of, block_of};
+ghost use Rattle.cw_strand.specs.Compilation.{jump, jump_zero, set, discard, show, wait, ret, loads_at, stores_at, reads, writes, slot_of, calls, term_code, terms_code, with_params, function_code, most};
 
 use crate::elements::Elements;
+use crate::functions::Functions;
 use crate::instructions::{
-    BEGIN, DONE, END, RET, SHOW, TICK, WAIT, arithmetic, fork, join, lifted, load, load_at, local,
-    plain, push, set, store, store_at,
+    BEGIN, DISCARD, DONE, END, RET, SHOW, TICK, WAIT, arithmetic, call, fork, join, jump,
+    jump_zero, lifted, load, load_at, local, plain, push, set, store, store_at,
 };
 use crate::listing::Listing;
 use crate::slots::Slots;
@@ -15,10 +16,12 @@ use cw_code::{Func, Instr};
 use cw_text::{Expr, Stmt, Word};
 use std::alloc::Global;
 
-/// The code that was emitted so far, the locals that are visible, how many were visible at once at most in this function, and the cells.
+/// The code that was emitted so far, the locals that are visible, how many were visible at once at most in this function, the cells, and the
+/// functions.
 #[derive(Drop)]
 pub(crate) struct Emitter<'a> {
     pub(crate) elements: Elements<'a>,
+    pub(crate) functions: Functions<'a>,
     pub(crate) code: Listing,
     pub(crate) slots: Slots<'a>,
     pub(crate) most: u32,
@@ -27,12 +30,17 @@ pub(crate) struct Emitter<'a> {
 impl<'a> Emitter<'a> {
     ghost use Rattle.cw_compile.specs.Emitted.{with_code, with_statement, with_block};
 
-    /// What begins with no code, over these cells.
-    pub(crate) fn new(alloc: Global, elements: Elements<'a>) -> Emitter<'a>
-        ensures { result ≡ record { elements = elements.entry; code = []; slots = []; most = 0 } }
+    /// What begins with no code, over these cells and functions.
+    pub(crate) fn new(
+        alloc: Global,
+        elements: Elements<'a>,
+        functions: Functions<'a>,
+    ) -> Emitter<'a>
+        ensures { result ≡ record { elements = elements.entry; functions = functions.entry; code = []; slots = []; most = 0 } }
     {
         Emitter {
             elements,
+            functions,
             code: Listing::new(alloc),
             slots: Slots::new(alloc),
             most: 0,
@@ -48,7 +56,7 @@ impl<'a> Emitter<'a> {
 
     /// The instruction that reads what a name stands for.
     fn read(&self, name: &Text) -> Instr
-        ensures { result ≡ reads self.now.elements (slot_of self.now.slots name.now) name.now }
+        ensures { result ≡ reads self.now.elements self.now.functions (slot_of self.now.slots name.now) name.now }
     {
         match self.slots.find(name.as_str()) {
             Some(number) => local(number),
@@ -58,7 +66,7 @@ impl<'a> Emitter<'a> {
 
     /// The instruction that writes what a name stands for.
     fn write(&self, name: &Text) -> Instr
-        ensures { result ≡ writes self.now.elements (slot_of self.now.slots name.now) name.now }
+        ensures { result ≡ writes self.now.elements self.now.functions (slot_of self.now.slots name.now) name.now }
     {
         match self.slots.find(name.as_str()) {
             Some(number) => set(number),
@@ -68,7 +76,7 @@ impl<'a> Emitter<'a> {
 
     /// The instruction that reads an element of the array of a name.
     fn read_at(&self, name: &Text) -> Instr
-        ensures { result ≡ loads_at self.now.elements (cell_of self.now.elements name.now) }
+        ensures { result ≡ loads_at self.now.elements self.now.functions (cell_of self.now.elements name.now) }
     {
         match self.elements.find(name.as_str()) {
             Some(extent) => load_at(extent.base, extent.len),
@@ -78,7 +86,7 @@ impl<'a> Emitter<'a> {
 
     /// The instruction that writes an element of the array of a name.
     fn write_at(&self, name: &Text) -> Instr
-        ensures { result ≡ stores_at self.now.elements (cell_of self.now.elements name.now) }
+        ensures { result ≡ stores_at self.now.elements self.now.functions (cell_of self.now.elements name.now) }
     {
         match self.elements.find(name.as_str()) {
             Some(extent) => store_at(extent.base, extent.len),
@@ -86,9 +94,17 @@ impl<'a> Emitter<'a> {
         }
     }
 
+    /// The instruction that calls the function of a name.
+    fn call_of(&self, name: &Text) -> Instr
+        ensures { result ≡ calls self.now.elements self.now.functions name.now }
+    {
+        call(self.functions.number(name.as_str()))
+    }
+
     /// The code of an expression.
+    #[cycle(expression)]
     fn term(&mut self, term: &Expr) -> Result<(), OutOfMemory>
-        ensures { OnOk result (self.new ≡ with_code self.old (term_code self.old.elements self.old.slots (term_of term.now))) }
+        ensures { OnOk result (self.new ≡ with_code self.old (term_code self.old.elements self.old.functions self.old.slots (term_of term.now))) }
     {
         match term {
             Expr::Number(number) => self.emit(push(*number)),
@@ -97,6 +113,7 @@ impl<'a> Emitter<'a> {
                 self.term(at)?;
                 self.emit(self.read_at(&name.name))
             }
+            Expr::Call { name, args } => self.call(name, args.as_slice()),
             Expr::Unary { op, of } => {
                 self.term(of)?;
                 match lifted(*op) {
@@ -112,31 +129,131 @@ impl<'a> Emitter<'a> {
         }
     }
 
+    /// The code of a call: its arguments from left to right, and then the call itself.
+    #[cycle(expression)]
+    fn call(&mut self, name: &Word, args: &[Expr]) -> Result<(), OutOfMemory>
+        ensures { OnOk result (self.new ≡ with_code self.old (terms_code self.old.elements self.old.functions self.old.slots (terms_of args.now)
+            ++ calls self.old.elements self.old.functions name.now.name ∷ [])) }
+    {
+        for arg in args {
+            self.term(arg)?;
+        }
+        self.emit(self.call_of(&name.name))
+    }
+
+    /// The code of a `let`, behind its tick.
+    fn declare(&mut self, name: &'a Word, value: &Expr) -> Result<(), OutOfMemory>
+        ensures { OnOk result (self.new ≡ record self.old {
+          code = self.old.code ++ (term_code self.old.elements self.old.functions self.old.slots (term_of value.now) ++ set (length self.old.slots) ∷ []);
+          slots = name.now.name ∷ self.old.slots;
+          most = max self.old.most (length self.old.slots + 1);
+        }) }
+    {
+        self.term(value)?;
+        let number = self.slots.add(name.name.as_str())?;
+        self.most = self.most.max(self.slots.count());
+        self.emit(set(number))
+    }
+
+    /// The code of an assignment, behind its tick.
+    fn assign(&mut self, name: &Word, value: &Expr) -> Result<(), OutOfMemory>
+        ensures { OnOk result (self.new ≡ with_code self.old (term_code self.old.elements self.old.functions self.old.slots (term_of value.now)
+            ++ writes self.old.elements self.old.functions (slot_of self.old.slots name.now.name) name.now.name ∷ [])) }
+    {
+        self.term(value)?;
+        self.emit(self.write(&name.name))
+    }
+
+    /// The code of an assignment to an element, behind its tick: the index comes before the value.
+    fn assign_at(&mut self, name: &Word, at: &Expr, value: &Expr) -> Result<(), OutOfMemory>
+        ensures { OnOk result (self.new ≡ with_code self.old (term_code self.old.elements self.old.functions self.old.slots (term_of at.now)
+            ++ (term_code self.old.elements self.old.functions self.old.slots (term_of value.now)
+            ++ stores_at self.old.elements self.old.functions (cell_of self.old.elements name.now.name) ∷ []))) }
+    {
+        self.term(at)?;
+        self.term(value)?;
+        self.emit(self.write_at(&name.name))
+    }
+
+    /// The code of a call whose value is dropped, behind its tick.
+    fn run(&mut self, name: &Word, args: &[Expr]) -> Result<(), OutOfMemory>
+        ensures { OnOk result (self.new ≡ with_code self.old (terms_code self.old.elements self.old.functions self.old.slots (terms_of args.now)
+            ++ (calls self.old.elements self.old.functions name.now.name ∷ discard ∷ []))) }
+    {
+        self.call(name, args)?;
+        self.emit(plain(DISCARD))
+    }
+
+    /// The code of an output, behind its tick.
+    fn show(&mut self, value: &Expr) -> Result<(), OutOfMemory>
+        ensures { OnOk result (self.new ≡ with_code self.old (term_code self.old.elements self.old.functions self.old.slots (term_of value.now) ++ show ∷ [])) }
+    {
+        self.term(value)?;
+        self.emit(plain(SHOW))
+    }
+
+    /// The code of a `return`, behind its tick: what the function spawned is waited for behind the value.
+    fn return_value(&mut self, value: &Expr) -> Result<(), OutOfMemory>
+        ensures { OnOk result (self.new ≡ with_code self.old (term_code self.old.elements self.old.functions self.old.slots (term_of value.now)
+            ++ (wait ∷ ret ∷ []))) }
+    {
+        self.term(value)?;
+        self.emit(plain(WAIT))?;
+        self.emit(plain(RET))
+    }
+
+    /// The code of a test, and the place of the jump behind it, which has no target yet.
+    fn test(&mut self, test: &Expr) -> Result<u32, OutOfMemory>
+        ensures code { OnOk result (self.new ≡ with_code self.old (term_code self.old.elements self.old.functions self.old.slots (term_of test.now) ++ jump_zero 0 ∷ [])) }
+        ensures last { IfOk result (λ place. place + 1 ≡ length self.new.code) }
+    {
+        self.term(test)?;
+        let place = self.code.place();
+        self.emit(jump_zero(0))?;
+        Ok(place)
+    }
+
+    /// A jump behind the first block of a choice, and its place. It has no target yet, and that of the test leads behind it.
+    fn pass(&mut self, skip: u32) -> Result<u32, OutOfMemory>
+        requires { skip < length self.old.code }
+        ensures code { OnOk result (self.new ≡ record self.old {
+          code = slice_set (self.old.code ++ jump 0 ∷ []) skip (jump_zero (length self.old.code + 1));
+        }) }
+        ensures last { IfOk result (λ place. place ≡ length self.old.code) }
+    {
+        let place = self.code.place();
+        self.emit(jump(0))?;
+        self.code.put(skip, jump_zero(self.code.place()));
+        Ok(place)
+    }
+
     /// The code of a statement. What it declares is visible afterwards.
     #[cycle(walk)]
     fn statement(&mut self, statement: &'a Stmt) -> Result<(), OutOfMemory>
         ensures { OnOk result (self.new ≡ with_statement self.old (statement_of statement.now)) }
     {
+        let start = self.code.place();
         self.emit(plain(TICK))?;
         match statement {
-            Stmt::Let { name, value } => {
-                self.term(value)?;
-                let number = self.slots.add(name.name.as_str())?;
-                self.most = self.most.max(self.slots.count());
-                self.emit(set(number))
+            Stmt::Let { name, value } => self.declare(name, value),
+            Stmt::Assign { name, value } => self.assign(name, value),
+            Stmt::AssignAt { name, at, value } => self.assign_at(name, at, value),
+            Stmt::Call { name, args } => self.run(name, args.as_slice()),
+            Stmt::Out(value) => self.show(value),
+            Stmt::If { test, then, other } => {
+                let skip = self.test(test)?;
+                self.block(then.as_slice())?;
+                let pass = self.pass(skip)?;
+                self.block(other.as_slice())?;
+                self.code.put(pass, jump(self.code.place()));
+                Ok(())
             }
-            Stmt::Assign { name, value } => {
-                self.term(value)?;
-                self.emit(self.write(&name.name))
-            }
-            Stmt::AssignAt { name, at, value } => {
-                self.term(at)?;
-                self.term(value)?;
-                self.emit(self.write_at(&name.name))
-            }
-            Stmt::Out(value) => {
-                self.term(value)?;
-                self.emit(plain(SHOW))
+            Stmt::While { test, body } => {
+                let skip = self.test(test)?;
+                self.block(body.as_slice())?;
+                self.emit(jump(start))?;
+                self.code.put(skip, jump_zero(self.code.place()));
+                Ok(())
             }
             Stmt::Atomic(body) => {
                 self.emit(plain(BEGIN))?;
@@ -154,6 +271,7 @@ impl<'a> Emitter<'a> {
                 Ok(())
             }
             Stmt::Sync => self.emit(plain(WAIT)),
+            Stmt::Return { value, .. } => self.return_value(value),
         }
     }
 
@@ -186,8 +304,9 @@ impl<'a> Emitter<'a> {
         body: &'a [Stmt],
     ) -> Result<Func, OutOfMemory>
         ensures elements { OnOk result (self.new.elements ≡ self.old.elements) }
+        ensures functions { OnOk result (self.new.functions ≡ self.old.functions) }
         ensures code { OnOk result (self.new.code ≡ self.old.code
-            ++ function_code self.old.elements (length self.old.code) params.now (block_of body.now)) }
+            ++ function_code self.old.elements self.old.functions (length self.old.code) params.now (block_of body.now)) }
         ensures func { IfOk result (λ f. f ≡ record {
           params = length params.now;
           locals = most (length params.now) (block_of body.now);

@@ -22,9 +22,15 @@ const STORE: u8 = 6;
 
 const STORE_AT: u8 = 7;
 
+const JUMP: u8 = 21;
+
+const JUMP_ZERO: u8 = 22;
+
+const CALL: u8 = 23;
+
 pub(crate) const RET: u8 = 24;
 
-const DISCARD: u8 = 25;
+pub(crate) const DISCARD: u8 = 25;
 
 pub(crate) const SHOW: u8 = 26;
 
@@ -112,6 +118,26 @@ pub(crate) fn store_at(element: u32, len: u32) -> Instr
         a: i64::from(element),
         b: len,
     }
+}
+
+pub(crate) fn jump(place: u32) -> Instr
+    ensures { result ≡ code.jump place }
+{
+    with_a(JUMP, place)
+}
+
+/// Goes to a place where the operand is 0.
+pub(crate) fn jump_zero(place: u32) -> Instr
+    ensures { result ≡ code.jump_zero place }
+{
+    with_a(JUMP_ZERO, place)
+}
+
+/// Calls the function of this number.
+pub(crate) fn call(function: u32) -> Instr
+    ensures { result ≡ code.call function }
+{
+    with_a(CALL, function)
 }
 
 pub(crate) fn fork(place: u32) -> Instr

@@ -8,6 +8,7 @@
 mod compiling;
 mod elements;
 mod emitter;
+mod functions;
 mod instructions;
 mod listing;
 mod locals;

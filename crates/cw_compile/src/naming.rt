@@ -5,5 +5,5 @@ mod items;
 mod scope;
 mod visible;
 
-pub(crate) use checking::{checked, is_main};
+pub(crate) use checking::checked;
 pub(crate) use items::Declared;

@@ -11,7 +11,7 @@ struct Row {
     locals: u32,
 }
 
-const ROWS: [Row; 3] = [
+const ROWS: [Row; 5] = [
     Row {
         source: "cell c; cell d; fn main() { d = c - 2; out !d; }",
         instrs: &[
@@ -73,12 +73,79 @@ const ROWS: [Row; 3] = [
         ],
         locals: 0,
     },
+    Row {
+        source: "fn main() { let i = 3; while i { i = i - 1; } if i { out 1; } }",
+        instrs: &[
+            (32, 0),
+            (1, 3),
+            (3, 0),
+            (32, 0),
+            (2, 0),
+            (22, 12),
+            (32, 0),
+            (2, 0),
+            (1, 1),
+            (9, 0),
+            (3, 0),
+            (21, 3),
+            (32, 0),
+            (2, 0),
+            (22, 19),
+            (32, 0),
+            (1, 1),
+            (26, 0),
+            (21, 19),
+            (30, 0),
+            (1, 0),
+            (24, 0),
+        ],
+        locals: 1,
+    },
+    Row {
+        source: "fn main(x) { f(x, 1); out f(2, x); } fn f(a, b) { return a - b; }",
+        instrs: &[
+            (32, 0),
+            (2, 0),
+            (1, 1),
+            (23, 1),
+            (25, 0),
+            (32, 0),
+            (1, 2),
+            (2, 0),
+            (23, 1),
+            (26, 0),
+            (30, 0),
+            (1, 0),
+            (24, 0),
+            (32, 0),
+            (2, 0),
+            (2, 1),
+            (9, 0),
+            (30, 0),
+            (24, 0),
+            (30, 0),
+            (1, 0),
+            (24, 0),
+        ],
+        locals: 1,
+    },
 ];
 
-const FAULTS: [(&str, NameKind, u32); 4] = [
+const FAULTS: [(&str, NameKind, u32); 7] = [
     ("fn main() {\n x = 1; }", NameKind::Unknown, 2),
     ("cell c;\ncell c; fn main() { out x; }", NameKind::Twice, 2),
     ("fn main() { out main; }", NameKind::NotALocal, 1),
+    (
+        "fn main() { let f = 1;\n out g(y, 2); } fn g(x) {}",
+        NameKind::WrongCount,
+        2,
+    ),
+    (
+        "fn main() { spawn { if 1 {\n return y; } } }",
+        NameKind::ReturnInside,
+        2,
+    ),
+    ("fn f(a,\n a) {} fn main() {}", NameKind::Twice, 2),
     ("cell main;", NameKind::NoMain, 0),
 ];
 

@@ -1,4 +1,5 @@
 pub mod FaultPlan
+pub mod Lcg
 pub mod MemSink
 pub mod MemSource
 pub mod Outside

@@ -2,9 +2,9 @@
 --
 -- What is still to come from a source and what a sink holds are told, or are not told (`None`): a file or a
 -- terminal tells nothing. What is said of bytes is said of told ones.
-use Rattle.std.specs.Prelude.{◌≡◌, ◌⊎◌, ℕ, ◌-◌, ◌^◌, ◌<◌, ◌≤◌, List, [], ◌++◌, length, take, Option, IsSome, IfSome, IsSomeAnd, Result, IsErr, OnOk}
+use Rattle.std.specs.Prelude.{◌≡◌, ◌⊎◌, ℕ, ◌+◌, ◌-◌, ◌^◌, ◌<◌, ◌≤◌, List, [], ◌++◌, length, take, Option, IsSome, IfSome, IsSomeAnd, Result, IsErr, IsOkAnd, OnOk}
 
--- A count of faults rose. One that stands at its last value counts as risen.
+-- A count rose. One that stands at its last value counts as risen.
 abbrev pub Rose : ℕ → ℕ → Type 0
 Rose before after = (before < after) ⊎ (after ≡ 2 ^ 64 - 1)
 
@@ -13,6 +13,17 @@ pub record CountsFaults {T E : Type 0} (before after : ℕ) (result : Result T E
   pub later : before ≤ after
   pub failed : IsErr result → Rose before after
   pub kept : OnOk result (after ≡ before)
+
+-- A read gave a byte at least.
+abbrev pub GaveBytes : {E : Type 0} → Result ℕ E → Type 0
+GaveBytes result = IsOkAnd result (λ n. 0 < n)
+
+-- Reads that gave no byte are counted, those that failed too: such a read is one more, and one that gave a byte none.
+pub record CountsEnds {E : Type 0} (before after : ℕ) (result : Result ℕ E) : Type 0 where
+  pub later : before ≤ after
+  pub one : after ≤ before + 1
+  pub ended : (GaveBytes result → ⊥) → Rose before after
+  pub kept : GaveBytes result → after ≡ before
 
 -- What is to come is what was to come without these bytes, which came first.
 abbrev pub Takes : (old new : Option (List ℕ)) (bytes : List ℕ) → Type 0

@@ -1,7 +1,7 @@
 ghost use Rattle.std.specs.Prelude.{◌≡◌, ◌≢◌, ◌≤◌, [], length, take, Some, Ok, IfOk, OnErr, IsOkAnd};
 ghost use Rattle.cw_io.specs.FaultPlan.{fresh_plan, IsListed, FailsWhere};
-ghost use Rattle.cw_io.specs.MemSource.{GivesNext};
-ghost use Rattle.cw_io.specs.Outside.{CountsFaults, Takes, Keeps, IsDry};
+ghost use Rattle.cw_io.specs.MemSource.{GivesNext, ends_after};
+ghost use Rattle.cw_io.specs.Outside.{CountsEnds, CountsFaults, Takes, Keeps, IsDry};
 
 use crate::fault_plan::FaultPlan;
 use crate::feed::Feed;
@@ -13,6 +13,7 @@ use std::marker::Model;
 pub struct MemSource {
     feed: Feed,
     plan: FaultPlan,
+    ends: u64,
 }
 
 impl Model for MemSource {
@@ -20,7 +21,7 @@ impl Model for MemSource {
 
     ghost Value = { FaultySupply };
 
-    ghost view = { λ s. record { supply = s.feed; plan = s.plan } };
+    ghost view = { λ s. record { supply = s.feed; plan = s.plan; ends = s.ends } };
 }
 
 impl MemSource {
@@ -30,10 +31,12 @@ impl MemSource {
         requires { 1 ≤ most }
         ensures supply { result.supply ≡ record { left = bytes.items; most = most } }
         ensures plan { result.plan ≡ fresh_plan failing.items }
+        ensures none { result.ends ≡ 0 }
     {
         MemSource {
             feed: Feed::new(bytes, most),
             plan: FaultPlan::new(failing),
+            ends: 0,
         }
     }
 }
@@ -43,20 +46,31 @@ impl Source for MemSource {
 
     ghost faults = { λ s. s.plan.failed };
 
+    ghost ends = { λ s. s.ends };
+
     fn read(&mut self, buf: &mut [u8]) -> Result<usize, Failed>
         ensures planned { FailsWhere (IsListed self.old.plan) self.old.plan self.new.plan result }
         ensures next { IfOk result (GivesNext self.old.supply self.new.supply buf.old buf.new) }
         ensures same { OnErr result (self.new.supply ≡ self.old.supply) }
+        ensures ended { self.new.ends ≡ ends_after self.old.ends result }
 
         // As of every source.
         ensures cause { CountsFaults self.old.plan.failed self.new.plan.failed result }
+        ensures ends { CountsEnds self.old.ends self.new.ends result }
         ensures within { IfOk result (λ n. n ≤ length buf.old) }
         ensures given { IfOk result (λ n. Takes (Some self.old.supply.left) (Some self.new.supply.left) (take n buf.new)) }
         ensures end { result ≡ Ok 0 → buf.old ≢ [] → IsDry (Some self.old.supply.left) }
         ensures err { OnErr result (Keeps (Some self.old.supply.left) (Some self.new.supply.left)) }
     {
-        self.plan.call(false)?;
-        Ok(self.feed.give(buf))
+        if self.plan.call(false).is_err() {
+            self.ends = self.ends.saturating_add(1);
+            return Err(Failed);
+        }
+        let count = self.feed.give(buf);
+        if count == 0 {
+            self.ends = self.ends.saturating_add(1);
+        }
+        Ok(count)
     }
 }
 
@@ -64,43 +78,54 @@ impl Source for MemSource {
 #[derive(Drop)]
 pub struct SureSource {
     feed: Feed,
+    ends: u64,
 }
 
 impl Model for SureSource {
-    ghost use Rattle.cw_io.specs.MemSource.{Supply};
+    ghost use Rattle.cw_io.specs.MemSource.{SureSupply};
 
-    ghost Value = { Supply };
+    ghost Value = { SureSupply };
 
-    ghost view = { λ s. s.feed };
+    ghost view = { λ s. record { supply = s.feed; ends = s.ends } };
 }
 
 impl SureSource {
     /// Gives at most `most` bytes a call.
     pub fn new(bytes: Vec<u8>, most: usize) -> SureSource
         requires { 1 ≤ most }
-        ensures { result ≡ record { left = bytes.items; most = most } }
+        ensures supply { result.supply ≡ record { left = bytes.items; most = most } }
+        ensures none { result.ends ≡ 0 }
     {
         SureSource {
             feed: Feed::new(bytes, most),
+            ends: 0,
         }
     }
 }
 
 impl Source for SureSource {
-    ghost left = { λ s. Some s.left };
+    ghost left = { λ s. Some s.supply.left };
 
     ghost faults = { λ _. 0 };
 
+    ghost ends = { λ s. s.ends };
+
     fn read(&mut self, buf: &mut [u8]) -> Result<usize, Failed>
-        ensures next { IsOkAnd result (GivesNext self.old self.new buf.old buf.new) }
+        ensures next { IsOkAnd result (GivesNext self.old.supply self.new.supply buf.old buf.new) }
+        ensures ended { self.new.ends ≡ ends_after self.old.ends result }
 
         // As of every source.
         ensures cause { CountsFaults 0 0 result }
+        ensures ends { CountsEnds self.old.ends self.new.ends result }
         ensures within { IfOk result (λ n. n ≤ length buf.old) }
-        ensures given { IfOk result (λ n. Takes (Some self.old.left) (Some self.new.left) (take n buf.new)) }
-        ensures end { result ≡ Ok 0 → buf.old ≢ [] → IsDry (Some self.old.left) }
-        ensures err { OnErr result (Keeps (Some self.old.left) (Some self.new.left)) }
+        ensures given { IfOk result (λ n. Takes (Some self.old.supply.left) (Some self.new.supply.left) (take n buf.new)) }
+        ensures end { result ≡ Ok 0 → buf.old ≢ [] → IsDry (Some self.old.supply.left) }
+        ensures err { OnErr result (Keeps (Some self.old.supply.left) (Some self.new.supply.left)) }
     {
-        Ok(self.feed.give(buf))
+        let count = self.feed.give(buf);
+        if count == 0 {
+            self.ends = self.ends.saturating_add(1);
+        }
+        Ok(count)
     }
 }

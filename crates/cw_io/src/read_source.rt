@@ -9,14 +9,20 @@ use std::io::Read;
 pub struct ReadSource<R> {
     reader: R,
     faults: u64,
+    ends: u64,
 }
 
 impl<R: Read> ReadSource<R> {
     pub fn new(reader: R) -> ReadSource<R>
         ensures left { ⟦<ReadSource<R> as Source>⟧.left result ≡ R.remaining reader }
         ensures faults { ⟦<ReadSource<R> as Source>⟧.faults result ≡ 0 }
+        ensures ends { ⟦<ReadSource<R> as Source>⟧.ends result ≡ 0 }
     {
-        ReadSource { reader, faults: 0 }
+        ReadSource {
+            reader,
+            faults: 0,
+            ends: 0,
+        }
     }
 }
 
@@ -25,11 +31,18 @@ impl<R: Read> Source for ReadSource<R> {
 
     ghost faults = { λ s. s.faults };
 
+    ghost ends = { λ s. s.ends };
+
     fn read(&mut self, buf: &mut [u8]) -> Result<usize, Failed> {
         match self.reader.read(buf) {
+            Ok(0) => {
+                self.ends = self.ends.saturating_add(1);
+                Ok(0)
+            }
             Ok(count) => Ok(count),
             Err(_) => {
                 self.faults = self.faults.saturating_add(1);
+                self.ends = self.ends.saturating_add(1);
                 Err(Failed)
             }
         }

@@ -1,4 +1,5 @@
 use super::*;
+use cw_base::Seq;
 use std::io;
 use std::io::{BufWriter, ErrorKind, Read, Write};
 use std::process::Abort;
@@ -114,5 +115,26 @@ fn writers_are_sinks(rt: HostRuntime) -> Result<(), Fail> {
             "room {room}"
         );
     }
+    Ok(())
+}
+
+#[test]
+fn generators_draw(rt: HostRuntime) {
+    for (state, wanted) in [(0, 335_903_614), (1, 1_817_669_548)] {
+        assert_eq!(rt; Lcg::new(state).draw(), wanted, "{state}");
+    }
+}
+
+#[test]
+fn schedules_are_printed(rt: HostRuntime) -> Result<(), Fail> {
+    let listed = Schedule::List(Seq::from_vec([0, 1, 0].to_vec(rt.alloc())?));
+    assert_eq!(rt;
+        format!(in rt.alloc(); "{listed:?}")?.as_str(),
+        "List([0, 1, 0])"
+    );
+    assert_eq!(rt;
+        format!(in rt.alloc(); "{:?}", Schedule::Seeded(7))?.as_str(),
+        "Seeded(7)"
+    );
     Ok(())
 }

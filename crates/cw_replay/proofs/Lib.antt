@@ -36,3 +36,6 @@ mod Worked
 mod Elders
 mod Found
 mod Recorded
+mod OnePast
+mod SameMachines
+pub mod OverSource

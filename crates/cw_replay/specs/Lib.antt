@@ -1,3 +1,5 @@
 pub mod Replays
 pub mod WorkedReplays
 pub mod Attempts
+pub mod SameMachines
+pub mod OverSource

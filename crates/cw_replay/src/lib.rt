@@ -1,12 +1,16 @@
-//! Laws on records: every coherent record replays, and what a record tells of refusals. There is no code here that runs.
-//! Stands on `cw_strand`, `cw_tree`, `cw_serial` and `cw_record`.
+//! Laws on records: every coherent record replays, over code and over the syntax of its source, and what a record tells of refusals. There
+//! is no code here that runs. Stands on `cw_text`, `cw_strand`, `cw_tree`, `cw_serial` and `cw_record`.
 //! Contracts cite `specs/Replays.antt` (the law behind every run that is not one worker's), `specs/WorkedReplays.antt` (small records to
-//! which it applies) and `specs/Attempts.antt` (attempts that are recorded one by one).
+//! which it applies), `specs/SameMachines.antt` (two laws of strands that want the same, and the machine over each), `specs/OverSource.antt`
+//! (records of compiled programs over their sources) and `specs/Attempts.antt` (attempts that are recorded one by one).
 #![tactic(auto)]
 
 ghost use Rattle.cw_replay.specs.Attempts.{AttemptsAreRecorded, ConflictsNeedForks};
+ghost use Rattle.cw_replay.specs.OverSource.{RecordsReplayOverSource};
 ghost use Rattle.cw_replay.specs.Replays.{KeptRecordsReplay, PicksLeadThere, RecordsReplay};
+ghost use Rattle.cw_replay.specs.SameMachines.{SameEnds, SameMachines, SameReplays};
 ghost use Rattle.cw_replay.specs.WorkedReplays.{WorkedReplays};
+ghost use Rattle.cw_strand.specs.Pasts.{WantTheSame};
 ghost use Rattle.cw_strand.specs.Strands.{IsDeep, Strands};
 
 /// Whatever strands whose depth falls: each coherent record of them replays, however its run ended.
@@ -37,4 +41,21 @@ pub fn conflicts_need_forks()
 /// Where a strand spent its budget, there is a conflict for each attempt that it had.
 pub fn attempts_are_recorded()
     ensures { AttemptsAreRecorded }
+{}
+
+/// Over any two laws of strands that are deep and want the same, the machine with one memory does the same under the same picks, and
+/// comes to the same end.
+pub fn same_wants_same_machine<A, B>()
+    ensures machines { (s : Strands A) (t : Strands B) → IsDeep s → IsDeep t → WantTheSame s t → SameMachines s t }
+    ensures ends { (s : Strands A) (t : Strands B) → IsDeep s → IsDeep t → WantTheSame s t → SameEnds s t }
+{}
+
+/// Over any two laws of strands that are deep and want the same, a record replays over the one exactly where it replays over the other.
+pub fn same_wants_replay<A, B>()
+    ensures { (s : Strands A) (t : Strands B) → IsDeep s → IsDeep t → WantTheSame s t → SameReplays s t }
+{}
+
+/// A record of a compiled program replays over its code exactly where it replays over the syntax tree of its source.
+pub fn records_replay_over_source()
+    ensures { RecordsReplayOverSource }
 {}

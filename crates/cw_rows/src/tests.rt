@@ -91,13 +91,41 @@ fn a_source_may_have_so_many_bytes(rt: HostRuntime) -> Result<(), Fail> {
 
 #[test]
 fn the_words_are_read_first(rt: HostRuntime) -> Result<(), Fail> {
-    let table: [&[&str]; 5] = [&[], &["go"], &["run", "run"], &["run", "--workers"], &[""]];
+    let table: [&[&str]; 6] = [
+        &[],
+        &["go"],
+        &["run", "run"],
+        &["run", "--workers"],
+        &["run", "-5"],
+        &[""],
+    ];
     for words in table {
         let mut source = SureSource::new(COUNTS.to_vec(rt.alloc())?, 9);
         let mut sink = SureSink::with_room(rt.alloc(), 10)?;
         let said = ask(&rt, words, &mut source, &mut sink)?;
         assert_eq!(rt; said.status, 2);
         assert_eq!(rt; sink.taken(), b"".as_slice());
+    }
+    Ok(())
+}
+
+// The source was read to its end before.
+#[test]
+fn the_number_of_words_comes_last(rt: HostRuntime) -> Result<(), Fail> {
+    let table: [(&[u8], &[&str], u8, &[u8]); 4] = [
+        (b"fn main() {}", &["run", "--"], 0, b"end\n"),
+        (b"fn main() {}", &["run", "7"], 2, b""),
+        (b"fn main() {}", &["run", "--", "-7"], 2, b""),
+        (b"fn main() {", &["run", "7"], 5, b""),
+    ];
+    for (text, words, status, wanted) in table {
+        let mut source = SureSource::new(text.to_vec(rt.alloc())?, 5);
+        let mut sink = SureSink::with_room(rt.alloc(), 10)?;
+        let said = ask(&rt, words, &mut source, &mut sink)?;
+        assert_eq!(rt; said.status, status);
+        assert_eq!(rt; said.is_kept, status == 0);
+        assert_eq!(rt; sink.taken(), wanted);
+        assert_eq!(rt; source.read(&mut [0u8; 1]), Ok(0));
     }
     Ok(())
 }

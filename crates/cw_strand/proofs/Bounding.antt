@@ -20,9 +20,9 @@ use Rattle.cw_strand.specs.declared.want.Given.{Given}
 use Rattle.cw_strand.specs.declared.want.Given.TheVariants.{Nothing, Value}
 use Rattle.cw_strand.specs.Running.{Running, on, wants, stuck, depth_of, IsBounded}
 use Rattle.cw_strand.specs.Arithmetic.{is_zero}
-use Rattle.cw_strand.specs.Meaning.{one_more}
+use Rattle.cw_strand.specs.Meaning.{one_more, most_frames}
 use Rattle.cw_strand.specs.Coded as coded
-use Rattle.cw_strand.specs.Coded.{Frame, State, Step, index, goes_to, with_value, locals_for, left, joined, counted, counts, spends, result, in_range, read_local, write_local, returned, wait_in, most_frames, rank, steps_left}
+use Rattle.cw_strand.specs.Coded.{Frame, State, Step, index, goes_to, with_value, joined, counted, counts, spends, result, in_range, read_local, returned, wait_in, rank, steps_left}
 
 -- less by a smaller weight, whatever is added below the factor
 lighter : (n v w q r : ℕ) → v < w → q ≤ n + 1 → (n + 2) * v + q < (n + 2) * w + r

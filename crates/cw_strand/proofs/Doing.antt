@@ -1,20 +1,21 @@
 -- The code at a place does what is still to be done.
-use Rattle.std.proofs.Common.{◌≡◌, ℕ, suc, ◌+◌, ◌-◌, ◌<◌, ◌≤◌, List, [], ◌∷◌, ◌++◌, length, drop, refl, subst, arith, Option, Some, None, pos, append_assoc, length-append}
+use Rattle.std.proofs.Common.{◌≡◌, ℕ, suc, Bool, ℤ, ◌+◌, ◌-◌, ◌<◌, ◌≤◌, List, [], ◌∷◌, ◌++◌, length, drop, refl, subst, arith, Option, Some, None, append_assoc, length-append}
 use Rattle.std.specs.Prelude.{slice_get}
 use Rattle.cw_text.specs.declared.ast.Op.{Op}
 use Rattle.cw_text.specs.declared.ast.Op.TheVariants as op
-use Rattle.cw_text.specs.Syntax.{Term, Block, Declaration}
+use Rattle.cw_text.specs.Syntax.{Term, Terms, none, more, Block, repeat, Declaration}
 use Rattle.cw_code.specs.declared.instruction.Instr.{Instr}
 use Rattle.cw_code.specs.declared.effects.Operator.{Operator}
 use Rattle.cw_code.specs.declared.effects.Effect.TheVariants as effect
 use Rattle.cw_code.specs.Table.{effect_at}
-use Rattle.cw_strand.specs.Names.{find, used, indexed, in_term, in_block, cells_of}
-use Rattle.cw_strand.specs.Meaning.{cell_of, Task, value, lift, join, perform, bind, store_in, load_at, store_at, show, forget, wait, commit, finish, lifted, joining, lifts, joins}
+use Rattle.cw_strand.specs.Names.{find, used, indexed, called, count_of, in_term, in_terms, in_block, cells_of}
+use Rattle.cw_strand.specs.Meaning.{Locals, cell_of, Task, value, lift, join, enter, perform, bind, store_in, load_at, store_at, show, choose_by, test, repeat_by, forget, wait, commit, finish, finish_main, back_to, leave, arguments, unwound, lifted, joining, lifts, joins}
 use Rattle.cw_strand.specs.Meaning as meaning
 use Rattle.cw_strand.specs.Coded.{Frame}
-use Rattle.cw_strand.specs.Compilation.{Slots, slot_of, term_code, block_code, most, plain, number_of, lift_code, join_code, writes, loads_at, stores_at, set, push}
+use Rattle.cw_strand.specs.Compilation.{Slots, slot_of, function_names, calls, term_code, terms_code, statement_code, block_code, most, plain, number_of, lift_code, join_code, writes, loads_at, stores_at, set}
 use Rattle.cw_strand.specs.Compilation as instr
-use Rattle.cw_strand.proofs.Numbering.{scope_of, slots_behind}
+use Rattle.cw_strand.proofs.StandingNames.{no_fault}
+use Rattle.cw_strand.proofs.Numbering.{Agree, scope_of, slots_behind}
 
 -- ## Instructions in their places
 
@@ -48,24 +49,88 @@ stands_behind before (i ∷ is) =
 -- ## What the code does
 
 module _ (ds : List Declaration) (code : List Instr) where
-  -- The code at a place does these tasks, with so many locals of which these are visible, so many operands, and these callers.
-  pub data Does : ℕ → Slots → ℕ → List Task → ℕ → List Frame → Type 0 where
-    does_value : {n h p : ℕ} {g : Slots} {e : Term} {k : List Task} {fs : List Frame} → in_term (scope_of ds g) e ≡ None → HasAt code p (term_code (cells_of ds) g e) → Does n g (suc h) k (p + length (term_code (cells_of ds) g e)) fs → Does n g h (value e ∷ k) p fs
-    does_lift : {n h p : ℕ} {g : Slots} {o : Operator} {k : List Task} {fs : List Frame} → effect_at (number_of o) ≡ Some (effect.Lift o) → slice_get code p ≡ Some (plain (number_of o)) → Does n g (suc h) k (p + 1) fs → Does n g (suc h) (lift o ∷ k) p fs
-    does_join : {n h p : ℕ} {g : Slots} {o : Operator} {k : List Task} {fs : List Frame} → effect_at (number_of o) ≡ Some (effect.Join o) → slice_get code p ≡ Some (plain (number_of o)) → Does n g (suc h) k (p + 1) fs → Does n g (suc (suc h)) (join o ∷ k) p fs
-    does_discard : {n h p : ℕ} {g : Slots} {k : List Task} {fs : List Frame} → slice_get code p ≡ Some instr.discard → Does n g h k (p + 1) fs → Does n g (suc h) (meaning.discard ∷ k) p fs
-    does_perform : {n h p : ℕ} {g : Slots} {b : Block} {k : List Task} {fs : List Frame} → in_block (scope_of ds g) b ≡ None → most (length g) b ≤ n → HasAt code p (block_code (cells_of ds) g p b) → Does n (slots_behind b g) h k (p + length (block_code (cells_of ds) g p b)) fs → Does n g h (perform b ∷ k) p fs
-    does_bind : {n h p : ℕ} {g : Slots} {x : List ℕ} {k : List Task} {fs : List Frame} → length g < n → slice_get code p ≡ Some (set (length g)) → Does n (x ∷ g) h k (p + 1) fs → Does n g (suc h) (bind x ∷ k) p fs
-    does_store : {n h p : ℕ} {g : Slots} {x : List ℕ} {k : List Task} {fs : List Frame} (line : ℕ) → used (find x (scope_of ds g)) line ≡ None → slice_get code p ≡ Some (writes (cells_of ds) (slot_of g x) x) → Does n g h k (p + 1) fs → Does n g (suc h) (store_in x ∷ k) p fs
-    does_load_at : {n h p : ℕ} {g : Slots} {x : List ℕ} {k : List Task} {fs : List Frame} (line : ℕ) → indexed (find x (scope_of ds g)) line ≡ None → slice_get code p ≡ Some (loads_at (cells_of ds) (cell_of (cells_of ds) x)) → Does n g (suc h) k (p + 1) fs → Does n g (suc h) (load_at x ∷ k) p fs
-    does_store_at : {n h p : ℕ} {g : Slots} {x : List ℕ} {k : List Task} {fs : List Frame} (line : ℕ) → indexed (find x (scope_of ds g)) line ≡ None → slice_get code p ≡ Some (stores_at (cells_of ds) (cell_of (cells_of ds) x)) → Does n g h k (p + 1) fs → Does n g (suc (suc h)) (store_at x ∷ k) p fs
-    does_show : {n h p : ℕ} {g : Slots} {k : List Task} {fs : List Frame} → slice_get code p ≡ Some instr.show → Does n g h k (p + 1) fs → Does n g (suc h) (show ∷ k) p fs
-    does_forget : {n h p o : ℕ} {g : Slots} {k : List Task} {fs : List Frame} → Does n (drop (length g - o) g) h k p fs → Does n g h (forget o ∷ k) p fs
-    does_wait : {n h p : ℕ} {g : Slots} {k : List Task} {fs : List Frame} → slice_get code p ≡ Some instr.wait → Does n g h k (p + 1) fs → Does n g h (wait ∷ k) p fs
-    does_commit : {n h p : ℕ} {g : Slots} {k : List Task} {fs : List Frame} → slice_get code p ≡ Some instr.end → Does n g h k (p + 1) fs → Does n g h (commit ∷ k) p fs
-    -- the end of a left strand, and that of main
-    does_finish : {n p : ℕ} {g : Slots} → slice_get code p ≡ Some instr.done → Does n g 0 (finish ∷ []) p []
-    does_return : {n p : ℕ} {g : Slots} → HasAt code p (push (pos 0) ∷ instr.ret ∷ []) → Does n g 0 (finish ∷ []) p []
+  -- The blocks of a choice stand behind the jump to the second one. After the first one comes a jump past the second one.
+  pub record Choice (n p end : ℕ) (g : Slots) (a b : Block) : Type 0 where
+    pub inside : Bool
+    pub first_named : in_block (scope_of ds g) inside a ≡ None
+    pub second_named : in_block (scope_of ds g) inside b ≡ None
+    pub first_room : most (length g) a ≤ n
+    pub second_room : most (length g) b ≤ n
+    pub past : ℕ
+    pub past_is : past ≡ p + 1 + length (block_code (cells_of ds) (function_names ds) g (p + 1) a)
+    pub end_is : end ≡ past + 1 + length (block_code (cells_of ds) (function_names ds) g (past + 1) b)
+    pub skips : slice_get code p ≡ Some (instr.jump_zero (past + 1))
+    pub first_stands : HasAt code (p + 1) (block_code (cells_of ds) (function_names ds) g (p + 1) a)
+    pub passes : slice_get code past ≡ Some (instr.jump end)
+    pub second_stands : HasAt code (past + 1) (block_code (cells_of ds) (function_names ds) g (past + 1) b)
+
+  -- a loop stands at a place
+  pub record Loop (n p : ℕ) (g : Slots) (e : Term) (b : Block) : Type 0 where
+    pub inside : Bool
+    pub test_named : in_term (scope_of ds g) e ≡ None
+    pub body_named : in_block (scope_of ds g) inside b ≡ None
+    pub room : most (length g) b ≤ n
+    pub stands : HasAt code p (statement_code (cells_of ds) (function_names ds) g p (repeat e b))
+
+  mutual
+    -- The code at a place does these tasks, with so many locals of which these are visible, so many operands, and these callers.
+    pub data Does : ℕ → Slots → ℕ → List Task → ℕ → List Frame → Type 0 where
+      does_value : {n h p : ℕ} {g : Slots} {e : Term} {k : List Task} {fs : List Frame} → in_term (scope_of ds g) e ≡ None → HasAt code p (term_code (cells_of ds) (function_names ds) g e) → Does n g (suc h) k (p + length (term_code (cells_of ds) (function_names ds) g e)) fs → Does n g h (value e ∷ k) p fs
+      does_lift : {n h p : ℕ} {g : Slots} {o : Operator} {k : List Task} {fs : List Frame} → effect_at (number_of o) ≡ Some (effect.Lift o) → slice_get code p ≡ Some (plain (number_of o)) → Does n g (suc h) k (p + 1) fs → Does n g (suc h) (lift o ∷ k) p fs
+      does_join : {n h p : ℕ} {g : Slots} {o : Operator} {k : List Task} {fs : List Frame} → effect_at (number_of o) ≡ Some (effect.Join o) → slice_get code p ≡ Some (plain (number_of o)) → Does n g (suc h) k (p + 1) fs → Does n g (suc (suc h)) (join o ∷ k) p fs
+      does_enter : {n h p a : ℕ} {g : Slots} {x : List ℕ} {k : List Task} {fs : List Frame} (line : ℕ) → called (find x (scope_of ds g)) a line ≡ None → a ≤ h → slice_get code p ≡ Some (calls (cells_of ds) (function_names ds) x) → Does n g (suc (h - a)) k (p + 1) fs → Does n g h (enter x a ∷ k) p fs
+      does_discard : {n h p : ℕ} {g : Slots} {k : List Task} {fs : List Frame} → slice_get code p ≡ Some instr.discard → Does n g h k (p + 1) fs → Does n g (suc h) (meaning.discard ∷ k) p fs
+      does_perform : {n h p : ℕ} {g : Slots} {b : Block} {k : List Task} {fs : List Frame} (inside : Bool) → in_block (scope_of ds g) inside b ≡ None → most (length g) b ≤ n → HasAt code p (block_code (cells_of ds) (function_names ds) g p b) → Does n (slots_behind b g) h k (p + length (block_code (cells_of ds) (function_names ds) g p b)) fs → Does n g h (perform b ∷ k) p fs
+      does_bind : {n h p : ℕ} {g : Slots} {x : List ℕ} {k : List Task} {fs : List Frame} → length g < n → slice_get code p ≡ Some (set (length g)) → Does n (x ∷ g) h k (p + 1) fs → Does n g (suc h) (bind x ∷ k) p fs
+      does_store : {n h p : ℕ} {g : Slots} {x : List ℕ} {k : List Task} {fs : List Frame} (line : ℕ) → used (find x (scope_of ds g)) line ≡ None → slice_get code p ≡ Some (writes (cells_of ds) (function_names ds) (slot_of g x) x) → Does n g h k (p + 1) fs → Does n g (suc h) (store_in x ∷ k) p fs
+      does_load_at : {n h p : ℕ} {g : Slots} {x : List ℕ} {k : List Task} {fs : List Frame} (line : ℕ) → indexed (find x (scope_of ds g)) line ≡ None → slice_get code p ≡ Some (loads_at (cells_of ds) (function_names ds) (cell_of (cells_of ds) x)) → Does n g (suc h) k (p + 1) fs → Does n g (suc h) (load_at x ∷ k) p fs
+      does_store_at : {n h p : ℕ} {g : Slots} {x : List ℕ} {k : List Task} {fs : List Frame} (line : ℕ) → indexed (find x (scope_of ds g)) line ≡ None → slice_get code p ≡ Some (stores_at (cells_of ds) (function_names ds) (cell_of (cells_of ds) x)) → Does n g h k (p + 1) fs → Does n g (suc (suc h)) (store_at x ∷ k) p fs
+      does_show : {n h p : ℕ} {g : Slots} {k : List Task} {fs : List Frame} → slice_get code p ≡ Some instr.show → Does n g h k (p + 1) fs → Does n g (suc h) (show ∷ k) p fs
+      does_choose : {n h p end : ℕ} {g : Slots} {a b : Block} {k : List Task} {fs : List Frame} → Choice n p end g a b → Does n g h k end fs → Does n g (suc h) (choose_by a b ∷ k) p fs
+      does_test : {n h p : ℕ} {g : Slots} {e : Term} {b : Block} {k : List Task} {fs : List Frame} → Loop n p g e b → Does n g h k (p + length (statement_code (cells_of ds) (function_names ds) g p (repeat e b))) fs → Does n g h (test e b ∷ k) p fs
+      does_repeat : {n h p q : ℕ} {g : Slots} {e : Term} {b : Block} {k : List Task} {fs : List Frame} → q ≡ p + 1 + length (term_code (cells_of ds) (function_names ds) g e) → Loop n p g e b → Does n g h k (p + length (statement_code (cells_of ds) (function_names ds) g p (repeat e b))) fs → Does n g (suc h) (repeat_by e b ∷ k) q fs
+      -- a jump comes first
+      does_there : {n h p q : ℕ} {g : Slots} {todo : List Task} {fs : List Frame} → slice_get code p ≡ Some (instr.jump q) → Does n g h todo q fs → Does n g h todo p fs
+      does_forget : {n h p o : ℕ} {g : Slots} {k : List Task} {fs : List Frame} → Does n (drop (length g - o) g) h k p fs → Does n g h (forget o ∷ k) p fs
+      does_wait : {n h p : ℕ} {g : Slots} {k : List Task} {fs : List Frame} → slice_get code p ≡ Some instr.wait → Does n g h k (p + 1) fs → Does n g h (wait ∷ k) p fs
+      does_commit : {n h p : ℕ} {g : Slots} {k : List Task} {fs : List Frame} → slice_get code p ≡ Some instr.end → Does n g h k (p + 1) fs → Does n g h (commit ∷ k) p fs
+      does_finish : {n p : ℕ} {g : Slots} → slice_get code p ≡ Some instr.done → Does n g 0 (finish ∷ []) p []
+      -- the end of a function, and a return
+      does_end : {n h p : ℕ} {g : Slots} {todo : List Task} {fs : List Frame} → slice_get code p ≡ Some instr.ret → Ending todo fs → Does n g (suc h) todo p fs
+      does_leave : {n h p : ℕ} {g : Slots} {k : List Task} {fs : List Frame} → slice_get code p ≡ Some instr.ret → Ending (unwound k) fs → Does n g (suc h) (leave ∷ k) p fs
+
+    -- These tasks are done where a function has ended, with these callers.
+    pub data Ending : List Task → List Frame → Type 0 where
+      ends_main : Ending (finish_main ∷ []) []
+      -- no program has a return in a left strand
+      ends_left : Ending (finish ∷ []) []
+      ends_call : {l : Locals} {vs : List ℤ} {k : List Task} {f : Frame} {fs : List Frame} (g : Slots) → Agree l g f.locals → vs ≡ f.operands → Does (length f.locals) g (suc (length vs)) k f.place fs → Ending (back_to l vs ∷ k) (f ∷ fs)
+
+  -- from anything that is to be done in a function the function's end follows
+  pub unwinds : {n h p : ℕ} {g : Slots} {todo : List Task} {fs : List Frame} → Does n g h todo p fs → Ending (unwound todo) fs
+  unwinds (does_value named has rest) = unwinds rest
+  unwinds (does_lift is there rest) = unwinds rest
+  unwinds (does_join is there rest) = unwinds rest
+  unwinds (does_enter line named enough there rest) = unwinds rest
+  unwinds (does_discard there rest) = unwinds rest
+  unwinds (does_perform inside named room has rest) = unwinds rest
+  unwinds (does_bind less there rest) = unwinds rest
+  unwinds (does_store line named there rest) = unwinds rest
+  unwinds (does_load_at line named there rest) = unwinds rest
+  unwinds (does_store_at line named there rest) = unwinds rest
+  unwinds (does_show there rest) = unwinds rest
+  unwinds (does_choose w rest) = unwinds rest
+  unwinds (does_test w rest) = unwinds rest
+  unwinds (does_repeat is w rest) = unwinds rest
+  unwinds (does_there there rest) = unwinds rest
+  unwinds (does_forget rest) = unwinds rest
+  unwinds (does_wait there rest) = unwinds rest
+  unwinds (does_commit there rest) = unwinds rest
+  unwinds (does_finish there) = ends_left
+  unwinds (does_end there ends_main) = ends_main
+  unwinds (does_end there ends_left) = ends_left
+  unwinds (does_end there (ends_call g agree same rest)) = ends_call g agree same rest
+  unwinds (does_leave there ending) = ending
 
   -- an operator of one operand, if there is one, lifts
   abbrev pub Lifts : Option Operator → Type 0
@@ -100,3 +165,28 @@ module _ (ds : List Declaration) (code : List Instr) where
 
   pub does_joins : {n h p : ℕ} {g : Slots} {k : List Task} {fs : List Frame} (o : Op) → slice_get code p ≡ Some (join_code (joining o)) → Does n g (suc h) k (p + 1) fs → Does n g (suc (suc h)) (joins (joining o) k) p fs
   does_joins o there rest = does_if_joins (joining o) (joining_joins o) there rest
+
+  -- the arguments of a call, one after another
+  does_arguments : {n : ℕ} {g : Slots} {k : List Task} {fs : List Frame} (es : Terms) {h p : ℕ} → in_terms (scope_of ds g) es ≡ None → HasAt code p (terms_code (cells_of ds) (function_names ds) g es)
+      → Does n g (h + count_of es) k (p + length (terms_code (cells_of ds) (function_names ds) g es)) fs → Does n g h (arguments es k) p fs
+  does_arguments {n = n} {g = g} {k = k} {fs = fs} none {h = h} {p = p} named has rest =
+      let count : h + 0 ≡ h = omega arith in
+      let place : p + 0 ≡ p = omega arith in
+      subst (λ q. Does n g h k q fs) place (subst (λ m. Does n g m k (p + 0) fs) count rest)
+  does_arguments {n = n} {g = g} {k = k} {fs = fs} (more e es) {h = h} {p = p} named has rest =
+      let a = term_code (cells_of ds) (function_names ds) g e in
+      let b = terms_code (cells_of ds) (function_names ds) g es in
+      let parts = no_fault (in_term (scope_of ds g) e) (in_terms (scope_of ds g) es) named in
+      let count : h + suc (count_of es) ≡ suc h + count_of es = omega arith in
+      let place : p + length (a ++ b) ≡ p + length a + length b = omega (arith, length-append a b) in
+      let behind_it = subst (λ q. Does n g (suc h + count_of es) k q fs) place (subst (λ m. Does n g m k (p + length (a ++ b)) fs) count rest) in
+      does_value parts.0 (front code p a b has) (does_arguments es parts.1 (behind code p a b has) behind_it)
+
+  -- a call, from its arguments on
+  pub does_call : {n h p : ℕ} {g : Slots} {k : List Task} {fs : List Frame} (x : List ℕ) (line : ℕ) (es : Terms) (is : List Instr) → called (find x (scope_of ds g)) (count_of es) line ≡ None → in_terms (scope_of ds g) es ≡ None
+      → HasAt code p (terms_code (cells_of ds) (function_names ds) g es ++ calls (cells_of ds) (function_names ds) x ∷ is) → Does n g (suc h) k (p + length (terms_code (cells_of ds) (function_names ds) g es) + 1) fs → Does n g h (arguments es (enter x (count_of es) ∷ k)) p fs
+  does_call {n = n} {h = h} {p = p} {g = g} {k = k} {fs = fs} x line es is may named has rest =
+      let a = terms_code (cells_of ds) (function_names ds) g es in
+      let tail = calls (cells_of ds) (function_names ds) x ∷ is in
+      let left : h ≡ h + count_of es - count_of es = omega arith in
+      does_arguments es named (front code p a tail has) (does_enter line may (omega arith) (behind code p a tail has).0 (subst (λ m. Does n g (suc m) k (p + length a + 1) fs) left rest))

@@ -17,7 +17,8 @@ use Rattle.cw_strand.specs.declared.want.Want.TheVariants.{Out, Begin}
 use Rattle.cw_strand.specs.Strands.{Strands, GoesTo, Reached, stays, answered, joins, of_main, of_left, of_right}
 use Rattle.cw_strand.specs.Running.{Standing, on, wants, stuck, stand}
 use Rattle.cw_strand.specs.Coded as coded
-use Rattle.cw_strand.specs.Coded.{Frame, State, Step, index, goes_to, counted, counts, spends, result, in_range, read_local, returned, wait_in, most_frames}
+use Rattle.cw_strand.specs.Meaning.{most_frames}
+use Rattle.cw_strand.specs.Coded.{Frame, State, Step, index, goes_to, counts, spends, result, in_range, read_local, returned, wait_in}
 use Rattle.cw_strand.specs.Laws.{NamesElement}
 use Rattle.cw_strand.proofs.Bounding.{bounded}
 use Rattle.cw_strand.proofs.Settling.{stand_holds}

@@ -1,11 +1,13 @@
 pub mod Arguments
 pub mod Bounding
+pub mod Calls
 pub mod CodeLaws
 pub mod Compiled
 pub mod Doing
 pub mod Elements
 pub mod FitTasks
 pub mod Following
+pub mod FunctionCode
 pub mod Lawful
 pub mod LocalWork
 pub mod MainCode

@@ -7,8 +7,8 @@ use Rattle.std.specs.Prelude.{slice_get, slice_set, if◌then◌else◌}
 use Rattle.std.specs.Str.{bytes_eq}
 use Rattle.cw_text.specs.declared.ast.Word.{Word}
 use Rattle.cw_text.specs.Syntax.{Statement, declare, Block, empty, first, Declaration, cell, func}
-use Rattle.cw_strand.specs.Names.{Scope, a_local, a_function, globals, find, used, elements, cells_from, cells_of, scope_after, cell_thing, indexed}
-use Rattle.cw_strand.proofs.StandingNames.{IsCell, with_names, name_indexed}
+use Rattle.cw_strand.specs.Names.{Scope, a_local, a_function, globals, find, used, elements, cells_from, cells_of, scope_after, cell_thing, indexed, called}
+use Rattle.cw_strand.proofs.StandingNames.{IsCell, IsFunction, with_names, name_indexed, name_called}
 use Rattle.cw_strand.specs.Names as names
 use Rattle.cw_strand.specs.Meaning.{Locals, local_of, with_local, bound_to, element_of, cell_of}
 use Rattle.cw_strand.specs.Compilation.{Slots, slot_of, slots_after, with_params, most, visible_after}
@@ -181,7 +181,7 @@ element_there (cell y line len i ∷ ds) base n l e = by (bytes_eq n y) e (λ h.
     by false h f = f h
 element_there (func y line ps b ∷ ds) base n l e = by (bytes_eq n y) e (λ h. element_there ds base n l h)
   where
-    by : (p : Bool) → used (if p then Some a_function else find n (globals ds)) l ≡ None → (used (find n (globals ds)) l ≡ None → (c : ℕ) × (element_of (cells_from base ds) n ≡ Some c)) → (c : ℕ) × (element_of (cells_from base ds) n ≡ Some c)
+    by : (p : Bool) → used (if p then Some (a_function (length ps)) else find n (globals ds)) l ≡ None → (used (find n (globals ds)) l ≡ None → (c : ℕ) × (element_of (cells_from base ds) n ≡ Some c)) → (c : ℕ) × (element_of (cells_from base ds) n ≡ Some c)
     by true h f = absurd cc
     by false h f = f h
 
@@ -192,6 +192,10 @@ scope_named ds (x ∷ g) = ap (λ (s : Scope). (x, a_local) ∷ s) (scope_named 
 -- the cell of an array
 pub array_there : (ds : List Declaration) (g : Slots) (n : List ℕ) (l : ℕ) → indexed (find n (scope_of ds g)) l ≡ None → IsCell (cell_of (cells_of ds) n)
 array_there ds g n l e = name_indexed ds g n l (subst (λ (s : Scope). indexed (find n s) l ≡ None) (scope_named ds g) e)
+
+-- the function of a call
+pub function_there : (ds : List Declaration) (g : Slots) (n : List ℕ) (c l : ℕ) → called (find n (scope_of ds g)) c l ≡ None → IsFunction ds n c
+function_there ds g n c l e = name_called ds g n c l (subst (λ (s : Scope). called (find n s) c l ≡ None) (scope_named ds g) e)
 
 -- ## Arguments
 

@@ -1,5 +1,5 @@
 -- A strand over the syntax and one over its code that stand at the same, and how the code goes on with it.
-use Rattle.std.proofs.Common.{◌≡◌, ◌∙◌, ℕ, ◌+◌, Bool, true, false, List, [], ◌∷◌, length, max, refl, sym, ap, subst, Some, ℤ, nat_lt, ◌⊎◌, inl, inr}
+use Rattle.std.proofs.Common.{◌≡◌, ◌∙◌, ℕ, ◌+◌, Bool, true, false, List, [], ◌∷◌, length, max, refl, sym, ap, subst, Some, ℤ, nat_lt}
 use Rattle.std.specs.Prelude.{slice_get, if◌then◌else◌, nat_le}
 use Rattle.cw_text.specs.Syntax.{Block, Declaration}
 use Rattle.cw_code.specs.declared.instruction.Instr.{Instr}
@@ -16,7 +16,7 @@ use Rattle.cw_strand.specs.declared.want.Given.TheVariants.{Nothing, Value}
 use Rattle.cw_strand.specs.Running.{Running, on, wants}
 use Rattle.cw_strand.specs.Names.{cells_of}
 use Rattle.cw_strand.specs.Meaning as m
-use Rattle.cw_strand.specs.Meaning.{Task, Locals, finish, in_place, both_counts}
+use Rattle.cw_strand.specs.Meaning.{Task, Locals, function_of, in_place, both_counts}
 use Rattle.cw_strand.specs.Coded as c
 use Rattle.cw_strand.specs.Coded.{Frame}
 use Rattle.cw_strand.specs.Compilation.{Slots, code_of, main_function}
@@ -37,27 +37,15 @@ module _ (ds : List Declaration) (words : List ℤ) (limits : Limits) where
 
   -- ## States
 
-  -- the code does what is to be done, on the same operands and locals
-  pub record Works (s : m.State) (d : c.State) : Type 0 where
+  -- The two stand at the same: the code does what is to be done, on the same operands and locals.
+  pub record Alike (s : m.State) (d : c.State) : Type 0 where
     pub slots : Slots
     pub height : ℕ
     pub does : Does ds program.instrs (length d.current.locals) slots height s.todo d.current.place d.callers
     pub agree : Agree s.locals slots d.current.locals
     pub operands : s.values ≡ d.current.operands
     pub high : length s.values ≡ height
-
-  -- main has ended: its value is there to be returned
-  pub record Returns (s : m.State) (d : c.State) : Type 0 where
-    pub todo : s.todo ≡ finish ∷ []
-    pub there : slice_get program.instrs d.current.place ≡ Some instr.ret
-    pub result : ℤ
-    pub below : List ℤ
-    pub operands : d.current.operands ≡ result ∷ below
-    pub callers : d.callers ≡ []
-
-  -- the two stand at the same
-  pub record Alike (s : m.State) (d : c.State) : Type 0 where
-    pub stands : Works s d ⊎ Returns s d
+    pub frames : s.frames ≡ length d.callers + 1
     pub scopes : s.scopes ≡ d.scopes
     pub fuel : s.fuel ≡ d.fuel
     pub size : s.size ≡ d.size
@@ -66,20 +54,34 @@ module _ (ds : List Declaration) (words : List ℤ) (limits : Limits) where
   -- they do so after an answer
   pub answered_alike : (given : Given) (s : m.State) (d : c.State) → Alike s d → Alike (m.with_value given s) (c.with_value given d)
   answered_alike Nothing s d h = h
-  answered_alike (Value v) s d h = record { stands = by h.stands; scopes = h.scopes; fuel = h.fuel; size = h.size; within = h.within }
+  answered_alike (Value v) s d h = record {
+    slots = h.slots;
+    height = h.height;
+    does = h.does;
+    agree = h.agree;
+    operands = ap (in_place v) h.operands;
+    high = same_length s.values ∙ h.high;
+    frames = h.frames;
+    scopes = h.scopes;
+    fuel = h.fuel;
+    size = h.size;
+    within = h.within;
+  }
     where
       same_length : (vs : List ℤ) → length (in_place v vs) ≡ length vs
       same_length [] = refl
       same_length (x ∷ vs) = refl
 
-      by : Works s d ⊎ Returns s d → Works (m.with_value (Value v) s) (c.with_value (Value v) d) ⊎ Returns (m.with_value (Value v) s) (c.with_value (Value v) d)
-      by (inl w) = inl (record { slots = w.slots; height = w.height; does = w.does; agree = w.agree; operands = ap (in_place v) w.operands; high = same_length s.values ∙ w.high })
-      by (inr r) = inr (record { todo = r.todo; there = r.there; result = v; below = r.below; operands = ap (in_place v) r.operands; callers = r.callers })
-
   -- and where two were joined
   pub joined_alike : (right left : m.State) (d e : c.State) → Alike right d → Alike left e → Alike (m.joined limits right left) (c.joined d e)
   joined_alike right left d e h l = record {
-    stands = by h.stands;
+    slots = h.slots;
+    height = h.height;
+    does = h.does;
+    agree = h.agree;
+    operands = h.operands;
+    high = h.high;
+    frames = h.frames;
     scopes = h.scopes;
     fuel = ap (λ x. max x right.fuel) l.fuel ∙ ap (λ x. max e.fuel x) h.fuel;
     size =
@@ -88,10 +90,6 @@ module _ (ds : List Declaration) (words : List ℤ) (limits : Limits) where
         ∙ ap (λ x. both_counts x d.size e.size) (sym h.within);
     within = h.within;
   }
-    where
-      by : Works right d ⊎ Returns right d → Works (m.joined limits right left) (c.joined d e) ⊎ Returns (m.joined limits right left) (c.joined d e)
-      by (inl w) = inl (record { slots = w.slots; height = w.height; does = w.does; agree = w.agree; operands = w.operands; high = w.high })
-      by (inr r) = inr (record { todo = r.todo; there = r.there; result = r.result; below = r.below; operands = r.operands; callers = r.callers })
 
   -- ## What both have
 
@@ -110,7 +108,7 @@ module _ (ds : List Declaration) (words : List ℤ) (limits : Limits) where
 
   -- with this to be done, and these operands
   abbrev pub syntax_at : {g : Slots} {n : ℕ} {fs : List Frame} → Shared g n fs → List Task → List ℤ → m.State
-  syntax_at x k vs = record { todo = k; values = vs; locals = x.locals; scopes = x.scopes; fuel = x.fuel; size = x.size; beside = x.beside }
+  syntax_at {fs = fs} x k vs = record { todo = k; values = vs; locals = x.locals; frames = length fs + 1; scopes = x.scopes; fuel = x.fuel; size = x.size; beside = x.beside }
 
   -- at this place, with these operands
   abbrev pub code_at : {g : Slots} {n : ℕ} {fs : List Frame} → Shared g n fs → ℕ → List ℤ → c.State
@@ -128,14 +126,13 @@ module _ (ds : List Declaration) (words : List ℤ) (limits : Limits) where
 
   pub alike : {g : Slots} {n h : ℕ} {fs : List Frame} (x : Shared g n fs) (k : List Task) (p : ℕ) (vs : List ℤ) → Does ds program.instrs n g h k p fs → length vs ≡ h → Alike (syntax_at x k vs) (code_at x p vs)
   alike {g = g} {h = h} {fs = fs} x k p vs does high = record {
-    stands = inl (record {
-      slots = g;
-      height = h;
-      does = subst (λ n. Does ds program.instrs n g h k p fs) x.count does;
-      agree = x.agree;
-      operands = refl;
-      high = high;
-    });
+    slots = g;
+    height = h;
+    does = subst (λ n. Does ds program.instrs n g h k p fs) x.count does;
+    agree = x.agree;
+    operands = refl;
+    high = high;
+    frames = refl;
     scopes = refl;
     fuel = refl;
     size = refl;
@@ -169,7 +166,7 @@ module _ (ds : List Declaration) (words : List ℤ) (limits : Limits) where
           ∙ ap (λ o. c.act_of program o i (code_at x p vs)) does
 
       -- a unit of fuel at a tick, and what comes behind it
-      pub ticks : (k : List Task) (go : m.State → m.Step) → slice_get program.instrs p ≡ Some instr.tick → ((z : ℕ) → let y : Shared g n fs = record x { fuel = z } in Ahead (go (syntax_at y k vs)) (code_at y (p + 1) vs)) → Ahead (m.spends (cells_of ds) limits (syntax_at x k vs) go) (code_at x p vs)
+      pub ticks : (k : List Task) (go : m.State → m.Step) → slice_get program.instrs p ≡ Some instr.tick → ((z : ℕ) → let y : Shared g n fs = record x { fuel = z } in Ahead (go (syntax_at y k vs)) (code_at y (p + 1) vs)) → Ahead (m.spends (cells_of ds) (function_of ds) limits (syntax_at x k vs) go) (code_at x p vs)
       ticks k go is rest = by (nat_le limits.fuel x.fuel) (acts instr.tick effect.Tick is refl)
         where
           by : (b : Bool) → c.step program (code_at x p vs) ≡ (if b then wants (Fault Fuel) (code_at x p vs) else on (code_at (record x { fuel = x.fuel + 1 }) (p + 1) vs)) → Ahead (if b then wants (Fault Fuel) (syntax_at x k vs) else go (syntax_at (record x { fuel = x.fuel + 1 }) k vs)) (code_at x p vs)

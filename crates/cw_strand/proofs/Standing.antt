@@ -22,9 +22,9 @@ use Rattle.cw_strand.specs.declared.want.Given.{Given}
 use Rattle.cw_strand.specs.declared.want.Given.TheVariants.{Nothing, Value}
 use Rattle.cw_strand.specs.Running.{on, wants, stuck, Visits, starts, steps, answers, goes_left, goes_right, joins}
 use Rattle.cw_strand.specs.Arithmetic.{is_zero}
-use Rattle.cw_strand.specs.Meaning.{in_place, one_more, both_counts}
+use Rattle.cw_strand.specs.Meaning.{in_place, one_more, both_counts, most_frames}
 use Rattle.cw_strand.specs.Coded as coded
-use Rattle.cw_strand.specs.Coded.{Frame, State, Step, index, goes_to, with_value, locals_for, joined, counted, counts, spends, result, in_range, read_local, write_local, returned, wait_in, most_frames, starts_at}
+use Rattle.cw_strand.specs.Coded.{Frame, State, Step, index, goes_to, with_value, locals_for, joined, counted, counts, spends, result, in_range, read_local, write_local, returned, wait_in, starts_at}
 use Rattle.cw_strand.specs.Standing.{StandsAt, WaitAt, NoneOver, StandsIn, StandsWanting, Stands}
 
 there : {X : Type 0} (xs : List X) (n : ℕ) → n < length xs → (x : X) × (slice_get xs n ≡ Some x)

@@ -20,7 +20,7 @@ use Rattle.cw_strand.specs.declared.want.Given.TheVariants.{Nothing, Value}
 use Rattle.cw_strand.specs.Strands.{Strands}
 use Rattle.cw_strand.specs.Running as running
 use Rattle.cw_strand.specs.Running.{Running, Standing, on, wants, stuck}
-use Rattle.cw_strand.specs.Meaning.{one_more, in_place, both_counts}
+use Rattle.cw_strand.specs.Meaning.{one_more, in_place, both_counts, most_frames}
 use Rattle.cw_strand.specs.Arithmetic.{one, two, is_zero}
 
 -- a function that stands: where it goes on, its operands, the newest first, and its locals by number
@@ -44,10 +44,6 @@ pub record State : Type 0 where
 
 abbrev pub Step : Type 0
 Step = running.Step State
-
--- how many functions may stand at once
-abbrev pub most_frames : ℕ
-most_frames = 10000
 
 -- an operand that names a place, a local, a cell or a function
 abbrev pub index : ℤ → ℕ

@@ -1,11 +1,13 @@
 -- The code of a program: one function of its tree.
 --
--- Each statement starts with a tick. The functions lie one behind the other in the order of the text. The parameters are the first locals;
--- a `let` takes the number of locals that are visible there, so that the numbers of a block that has ended are used again.
+-- Each statement but a loop starts with a tick, and the test of a loop does: the jump at the loop's end leads back there. The arguments of a
+-- call are operands, the last one the newest, and its value takes their place. The functions lie one behind the other in the order of the
+-- text. The parameters are the first locals; a `let` takes the number of locals that are visible there, so that the numbers of a block that
+-- has ended are used again.
 use Rattle.std.specs.Prelude.{ℕ, ◌+◌, List, [], ◌∷◌, ◌++◌, length, max, Option, Some, None, if◌then◌else◌, codes, ℤ, pos}
 use Rattle.std.specs.Str.{bytes_eq}
 use Rattle.cw_text.specs.declared.ast.Word.{Word}
-use Rattle.cw_text.specs.Syntax.{Term, number, name, at, unary, binary, Statement, declare, assign, assign_at, out, atomic, spawn, sync, Block, empty, first, Declaration, cell, func}
+use Rattle.cw_text.specs.Syntax.{Term, number, name, at, call as call_of, unary, binary, Terms, none, more, Statement, declare, assign, assign_at, run, out, choose, repeat, atomic, spawn, sync, return, Block, empty, first, Declaration, cell, func}
 use Rattle.cw_code.specs.declared.CellInfo.{CellInfo}
 use Rattle.cw_code.specs.declared.instruction.Instr.{Instr}
 use Rattle.cw_code.specs.declared.instruction.Func.{Func}
@@ -45,6 +47,16 @@ load_at c len = record { op = 5; a = pos c; b = len }
 
 abbrev pub store_at : ℕ → ℕ → Instr
 store_at c len = record { op = 7; a = pos c; b = len }
+
+abbrev pub jump : ℕ → Instr
+jump = with_a 21
+
+-- where the operand is 0
+abbrev pub jump_zero : ℕ → Instr
+jump_zero = with_a 22
+
+abbrev pub call : ℕ → Instr
+call = with_a 23
 
 abbrev pub ret : Instr
 ret = plain 24
@@ -122,9 +134,20 @@ abbrev pub element : Option ℕ → ℕ
 element None = 0
 element (Some c) = c
 
+-- the names of the functions, in the order of the text
+abbrev pub function_names : List Declaration → List (List ℕ)
+function_names [] = []
+function_names (cell x l len i ∷ ds) = function_names ds
+function_names (func x l ps b ∷ ds) = x ∷ function_names ds
+
+-- the number of a function, counted from this one on; the number behind the last one where there is none
+abbrev pub number_from : ℕ → List ℕ → List (List ℕ) → ℕ
+number_from k n [] = k
+number_from k n (x ∷ xs) = if bytes_eq x n then k else number_from (k + 1) n xs
+
 -- ## Expressions and statements
 
-module _ (cells : List CellInfo) where
+module _ (cells : List CellInfo) (functions : List (List ℕ)) where
   abbrev pub reads : Option ℕ → List ℕ → Instr
   reads (Some n) x = local n
   reads None x = load (element (element_of cells x))
@@ -141,12 +164,22 @@ module _ (cells : List CellInfo) where
   stores_at None = store_at 0 0
   stores_at (Some c) = store_at c.base c.len
 
-  abbrev pub term_code : Slots → Term → List Instr
-  term_code g (number n) = push n ∷ []
-  term_code g (name w) = reads (slot_of g w.name) w.name ∷ []
-  term_code g (at w i) = term_code g i ++ loads_at (cell_of cells w.name) ∷ []
-  term_code g (unary o e) = term_code g e ++ lift_code (lifted o)
-  term_code g (binary o l r) = term_code g l ++ (term_code g r ++ join_code (joining o) ∷ [])
+  abbrev pub calls : List ℕ → Instr
+  calls n = call (number_from 0 n functions)
+
+  abbrev mutual
+    pub term_code : Slots → Term → List Instr
+    term_code g (number n) = push n ∷ []
+    term_code g (name w) = reads (slot_of g w.name) w.name ∷ []
+    term_code g (at w i) = term_code g i ++ loads_at (cell_of cells w.name) ∷ []
+    term_code g (call_of w es) = terms_code g es ++ calls w.name ∷ []
+    term_code g (unary o e) = term_code g e ++ lift_code (lifted o)
+    term_code g (binary o l r) = term_code g l ++ (term_code g r ++ join_code (joining o) ∷ [])
+
+    -- the arguments of a call
+    pub terms_code : Slots → Terms → List Instr
+    terms_code g none = []
+    terms_code g (more e es) = term_code g e ++ terms_code g es
 
   abbrev mutual
     -- the code of a statement whose first instruction stands at the place p
@@ -154,19 +187,31 @@ module _ (cells : List CellInfo) where
     statement_code g p (declare w e) = tick ∷ (term_code g e ++ set (length g) ∷ [])
     statement_code g p (assign w e) = tick ∷ (term_code g e ++ writes (slot_of g w.name) w.name ∷ [])
     statement_code g p (assign_at w i e) = tick ∷ (term_code g i ++ (term_code g e ++ stores_at (cell_of cells w.name) ∷ []))
+    statement_code g p (run w es) = tick ∷ (terms_code g es ++ (calls w.name ∷ discard ∷ []))
     statement_code g p (out e) = tick ∷ (term_code g e ++ show ∷ [])
+    statement_code g p (choose e a b) =
+        let test = term_code g e in
+        let one = block_code g (p + 1 + length test + 1) a in
+        let past = p + 1 + length test + 1 + length one in
+        let other = block_code g (past + 1) b in
+        tick ∷ (test ++ (jump_zero (past + 1) ∷ (one ++ (jump (past + 1 + length other) ∷ other))))
+    statement_code g p (repeat e b) =
+        let test = term_code g e in
+        let body = block_code g (p + 1 + length test + 1) b in
+        tick ∷ (test ++ (jump_zero (p + 1 + length test + 1 + length body + 1) ∷ (body ++ jump p ∷ [])))
     statement_code g p (atomic b) = tick ∷ begin ∷ (block_code g (p + 1 + 1) b ++ (wait ∷ end ∷ []))
     statement_code g p (spawn b) =
         let body = block_code g (p + 1 + 1) b in
         tick ∷ fork (p + 1 + 1 + length body + 1 + 1) ∷ (body ++ (wait ∷ done ∷ []))
     statement_code g p sync = tick ∷ wait ∷ []
+    statement_code g p (return l e) = tick ∷ (term_code g e ++ (wait ∷ ret ∷ []))
 
     pub block_code : Slots → ℕ → Block → List Instr
     block_code g p empty = []
     block_code g p (first s b) =
         let here = statement_code g p s in here ++ block_code (slots_after s g) (p + length here) b
 
-  -- the function's value is 0
+  -- the function's value is 0 where it has no `return`
   abbrev pub function_code : ℕ → List Word → Block → List Instr
   function_code p params body = block_code (with_params params []) p body ++ (wait ∷ push (pos 0) ∷ ret ∷ [])
 
@@ -174,6 +219,8 @@ module _ (cells : List CellInfo) where
 abbrev mutual
   pub most_in : ℕ → Statement → ℕ
   most_in n (declare w e) = n + 1
+  most_in n (choose e a b) = max (most n a) (most n b)
+  most_in n (repeat e b) = most n b
   most_in n (atomic b) = most n b
   most_in n (spawn b) = most n b
   most_in n s = n
@@ -188,18 +235,18 @@ abbrev mutual
 
 -- ## Programs
 
-module _ (cells : List CellInfo) where
+module _ (cells : List CellInfo) (functions : List (List ℕ)) where
   -- the functions from the place p on
   abbrev pub instrs_from : ℕ → List Declaration → List Instr
   instrs_from p [] = []
   instrs_from p (cell x l len i ∷ ds) = instrs_from p ds
-  instrs_from p (func x l ps b ∷ ds) = let here = function_code cells p ps b in here ++ instrs_from (p + length here) ds
+  instrs_from p (func x l ps b ∷ ds) = let here = function_code cells functions p ps b in here ++ instrs_from (p + length here) ds
 
   abbrev pub funcs_from : ℕ → List Declaration → List Func
   funcs_from p [] = []
   funcs_from p (cell x l len i ∷ ds) = funcs_from p ds
   funcs_from p (func x l ps b ∷ ds) =
-      let behind = p + length (function_code cells p ps b) in
+      let behind = p + length (function_code cells functions p ps b) in
       record { params = length ps; locals = most (length ps) b; start = p; end = behind } ∷ funcs_from behind ds
 
 -- how many elements the cells have
@@ -209,14 +256,12 @@ elements_in (cell x l len i ∷ ds) = elements len + elements_in ds
 elements_in (func x l ps b ∷ ds) = elements_in ds
 
 abbrev pub code_of : List Declaration → Code
-code_of ds = record { cells = elements_in ds; funcs = funcs_from (cells_of ds) 0 ds; instrs = instrs_from (cells_of ds) 0 ds }
-
--- the number of a function, counted from this one on; the number behind the last one where there is none
-abbrev pub number_from : ℕ → List ℕ → List Declaration → ℕ
-number_from k n [] = k
-number_from k n (cell x l len i ∷ ds) = number_from k n ds
-number_from k n (func x l ps b ∷ ds) = if bytes_eq x n then k else number_from (k + 1) n ds
+code_of ds = record {
+  cells = elements_in ds;
+  funcs = funcs_from (cells_of ds) (function_names ds) 0 ds;
+  instrs = instrs_from (cells_of ds) (function_names ds) 0 ds;
+}
 
 -- the number of main
 abbrev pub main_function : List Declaration → ℕ
-main_function ds = number_from 0 (codes "main") ds
+main_function ds = number_from 0 (codes "main") (function_names ds)

@@ -11,7 +11,7 @@ use Rattle.cw_strand.specs.Running.{Standing, Settles, NeverStuck, Visits}
 use Rattle.cw_strand.specs.Pasts.{Past, became, CanBe, WantTheSame}
 use Rattle.cw_strand.specs.Names.{naming_fault}
 use Rattle.cw_strand.specs.Meaning as meaning
-use Rattle.cw_strand.specs.Meaning.{State, finish}
+use Rattle.cw_strand.specs.Meaning.{State, Task, finish, finish_main}
 use Rattle.cw_strand.specs.Coded as coded
 use Rattle.cw_strand.specs.Standing.{StandsIn, Stands}
 use Rattle.cw_strand.specs.Compilation.{code_of, main_function}
@@ -26,10 +26,15 @@ LocalWorkEnds = (ds : List Declaration) (words : List ℤ) (limits : Limits) →
 abbrev pub ForksEnd : Type 0
 ForksEnd = (ds : List Declaration) (words : List ℤ) (limits : Limits) → IsDeep (meaning.strands_of ds words limits)
 
--- The strand has come to its end: that alone is left, and no operand is left over.
-pub record HasDoneAll (x : Standing State) : Type 0 where
-  pub todo : x.state.todo ≡ finish ∷ []
-  pub values : x.state.values ≡ []
+-- Its end alone is left to a strand, and no operand is left over but main's own value.
+abbrev pub AllIsDone : List Task → List ℤ → Type 0
+AllIsDone (finish ∷ []) [] = Unit {0}
+AllIsDone (finish_main ∷ []) (v ∷ []) = Unit {0}
+AllIsDone todo values = ⊥
+
+-- The strand has come to its end.
+abbrev pub HasDoneAll : Standing State → Type 0
+HasDoneAll x = AllIsDone x.state.todo x.state.values
 
 -- The program has no naming fault, and the command has a word for each parameter of its main.
 pub record IsFaultless (ds : List Declaration) (words : List ℤ) : Type 0 where

@@ -3,19 +3,23 @@
 -- A strand has a list of what is still to be done, the nearest first: a statement is replaced by its parts, an
 -- expression by its operands and its operator.
 --
--- The body of main, an atomic block and a spawned block wait at their ends, and `sync` waits, for the work that was spawned
+-- The body of a function, an atomic block and a spawned block wait at their ends, and `sync` waits, for the work that was spawned
 -- right in them. Where work is spawned, what comes after it goes on as the right strand; that one ends where it would wait,
 -- and the strand that forked goes on from there once both have ended.
 --
--- Each statement costs a unit of fuel when it begins. A load, a store, an output, the begin of a block and a fork count one each.
-use Rattle.std.specs.Prelude.{◌≡◌, ℕ, suc, ◌+◌, ◌-◌, List, [], ◌∷◌, length, drop, reverse, max, min, Option, Some, None, Result, Ok, Err, if◌then◌else◌, nat_lt, nat_le, codes, ℤ, pos, negsuc}
+-- A function that is called begins with its arguments as its locals, and with no operands; what called it waits with its own. A function
+-- gives the value of its `return`, which waits for what the function spawned, or 0 at its end.
+--
+-- Each statement but a loop costs a unit of fuel when it begins, and each test of a loop and each call costs one. A load, a store, an output,
+-- the begin of a block and a fork count one each.
+use Rattle.std.specs.Prelude.{◌≡◌, ℕ, suc, ◌+◌, ◌-◌, ◌*◌, List, [], ◌∷◌, length, drop, reverse, max, min, Option, Some, None, Result, Ok, Err, if◌then◌else◌, nat_lt, nat_le, codes, ℤ, pos, negsuc}
 use Rattle.std.specs.Str.{bytes_eq}
 use Rattle.cw_text.specs.declared.ast.Word.{Word}
 use Rattle.cw_text.specs.declared.ast.Op.{Op}
 use Rattle.cw_text.specs.declared.ast.Op.TheVariants as op
-use Rattle.cw_text.specs.Syntax.{Term, number, name, at, unary, binary, Statement, declare, assign, assign_at, out, atomic, spawn, sync, Block, empty, first, Declaration, cell, func}
+use Rattle.cw_text.specs.Syntax.{Term, number, name, at, call, unary, binary, Terms, none, more, Statement, declare, assign, assign_at, run, out, choose, repeat, atomic, spawn, sync, return, Block, empty, first, Declaration, cell, func}
 use Rattle.cw_code.specs.declared.FaultKind.{FaultKind}
-use Rattle.cw_code.specs.declared.FaultKind.TheVariants.{Range, Fuel, Size}
+use Rattle.cw_code.specs.declared.FaultKind.TheVariants.{Range, Depth, Fuel, Size}
 use Rattle.cw_code.specs.declared.CellInfo.{CellInfo}
 use Rattle.cw_code.specs.declared.Limits.{Limits}
 use Rattle.cw_code.specs.declared.effects.Operator.{Operator}
@@ -27,8 +31,8 @@ use Rattle.cw_strand.specs.declared.want.Given.TheVariants.{Nothing, Value}
 use Rattle.cw_strand.specs.Strands.{Strands}
 use Rattle.cw_strand.specs.Running as running
 use Rattle.cw_strand.specs.Running.{Running, Standing, on, wants, stuck}
-use Rattle.cw_strand.specs.Names.{cells_of}
-use Rattle.cw_strand.specs.Arithmetic.{one, two}
+use Rattle.cw_strand.specs.Names.{cells_of, count_of}
+use Rattle.cw_strand.specs.Arithmetic.{one, two, is_zero}
 
 -- ## Names
 
@@ -74,6 +78,10 @@ abbrev pub params_in : Option Function → ℕ
 params_in None = 0
 params_in (Some f) = length f.params
 
+-- how many functions may stand at once
+abbrev pub most_frames : ℕ
+most_frames = 10000
+
 -- main has so many parameters
 abbrev pub MainTakes : List Declaration → ℕ → Type 0
 MainTakes ds n = params_in (function_of ds (codes "main")) ≡ n
@@ -110,6 +118,8 @@ pub data Task : Type 0 where
   -- an operator takes its one operand, or its two
   lift : Operator → Task
   join : Operator → Task
+  -- a function is called with so many arguments, which are operands
+  enter : List ℕ → ℕ → Task
   -- an operand is dropped
   discard : Task
   -- statements
@@ -120,20 +130,32 @@ pub data Task : Type 0 where
   load_at : List ℕ → Task
   store_at : List ℕ → Task
   show : Task
+  -- a test takes its operand: the first block is done where it holds, or else the second
+  choose_by : Block → Block → Task
+  -- a loop, at its test, and where the test has been made
+  test : Term → Block → Task
+  repeat_by : Term → Block → Task
   -- the end of a block that had so many locals before it
   forget : ℕ → Task
   -- waits for what was spawned in the innermost scope
   wait : Task
   -- the end of an atomic block
   commit : Task
-  -- the end of the strand
+  -- the end of a left strand, and that of main, whose value is an operand
   finish : Task
+  finish_main : Task
+  -- the end of a function that was called, whose value is an operand: what called it goes on with these locals and operands
+  back_to : Locals → List ℤ → Task
+  -- a return: what is left of the function is not done
+  leave : Task
 
 pub record State : Type 0 where
   pub todo : List Task
   -- operands, the newest first
   pub values : List ℤ
   pub locals : Locals
+  -- how many functions stand
+  pub frames : ℕ
   -- for each scope that waits at its end, the innermost first, how many forks it has to wait for
   pub scopes : List ℕ
   -- the units of fuel that were spent, and how many things were counted
@@ -161,6 +183,19 @@ abbrev pub joins : Option Operator → List Task → List Task
 joins None k = discard ∷ k
 joins (Some o) k = join o ∷ k
 
+-- arguments give their values one after another
+abbrev pub arguments : Terms → List Task → List Task
+arguments none k = k
+arguments (more e es) k = value e ∷ arguments es k
+
+-- what is done from the end of the function on
+abbrev pub unwound : List Task → List Task
+unwound [] = []
+unwound (back_to ls vs ∷ k) = back_to ls vs ∷ k
+unwound (finish ∷ k) = finish ∷ k
+unwound (finish_main ∷ k) = finish_main ∷ k
+unwound (t ∷ k) = unwound k
+
 -- the innermost scope has one fork more to wait for
 abbrev pub one_more : List ℕ → List ℕ
 one_more [] = 1 ∷ []
@@ -182,7 +217,7 @@ with_value (Value v) s = record s { values = in_place v s.values }
 
 -- the left strand of the newest fork: it has the locals and the fuel spent so far, and counts from 0
 abbrev pub left : State → State
-left s = record s { todo = perform s.beside ∷ wait ∷ finish ∷ []; values = []; scopes = 0 ∷ []; size = 0 }
+left s = record s { todo = perform s.beside ∷ wait ∷ finish ∷ []; values = []; frames = 1; scopes = 0 ∷ []; size = 0 }
 
 -- both counts, no further than past the limit
 abbrev pub both_counts : Limits → (right left : ℕ) → ℕ
@@ -192,7 +227,7 @@ both_counts limits right left = max right (min (suc limits.size) (left + right))
 abbrev pub joined : Limits → (right left : State) → State
 joined limits right left = record right { fuel = max left.fuel right.fuel; size = both_counts limits right.size left.size }
 
-module _ (cells : List CellInfo) (limits : Limits) where
+module _ (cells : List CellInfo) (functions : List ℕ → Option Function) (limits : Limits) where
   -- what counts one goes on while that is within the limit
   abbrev pub counted : State → (State → Step) → Step
   counted s go = if nat_le limits.size s.size then wants (Fault Size) s else go (record s { size = s.size + 1 })
@@ -221,37 +256,69 @@ module _ (cells : List CellInfo) (limits : Limits) where
   in_range (Some c) (negsuc n) s go = wants (Fault Range) s
   in_range (Some c) (pos n) s go = if nat_lt n c.len then go (c.base + n) else wants (Fault Range) s
 
-  -- a statement whose unit is spent, and what is done after it
+  -- a function begins, within the limit of those that stand, and what called it with so many arguments waits
+  abbrev pub called : Option Function → ℕ → List Task → State → Step
+  called None n k s = stuck
+  called (Some f) n k s =
+      if nat_le most_frames s.frames then wants (Fault Depth) s
+      else on (record s {
+        todo = perform f.body ∷ wait ∷ value (number (pos 0)) ∷ back_to s.locals (drop n s.values) ∷ k;
+        values = [];
+        locals = bound_to (reverse f.params) s.values;
+        frames = s.frames + 1;
+        scopes = 0 ∷ s.scopes;
+      })
+
+  -- a statement, once what it costs is spent, and what is done after it
   abbrev pub begin_with : Statement → List Task → State → Step
   begin_with (declare w e) k s = on (to_do (value e ∷ bind w.name ∷ k) s)
   begin_with (assign w e) k s = on (to_do (value e ∷ store_in w.name ∷ k) s)
   begin_with (assign_at w i e) k s = on (to_do (value i ∷ value e ∷ store_at w.name ∷ k) s)
+  begin_with (run w es) k s = on (to_do (arguments es (enter w.name (count_of es) ∷ discard ∷ k)) s)
   begin_with (out e) k s = on (to_do (value e ∷ show ∷ k) s)
+  begin_with (choose e a b) k s = on (to_do (value e ∷ choose_by a b ∷ k) s)
+  begin_with (repeat e b) k s = on (to_do (test e b ∷ k) s)
   begin_with (atomic b) k s = counts Begin (record s { todo = perform b ∷ forget (length s.locals) ∷ wait ∷ commit ∷ k; scopes = 0 ∷ s.scopes })
   begin_with (spawn b) k s = counted s (λ t. wants Fork (record t { todo = k; scopes = one_more t.scopes; beside = b }))
   begin_with sync k s = on (to_do (wait ∷ k) s)
+  begin_with (return l e) k s = on (to_do (value e ∷ wait ∷ leave ∷ k) s)
+
+  -- a loop alone costs nothing itself
+  abbrev pub perform_with : Statement → List Task → State → Step
+  perform_with (repeat e b) k s = begin_with (repeat e b) k s
+  perform_with st k s = spends s (λ t. begin_with st k t)
 
   -- one task, the operands, and what is done after it
   abbrev pub act : Task → List ℤ → List Task → State → Step
   act (value (number n)) vs k s = on (record s { todo = k; values = n ∷ vs })
   act (value (name w)) vs k s = read_name (local_of s.locals w.name) (element_of cells w.name) (to_do k s)
   act (value (at w i)) vs k s = on (to_do (value i ∷ load_at w.name ∷ k) s)
+  act (value (call w es)) vs k s = on (to_do (arguments es (enter w.name (count_of es) ∷ k)) s)
   act (value (unary o e)) vs k s = on (to_do (value e ∷ lifts (lifted o) k) s)
   act (value (binary o l r)) vs k s = on (to_do (value l ∷ value r ∷ joins (joining o) k) s)
   act (lift o) (x ∷ vs) k s = result (one o x) vs (to_do k s)
   act (join o) (y ∷ x ∷ vs) k s = result (two o x y) vs (to_do k s)
+  act (enter n c) vs k s = spends s (λ t. called (functions n) c k t)
   act discard (v ∷ vs) k s = on (record s { todo = k; values = vs })
   act (perform empty) vs k s = on (to_do k s)
-  act (perform (first st b)) vs k s = spends s (λ t. begin_with st (perform b ∷ k) t)
+  act (perform (first st b)) vs k s = perform_with st (perform b ∷ k) s
   act (bind n) (v ∷ vs) k s = on (record s { todo = k; values = vs; locals = (n, v) ∷ s.locals })
   act (store_in n) (v ∷ vs) k s = write_name (local_of s.locals n) (element_of cells n) n v (record s { todo = k; values = vs })
   act (load_at n) (i ∷ vs) k s = in_range (cell_of cells n) i s (λ c. counts (Load c) (record s { todo = k; values = pos 0 ∷ vs }))
   act (store_at n) (v ∷ i ∷ vs) k s = in_range (cell_of cells n) i s (λ c. counts (Store c v) (record s { todo = k; values = vs }))
   act show (v ∷ vs) k s = counts (Out v) (record s { todo = k; values = vs })
+  act (choose_by a b) (v ∷ vs) k s = on (record s { todo = perform (if is_zero v then b else a) ∷ forget (length s.locals) ∷ k; values = vs })
+  act (test e b) vs k s = spends s (λ t. on (to_do (value e ∷ repeat_by e b ∷ k) t))
+  act (repeat_by e b) (v ∷ vs) k s =
+      if is_zero v then on (record s { todo = k; values = vs })
+      else on (record s { todo = perform b ∷ forget (length s.locals) ∷ test e b ∷ k; values = vs })
   act (forget n) vs k s = on (record s { todo = k; locals = drop (length s.locals - n) s.locals })
   act wait vs k s = wait_in s.scopes k s
   act commit vs k s = wants End (record s { todo = k; scopes = drop 1 s.scopes })
   act finish vs k s = wants Done s
+  act finish_main (v ∷ vs) k s = wants Done s
+  act (back_to ls us) (v ∷ vs) k s = on (record s { todo = k; values = v ∷ us; locals = ls; frames = s.frames - 1; scopes = drop 1 s.scopes })
+  act leave vs k s = on (to_do (unwound k) s)
   act t vs k s = stuck
 
   abbrev pub step_of : List Task → State → Step
@@ -264,23 +331,33 @@ module _ (cells : List CellInfo) (limits : Limits) where
 
 -- ## Local work
 
--- how many steps a task can take, with all that it becomes
-abbrev pub term_work : Term → ℕ
-term_work (number n) = 1
-term_work (name w) = 1
-term_work (at w i) = term_work i + 2
-term_work (unary o e) = term_work e + 2
-term_work (binary o l r) = term_work l + term_work r + 2
+-- how many steps a task can take, with all that it becomes, before a test of a loop and before a call
+abbrev mutual
+  pub term_work : Term → ℕ
+  term_work (number n) = 1
+  term_work (name w) = 1
+  term_work (at w i) = term_work i + 2
+  term_work (call w es) = terms_work es + 2
+  term_work (unary o e) = term_work e + 2
+  term_work (binary o l r) = term_work l + term_work r + 2
+
+  pub terms_work : Terms → ℕ
+  terms_work none = 0
+  terms_work (more e es) = term_work e + terms_work es
 
 abbrev mutual
   pub statement_work : Statement → ℕ
   statement_work (declare w e) = term_work e + 1
   statement_work (assign w e) = term_work e + 1
   statement_work (assign_at w i e) = term_work i + term_work e + 2
+  statement_work (run w es) = terms_work es + 2
   statement_work (out e) = term_work e + 1
+  statement_work (choose e a b) = term_work e + block_work a + block_work b + 2
+  statement_work (repeat e b) = term_work e + block_work b + 2
   statement_work (atomic b) = block_work b + 3
   statement_work (spawn b) = block_work b + 2
   statement_work sync = 1
+  statement_work (return l e) = term_work e + 2
 
   pub block_work : Block → ℕ
   block_work empty = 1
@@ -289,21 +366,46 @@ abbrev mutual
 abbrev pub task_work : Task → ℕ
 task_work (value e) = term_work e
 task_work (perform b) = block_work b
+task_work (choose_by a b) = block_work a + block_work b + 2
+task_work (repeat_by e b) = block_work b + 3
 task_work t = 1
 
 abbrev pub work : List Task → ℕ
 work [] = 0
 work (t ∷ ts) = task_work t + work ts
 
+-- how much work a unit of fuel can add: that of a loop which begins again
+abbrev pub added_work : Task → ℕ
+added_work (perform b) = block_work b
+added_work (choose_by a b) = block_work a + block_work b
+added_work (test e b) = statement_work (repeat e b)
+added_work (repeat_by e b) = statement_work (repeat e b)
+added_work t = 0
+
+abbrev pub most_added : List Task → ℕ
+most_added [] = 0
+most_added (t ∷ ts) = max (added_work t) (most_added ts)
+
+-- or that of a function which begins, with its end
+abbrev pub most_begun : List Declaration → ℕ
+most_begun [] = 0
+most_begun (cell x l len i ∷ ds) = most_begun ds
+most_begun (func x l ps b ∷ ds) = max (block_work b + 2) (most_begun ds)
+
+-- no more steps by itself than so many
+abbrev pub steps_left : List Declaration → Limits → State → ℕ
+steps_left ds limits s = (max (most_begun ds) (most_added s.todo) + 1) * (limits.fuel - s.fuel) + work s.todo
+
 -- ## Strands
 
 -- the strand of main, with the words of the command under its parameters' names
 abbrev pub at_main : Option Function → List ℤ → State
-at_main None words = record { todo = []; values = []; locals = []; scopes = []; fuel = 0; size = 0; beside = empty }
+at_main None words = record { todo = []; values = []; locals = []; frames = 1; scopes = []; fuel = 0; size = 0; beside = empty }
 at_main (Some f) words = record {
-  todo = perform f.body ∷ wait ∷ finish ∷ [];
+  todo = perform f.body ∷ wait ∷ value (number (pos 0)) ∷ finish_main ∷ [];
   values = [];
   locals = bound_to (reverse f.params) (reverse words);
+  frames = 1;
   scopes = 0 ∷ [];
   fuel = 0;
   size = 0;
@@ -314,11 +416,11 @@ at_main (Some f) words = record {
 abbrev pub runs : List Declaration → List ℤ → Limits → Running State
 runs ds words limits = record {
   first = at_main (function_of ds (codes "main")) words;
-  step = step (cells_of ds) limits;
+  step = step (cells_of ds) (function_of ds) limits;
   answered = with_value;
   left = left;
   joined = joined limits;
-  bound = λ s. work s.todo;
+  bound = λ s. steps_left ds limits s;
 }
 
 -- The strands of a program.

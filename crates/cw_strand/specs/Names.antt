@@ -1,11 +1,11 @@
 -- The naming rules: the first naming fault of a program, and what its names declare.
 --
 -- Items come first, in the order of the text; then the functions, each from its first token; last, whether there is a main.
-use Rattle.std.specs.Prelude.{ℕ, zero, suc, ◌+◌, List, [], ◌∷◌, replicate, Option, Some, None, if◌then◌else◌, nat_lt, codes, ℤ}
+use Rattle.std.specs.Prelude.{ℕ, zero, suc, ◌+◌, Bool, true, false, List, [], ◌∷◌, length, replicate, Option, Some, None, if◌then◌else◌, nat_lt, ◌==◌, codes, ℤ}
 use Rattle.std.specs.List.{flat_map}
 use Rattle.cw_text.specs.declared.ast.Word.{Word}
 use Rattle.std.specs.Str.{bytes_eq}
-use Rattle.cw_text.specs.Syntax.{Term, number, name, at, unary, binary, Statement, declare, assign, assign_at, out, atomic, spawn, sync, Block, empty, first, Declaration, cell, func}
+use Rattle.cw_text.specs.Syntax.{Term, number, name, at, call, unary, binary, Terms, none, more, Statement, declare, assign, assign_at, run, out, choose, repeat, atomic, spawn, sync, return, Block, empty, first, Declaration, cell, func}
 use Rattle.cw_code.specs.declared.CellInfo.{CellInfo}
 use Rattle.cw_strand.specs.declared.naming.NameKind.{NameKind}
 use Rattle.cw_strand.specs.declared.naming.NameKind.TheVariants as kind
@@ -17,7 +17,8 @@ pub data Thing : Type 0 where
   -- a plain cell, and one with elements
   a_cell : Thing
   an_array : Thing
-  a_function : Thing
+  -- with so many parameters
+  a_function : ℕ → Thing
 
 -- names and what they stand for, the newest first
 abbrev pub Scope : Type 0
@@ -47,7 +48,7 @@ used None l = fault kind.Unknown l
 used (Some a_local) l = None
 used (Some a_cell) l = None
 used (Some an_array) l = fault kind.NotACell l
-used (Some a_function) l = fault kind.NotALocal l
+used (Some (a_function n)) l = fault kind.NotALocal l
 
 -- a name that is read or assigned with an index
 abbrev pub indexed : Option Thing → ℕ → Fault
@@ -55,37 +56,63 @@ indexed None l = fault kind.Unknown l
 indexed (Some an_array) l = None
 indexed (Some t) l = fault kind.NotACell l
 
+-- a name that is called with so many arguments
+abbrev pub called : Option Thing → ℕ → ℕ → Fault
+called (Some (a_function n)) arguments l = if n == arguments then None else fault kind.WrongCount l
+called t arguments l = fault kind.Unknown l
+
 -- a name that is declared
 abbrev pub declared_new : Option Thing → ℕ → Fault
 declared_new None l = None
 declared_new (Some t) l = fault kind.Twice l
 
-abbrev pub in_term : Scope → Term → Fault
-in_term g (number n) = None
-in_term g (name w) = used (find w.name g) w.line
-in_term g (at w i) = indexed (find w.name g) w.line then in_term g i
-in_term g (unary o e) = in_term g e
-in_term g (binary o l r) = in_term g l then in_term g r
+-- a `return`: it may not stand inside an atomic or a spawned block of its function
+abbrev pub returned_from : (inside : Bool) → ℕ → Fault
+returned_from true l = fault kind.ReturnInside l
+returned_from false l = None
+
+abbrev pub count_of : Terms → ℕ
+count_of none = 0
+count_of (more e es) = suc (count_of es)
+
+abbrev mutual
+  pub in_term : Scope → Term → Fault
+  in_term g (number n) = None
+  in_term g (name w) = used (find w.name g) w.line
+  in_term g (at w i) = indexed (find w.name g) w.line then in_term g i
+  in_term g (call w es) = called (find w.name g) (count_of es) w.line then in_terms g es
+  in_term g (unary o e) = in_term g e
+  in_term g (binary o l r) = in_term g l then in_term g r
+
+  -- the arguments of a call
+  pub in_terms : Scope → Terms → Fault
+  in_terms g none = None
+  in_terms g (more e es) = in_term g e then in_terms g es
 
 -- what is visible after a statement
 abbrev pub scope_after : Statement → Scope → Scope
 scope_after (declare w e) g = (w.name, a_local) ∷ g
 scope_after s g = g
 
+-- inside: in an atomic or a spawned block of the function
 abbrev mutual
-  pub in_statement : Scope → Statement → Fault
-  in_statement g (declare w e) = declared_new (find w.name g) w.line then in_term g e
-  in_statement g (assign w e) = used (find w.name g) w.line then in_term g e
-  in_statement g (assign_at w i e) = indexed (find w.name g) w.line then in_term g i then in_term g e
-  in_statement g (out e) = in_term g e
-  in_statement g (atomic b) = in_block g b
-  in_statement g (spawn b) = in_block g b
-  in_statement g sync = None
+  pub in_statement : Scope → (inside : Bool) → Statement → Fault
+  in_statement g i (declare w e) = declared_new (find w.name g) w.line then in_term g e
+  in_statement g i (assign w e) = used (find w.name g) w.line then in_term g e
+  in_statement g i (assign_at w a e) = indexed (find w.name g) w.line then in_term g a then in_term g e
+  in_statement g i (run w es) = called (find w.name g) (count_of es) w.line then in_terms g es
+  in_statement g i (out e) = in_term g e
+  in_statement g i (choose e a b) = in_term g e then in_block g i a then in_block g i b
+  in_statement g i (repeat e b) = in_term g e then in_block g i b
+  in_statement g i (atomic b) = in_block g true b
+  in_statement g i (spawn b) = in_block g true b
+  in_statement g i sync = None
+  in_statement g i (return l e) = returned_from i l then in_term g e
 
   -- what is declared in a block is visible to its end
-  pub in_block : Scope → Block → Fault
-  in_block g empty = None
-  in_block g (first s b) = in_statement g s then in_block (scope_after s g) b
+  pub in_block : Scope → (inside : Bool) → Block → Fault
+  in_block g i empty = None
+  in_block g i (first s b) = in_statement g i s then in_block (scope_after s g) i b
 
 abbrev pub in_params : Scope → List Word → Fault
 in_params g [] = None
@@ -111,7 +138,7 @@ cell_thing (suc n) = an_array
 abbrev pub globals : List Declaration → Scope
 globals [] = []
 globals (cell n l len i ∷ ds) = (n, cell_thing len) ∷ globals ds
-globals (func n l ps b ∷ ds) = (n, a_function) ∷ globals ds
+globals (func n l ps b ∷ ds) = (n, a_function (length ps)) ∷ globals ds
 
 -- the items, with the names before them and the number of their elements
 abbrev pub in_items : Scope → ℕ → List Declaration → Fault
@@ -120,12 +147,12 @@ in_items g n (cell x l len i ∷ ds) =
     declared_new (find x g) l
     then (if nat_lt 4096 (n + elements len) then fault kind.TooManyCells l else None)
     then in_items ((x, cell_thing len) ∷ g) (n + elements len) ds
-in_items g n (func x l ps b ∷ ds) = declared_new (find x g) l then in_items ((x, a_function) ∷ g) n ds
+in_items g n (func x l ps b ∷ ds) = declared_new (find x g) l then in_items ((x, a_function (length ps)) ∷ g) n ds
 
 abbrev pub in_functions : Scope → List Declaration → Fault
 in_functions g [] = None
 in_functions g (cell x l len i ∷ ds) = in_functions g ds
-in_functions g (func x l ps b ∷ ds) = in_params g ps then in_block (with_params g ps) b then in_functions g ds
+in_functions g (func x l ps b ∷ ds) = in_params g ps then in_block (with_params g ps) false b then in_functions g ds
 
 -- the number of the item, counted from one on, that is the function main
 abbrev pub main_from : ℕ → List Declaration → Option ℕ

@@ -1,21 +1,23 @@
 -- Worked programs: their naming faults, their code, and what their strands want, over the syntax and over the code.
-use Rattle.std.specs.Prelude.{ℕ, zero, suc, ◌≡◌, List, [], ◌∷◌, codes, Result, Ok, Err, None, ℤ, pos, negsuc}
+use Rattle.std.specs.Prelude.{ℕ, zero, suc, ◌-◌, ◌≡◌, List, [], ◌∷◌, replicate, codes, Result, Ok, Err, Option, Some, None, ℤ, pos, negsuc}
 use Rattle.cw_text.specs.declared.fault.TextFault.{TextFault}
-use Rattle.cw_text.specs.Syntax.{Declaration}
+use Rattle.cw_text.specs.Syntax.{Declaration, empty}
 use Rattle.cw_text.specs.Rows.{read}
-use Rattle.cw_code.specs.declared.FaultKind.TheVariants.{Zero, Overflow, Range, Fuel, Size}
+use Rattle.cw_code.specs.declared.FaultKind.TheVariants.{Zero, Overflow, Range, Depth, Fuel, Size}
 use Rattle.cw_code.specs.declared.Limits.{Limits}
 use Rattle.cw_code.specs.declared.instruction.Code.{Code}
-use Rattle.cw_strand.specs.declared.naming.NameKind.TheVariants.{Unknown, Twice, NoMain, NotACell, NotALocal, TooManyCells}
+use Rattle.cw_strand.specs.declared.naming.NameKind.TheVariants.{Unknown, Twice, WrongCount, NoMain, ReturnInside, NotACell, NotALocal, TooManyCells}
 use Rattle.cw_strand.specs.declared.want.Want.{Want}
 use Rattle.cw_strand.specs.declared.want.Want.TheVariants.{Load, Store, Out, Begin, End, Fork, Sync, Done, Fault}
 use Rattle.cw_strand.specs.declared.want.Given.{Given}
 use Rattle.cw_strand.specs.declared.want.Given.TheVariants.{Nothing, Value}
 use Rattle.cw_strand.specs.Names as names
 use Rattle.cw_strand.specs.Strands.{Strands}
+use Rattle.cw_strand.specs.Running.{Step, on, wants, stuck}
 use Rattle.cw_strand.specs.Meaning as meaning
-use Rattle.cw_strand.specs.Meaning.{Task, finish}
-use Rattle.cw_strand.specs.Compilation.{code_of, plain, local, set, load, push, fork, begin, end, show, wait, done, tick, ret}
+use Rattle.cw_strand.specs.Meaning.{Task, enter, finish_main, function_of}
+use Rattle.cw_strand.specs.Coded as coded
+use Rattle.cw_strand.specs.Compilation.{code_of, plain, local, set, load, push, jump, jump_zero, call, discard, fork, begin, end, show, wait, done, tick, ret}
 use Rattle.cw_strand.specs.Laws.{compiled}
 
 abbrev pub tree : List ℕ → List Declaration
@@ -45,6 +47,20 @@ Faults =
     × (faulty (codes "cell a[2]; fn main() { out a; }") ≡ names.fault NotACell 1)
     × (faulty (codes "fn main() { out main[0]; }") ≡ names.fault NotACell 1)
     × (faulty (codes "fn main() { out g[0]; }") ≡ names.fault Unknown 1)
+    × (faulty (codes "fn main() { if 1 { let x = 1; } else { let x = 2; }\n out x; }") ≡ names.fault Unknown 2)
+    × (faulty (codes "fn main() { while\n x { out y; } }") ≡ names.fault Unknown 2)
+    × (faulty (codes "fn main() { if 1 { while 0 { out 1; } } else {\n main = 1; } }") ≡ names.fault NotALocal 2)
+    × (faulty (codes "fn main() { out f(1); } fn f(x) { return x; }") ≡ None)
+    × (faulty (codes "fn f(a) {} fn main() {\n f(); }") ≡ names.fault WrongCount 2)
+    × (faulty (codes "fn f(x) {} fn main() { out f(y,\n 2); }") ≡ names.fault WrongCount 1)
+    × (faulty (codes "cell c; fn main() { c(); }") ≡ names.fault Unknown 1)
+    × (faulty (codes "fn f(x) { return x; } fn main() { out f(\nx); }") ≡ names.fault Unknown 2)
+    × (faulty (codes "fn main() { atomic { return 1; } }") ≡ names.fault ReturnInside 1)
+    × (faulty (codes "fn main() { spawn { if 1 {\n return x; } } }") ≡ names.fault ReturnInside 2)
+    × (faulty (codes "fn main(a) { if a { while a { return a; } } }") ≡ None)
+    × (faulty (codes "fn f() {} fn main() { out f[0]; }") ≡ names.fault NotACell 1)
+    × (faulty (codes "fn f() {} fn main() { f = 1; }") ≡ names.fault NotALocal 1)
+    × (faulty (codes "fn f(a,\n a) {} fn main() {}") ≡ names.fault Twice 2)
 
 -- The strand of a fork that is not at work: the right one, before it begins, or the left one, at its end.
 pub data Other (A : Type 0) : Type 0 where
@@ -77,16 +93,20 @@ asked s (suc n) vs others a = s.want a ∷ after_want s (λ us more b. asked s n
 abbrev pub within : ℕ → ℕ → Limits
 within fuel size = record { fuel = fuel; size = size; aborts = 1; strands = 1; moves = 1 }
 
-abbrev pub trace : ℕ → ℕ → List ℕ → List ℤ → List Want
-trace fuel size text vs = let s = meaning.strands_of (tree text) [] (within fuel size) in asked s 20 vs [] s.start
+abbrev pub trace : List ℤ → ℕ → ℕ → List ℕ → List ℤ → List Want
+trace words fuel size text vs = let s = meaning.strands_of (tree text) words (within fuel size) in asked s 20 vs [] s.start
 
 -- the same over its code
-abbrev pub code_trace : ℕ → ℕ → List ℕ → List ℤ → List Want
-code_trace fuel size text vs = let s = compiled (tree text) [] (within fuel size) in asked s 20 vs [] s.start
+abbrev pub code_trace : List ℤ → ℕ → ℕ → List ℕ → List ℤ → List Want
+code_trace words fuel size text vs = let s = compiled (tree text) words (within fuel size) in asked s 20 vs [] s.start
 
--- what the strands want, over the syntax and over the code
+-- what the strands want with these words, over the syntax and over the code
+abbrev pub WantsWith : List ℤ → ℕ → ℕ → List ℕ → List ℤ → List Want → Type 0
+WantsWith words fuel size text vs ws = (trace words fuel size text vs ≡ ws) × (code_trace words fuel size text vs ≡ ws)
+
+-- without words
 abbrev pub Wants : ℕ → ℕ → List ℕ → List ℤ → List Want → Type 0
-Wants fuel size text vs ws = (trace fuel size text vs ≡ ws) × (code_trace fuel size text vs ≡ ws)
+Wants = WantsWith []
 
 abbrev pub count_one : List ℕ
 count_one = codes "cell c; fn main() { c = c + 1; out c; }"
@@ -129,11 +149,89 @@ Spent =
     × Wants 9 3 (codes "cell c; fn main() { spawn { c = 1; c = 2; } c = 3; }") [] (Fork ∷ Store 0 (pos 1) ∷ Store 0 (pos 2) ∷ Done ∷ Store 0 (pos 3) ∷ Sync ∷ Fault Size ∷ [])
     × Wants 9 1 (codes "cell c; fn main() { spawn { c = 1; c = 2; } c = 3; }") [] (Fork ∷ Store 0 (pos 1) ∷ Fault Size ∷ [])
 
--- the code of a program whose only function is main
+-- What a block of a choice or of a loop declares is forgotten at its end.
+abbrev pub Choices : Type 0
+Choices =
+    Wants 9 9 (codes "fn main() { if 2 { out 1; } else { out 2; } if 0 { out 3; } else { out 4; } if 0 { } out 5; }") [] (Out (pos 1) ∷ Out (pos 4) ∷ Out (pos 5) ∷ Done ∷ [])
+    × Wants 9 9 (codes "fn main() { let x = 1; if x { let y = 2; x = y; } else { } let y = 3; out x; out y; }") [] (Out (pos 2) ∷ Out (pos 3) ∷ Done ∷ [])
+    × Wants 2 9 (codes "fn main() { if 0 { out 1; out 2; } else { if 1 { out 3; } } }") [] (Fault Fuel ∷ [])
+
+-- A test of a loop costs a unit of fuel, the loop itself costs none. What a loop spawns is waited for in the scope around it.
+abbrev pub Loops : Type 0
+Loops =
+    Wants 99 9 (codes "fn main() { let i = 0; while i < 3 { let j = i * i; i = i + 1; out j; } out i; }") [] (Out (pos 0) ∷ Out (pos 1) ∷ Out (pos 4) ∷ Out (pos 3) ∷ Done ∷ [])
+    × Wants 99 9 (codes "cell c; fn main() { while c < 1 { } out 1; }") (pos 0 ∷ pos 0 ∷ pos 1 ∷ []) (Load 0 ∷ Load 0 ∷ Load 0 ∷ Out (pos 1) ∷ Done ∷ [])
+    × Wants 99 9 (codes "fn main() { let i = 0; while i < 2 { spawn { out i; } i = i + 1; } out i; }") [] (Fork ∷ Out (pos 0) ∷ Done ∷ Fork ∷ Out (pos 1) ∷ Done ∷ Out (pos 2) ∷ Sync ∷ Sync ∷ Done ∷ [])
+    × Wants 100 9 (codes "fn main() { while 1 { } }") [] (Fault Fuel ∷ [])
+    × Wants 100 9 (codes "fn main() { let i = 0; while i < 49 { i = i + 1; } }") [] (Done ∷ [])
+    × Wants 99 9 (codes "fn main() { let i = 0; while i < 49 { i = i + 1; } }") [] (Fault Fuel ∷ [])
+
+-- Arguments come before the unit of a call, from left to right. A value of a call as a statement is dropped, and a function without `return` gives 0.
+abbrev pub Calls : Type 0
+Calls =
+    Wants 99 9 (codes "fn f(x, y) { let z = y - x; return z; } fn main() { let z = 1; out f(2, 5) + z; }") [] (Out (pos 4) ∷ Done ∷ [])
+    × Wants 999 9 (codes "fn f(n) { if n < 2 { return n; } return f(n - 1) + f(n - 2); } fn main() { out f(5); }") [] (Out (pos 5) ∷ Done ∷ [])
+    × Wants 99 9 (codes "fn f() { out 1; } fn main() { f(); out f(); }") [] (Out (pos 1) ∷ Out (pos 1) ∷ Out (pos 0) ∷ Done ∷ [])
+    × Wants 99 9 (codes "fn f(n) { while 1 { let x = n; if x { return x; } } } fn main() { out f(3) * f(4); }") [] (Out (pos 12) ∷ Done ∷ [])
+    × Wants 1 9 (codes "fn f(x) { } fn main() { f(1 / 0); }") [] (Fault Zero ∷ [])
+    × Wants 1 9 (codes "fn f(x) { } fn main() { f(1); }") [] (Fault Fuel ∷ [])
+    × Wants 2 9 (codes "fn f() { } fn main() { f(); out 1; }") [] (Fault Fuel ∷ [])
+    × Wants 3 9 (codes "fn f() { } fn main() { f(); out 1; }") [] (Out (pos 1) ∷ Done ∷ [])
+    × WantsWith (pos 7 ∷ negsuc 4 ∷ []) 9 9 (codes "fn main(a, b) { out a - b; return 5; out 1; }") [] (Out (pos 12) ∷ Done ∷ [])
+
+-- What a function spawned is waited for before it returns, and the value of its `return` is kept meanwhile.
+abbrev pub Returns : Type 0
+Returns =
+    Wants 99 9 (codes "cell c; fn f() { spawn { c = 7; } return c + 1; } fn main() { out f(); out c; }") (pos 7 ∷ pos 7 ∷ []) (Fork ∷ Store 0 (pos 7) ∷ Done ∷ Load 0 ∷ Sync ∷ Out (pos 8) ∷ Load 0 ∷ Out (pos 7) ∷ Done ∷ [])
+    × Wants 99 9 (codes "fn f(n) { if n { spawn { out n; } f(n - 1); } } fn main() { f(2); out 9; }") [] (Fork ∷ Out (pos 2) ∷ Done ∷ Fork ∷ Out (pos 1) ∷ Done ∷ Sync ∷ Sync ∷ Out (pos 9) ∷ Done ∷ [])
+    × Wants 99 9 (codes "fn f() { atomic { spawn { out 1; } } return 2; } fn main() { spawn { } out f(); }") [] (Fork ∷ Done ∷ Begin ∷ Fork ∷ Out (pos 1) ∷ Done ∷ Sync ∷ End ∷ Out (pos 2) ∷ Sync ∷ Done ∷ [])
+
+-- what a step stops at, where it does not go on by itself
+abbrev pub stop_of : {S : Type 0} → Step S → Option Want
+stop_of (on s) = None
+stop_of (wants w s) = Some w
+stop_of stuck = Some Done
+
+abbrev pub main_alone : List Declaration
+main_alone = tree (codes "fn main() { main(); }")
+
+-- main calls itself where so many functions stand, over the syntax and over the code
+abbrev pub called_among : ℕ → Option Want
+called_among n = stop_of (meaning.step [] (function_of main_alone) (within 9 9) (record {
+  todo = enter (codes "main") 0 ∷ [];
+  values = [];
+  locals = [];
+  frames = n;
+  scopes = [];
+  fuel = 0;
+  size = 0;
+  beside = empty;
+}))
+
+abbrev pub code_called_among : ℕ → Option Want
+code_called_among n = stop_of (coded.step (code_of main_alone) (record {
+  current = record { place = 1; operands = []; locals = [] };
+  callers = replicate (n - 1) (record { place = 2; operands = []; locals = [] });
+  scopes = [];
+  fuel = 0;
+  size = 0;
+  beside = 0;
+  limits = within 9 9;
+}))
+
+-- Where 10,000 functions stand none begins.
+abbrev pub Depths : Type 0
+Depths =
+    (called_among 9999 ≡ None)
+    × (code_called_among 9999 ≡ None)
+    × (called_among 10000 ≡ Some (Fault Depth))
+    × (code_called_among 10000 ≡ Some (Fault Depth))
+
+-- the code of a program
 abbrev pub Compiles : List ℕ → Code → Type 0
 Compiles text code = code_of (tree text) ≡ code
 
--- a number of an ended block is used again, and a fork's target lies behind what it spawns
+-- A number of an ended block is used again, and a fork's target lies behind what it spawns. A loop jumps back to its tick.
 abbrev pub Codes : Type 0
 Codes =
     Compiles (codes "cell c; fn main() { atomic { let x = -c; } let y = 2; spawn { out y; } }") (record {
@@ -144,6 +242,22 @@ Codes =
           ∷ tick ∷ push (pos 2) ∷ set 0
           ∷ tick ∷ fork 18 ∷ tick ∷ local 0 ∷ show ∷ wait ∷ done
           ∷ wait ∷ push (pos 0) ∷ ret ∷ [];
+    })
+    × Compiles (codes "fn main() { let i = 3; while i { i = i - 1; } if i { out 1; } else { out 2; } }") (record {
+      cells = 0;
+      funcs = record { params = 0; locals = 1; start = 0; end = 25 } ∷ [];
+      instrs =
+          tick ∷ push (pos 3) ∷ set 0
+          ∷ tick ∷ local 0 ∷ jump_zero 12 ∷ tick ∷ local 0 ∷ push (pos 1) ∷ plain 9 ∷ set 0 ∷ jump 3
+          ∷ tick ∷ local 0 ∷ jump_zero 19 ∷ tick ∷ push (pos 1) ∷ show ∷ jump 22 ∷ tick ∷ push (pos 2) ∷ show
+          ∷ wait ∷ push (pos 0) ∷ ret ∷ [];
+    })
+    × Compiles (codes "fn f(a, b) { return a - b; } fn main() { f(1, f(2, 3)); }") (record {
+      cells = 0;
+      funcs = record { params = 2; locals = 2; start = 0; end = 9 } ∷ record { params = 0; locals = 0; start = 9; end = 19 } ∷ [];
+      instrs =
+          tick ∷ local 0 ∷ local 1 ∷ plain 9 ∷ wait ∷ ret ∷ wait ∷ push (pos 0) ∷ ret
+          ∷ tick ∷ push (pos 1) ∷ push (pos 2) ∷ push (pos 3) ∷ call 0 ∷ call 0 ∷ discard ∷ wait ∷ push (pos 0) ∷ ret ∷ [];
     })
 
 -- what a strand has become once it got these answers, the newest first
@@ -158,5 +272,5 @@ standing text given = let x = after_answers (meaning.strands_of (tree text) [] (
 -- Both are over, the second one too early: its name stands for nothing.
 abbrev pub Endings : Type 0
 Endings =
-    (standing (codes "cell c; fn main() { let x = c; out x * x; }") (Nothing ∷ Value (pos 3) ∷ []) ≡ (Done, finish ∷ []))
+    (standing (codes "cell c; fn main() { let x = c; out x * x; }") (Nothing ∷ Value (pos 3) ∷ []) ≡ (Done, finish_main ∷ []))
     × ((after_answers (meaning.strands_of (tree (codes "fn main() { out x; }")) [] (within 9 9)) []).want ≡ Done)

@@ -10,7 +10,7 @@ ghost use Rattle.cw_strand.specs.Laws.{LocalWorkEnds, ForksEnd, EndsOnlyWhenDone
 ghost use Rattle.cw_strand.specs.Laws.{CodeIsNeverStuck, StandsOn, VisitedStand, CodeWorkEnds, CodeForksEnd, CodeNamesElements};
 ghost use Rattle.cw_strand.specs.Laws.{BreaksNoRule, WantsOfTheSource, CodeEndsOnlyWhenDone, CodeIsLawful, ClosesWithIt};
 ghost use Rattle.cw_strand.specs.Pasts.{CanBe, Past, WantTheSame};
-ghost use Rattle.cw_strand.specs.Rows.{Arrays, Faults, Traces, Forks, Spent, Codes, Endings};
+ghost use Rattle.cw_strand.specs.Rows.{Arrays, Calls, Choices, Depths, Faults, Traces, Forks, Loops, Returns, Spent, Codes, Endings};
 ghost use Rattle.cw_strand.specs.Strands.{Strands};
 ghost use Rattle.std.specs.Prelude.{◌↔◌};
 
@@ -32,6 +32,11 @@ pub fn worked_programs()
     ensures arrays { Arrays }
     ensures forks { Forks }
     ensures spent { Spent }
+    ensures choices { Choices }
+    ensures loops { Loops }
+    ensures calls { Calls }
+    ensures returned { Returns }
+    ensures depths { Depths }
 {}
 
 /// Over the syntax a strand never goes on by itself for ever: it always comes to a want, and stands there.
@@ -45,7 +50,7 @@ pub fn forks_end()
 {}
 
 /// Over the syntax a strand of a program without a naming fault, also the left one of a fork, is done only where it has done all that it
-/// had to do, with no operand left over.
+/// had to do, with no operand left over but, of main, its own value.
 pub fn ends_only_when_done()
     ensures ends { EndsOnlyWhenDone }
     ensures worked { Endings }

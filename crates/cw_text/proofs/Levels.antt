@@ -1,15 +1,15 @@
 -- Expressions that are read, by the tightness that is wanted of them.
-use Rattle.std.proofs.Common.{◌≡◌, ℕ, zero, suc, ◌+◌, ◌<◌, ◌≤◌, max, List, ◌∷◌, ◌∙◌, subst, inl, inr, arith}
+use Rattle.std.proofs.Common.{◌≡◌, ℕ, zero, suc, ◌+◌, ◌<◌, ◌≤◌, max, List, ◌∷◌, ◌∙◌, subst, inl, inr, arith, pos}
 use Rattle.std.proofs.lemmas.Bool.{cases_lt}
 use Rattle.cw_text.specs.declared.ast.Op.{Op}
 use Rattle.cw_text.specs.declared.ast.Word.{Word}
 use Rattle.cw_text.specs.declared.terminal.Terminal.TheVariants as m
-use Rattle.cw_text.specs.Lexemes.{Lexemes, comes, terminal, name as a_name}
-use Rattle.cw_text.specs.Syntax.{Term, name, at, binary, unary, height}
-use Rattle.cw_text.specs.Grammar.{Symbol, Values, a_term, act, brackets, closing, comparison, comparison_of, expr, index_done, join, lifted, operand, pending, product_of, products, push, read, read_from, sum_of, sums}
+use Rattle.cw_text.specs.Lexemes.{Lexemes, comes, terminal, name as a_name, number as a_number}
+use Rattle.cw_text.specs.Syntax.{Term, Terms, number, name, at, call, none, binary, unary, height, with_term}
+use Rattle.cw_text.specs.Grammar.{Symbol, Values, a_term, act, arg_done, args, brackets, call_done, closing, comparison, comparison_of, expr, index_done, join, lifted, more_args, operand, pending, product_of, products, push, read, read_from, some_terms, sum_of, sums}
 use Rattle.cw_text.specs.Printed.{terminal_of, tightness}
-use Rattle.cw_text.proofs.Operators.{NoBracket, NotNext, takes_product, takes_sum, takes_comparison, takes_prefix, skips_products, skips_sums, skips_comparison, product_of-terminal_of, sum_of-terminal_of, comparison_of-terminal_of, no_sum}
-use Rattle.cw_text.proofs.Steps.{read-act, read-expr, read-index, read-join, read-lifted, taken_open}
+use Rattle.cw_text.proofs.Operators.{NoBracket, NotNext, takes_product, takes_sum, takes_comparison, takes_prefix, skips_brackets, skips_products, skips_sums, skips_comparison, product_of-terminal_of, sum_of-terminal_of, comparison_of-terminal_of, no_sum}
+use Rattle.cw_text.proofs.Steps.{read-act, read-call, read-expr, read-index, read-join, read-lifted, taken_open}
 
 -- the symbols of an expression, and those that are left once it was read
 abbrev pub begins : ℕ → List Symbol → List Symbol
@@ -27,6 +27,10 @@ leaves (suc (suc (suc n))) k = k
 -- with room for so many more open, these lexemes are read as an expression with others behind it
 pub record Reads (more n : ℕ) (e : Term) (xs ys : Lexemes) : Type 0 where
   pub reading : (k : List Symbol) (vs : Values) → pending k + more ≤ 200 → read (begins n k) vs xs ≡ read (leaves n k) (a_term e ∷ vs) ys
+
+-- the same of the arguments of a call
+pub record ReadsAll (more : ℕ) (es : Terms) (xs ys : Lexemes) : Type 0 where
+  pub reading : (k : List Symbol) (vs : Values) → pending k + more ≤ 200 → read (args ∷ k) (some_terms none ∷ vs) xs ≡ read k (some_terms es ∷ vs) ys
 
 -- what comes behind an expression does not belong to it
 abbrev pub Ends : ℕ → Lexemes → Type 0
@@ -67,6 +71,32 @@ looser {more} {e} {xs} {ys} n (suc t) within ends r =
       | inr greatest ↦ let same : suc t ≡ n = omega arith in subst (λ t. Reads more t e xs ys) same r
     ]
 
+-- ## Numbers, names and arguments
+
+pub number_read : (n l : ℕ) (xs : Lexemes) → Reads 0 3 (number (pos n)) (comes (a_number n) l xs) xs
+number_read n l xs = record {
+  reading = λ k vs low.
+      taken_open (act (push (a_term (number (pos n)))) ∷ k) vs l (comes (a_number n) l xs) (omega arith)
+      ∙ read-act (push (a_term (number (pos n)))) k vs xs;
+}
+
+pub name_read : (w : Word) (xs : Lexemes) → NoBracket xs → Reads 0 3 (name w) (comes (a_name w.name) w.line xs) xs
+name_read w xs over = record {
+  reading = λ k vs low.
+      taken_open (act (push (a_term (name w))) ∷ brackets w.line ∷ k) vs w.line (comes (a_name w.name) w.line xs) (omega arith)
+      ∙ read-act (push (a_term (name w))) (brackets w.line ∷ k) vs xs
+      ∙ skips_brackets w.line k (a_term (name w) ∷ vs) xs over;
+}
+
+-- one argument
+pub argument_read : {most : ℕ} (e : Term) (es : Terms) (k : List Symbol) (vs : Values) (xs ys : Lexemes) → pending k + most ≤ 200 → Reads most 0 e xs ys →
+    read (expr ∷ act arg_done ∷ more_args ∷ k) (some_terms es ∷ vs) xs ≡ read (more_args ∷ k) (some_terms (with_term es e) ∷ vs) ys
+argument_read e es k vs xs ys low r =
+    let done = act arg_done ∷ more_args ∷ k in
+    read-expr done (some_terms es ∷ vs) xs
+    ∙ r.reading done (some_terms es ∷ vs) low
+    ∙ read-act arg_done (more_args ∷ k) (a_term e ∷ some_terms es ∷ vs) ys
+
 -- ## Operators and brackets
 
 pub in_brackets : {more l j : ℕ} {e : Term} {xs ys : Lexemes} → Reads more 0 e xs (comes (terminal m.ParenClose) j ys) → Reads (more + 1) 3 e (comes (terminal m.ParenOpen) l xs) ys
@@ -93,6 +123,23 @@ of_name {l = l} {j = j} {i = i} {xs = xs} {ys = ys} w high r = record {
       ∙ r.reading inside values (omega arith)
       ∙ taken_open done (a_term i ∷ values) j (comes (terminal m.SquareClose) j ys) (omega arith)
       ∙ read-index w.line w i k vs ys high;
+}
+
+pub of_call : {more l j : ℕ} {es : Terms} {xs ys : Lexemes} (w : Word) → height (call w es) ≤ 200 → ReadsAll more es xs (comes (terminal m.ParenClose) j ys) →
+    Reads (more + 1) 3 (call w es) (comes (a_name w.name) w.line (comes (terminal m.ParenOpen) l xs)) ys
+of_call {l = l} {j = j} {es = es} {xs = xs} {ys = ys} w high r = record {
+  reading = λ k vs low.
+      let list = comes (terminal m.ParenOpen) l xs in
+      let done = act call_done ∷ read_from w.line ∷ k in
+      let inside = closing m.ParenClose ∷ done in
+      let values = a_term (name w) ∷ vs in
+      taken_open (act (push (a_term (name w))) ∷ brackets w.line ∷ k) vs w.line (comes (a_name w.name) w.line list) (omega arith)
+      ∙ read-act (push (a_term (name w))) (brackets w.line ∷ k) vs list
+      ∙ taken_open (act (push (some_terms none)) ∷ args ∷ inside) values l list (omega arith)
+      ∙ read-act (push (some_terms none)) (args ∷ inside) values xs
+      ∙ r.reading inside values (omega arith)
+      ∙ taken_open done (some_terms es ∷ values) j (comes (terminal m.ParenClose) j ys) (omega arith)
+      ∙ read-call w.line w es k vs ys high;
 }
 
 pub of_one : {more l : ℕ} {e : Term} {xs ys : Lexemes} (o : Op) → tightness o ≡ 3 → height (unary o e) ≤ 200 → Reads more 3 e xs ys → Reads (more + 1) 3 (unary o e) (comes (terminal (terminal_of o)) l xs) ys

@@ -7,12 +7,13 @@ pub mod Operators
 pub mod Passing
 pub mod Places
 pub mod Prefixes
-pub mod PrintedPrograms
-pub mod PrintedTerms
+pub mod PrintedIsWritten
+pub mod ReadIsWritten
 pub mod ReadPrograms
 pub mod Readable
 pub mod Readings
-pub mod Sound
 pub mod Spelled
 pub mod Steps
 pub mod Turns
+pub mod WrittenIsRead
+pub mod WrittenIsReadable

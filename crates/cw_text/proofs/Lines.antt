@@ -1,11 +1,11 @@
--- Of the lines of tokens, only those of names have a part in what is read.
+-- Of the lines of tokens, only those of names and of `return` have a part in what is read.
 use Rattle.std.proofs.Common.{◌≡◌, ℕ, zero, ◌+◌, nat_lt, cond, Bool, true, false, List, [], ◌∷◌, ◌++◌, Option, Some, None, Result, Ok, Err, refl, ap, sym, ◌∙◌}
 use Rattle.cw_text.specs.declared.fault.TextFault.{TextFault}
 use Rattle.cw_text.specs.declared.terminal.Terminal.TheVariants as m
 use Rattle.cw_text.specs.Lexemes.{Token, Lexemes, end_on, comes, terminal, name as a_name, number as a_number, end}
 use Rattle.cw_text.specs.Syntax.{Declaration}
-use Rattle.cw_text.specs.Grammar.{Symbol, Values, State, Next, take, skip, refuse, act, assignment, expansion, block, brackets, cell_init, cell_size, closing, comparison, comparison_of, declared, expr, feed, go_on, infix_by, operand_by, init, items, lift, lifted, newest_height, opened, operand, pending, product_of, products, program_in, program_of, read, read_from, rest_of_expr, size, stmts, sum_of, sums, then_read}
-use Rattle.cw_text.specs.Printed.{only_name_lines}
+use Rattle.cw_text.specs.Grammar.{Symbol, Values, State, Next, take, skip, refuse, act, arg_done, args, assignment, expansion, block, brackets, cell_init, cell_size, closing, comparison, comparison_of, declared, expr, feed, go_on, infix_by, operand_by, init, items, lift, lifted, more_args, more_params, newest_height, opened, operand, otherwise, pending, product_of, products, program_in, program_of, read, read_from, rest_of_expr, size, stmts, sum_of, sums, then_read}
+use Rattle.cw_text.specs.Printed.{only_tree_lines}
 
 -- ## Symbols without their lines
 
@@ -51,9 +51,10 @@ plain_state (Err e) = None
 
 -- ## One token
 
--- the line of a name counts
+-- the lines of a name and of `return` count
 abbrev SameLine : Token → ℕ → ℕ → Type 0
 SameLine (a_name n) i l = i ≡ l
+SameLine (terminal m.Return) i l = i ≡ l
 SameLine t i l = Unit {0}
 
 operand_by-plain : (k : List Symbol) (t : Token) (i l : ℕ) → SameLine t i l → plain_next (operand_by k t i) ≡ plain_next (operand_by k t l)
@@ -66,6 +67,7 @@ operand_by-plain k t i l same = refl
 
 expansion-plain : (s : Symbol) (t : Token) (i l : ℕ) → SameLine t i l → plain_next (expansion s t i) ≡ plain_next (expansion s t l)
 expansion-plain s (a_name n) i l same = ap (λ l. plain_next (expansion s (a_name n) l)) same
+expansion-plain s (terminal m.Return) i l same = ap (λ l. plain_next (expansion s (terminal m.Return) l)) same
 expansion-plain expr t i l same = operand_by-plain rest_of_expr t i l same
 expansion-plain operand t i l same = operand_by-plain [] t i l same
 expansion-plain products (terminal a) i l same = elim (product_of a) as (λ o. plain_next (infix_by o [] (products ∷ []) i) ≡ plain_next (infix_by o [] (products ∷ []) l)) [ None ↦ refl | Some o ↦ refl ]
@@ -79,8 +81,16 @@ expansion-plain size (a_number zero) i l same = refl
 expansion-plain size t i l same = refl
 expansion-plain assignment (terminal m.Assign) i l same = refl
 expansion-plain assignment (terminal m.SquareOpen) i l same = refl
+expansion-plain assignment (terminal m.ParenOpen) i l same = refl
 expansion-plain assignment t i l same = refl
+expansion-plain args (terminal m.ParenClose) i l same = refl
+expansion-plain args t i l same = operand_by-plain (rest_of_expr ++ act arg_done ∷ more_args ∷ []) t i l same
+expansion-plain more_args (terminal m.Comma) i l same = refl
+expansion-plain more_args t i l same = refl
+expansion-plain more_params (terminal m.Comma) i l same = refl
+expansion-plain more_params t i l same = refl
 expansion-plain (brackets n) (terminal m.SquareOpen) i l same = refl
+expansion-plain (brackets n) (terminal m.ParenOpen) i l same = refl
 expansion-plain (brackets n) t i l same = refl
 expansion-plain cell_init (terminal m.Assign) i l same = refl
 expansion-plain cell_init t i l same = refl
@@ -90,11 +100,14 @@ expansion-plain block (terminal m.BraceOpen) i l same = refl
 expansion-plain block t i l same = refl
 expansion-plain stmts (terminal m.Let) i l same = refl
 expansion-plain stmts t i l same = refl
+expansion-plain otherwise (terminal m.Else) i l same = refl
+expansion-plain otherwise t i l same = refl
 expansion-plain s t i l same = refl
 
 -- the line of the name before does not count
 brackets-plain : (n : ℕ) (t : Token) (i l : ℕ) → plain_next (expansion (brackets 1) t i) ≡ plain_next (expansion (brackets n) t l)
 brackets-plain n (terminal m.SquareOpen) i l = refl
+brackets-plain n (terminal m.ParenOpen) i l = refl
 brackets-plain n t i l = refl
 
 guard-plain : (b c : Bool) (f g : TextFault) (r q : Result State TextFault) → b ≡ c → plain_state r ≡ plain_state q → plain_state (cond b (Err f) r) ≡ plain_state (cond c (Err g) q)
@@ -129,6 +142,7 @@ feed-plain (s ∷ k) vs t i l same = go_on-plain (expansion s t i) (expansion s 
 
 same_line : (t : Token) (l : ℕ) → SameLine t l l
 same_line (a_name n) l = refl
+same_line (terminal m.Return) l = refl
 same_line t l = tt
 
 -- states that are the same without lines stay the same
@@ -150,20 +164,23 @@ then_read-same (Err e) (Err f) go on same h = refl
 then_read-same (Ok s) (Err f) go on same h = cc
 then_read-same (Err e) (Ok u) go on same h = cc
 
-read_same : (xs : Lexemes) (j k : List Symbol) (vs : Values) → plain j ≡ plain k → values_of (read j vs (only_name_lines xs)) ≡ values_of (read k vs xs)
+read_same : (xs : Lexemes) (j k : List Symbol) (vs : Values) → plain j ≡ plain k → values_of (read j vs (only_tree_lines xs)) ≡ values_of (read k vs xs)
 read_same (end_on l) j k vs same =
     then_read-same (feed j vs end 1) (feed k vs end l) (λ _ vs. Ok vs) (λ _ vs. Ok vs) (feed_same j k vs end 1 l same tt) (λ j k vs _. refl)
 read_same (comes (a_name n) l xs) j k vs same =
-    then_read-same (feed j vs (a_name n) l) (feed k vs (a_name n) l) (λ k vs. read k vs (only_name_lines xs)) (λ k vs. read k vs xs) (feed_same j k vs (a_name n) l l same refl) (read_same xs)
+    then_read-same (feed j vs (a_name n) l) (feed k vs (a_name n) l) (λ k vs. read k vs (only_tree_lines xs)) (λ k vs. read k vs xs) (feed_same j k vs (a_name n) l l same refl) (read_same xs)
+read_same (comes (terminal m.Return) l xs) j k vs same =
+    let again = terminal m.Return in
+    then_read-same (feed j vs again l) (feed k vs again l) (λ k vs. read k vs (only_tree_lines xs)) (λ k vs. read k vs xs) (feed_same j k vs again l l same refl) (read_same xs)
 read_same (comes t l xs) j k vs same =
-    then_read-same (feed j vs t 1) (feed k vs t l) (λ k vs. read k vs (only_name_lines xs)) (λ k vs. read k vs xs) (feed_same j k vs t 1 l same tt) (read_same xs)
+    then_read-same (feed j vs t 1) (feed k vs t l) (λ k vs. read k vs (only_tree_lines xs)) (λ k vs. read k vs xs) (feed_same j k vs t 1 l same tt) (read_same xs)
 
 program_in-same : (r q : Result Values TextFault) (ds : List Declaration) → values_of r ≡ values_of q → program_in r ≡ Ok ds → program_in q ≡ Ok ds
 program_in-same (Ok vs) (Ok ws) ds same is = let e : vs ≡ ws = cc in ap (λ vs. program_in (Ok vs)) (sym e) ∙ is
 program_in-same (Err e) q ds same is = cc
 program_in-same (Ok vs) (Err e) ds same is = cc
 
-pub program_of-same : (xs ys : Lexemes) (ds : List Declaration) → only_name_lines xs ≡ only_name_lines ys → program_of xs ≡ Ok ds → program_of ys ≡ Ok ds
+pub program_of-same : (xs ys : Lexemes) (ds : List Declaration) → only_tree_lines xs ≡ only_tree_lines ys → program_of xs ≡ Ok ds → program_of ys ≡ Ok ds
 program_of-same xs ys ds same =
     let start = items ∷ [] in
     let none = declared [] ∷ [] in

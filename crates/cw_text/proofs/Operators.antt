@@ -6,7 +6,7 @@ use Rattle.cw_text.specs.declared.ast.Op.TheVariants as op
 use Rattle.cw_text.specs.declared.terminal.Terminal.{Terminal}
 use Rattle.cw_text.specs.declared.terminal.Terminal.TheVariants as m
 use Rattle.cw_text.specs.Lexemes.{Lexemes, end_on, comes, terminal}
-use Rattle.cw_text.specs.Grammar.{Symbol, Values, act, brackets, comparison, comparison_of, join, lifted, operand, pending, product_of, products, read, read_from, sum_of, sums}
+use Rattle.cw_text.specs.Grammar.{Symbol, Values, act, brackets, comparison, comparison_of, join, lifted, operand, otherwise, pending, prefix_of, product_of, products, read, read_from, sum_of, sums}
 use Rattle.cw_text.specs.Printed.{terminal_of, tightness}
 
 -- the next token is no operator of this kind
@@ -48,18 +48,31 @@ skips_comparison k vs (end_on l) h = refl
 skips_comparison k vs (comes (terminal a) l xs) h = rw h refl
 skips_comparison k vs (comes t l xs) h = refl
 
--- ## Brackets behind a name
+-- ## What may stand or not
 
 -- the next token opens no bracket that may stand behind a name
 abbrev pub NoBracket : Lexemes → Type 0
 NoBracket (comes (terminal m.SquareOpen) l xs) = ⊥
+NoBracket (comes (terminal m.ParenOpen) l xs) = ⊥
 NoBracket xs = Unit {0}
 
 pub skips_brackets : (n : ℕ) (k : List Symbol) (vs : Values) (xs : Lexemes) → NoBracket xs → read (brackets n ∷ k) vs xs ≡ read k vs xs
 skips_brackets n k vs (end_on l) h = refl
 skips_brackets n k vs (comes (terminal m.SquareOpen) l xs) h = absurd h
+skips_brackets n k vs (comes (terminal m.ParenOpen) l xs) h = absurd h
 skips_brackets n k vs (comes (terminal a) l xs) h = refl
 skips_brackets n k vs (comes t l xs) h = refl
+
+-- the next token is no `else`
+abbrev pub NoElse : Lexemes → Type 0
+NoElse (comes (terminal m.Else) l xs) = ⊥
+NoElse xs = Unit {0}
+
+pub skips_otherwise : (k : List Symbol) (vs : Values) (xs : Lexemes) → NoElse xs → read (otherwise ∷ k) vs xs ≡ read k vs xs
+skips_otherwise k vs (end_on l) h = refl
+skips_otherwise k vs (comes (terminal m.Else) l xs) h = absurd h
+skips_otherwise k vs (comes (terminal a) l xs) h = refl
+skips_otherwise k vs (comes t l xs) h = refl
 
 -- ## The terminal of an operator
 
@@ -89,3 +102,42 @@ no_sum op.Add h = absurd (omega arith)
 no_sum op.Sub h = absurd (omega arith)
 no_sum op.Neg h = absurd (omega arith)
 no_sum o h = refl
+
+-- ## The operator of a terminal
+
+pub product_tightness : (a : Terminal) (o : Op) → product_of a ≡ Some o → tightness o ≡ 2
+product_tightness m.Star o h = cc
+product_tightness m.Slash o h = cc
+product_tightness m.Percent o h = cc
+product_tightness a o h = cc
+
+pub sum_tightness : (a : Terminal) (o : Op) → sum_of a ≡ Some o → tightness o ≡ 1
+sum_tightness m.Plus o h = cc
+sum_tightness m.Minus o h = cc
+sum_tightness a o h = cc
+
+pub comparison_tightness : (a : Terminal) (o : Op) → comparison_of a ≡ Some o → tightness o ≡ 0
+comparison_tightness m.EqEq o h = cc
+comparison_tightness a o h = cc
+
+pub prefix_terminal : (a : Terminal) (o : Op) → prefix_of a ≡ Some o → a ≡ terminal_of o
+prefix_terminal m.Minus o h = cc
+prefix_terminal m.Bang o h = cc
+prefix_terminal a o h = cc
+
+pub prefix_tightness : (a : Terminal) (o : Op) → prefix_of a ≡ Some o → tightness o ≡ 3
+prefix_tightness m.Minus o h = cc
+prefix_tightness m.Bang o h = cc
+prefix_tightness a o h = cc
+
+pub product_terminal : (a : Terminal) (o : Op) → product_of a ≡ Some o → a ≡ terminal_of o
+product_terminal m.Star o h = cc
+product_terminal a o h = cc
+
+pub sum_terminal : (a : Terminal) (o : Op) → sum_of a ≡ Some o → a ≡ terminal_of o
+sum_terminal m.Plus o h = cc
+sum_terminal a o h = cc
+
+pub comparison_terminal : (a : Terminal) (o : Op) → comparison_of a ≡ Some o → a ≡ terminal_of o
+comparison_terminal m.EqEq o h = cc
+comparison_terminal a o h = cc

@@ -1,55 +1,23 @@
--- The tree of whatever is read can be read from its own tokens.
-use Rattle.std.proofs.Common.{◌≡◌, ℕ, zero, suc, ◌^◌, nat_lt, Bool, true, false, List, [], ◌∷◌, Result, Ok, Err, subst, codes, ◌||◌, ◌-◌, length, nat_eq, nat_le}
+-- The tree of whatever text is read can be read from its own tokens.
+use Rattle.std.proofs.Common.{◌≡◌, ℕ, zero, suc, ◌^◌, nat_lt, Bool, true, false, List, [], ◌∷◌, Ok, codes, ◌||◌, ◌-◌, length, nat_eq, nat_le, ◌<◌}
 use Rattle.std.proofs.lemmas.Bool.{cond_both, leb-false}
-use Rattle.std.proofs.lemmas.List.Elements.{All-nil}
 use Rattle.std.specs.Char.{is_ascii_digit}
 use Rattle.std.specs.List.{starts_with, take_while}
 use Rattle.std.specs.Str.Lossy.{utf8_valid_len}
 use Rattle.cw_text.specs.Text.{program}
-use Rattle.cw_text.specs.declared.fault.TextFault.{TextFault}
 use Rattle.cw_text.specs.declared.fault.TextKind.TheVariants.{BadNumber}
 use Rattle.cw_text.specs.declared.terminal.Terminal.{Terminal}
-use Rattle.cw_text.specs.Lexemes.{Token, Front, gap, found, front, begun_by, width, lexemes_from, lexemes, line_after, keywords, signs, sign_front, word_token, number_token, value_of_digits, begins_by, spelling, is_blank, is_letter, is_word, after_digits, Lexemes, end_on, comes, terminal, number as a_number, bad, end}
+use Rattle.cw_text.specs.Lexemes.{Token, Front, gap, found, front, begun_by, width, lexemes_from, lexemes, line_after, keywords, signs, sign_front, word_token, number_token, value_of_digits, begins_by, spelling, is_blank, is_letter, is_word, after_digits, Lexemes, terminal, number as a_number, bad}
 use Rattle.std.specs.Str.{bytes_eq}
 use Rattle.cw_text.specs.Syntax.{Declaration}
-use Rattle.cw_text.specs.Grammar.{Symbol, Values, State, declared, feed, items, program_in, program_of, read, then_read}
-use Rattle.cw_text.specs.Printed.{HasSmallNumbers, IsReadableDeclaration, IsReadable}
-use Rattle.cw_text.proofs.Sound.{HasDeclared, Fits, Leads, Sound, step}
-
--- values that are readable declarations, or a fault
-abbrev Declares : Result Values TextFault → Type 0
-Declares (Ok vs) = HasDeclared vs
-Declares (Err e) = Unit {0}
-
-over : (r : Result State TextFault) → Leads end r → Declares (then_read r (λ k vs. Ok vs))
-over (Ok s) h = subst (λ k. Sound k s.1) h.0 h.1
-over (Err e) h = tt
-
-led_on : (t : Token) (r : Result State TextFault) (go : List Symbol → Values → Result Values TextFault) → Leads t r →
-    ((k : List Symbol) (vs : Values) → Sound k vs → Declares (go k vs)) → Declares (then_read r go)
-led_on end (Ok s) go h on = on s.0 s.1 h.1
-led_on t (Ok s) go h on = on s.0 s.1 h
-led_on t (Err e) go h on = tt
-
-small_first : (t : Token) (l : ℕ) (xs : Lexemes) → HasSmallNumbers (comes t l xs) → Fits t × HasSmallNumbers xs
-small_first (a_number n) l xs h = (h.0, h.1)
-small_first t l xs h = (tt, h)
-
-read_declares : (xs : Lexemes) (k : List Symbol) (vs : Values) → HasSmallNumbers xs → Sound k vs → Declares (read k vs xs)
-read_declares (end_on l) k vs small sound = over (feed k vs end l) (step k vs end l tt sound)
-read_declares (comes t l xs) k vs small sound =
-    let parts = small_first t l xs small in
-    led_on t (feed k vs t l) (λ k vs. read k vs xs) (step k vs t l parts.0 sound) (λ k vs sound. read_declares xs k vs parts.1 sound)
-
-program_declares : (r : Result Values TextFault) (ds : List Declaration) → Declares r → program_in r ≡ Ok ds → IsReadable ds
-program_declares (Ok (declared es ∷ [])) ds h is = let e : es ≡ ds = cc in subst IsReadable e h
-program_declares (Ok vs) ds h is = absurd h
-program_declares (Err e) ds h is = cc
-
-pub read_is_readable : (xs : Lexemes) (ds : List Declaration) → HasSmallNumbers xs → program_of xs ≡ Ok ds → IsReadable ds
-read_is_readable xs ds small is = program_declares (read (items ∷ []) (declared [] ∷ []) xs) ds (read_declares xs (items ∷ []) (declared [] ∷ []) small (All-nil IsReadableDeclaration)) is
+use Rattle.cw_text.specs.Printed.{HasSmallNumbers, IsReadable}
+use Rattle.cw_text.proofs.WrittenIsReadable.{read_is_readable}
 
 -- ## The numbers of a text
+
+abbrev Fits : Token → Type 0
+Fits (a_number n) = n < 2 ^ 63
+Fits t = Unit {0}
 
 -- a front that is no number, or a small one
 abbrev IsSmall : Front → Type 0

@@ -1,14 +1,11 @@
 -- Trees that can be read, part by part.
-use Rattle.std.proofs.Common.{◌≡◌, ℕ, ◌+◌, ◌<◌, ◌≤◌, max, nat_lt, cond, Bool, true, false, Some, subst, arith}
+use Rattle.std.proofs.Common.{◌≡◌, ℕ, ◌+◌, ◌<◌, ◌≤◌, max, nat_lt, cond, Bool, true, false, subst, arith}
 use Rattle.std.proofs.lemmas.Bool.{le-ltb}
 use Rattle.std.proofs.lemmas.Bool.Decides.{nat_tests}
 use Rattle.cw_text.specs.declared.ast.Op.{Op}
 use Rattle.cw_text.specs.declared.ast.Word.{Word}
-use Rattle.cw_text.specs.declared.terminal.Terminal.{Terminal}
-use Rattle.cw_text.specs.declared.terminal.Terminal.TheVariants as m
-use Rattle.cw_text.specs.Syntax.{Term, Statement, number, name, at, unary, binary, Block, empty, first, with_statement, height}
-use Rattle.cw_text.specs.Grammar.{product_of, sum_of, comparison_of}
-use Rattle.cw_text.specs.Printed.{IsReadableStatement, most_open, tightness, of_left, of_right, IsWellFormed, IsReadableTerm, IsReadableBlock}
+use Rattle.cw_text.specs.Syntax.{Term, Terms, number, name, at, call, unary, binary, none, more, height}
+use Rattle.cw_text.specs.Printed.{AreReadableTerms, most_open, tightness, of_left, of_right, IsWellFormed, IsReadableTerm}
 
 -- an expression that can be read where so much tightness is wanted, inside so many brackets
 pub record IsReadableAt (n around : ℕ) (e : Term) : Type 0 where
@@ -28,6 +25,7 @@ most_open_looser : (n t : ℕ) (e : Term) → n ≤ t → most_open n e ≤ most
 most_open_looser n t (number z) within = omega arith
 most_open_looser n t (name w) within = omega arith
 most_open_looser n t (at w i) within = omega arith
+most_open_looser n t (call w es) within = omega arith
 most_open_looser n t (unary o e) within = omega arith
 most_open_looser n t (binary o l r) within = omega (arith, bit_looser (tightness o) n t within)
 
@@ -35,6 +33,7 @@ most_open_bracketed : (n : ℕ) (e : Term) → most_open n e ≤ most_open 0 e +
 most_open_bracketed n (number z) = omega arith
 most_open_bracketed n (name w) = omega arith
 most_open_bracketed n (at w i) = omega arith
+most_open_bracketed n (call w es) = omega arith
 most_open_bracketed n (unary o e) = omega arith
 most_open_bracketed n (binary o l r) = omega (arith, bit_small (nat_lt (tightness o) n))
 
@@ -46,6 +45,9 @@ readable_bracketed {e = e} h = record { formed = h.formed; low = h.low; shallow 
 
 pub readable_index : {around : ℕ} {i : Term} (w : Word) → height (at w i) ≤ 200 → IsReadableAt 0 (around + 1) i → IsReadableAt 3 around (at w i)
 readable_index w low h = record { formed = h.formed; low = low; shallow = omega (arith, h.shallow) }
+
+pub readable_call : {around : ℕ} {es : Terms} (w : Word) → height (call w es) ≤ 200 → AreReadableTerms (around + 1) es → IsReadableAt 3 around (call w es)
+readable_call w low h = record { formed = h.formed; low = low; shallow = omega (arith, h.shallow) }
 
 pub readable_unary : {around : ℕ} {e : Term} (o : Op) → tightness o ≡ 3 → height (unary o e) ≤ 200 → IsReadableAt 3 (around + 1) e → IsReadableAt 3 around (unary o e)
 readable_unary o is low h = record { formed = (is, h.formed); low = low; shallow = omega (arith, h.shallow) }
@@ -66,28 +68,17 @@ pub readable_binary : {around : ℕ} {e f : Term} (o : Op) (t : ℕ) → tightne
 readable_binary {around} {e} {f} o t is two low =
     subst (λ t. IsReadableAt (max 1 t) around e → IsReadableAt (t + 1) around f → IsReadableAt t around (binary o e f)) is (readable_operands o (omega arith) low)
 
--- ## Operators by their terminals
+-- ## Arguments
 
-pub product_tightness : (a : Terminal) (o : Op) → product_of a ≡ Some o → tightness o ≡ 2
-product_tightness m.Star o h = cc
-product_tightness m.Slash o h = cc
-product_tightness m.Percent o h = cc
-product_tightness a o h = cc
+pub readable_none : {around : ℕ} → around ≤ 200 → AreReadableTerms around none
+readable_none room = record { formed = tt; low = omega arith; shallow = omega arith }
 
-pub sum_tightness : (a : Terminal) (o : Op) → sum_of a ≡ Some o → tightness o ≡ 1
-sum_tightness m.Plus o h = cc
-sum_tightness m.Minus o h = cc
-sum_tightness a o h = cc
-
-pub comparison_tightness : (a : Terminal) (o : Op) → comparison_of a ≡ Some o → tightness o ≡ 0
-comparison_tightness m.EqEq o h = cc
-comparison_tightness a o h = cc
-
--- ## Blocks
-
-pub readable_with : (around : ℕ) (b : Block) (s : Statement) → IsReadableBlock around b → IsReadableStatement around s → IsReadableBlock around (with_statement b s)
-readable_with around empty s old new = (new, tt)
-readable_with around (first t b) s old new = (old.0, readable_with around b s old.1 new)
+pub readable_more : (around : ℕ) (e : Term) (es : Terms) → IsReadableTerm around e → AreReadableTerms around es → AreReadableTerms around (more e es)
+readable_more around e es one others = record {
+  formed = (one.formed, others.formed);
+  low = omega (arith, one.low, others.low);
+  shallow = omega (arith, one.shallow, others.shallow);
+}
 
 pub whole : {around : ℕ} {e : Term} → IsReadableAt 0 around e → IsReadableTerm around e
 whole h = record { formed = h.formed; low = h.low; shallow = h.shallow }

@@ -1,7 +1,8 @@
 -- Steps of the grammar.
-use Rattle.std.proofs.Common.{max, ◌≡◌, ℕ, ◌+◌, ◌<◌, ◌≤◌, List, [], ◌∷◌, ◌++◌, ap, refl, Result, subst, sym}
+use Rattle.std.proofs.Common.{arith, max, ◌≡◌, ℕ, ◌+◌, ◌<◌, ◌≤◌, List, [], ◌∷◌, ◌++◌, ap, refl, Result, subst, sym}
 use Rattle.std.proofs.lemmas.Bool.{le-ltb, lt-ltb}
 use Rattle.cw_text.specs.declared.ast.Op.{Op}
+use Rattle.cw_text.specs.declared.ast.Expr.{Expr}
 use Rattle.cw_text.specs.declared.ast.Stmt.{Stmt}
 use Rattle.cw_text.specs.declared.fault.TextKind.TheVariants.{TooDeep}
 use Rattle.cw_text.specs.declared.terminal.Terminal.TheVariants as m
@@ -10,8 +11,8 @@ use Rattle.cw_text.specs.declared.cursor.Token.TheVariants as token
 use Rattle.cw_text.specs.declared.parser.Parser.{Parser}
 use Rattle.cw_text.specs.Lexemes.{Lexemes, end_on, comes, number as a_number, name as a_name, terminal, bad, end}
 use Rattle.cw_text.specs.declared.ast.Word.{Word}
-use Rattle.cw_text.specs.Syntax.{Term, at, binary, block_of, first, height, name, statement_of, unary, with_statement}
-use Rattle.cw_text.specs.Grammar.{Symbol, Values, a_term, read, pending, lifted, fault, act, assign_done, assignment, index_done, join, read_from, operand, expr, products, sums, comparison, closing, exactly}
+use Rattle.cw_text.specs.Syntax.{Term, Terms, at, binary, block_of, call, first, height, height_of_all, more, name, none, statement_of, term_of, terms_of, unary, with_statement, with_term}
+use Rattle.cw_text.specs.Grammar.{Symbol, Values, a_term, read, pending, lifted, fault, act, arg_done, args, assign_done, assignment, more_args, call_done, index_done, join, some_terms, read_from, operand, expr, products, sums, comparison, closing, exactly}
 use Rattle.cw_text.specs.Parser.{ahead, taken, GoesOn}
 use Rattle.cw_text.specs.declared.fault.TextFault.{TextFault}
 use Rattle.cw_text.specs.declared.fault.TextRefusal.{TextRefusal}
@@ -53,6 +54,24 @@ pub read-index-high : (l : ℕ) (w : Word) (i : Term) (k : List Symbol) (vs : Va
 read-index-high l w i k vs (end_on n) h = rw (lt-ltb 200 (height i + 1) h) refl
 read-index-high l w i k vs (comes t n xs) h = rw (lt-ltb 200 (height i + 1) h) refl
 
+-- arguments behind a name
+pub read-call : (l : ℕ) (w : Word) (es : Terms) (k : List Symbol) (vs : Values) (xs : Lexemes) → height_of_all es + 1 ≤ 200 → read (act call_done ∷ read_from l ∷ k) (some_terms es ∷ a_term (name w) ∷ vs) xs ≡ read k (a_term (call w es) ∷ vs) xs
+read-call l w es k vs (end_on n) h = rw (le-ltb 200 (height_of_all es + 1) h) refl
+read-call l w es k vs (comes t n xs) h = rw (le-ltb 200 (height_of_all es + 1) h) refl
+
+pub read-call-high : (l : ℕ) (w : Word) (es : Terms) (k : List Symbol) (vs : Values) (xs : Lexemes) → 200 < height_of_all es + 1 → read (act call_done ∷ read_from l ∷ k) (some_terms es ∷ a_term (name w) ∷ vs) xs ≡ fault TooDeep l
+read-call-high l w es k vs (end_on n) h = rw (lt-ltb 200 (height_of_all es + 1) h) refl
+read-call-high l w es k vs (comes t n xs) h = rw (lt-ltb 200 (height_of_all es + 1) h) refl
+
+-- one more argument
+pub terms_of-append : (es : List Expr) (e : Expr) → terms_of (es ++ e ∷ []) ≡ with_term (terms_of es) (term_of e)
+terms_of-append [] e = refl
+terms_of-append (x ∷ es) e = ap (more (term_of x)) (terms_of-append es e)
+
+pub height_of_all-with : (es : Terms) (e : Term) → height_of_all (with_term es e) ≡ max (height_of_all es) (height e)
+height_of_all-with none e = omega arith
+height_of_all-with (more x es) e = omega (arith, height_of_all-with es e)
+
 -- a sign for a value behind the name that a statement begins with
 pub value_begins : (p : Parser) (k : List Symbol) (vs : Values) → p.cursor.token ≡ token.Terminal m.Assign →
     read (assignment ∷ k) vs (ahead p) ≡ read (exactly m.Assign ∷ expr ∷ exactly m.Semicolon ∷ act assign_done ∷ k) vs (ahead p)
@@ -75,6 +94,24 @@ read-expr k vs (comes (terminal a) l xs) = refl
 read-expr k vs (comes (bad b) l xs) = refl
 read-expr k vs (comes end l xs) = refl
 
+-- the next token is no bracket that closes
+abbrev pub NoClose : Lexemes → Type 0
+NoClose (comes (terminal m.ParenClose) l xs) = ⊥
+NoClose xs = Unit {0}
+
+-- arguments begin with an expression, unless their bracket ends at once
+pub read-args : (k : List Symbol) (vs : Values) (xs : Lexemes) → NoClose xs → read (args ∷ k) vs xs ≡ read (expr ∷ act arg_done ∷ more_args ∷ k) vs xs
+read-args k vs (end_on l) h = refl
+read-args k vs (comes (a_number n) l xs) h = refl
+read-args k vs (comes (a_name n) l xs) h = refl
+read-args k vs (comes (terminal m.ParenOpen) l xs) h = refl
+read-args k vs (comes (terminal m.Minus) l xs) h = refl
+read-args k vs (comes (terminal m.Bang) l xs) h = refl
+read-args k vs (comes (terminal m.ParenClose) l xs) h = absurd h
+read-args k vs (comes (terminal a) l xs) h = refl
+read-args k vs (comes (bad b) l xs) h = refl
+read-args k vs (comes end l xs) h = refl
+
 -- the end of a bracket is one terminal
 pub read-closing : (a : Terminal) (k : List Symbol) (vs : Values) (xs : Lexemes) → read (closing a ∷ k) vs xs ≡ read (exactly a ∷ k) vs xs
 read-closing a k vs (end_on l) = refl
@@ -84,7 +121,7 @@ read-closing a k vs (comes (terminal b) l xs) = refl
 read-closing a k vs (comes (bad b) l xs) = refl
 read-closing a k vs (comes end l xs) = refl
 
-pub ruleset steps = (taken_open, read-act, read-lifted, read-lifted-high, read-join, read-join-high, read-index, read-index-high, read-expr, read-closing, block_of-append)
+pub ruleset steps = (taken_open, read-act, read-lifted, read-lifted-high, read-join, read-join-high, read-index, read-index-high, read-call, read-call-high, terms_of-append, height_of_all-with, read-expr, read-closing, block_of-append)
 
 -- A reading that is as another one goes on as that one.
 pub goes_on : {T : Type 0} (r : Result T TextRefusal) (a b : Result Values TextFault) (behind : T → Lexemes → Result Values TextFault) (left : Lexemes) → a ≡ b → GoesOn r b behind left → GoesOn r a behind left

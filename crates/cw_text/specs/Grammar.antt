@@ -5,7 +5,7 @@
 -- the nearest symbol does not allow is the first fault. What has been read is a list of values, the newest first;
 -- the symbol `act` makes a tree of the newest ones. `expansion` is the grammar: what may come in place of a symbol
 -- once a token was read.
-use Rattle.std.specs.Prelude.{ℕ, zero, suc, ◌+◌, Bool, List, [], ◌∷◌, ◌++◌, Option, Some, None, Result, Ok, Err, if◌then◌else◌, nat_lt, codes, ℤ, pos, neg_ℤ}
+use Rattle.std.specs.Prelude.{ℕ, zero, suc, ◌+◌, Bool, List, [], ◌∷◌, ◌++◌, Option, Some, None, Result, Ok, Err, if◌then◌else◌, nat_lt, ℤ, pos, neg_ℤ}
 use Rattle.cw_text.specs.declared.ast.Op.{Op}
 use Rattle.cw_text.specs.declared.ast.Op.TheVariants as op
 use Rattle.cw_text.specs.declared.ast.Word.{Word}
@@ -14,7 +14,7 @@ use Rattle.cw_text.specs.declared.fault.TextKind.TheVariants.{BadNumber, Unexpec
 use Rattle.cw_text.specs.declared.fault.TextFault.{TextFault}
 use Rattle.cw_text.specs.declared.terminal.Terminal.{Terminal}
 use Rattle.cw_text.specs.declared.terminal.Terminal.TheVariants as m
-use Rattle.cw_text.specs.Syntax.{Term, number, name, at, unary, binary, Statement, declare, assign, assign_at, out, atomic, spawn, sync, Block, empty, Declaration, cell, func, with_statement, height}
+use Rattle.cw_text.specs.Syntax.{Term, number, name, at, call, unary, binary, Terms, none, Statement, declare, assign, assign_at, run, out, choose, repeat, atomic, spawn, sync, return, Block, empty, Declaration, cell, func, with_term, with_statement, height}
 use Rattle.cw_text.specs.Lexemes.{Token, Lexemes, end_on, comes, name as a_name, number as a_number, terminal, bad, end, spelling}
 use Rattle.std.specs.Str.{bytes_eq}
 
@@ -23,7 +23,10 @@ pub data Value : Type 0 where
   a_word : Word → Value
   a_size : ℕ → Value
   an_init : ℤ → Value
+  some_words : List Word → Value
+  a_line : ℕ → Value
   a_term : Term → Value
+  some_terms : Terms → Value
   a_block : Block → Value
   declared : List Declaration → Value
 
@@ -32,9 +35,9 @@ Values = List Value
 
 -- what may still come
 pub data Symbol : Type 0 where
-  items main_word cell_size size cell_init init negated : Symbol
-  block stmts assignment : Symbol
-  expr operand products sums comparison : Symbol
+  items cell_size size cell_init init negated params more_params : Symbol
+  block stmts assignment otherwise : Symbol
+  expr operand products sums comparison args more_args : Symbol
   -- what may follow a name in an expression; the line is that of the name
   brackets : ℕ → Symbol
   word : Symbol
@@ -45,7 +48,7 @@ pub data Symbol : Type 0 where
   act : (Values → Values) → Symbol
   -- the operand before was that of an operator, which stands on this line
   lifted : Op → ℕ → Symbol
-  -- the expression before is not too high; the line is that of its operator, or of the name of an element
+  -- the expression before is not too high; the line is that of its operator, or of the name of an element or a call
   read_from : ℕ → Symbol
 
 -- a token begins these symbols; or none of them is there; or the token may not stand here
@@ -59,6 +62,10 @@ pub data Next : Type 0 where
 abbrev pub push : Value → Values → Values
 push v vs = v ∷ vs
 
+abbrev pub without_newest : Values → Values
+without_newest [] = []
+without_newest (v ∷ vs) = vs
+
 abbrev pub with_size : ℕ → Values → Values
 with_size n (a_size z ∷ vs) = a_size n ∷ vs
 with_size n vs = vs
@@ -71,8 +78,12 @@ abbrev pub cell_done : Values → Values
 cell_done (an_init i ∷ a_size n ∷ a_word w ∷ declared ds ∷ vs) = declared (ds ++ cell w.name w.line n i ∷ []) ∷ vs
 cell_done vs = vs
 
+abbrev pub param_done : Values → Values
+param_done (a_word w ∷ some_words ws ∷ vs) = some_words (ws ++ w ∷ []) ∷ vs
+param_done vs = vs
+
 abbrev pub func_done : Values → Values
-func_done (a_block b ∷ a_word w ∷ declared ds ∷ vs) = declared (ds ++ func w.name w.line [] b ∷ []) ∷ vs
+func_done (a_block b ∷ some_words ps ∷ a_word w ∷ declared ds ∷ vs) = declared (ds ++ func w.name w.line ps b ∷ []) ∷ vs
 func_done vs = vs
 
 -- one more statement of the block that is open
@@ -92,9 +103,21 @@ abbrev pub assign_at_done : Values → Values
 assign_at_done (a_term e ∷ a_term i ∷ a_word w ∷ vs) = stated (assign_at w i e) vs
 assign_at_done vs = vs
 
+abbrev pub run_done : Values → Values
+run_done (some_terms es ∷ a_word w ∷ vs) = stated (run w es) vs
+run_done vs = vs
+
 abbrev pub out_done : Values → Values
 out_done (a_term e ∷ vs) = stated (out e) vs
 out_done vs = vs
+
+abbrev pub choose_done : Values → Values
+choose_done (a_block b ∷ a_block a ∷ a_term e ∷ vs) = stated (choose e a b) vs
+choose_done vs = vs
+
+abbrev pub repeat_done : Values → Values
+repeat_done (a_block b ∷ a_term e ∷ vs) = stated (repeat e b) vs
+repeat_done vs = vs
 
 abbrev pub atomic_done : Values → Values
 atomic_done (a_block b ∷ vs) = stated (atomic b) vs
@@ -107,6 +130,10 @@ spawn_done vs = vs
 abbrev pub sync_done : Values → Values
 sync_done vs = stated sync vs
 
+abbrev pub return_done : Values → Values
+return_done (a_term e ∷ a_line l ∷ vs) = stated (return l e) vs
+return_done vs = vs
+
 abbrev pub lift : Op → Values → Values
 lift o (a_term e ∷ vs) = a_term (unary o e) ∷ vs
 lift o vs = vs
@@ -118,6 +145,14 @@ join o vs = vs
 abbrev pub index_done : Values → Values
 index_done (a_term i ∷ a_term (name w) ∷ vs) = a_term (at w i) ∷ vs
 index_done vs = vs
+
+abbrev pub arg_done : Values → Values
+arg_done (a_term e ∷ some_terms es ∷ vs) = some_terms (with_term es e) ∷ vs
+arg_done vs = vs
+
+abbrev pub call_done : Values → Values
+call_done (some_terms es ∷ a_term (name w) ∷ vs) = a_term (call w es) ∷ vs
+call_done vs = vs
 
 abbrev pub newest_height : Values → ℕ
 newest_height (a_term e ∷ vs) = height e
@@ -190,15 +225,12 @@ operand_by k t l = refuse (why t)
 abbrev pub expansion : Symbol → Token → ℕ → Next
 expansion word (a_name n) l = take (act (push (a_word (word_at n l))) ∷ [])
 expansion word t l = refuse (why t)
--- so far the only function is main
-expansion main_word (a_name n) l = if bytes_eq n (codes "main") then take (act (push (a_word (word_at n l))) ∷ []) else refuse Unexpected
-expansion main_word t l = refuse (why t)
 expansion (exactly a) (terminal b) l = only a b
 expansion (exactly a) t l = refuse (why t)
 expansion (closing a) (terminal b) l = only a b
 expansion (closing a) t l = refuse (why t)
 expansion items (terminal m.Cell) l = take (word ∷ act (push (a_size 0)) ∷ cell_size ∷ act (push (an_init (pos 0))) ∷ cell_init ∷ exactly m.Semicolon ∷ act cell_done ∷ items ∷ [])
-expansion items (terminal m.Fn) l = take (main_word ∷ exactly m.ParenOpen ∷ closing m.ParenClose ∷ block ∷ act func_done ∷ items ∷ [])
+expansion items (terminal m.Fn) l = take (word ∷ exactly m.ParenOpen ∷ act (push (some_words [])) ∷ params ∷ closing m.ParenClose ∷ block ∷ act func_done ∷ items ∷ [])
 expansion items end l = take []
 expansion items t l = refuse (why t)
 expansion cell_size (terminal m.SquareOpen) l = take (size ∷ closing m.SquareClose ∷ [])
@@ -214,17 +246,28 @@ expansion init (a_number n) l = take (act (with_init (pos n)) ∷ [])
 expansion init t l = refuse (why t)
 expansion negated (a_number n) l = take (act (with_init (neg_ℤ (pos n))) ∷ [])
 expansion negated t l = refuse (why t)
+expansion params (a_name n) l = take (act (push (a_word (word_at n l))) ∷ act param_done ∷ more_params ∷ [])
+expansion params t l = skip
+expansion more_params (terminal m.Comma) l = take (word ∷ act param_done ∷ more_params ∷ [])
+expansion more_params t l = skip
 expansion block (terminal m.BraceOpen) l = take (act (push (a_block empty)) ∷ stmts ∷ closing m.BraceClose ∷ [])
 expansion block t l = refuse (why t)
 expansion stmts (terminal m.Let) l = take (word ∷ exactly m.Assign ∷ expr ∷ exactly m.Semicolon ∷ act let_done ∷ stmts ∷ [])
 expansion stmts (terminal m.Out) l = take (expr ∷ exactly m.Semicolon ∷ act out_done ∷ stmts ∷ [])
 expansion stmts (a_name n) l = take (act (push (a_word (word_at n l))) ∷ assignment ∷ stmts ∷ [])
+expansion stmts (terminal m.If) l = take (expr ∷ block ∷ act (push (a_block empty)) ∷ otherwise ∷ act choose_done ∷ stmts ∷ [])
+expansion stmts (terminal m.While) l = take (expr ∷ block ∷ act repeat_done ∷ stmts ∷ [])
 expansion stmts (terminal m.Atomic) l = take (block ∷ act atomic_done ∷ stmts ∷ [])
 expansion stmts (terminal m.Spawn) l = take (block ∷ act spawn_done ∷ stmts ∷ [])
 expansion stmts (terminal m.Sync) l = take (exactly m.Semicolon ∷ act sync_done ∷ stmts ∷ [])
+expansion stmts (terminal m.Return) l = take (act (push (a_line l)) ∷ expr ∷ exactly m.Semicolon ∷ act return_done ∷ stmts ∷ [])
 expansion stmts t l = skip
+-- without one the block that was pushed stays, which is empty
+expansion otherwise (terminal m.Else) l = take (act without_newest ∷ block ∷ [])
+expansion otherwise t l = skip
 expansion assignment (terminal m.Assign) l = take (expr ∷ exactly m.Semicolon ∷ act assign_done ∷ [])
 expansion assignment (terminal m.SquareOpen) l = take (expr ∷ closing m.SquareClose ∷ exactly m.Assign ∷ expr ∷ exactly m.Semicolon ∷ act assign_at_done ∷ [])
+expansion assignment (terminal m.ParenOpen) l = take (act (push (some_terms none)) ∷ args ∷ closing m.ParenClose ∷ exactly m.Semicolon ∷ act run_done ∷ [])
 expansion assignment t l = refuse (why t)
 expansion expr t l = operand_by rest_of_expr t l
 expansion operand t l = operand_by [] t l
@@ -235,7 +278,12 @@ expansion sums t l = skip
 expansion comparison (terminal a) l = infix_by (comparison_of a) (products ∷ sums ∷ []) [] l
 expansion comparison t l = skip
 expansion (brackets n) (terminal m.SquareOpen) l = take (expr ∷ closing m.SquareClose ∷ act index_done ∷ read_from n ∷ [])
+expansion (brackets n) (terminal m.ParenOpen) l = take (act (push (some_terms none)) ∷ args ∷ closing m.ParenClose ∷ act call_done ∷ read_from n ∷ [])
 expansion (brackets n) t l = skip
+expansion args (terminal m.ParenClose) l = skip
+expansion args t l = operand_by (rest_of_expr ++ act arg_done ∷ more_args ∷ []) t l
+expansion more_args (terminal m.Comma) l = take (expr ∷ act arg_done ∷ more_args ∷ [])
+expansion more_args t l = skip
 expansion (act f) t l = skip
 expansion (lifted o k) t l = skip
 expansion (read_from k) t l = skip

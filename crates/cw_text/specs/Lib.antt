@@ -8,4 +8,5 @@ pub mod Places
 pub mod Parser
 pub mod Rows
 pub mod Printed
+pub mod Written
 pub mod PrintedRow

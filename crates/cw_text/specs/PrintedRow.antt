@@ -1,6 +1,6 @@
 -- A worked tree, and the text that it is printed as: brackets stand where the tree needs them, and nowhere else.
 use Rattle.std.specs.Prelude.{◌≡◌, List, [], ◌∷◌, codes, pos, negsuc}
-use Rattle.cw_text.specs.Syntax.{Term, name, number, at, unary, binary, declare, assign, assign_at, out, atomic, spawn, sync, empty, first, Declaration, cell, func}
+use Rattle.cw_text.specs.Syntax.{Term, name, number, at, call, none, more, unary, binary, declare, assign, assign_at, run, out, choose, repeat, atomic, spawn, sync, return, empty, first, Declaration, cell, func}
 use Rattle.cw_text.specs.Lexemes.{keywords, lexemes}
 use Rattle.cw_text.specs.Printed.{printed}
 use Rattle.cw_text.specs.Rows.{word}
@@ -29,6 +29,8 @@ tree =
     cell (codes "a") 1 0 (pos 0)
     ∷ cell (codes "b") 1 0 (negsuc 2)
     ∷ cell (codes "c") 1 3 (pos 7)
+    ∷ func (codes "f") 1 [] empty
+    ∷ func (codes "g") 1 (word (codes "y") ∷ word (codes "z") ∷ []) (first (return 1 difference) empty)
     ∷ func (codes "main") 1 []
     (first (declare (word (codes "x")) (binary op.Eq less less))
     (first (assign (word (codes "a")) (binary op.Le difference product))
@@ -41,11 +43,15 @@ tree =
     (first (out (binary op.Add (unary op.Neg product) (unary op.Neg (number (pos 0)))))
     (first (assign_at (word (codes "c")) difference (element less))
     (first (out (binary op.Rem (binary op.Div a product) (unary op.Neg (element (unary op.Neg (element a))))))
+    (first (choose less (first (repeat difference (first (choose a empty empty) empty)) empty) (first (choose b empty (first sync empty)) empty))
+    (first (out (binary op.Mul (call (word (codes "g")) (more less (more (call (word (codes "f")) none) none))) (unary op.Not (call (word (codes "h")) (more product none)))))
+    (first (run (word (codes "g")) (more product (more difference none)))
+    (first (run (word (codes "f")) none)
     (first (atomic (first (spawn (first (out a) empty)) (first sync empty)))
-    empty))))))))))))
+    empty))))))))))))))))
     ∷ []
 
 abbrev pub Worked : Type 0
 Worked =
-    lexemes keywords (codes "cell a ; cell b = - 3 ; cell c [ 3 ] = 7 ; fn main ( ) { let x = ( a < b ) == ( a < b ) ; a = a - b <= a * b ; out ( a < b ) + ( a - b ) - ( a < b ) ; out a - b - a * b + ( a * b + 7 ) ; out ( a < b ) * ( a * b ) * ( a < b ) ; out ( a - b ) * - a * ( a - b ) ; out a * b * ! ( a < b ) ; out - - ! ( a - b ) ; out - ( a * b ) + - 0 ; c [ a - b ] = c [ a < b ] ; out a / ( a * b ) % - c [ - c [ a ] ] ; atomic { spawn { out a ; } sync ; } }")
+    lexemes keywords (codes "cell a ; cell b = - 3 ; cell c [ 3 ] = 7 ; fn f ( ) { } fn g ( y , z ) { return a - b ; } fn main ( ) { let x = ( a < b ) == ( a < b ) ; a = a - b <= a * b ; out ( a < b ) + ( a - b ) - ( a < b ) ; out a - b - a * b + ( a * b + 7 ) ; out ( a < b ) * ( a * b ) * ( a < b ) ; out ( a - b ) * - a * ( a - b ) ; out a * b * ! ( a < b ) ; out - - ! ( a - b ) ; out - ( a * b ) + - 0 ; c [ a - b ] = c [ a < b ] ; out a / ( a * b ) % - c [ - c [ a ] ] ; if a < b { while a - b { if a { } } } else { if b { } else { sync ; } } out g ( a < b , f ( ) ) * ! h ( a * b ) ; g ( a * b , a - b ) ; f ( ) ; atomic { spawn { out a ; } sync ; } }")
     ≡ printed tree

@@ -1,7 +1,7 @@
 -- Worked texts: what they read as, or their first fault.
 use Rattle.std.specs.Prelude.{Result, ◌++◌, pos, negsuc, replicate, ℕ, zero, suc, ◌≡◌, List, [], ◌∷◌, codes, Ok, Err}
 use Rattle.std.specs.List.{flat_map}
-use Rattle.cw_text.specs.Syntax.{Declaration, func, cell, Block, empty, first, declare, assign, assign_at, out, atomic, spawn, sync, Term, at, binary, name, number, unary}
+use Rattle.cw_text.specs.Syntax.{Declaration, func, cell, Block, empty, first, declare, assign, assign_at, run, out, choose, repeat, atomic, spawn, sync, return, Term, at, call, none, more, binary, name, number, unary}
 use Rattle.cw_text.specs.Lexemes.{end_on, comes, name as a_name, number as a_number, terminal, bad, lexemes, keywords}
 use Rattle.cw_text.specs.Grammar.{program_of}
 use Rattle.cw_text.specs.declared.fault.TextKind.{TextKind}
@@ -48,6 +48,37 @@ Arrays =
     × (read (codes "fn main() { out a[0]\n[1]; }") ≡ refused Unexpected 2)
     × (read (codes "fn main() { out (a)\n[0]; }") ≡ refused Unexpected 2)
 
+abbrev pub Choices : Type 0
+Choices =
+    (read (codes "fn main() { if a < 1 { out 1; } else { if b { } } while 1 { a = 2; } }") ≡ Ok (func (codes "main") 1 [] (first (choose (binary op.Lt (name (word (codes "a"))) (number (pos 1))) (first (out (number (pos 1))) empty) (first (choose (name (word (codes "b"))) empty empty) empty)) (first (repeat (number (pos 1)) (first (assign (word (codes "a")) (number (pos 2))) empty)) empty)) ∷ []))
+    × (read (codes "fn main() { if 1 { } else\nout 1; }") ≡ refused Unexpected 2)
+    × (read (codes "fn main() { if 1 { } else\nif 2 { } }") ≡ refused Unexpected 2)
+    × (read (codes "fn main() { if 1 { } else { }\nelse { } }") ≡ refused Unexpected 2)
+    × (read (codes "fn main() { if 1 { } sync;\nelse { } }") ≡ refused Unexpected 2)
+    × (read (codes "fn main() { if\n{ } }") ≡ refused Unexpected 2)
+    × (read (codes "fn main() { if 1\n; }") ≡ refused Unexpected 2)
+    × (read (codes "fn main() { while\n{ } }") ≡ refused Unexpected 2)
+    × (read (codes "fn main() { while 1\nout 1; }") ≡ refused Unexpected 2)
+    × (read (codes "fn main() { while 1 < 2\n< 3 { } }") ≡ refused Unexpected 2)
+
+abbrev pub Functions : Type 0
+Functions =
+    (read (codes "fn f(a, b) {\nreturn\na - b; } fn main() { f(); }") ≡ Ok (func (codes "f") 1 (word (codes "a") ∷ word (codes "b") ∷ []) (first (return 2 (binary op.Sub (name (record { name = codes "a"; line = 3 })) (name (record { name = codes "b"; line = 3 })))) empty) ∷ func (codes "main") 3 [] (first (run (record { name = codes "f"; line = 3 }) none) empty) ∷ []))
+    × (read (codes "fn f(n) { f(1, -f(2, 3) * f()); }") ≡ Ok (func (codes "f") 1 (word (codes "n") ∷ []) (first (run (word (codes "f")) (more (number (pos 1)) (more (binary op.Mul (unary op.Neg (call (word (codes "f")) (more (number (pos 2)) (more (number (pos 3)) none)))) (call (word (codes "f")) none)) none))) empty) ∷ []))
+    × (read (codes "fn main() { return\n; }") ≡ refused Unexpected 2)
+    × (read (codes "fn f\n{ }") ≡ refused Unexpected 2)
+    × (read (codes "fn f(\n1) { }") ≡ refused Unexpected 2)
+    × (read (codes "fn f(a,\n) { }") ≡ refused Unexpected 2)
+    × (read (codes "fn f(\n, a) { }") ≡ refused Unexpected 2)
+    × (read (codes "fn f(a\nb) { }") ≡ refused Unexpected 2)
+    × (read (codes "fn main() { f(1,\n); }") ≡ refused Unexpected 2)
+    × (read (codes "fn main() { f(\n, 1); }") ≡ refused Unexpected 2)
+    × (read (codes "fn main() { f(1\n}") ≡ refused Unexpected 2)
+    × (read (codes "fn main() { f()\n}") ≡ refused Unexpected 2)
+    × (read (codes "fn main() { f()\n= 1; }") ≡ refused Unexpected 2)
+    × (read (codes "fn main() { out f(1)\n(2); }") ≡ refused Unexpected 2)
+    × (read (codes "fn main() { out f[1]\n(2); }") ≡ refused Unexpected 2)
+
 -- n ones, with signs between them
 abbrev pub ones : ℕ → List ℕ
 ones n = flat_map {X = ℕ} (λ x. codes "1+") (replicate n 32) ++ codes "1"
@@ -87,11 +118,27 @@ elements (suc n) = at (word (codes "a")) (elements n)
 abbrev pub elements_begin : ℕ → List ℕ
 elements_begin n = flat_map {X = ℕ} (λ x. codes "a[") (replicate n 32)
 
+-- A call is one higher than its highest argument, and has no height where it is a statement. Its bracket is one of the
+-- 200 too.
+abbrev pub Calls : Type 0
+Calls =
+    (read (codes "fn main() { out f(1, " ++ (ones 198 ++ codes ", 1);@")) ≡ refused BadChar 1)
+    × (read (codes "fn main() { out\nf\n(1, " ++ (ones 199 ++ codes ", 1);")) ≡ refused TooDeep 2)
+    × (read (codes "fn main() { f(" ++ (ones 199 ++ codes ");@")) ≡ refused BadChar 1)
+    × (read (codes "fn main() { f(" ++ (elements_begin 198 ++ codes "f\n(")) ≡ refused TooDeep 2)
+
 -- The bracket of an index is one of the 200 too.
 abbrev pub Indexes : Type 0
 Indexes =
     (read (codes "fn main() { out " ++ (elements_begin 199 ++ codes "a\n[")) ≡ refused TooDeep 2)
     × (read (codes "fn main() { out " ++ (elements_begin 199 ++ (codes "1" ++ (replicate 199 93 ++ codes "; }")))) ≡ Ok (func (codes "main") 1 [] (first (out (elements 199)) empty) ∷ []))
+
+-- So are the braces of a choice and a loop. A test has its height as every other expression.
+abbrev pub Branches : Type 0
+Branches =
+    (read (codes "fn main() {" ++ (nested_begin 199 ++ codes "if 1\n{")) ≡ refused TooDeep 2)
+    × (read (codes "fn main() {" ++ (nested_begin 198 ++ codes "if 1 { } else { while 1\n{")) ≡ refused TooDeep 2)
+    × (read (codes "fn main() { while 1\n+" ++ (ones 199 ++ codes "{ }")) ≡ refused TooDeep 2)
 
 abbrev pub Refusals : Type 0
 Refusals =
@@ -100,8 +147,6 @@ Refusals =
     × (read (codes "fn main() { out 9223372036854775808; }") ≡ refused BadNumber 1)
     × (read (codes "fn main() {\n out 1 +; }") ≡ refused Unexpected 2)
     × (read (codes "fn main() {") ≡ refused Unexpected 1)
-    × (read (codes "fn f() {}") ≡ refused Unexpected 1)
-    × (read (codes "fn main() { main(); }") ≡ refused Unexpected 1)
     × (read (codes "fn main() { sync\n}") ≡ refused Unexpected 2)
     × (read (codes "fn main() { atomic\nout 1; }") ≡ refused Unexpected 2)
     × (read (codes "fn main() { spawn\n; }") ≡ refused Unexpected 2)

@@ -2,22 +2,30 @@
 use Rattle.std.specs.Prelude.{ℕ, ◌+◌, max, List, [], ◌∷◌, map, ℤ}
 use Rattle.cw_text.specs.declared.ast.Op.{Op}
 use Rattle.cw_text.specs.declared.ast.Word.{Word}
-use Rattle.cw_text.specs.declared.ast.Expr.{Expr}
-use Rattle.cw_text.specs.declared.ast.Expr.TheVariants.{Number, Name, At', Unary', Binary'}
+use Rattle.cw_text.specs.declared.ast.Expr.{Expr, Row_of-Expr, end_of-Expr, more_of-Expr}
+use Rattle.cw_text.specs.declared.ast.Expr.TheVariants.{Number, Name, At', Call', Unary', Binary'}
 use Rattle.cw_text.specs.declared.ast.Stmt.{Stmt, Row_of-Stmt, end_of-Stmt, more_of-Stmt}
 use Rattle.cw_text.specs.declared.ast.Stmt.TheVariants as stmt
 use Rattle.cw_text.specs.declared.ast.Item.{Item}
 use Rattle.cw_text.specs.declared.ast.Item.TheVariants.{Cell, Func}
 use Rattle.cw_text.specs.declared.ast.Ast.{Ast}
 
--- an expression
-pub data Term : Type 0 where
-  number : ℤ → Term
-  name : Word → Term
-  -- an element of an array
-  at : Word → Term → Term
-  unary : Op → Term → Term
-  binary : Op → Term → Term → Term
+mutual
+  -- an expression
+  pub data Term : Type 0 where
+    number : ℤ → Term
+    name : Word → Term
+    -- an element of an array
+    at : Word → Term → Term
+    -- the value of a function
+    call : Word → Terms → Term
+    unary : Op → Term → Term
+    binary : Op → Term → Term → Term
+
+  -- the arguments of a call
+  pub data Terms : Type 0 where
+    none : Terms
+    more : Term → Terms → Terms
 
 mutual
   pub data Statement : Type 0 where
@@ -25,10 +33,18 @@ mutual
     assign : Word → Term → Statement
     -- to an element of an array: its index, then its value
     assign_at : Word → Term → Term → Statement
+    -- a call, whose value is dropped
+    run : Word → Terms → Statement
     out : Term → Statement
+    -- what is done where the test holds, and what is done else
+    choose : Term → (then_done else_done : Block) → Statement
+    -- as long as the test holds
+    repeat : Term → Block → Statement
     atomic : Block → Statement
     spawn : Block → Statement
     sync : Statement
+    -- the end of a function with this value; its keyword stands on this line
+    return : ℕ → Term → Statement
 
   pub data Block : Type 0 where
     empty : Block
@@ -39,35 +55,61 @@ pub data Declaration : Type 0 where
   func : (name : List ℕ) (line : ℕ) (params : List Word) (body : Block) → Declaration
 
 -- one more at the end
+abbrev pub with_term : Terms → Term → Terms
+with_term none e = more e none
+with_term (more x es) e = more x (with_term es e)
+
 abbrev pub with_statement : Block → Statement → Block
 with_statement empty s = first s empty
 with_statement (first x b) s = first x (with_statement b s)
 
--- A number and a name have height 1, and every other form one more than its highest part.
-abbrev pub height : Term → ℕ
-height (number n) = 1
-height (name w) = 1
-height (at w i) = height i + 1
-height (unary op e) = height e + 1
-height (binary op l r) = max (height l) (height r) + 1
+-- A number, a name and a call without arguments have height 1, and every other form one more than its highest part.
+abbrev mutual
+  pub height : Term → ℕ
+  height (number n) = 1
+  height (name w) = 1
+  height (at w i) = height i + 1
+  height (call w es) = height_of_all es + 1
+  height (unary op e) = height e + 1
+  height (binary op l r) = max (height l) (height r) + 1
+
+  -- the greatest height, and 0 without arguments
+  pub height_of_all : Terms → ℕ
+  height_of_all none = 0
+  height_of_all (more e es) = max (height e) (height_of_all es)
 
 -- what stands in memory, seen as a tree
-abbrev pub term_of : Expr → Term
-term_of (Number n) = number n
-term_of (Name w) = name w
-term_of (At' w p i) = at w (term_of i)
-term_of (Unary' op p e) = unary op (term_of e)
-term_of (Binary' op p l q r) = binary op (term_of l) (term_of r)
+abbrev mutual
+  pub term_of : Expr → Term
+  term_of (Number n) = number n
+  term_of (Name w) = name w
+  term_of (At' w p i) = at w (term_of i)
+  term_of (Call' w s es) = call w (inner_terms_of es)
+  term_of (Unary' op p e) = unary op (term_of e)
+  term_of (Binary' op p l q r) = binary op (term_of l) (term_of r)
+
+  -- the arguments within an expression
+  pub inner_terms_of : {m : _} → Row_of-Expr m → Terms
+  inner_terms_of end_of-Expr = none
+  inner_terms_of (more_of-Expr e es) = more (term_of e) (inner_terms_of es)
+
+abbrev pub terms_of : List Expr → Terms
+terms_of [] = none
+terms_of (e ∷ es) = more (term_of e) (terms_of es)
 
 abbrev mutual
   pub statement_of : Stmt → Statement
   statement_of (stmt.Let w e) = declare w (term_of e)
   statement_of (stmt.Assign w e) = assign w (term_of e)
   statement_of (stmt.AssignAt w i e) = assign_at w (term_of i) (term_of e)
+  statement_of (stmt.Call w es) = run w (terms_of es.items)
   statement_of (stmt.Out e) = out (term_of e)
+  statement_of (stmt.If' e s a t b) = choose (term_of e) (inner_of a) (inner_of b)
+  statement_of (stmt.While' e s b) = repeat (term_of e) (inner_of b)
   statement_of (stmt.Atomic' s b) = atomic (inner_of b)
   statement_of (stmt.Spawn' s b) = spawn (inner_of b)
   statement_of stmt.Sync = sync
+  statement_of (stmt.Return l e) = return l (term_of e)
 
   -- the statements within a statement
   pub inner_of : {m : _} → Row_of-Stmt m → Block

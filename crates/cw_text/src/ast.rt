@@ -33,17 +33,48 @@ pub struct Word {
 
 #[derive(Drop)]
 pub enum Stmt {
-    Let { name: Word, value: Expr },
-    Assign { name: Word, value: Expr },
+    Let {
+        name: Word,
+        value: Expr,
+    },
+    Assign {
+        name: Word,
+        value: Expr,
+    },
     /// An assignment to an element of an array.
-    AssignAt { name: Word, at: Expr, value: Expr },
+    AssignAt {
+        name: Word,
+        at: Expr,
+        value: Expr,
+    },
+    /// A call, whose value is dropped.
+    Call {
+        name: Word,
+        args: Vec<Expr>,
+    },
     Out(Expr),
+    /// A choice: what is done where its test holds, and what is done else.
+    If {
+        test: Expr,
+        then: Vec<Stmt>,
+        other: Vec<Stmt>,
+    },
+    /// A loop: its body is done over and over, as long as its test holds.
+    While {
+        test: Expr,
+        body: Vec<Stmt>,
+    },
     /// An atomic block.
     Atomic(Vec<Stmt>),
     /// Work that a strand of its own does, beside what comes after it.
     Spawn(Vec<Stmt>),
     /// Waits for the work that was spawned in the innermost block that waits at its end.
     Sync,
+    /// The end of a function, with its keyword's line and the function's value.
+    Return {
+        line: u32,
+        value: Expr,
+    },
 }
 
 #[derive(Drop)]
@@ -54,6 +85,11 @@ pub enum Expr {
     At {
         name: Word,
         at: Box<Expr>,
+    },
+    /// The value of a function.
+    Call {
+        name: Word,
+        args: Vec<Expr>,
     },
     Unary {
         op: Op,

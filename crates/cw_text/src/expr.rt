@@ -1,9 +1,9 @@
-ghost use Rattle.std.specs.Prelude.{◌≡◌, ◌≤◌, ◌<◌, ◌∷◌, [], List, OnOk, IfSome, IfNone};
+ghost use Rattle.std.specs.Prelude.{◌≡◌, ◌≤◌, ◌<◌, ◌∷◌, [], true, false, List, OnOk, IfSome, IfNone};
 ghost use Rattle.cw_text.specs.Cursor.{count_of, rest_of};
-ghost use Rattle.cw_text.specs.Grammar.{Symbol, Values, a_term, act, brackets, closing, comparison, expr, index_done, join, lifted, operand, pending, products, push, read, read_from, sums, word_at};
+ghost use Rattle.cw_text.specs.Grammar.{Symbol, Values, a_term, act, arg_done, args, brackets, call_done, closing, comparison, expr, index_done, join, lifted, more_args, operand, pending, products, push, read, read_from, some_terms, sums, word_at};
 ghost use Rattle.cw_text.specs.Lexemes.{Lexemes};
 ghost use Rattle.cw_text.specs.Parser.{Begins, GoesOn, Parses, Skips, ahead, taken};
-ghost use Rattle.cw_text.specs.Syntax.{height as height_of, name as a_name, term_of};
+ghost use Rattle.cw_text.specs.Syntax.{height as height_of, height_of_all, name as a_name, none, term_of, terms_of};
 ghost use Rattle.cw_text.specs.declared.terminal.Terminal.TheVariants as Terminal;
 
 use crate::cursor::Token;
@@ -22,8 +22,17 @@ pub(crate) struct Measured {
     ghost low: { height ≤ 200 },
 }
 
+/// The arguments of a call, none of which is too high, and the greatest height.
+#[derive(Drop)]
+pub(crate) struct Arguments {
+    pub list: Vec<Expr>,
+    pub height: u32,
+    ghost exact: { height ≡ height_of_all (terms_of list.items) },
+    ghost low: { height ≤ 200 },
+}
+
 impl<'a> Parser<'a> {
-    /// An operand: a number, a name with its index or without, an expression in round brackets, or an operator and
+    /// An operand: a number, a name with its index, its arguments or neither, an expression in round brackets, or an operator and
     /// its operand.
     #[cycle(expression)]
     #[tactic(auto, using(crate::proofs::Steps::steps))]
@@ -52,7 +61,7 @@ impl<'a> Parser<'a> {
         }
     }
 
-    /// A name that is next, and its index, if it has one.
+    /// A name that is next, and its index or its arguments, if it has any.
     #[cycle(expression)]
     #[tactic(auto, using(crate::proofs::Steps::steps))]
     fn named(&mut self, letters: Letters<'a>) -> Result<Measured, TextRefusal>
@@ -71,10 +80,72 @@ impl<'a> Parser<'a> {
                 let at = self.bracketed(Terminal::SquareClose)?;
                 indexed(self.alloc, line, name, at)
             }
+            Token::Terminal(Terminal::ParenOpen) => {
+                let args = self.arguments()?;
+                called(line, name, args)
+            }
             _ => Ok(Measured {
                 expr: Expr::Name(name),
                 height: 1,
             }),
+        }
+    }
+
+    /// The arguments of a call, whose bracket is next.
+    #[cycle(expression)]
+    #[tactic(auto, using(crate::proofs::Steps::steps))]
+    pub(crate) fn arguments(&mut self) -> Result<Arguments, TextRefusal>
+        requires { self.old.depth ≤ 200 }
+        ensures same { OnOk result (self.new.depth ≡ self.old.depth) }
+        ensures shorter { OnOk result (count_of (ahead self.new) < count_of (rest_of (ahead self.old))) }
+        ensures read { (k : List Symbol) (vs : Values) → pending k ≡ self.old.depth →
+            let line = self.old.cursor.line in
+            GoesOn result (taken (act (push (some_terms none)) ∷ args ∷ closing Terminal.ParenClose ∷ k) vs line (ahead self.old))
+            (λ a. read k (some_terms (terms_of a.list.items) ∷ vs)) (ahead self.new) }
+    {
+        self.enter()?;
+        let args = self.argument_list()?;
+        self.expect(Terminal::ParenClose)?;
+        self.depth -= 1;
+        Ok(args)
+    }
+
+    /// Expressions with commas between them, or none.
+    #[cycle(expression)]
+    #[tactic(auto, using(crate::proofs::Steps::steps))]
+    fn argument_list(&mut self) -> Result<Arguments, TextRefusal>
+        requires { self.old.depth ≤ 200 }
+        ensures same { OnOk result (self.new.depth ≡ self.old.depth) }
+        ensures shorter { OnOk result (count_of (ahead self.new) ≤ count_of (ahead self.old)) }
+        ensures read { (k : List Symbol) (vs : Values) → pending k ≡ self.old.depth →
+            GoesOn result (read (args ∷ k) (some_terms none ∷ vs) (ahead self.old))
+            (λ a. read k (some_terms (terms_of a.list.items) ∷ vs)) (ahead self.new) }
+    {
+        let mut list = Vec::new(self.alloc);
+        if self.has_no_argument() {
+            return Ok(Arguments { list, height: 0 });
+        }
+        let first = self.expr()?;
+        let mut height = first.height;
+        list.push(first.expr)?;
+        while let Token::Terminal(Terminal::Comma) = self.cursor.token {
+            self.cursor.advance();
+            let next = self.expr()?;
+            height = height.max(next.height);
+            list.push(next.expr)?;
+        }
+        Ok(Arguments { list, height })
+    }
+
+    /// The bracket of arguments ends before the first one.
+    fn has_no_argument(&self) -> bool
+        ensures none { result ≡ true → Skips self.now args }
+        ensures some { result ≡ false → (k : List Symbol) (vs : Values) →
+            read (args ∷ k) vs (ahead self.now) ≡ read (expr ∷ act arg_done ∷ more_args ∷ k) vs (ahead self.now) }
+    {
+        match self.cursor.token {
+            Token::Terminal(Terminal::ParenClose) => true,
+            _ => false,
         }
     }
 
@@ -240,6 +311,26 @@ fn indexed(alloc: Global, line: u32, name: Word, at: Measured) -> Result<Measure
         expr: Expr::At {
             name,
             at: Box::new(alloc, at.expr)?,
+        },
+    })
+}
+
+/// A call, whose name stands on this line.
+#[tactic(auto, using(crate::proofs::Blocks::inner_is_terms, crate::proofs::Steps::steps))]
+fn called(line: u32, name: Word, args: Arguments) -> Result<Measured, TextRefusal>
+    ensures { (k : List Symbol) (vs : Values) (xs : Lexemes) →
+        let parts = some_terms (terms_of args.list.items) ∷ a_term (a_name name) ∷ vs in
+        GoesOn result (read (act call_done ∷ read_from line ∷ k) parts xs)
+        (λ e. read k (a_term (term_of e.expr) ∷ vs)) xs }
+{
+    if args.height == DEEPEST {
+        return Err(refusal(TextKind::TooDeep, line));
+    }
+    Ok(Measured {
+        height: args.height + 1,
+        expr: Expr::Call {
+            name,
+            args: args.list,
         },
     })
 }

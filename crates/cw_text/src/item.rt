@@ -1,6 +1,6 @@
 ghost use Rattle.std.specs.Prelude.{◌≡◌, ◌≤◌, ◌<◌, ◌++◌, ◌∷◌, [], List, OnOk, IfOk, OnSome, pos};
 ghost use Rattle.cw_text.specs.Cursor.{count_of, rest_of};
-ghost use Rattle.cw_text.specs.Grammar.{Symbol, Values, a_size, a_word, act, an_init, block, cell_done, cell_init, cell_size, closing, declared, exactly, func_done, init, items, main_word, negated, pending, push, read, size, word};
+ghost use Rattle.cw_text.specs.Grammar.{Symbol, Values, a_size, act, an_init, block, cell_done, cell_init, cell_size, closing, declared, exactly, func_done, init, items, negated, params, pending, push, read, size, some_words, word};
 ghost use Rattle.cw_text.specs.Parser.{GoesOn, ahead, item_read};
 ghost use Rattle.cw_text.specs.Syntax.{Declaration, declaration_of};
 ghost use Rattle.cw_text.specs.declared.terminal.Terminal.TheVariants as Terminal;
@@ -154,44 +154,49 @@ impl<'a> Parser<'a> {
         }
     }
 
-    /// The function `main`, whose keyword is next.
+    /// A function, whose keyword is next.
     #[tactic(auto, using(crate::proofs::Steps::steps))]
     fn function(&mut self) -> Result<Item, TextRefusal>
         requires { self.old.depth < 200 }
         ensures same { OnOk result (self.new.depth ≡ self.old.depth) }
         ensures shorter { OnOk result (count_of (ahead self.new) < count_of (rest_of (ahead self.old))) }
         ensures read { (k : List Symbol) (vs : Values) (ds : List Declaration) → pending k ≡ self.old.depth →
-            let parts = main_word ∷ exactly Terminal.ParenOpen ∷ closing Terminal.ParenClose ∷ block ∷ act func_done ∷ k in
+            let parts = word ∷ exactly Terminal.ParenOpen ∷ act (push (some_words [])) ∷ params ∷ closing Terminal.ParenClose ∷ block ∷ act func_done ∷ k in
             GoesOn result (read parts (declared ds ∷ vs) (rest_of (ahead self.old)))
             (λ i. read k (declared (ds ++ declaration_of i ∷ []) ∷ vs)) (ahead self.new) }
     {
         self.cursor.advance();
-        let Word { name, line } = self.main_word()?;
+        let Word { name, line } = self.word()?;
         self.expect(Terminal::ParenOpen)?;
+        let params = self.params()?;
         self.expect(Terminal::ParenClose)?;
         let body = self.block()?;
         Ok(Item::Func {
             name,
             line,
-            params: Vec::new(self.alloc),
+            params,
             body,
         })
     }
 
-    /// The name of a function, of which there is only `main`.
-    fn main_word(&mut self) -> Result<Word, TextRefusal>
+    /// Names with commas between them, or none.
+    #[tactic(auto, using(crate::proofs::Steps::steps))]
+    fn params(&mut self) -> Result<Vec<Word>, TextRefusal>
         ensures same { OnOk result (self.new.depth ≡ self.old.depth) }
-        ensures shorter { OnOk result (count_of (ahead self.new) < count_of (ahead self.old)) }
+        ensures shorter { OnOk result (count_of (ahead self.new) ≤ count_of (ahead self.old)) }
         ensures read { (k : List Symbol) (vs : Values) → pending k ≤ 200 →
-            GoesOn result (read (main_word ∷ k) vs (ahead self.old))
-            (λ w. read k (a_word w ∷ vs)) (ahead self.new) }
+            GoesOn result (read (params ∷ k) (some_words [] ∷ vs) (ahead self.old))
+            (λ ws. read k (some_words ws.items ∷ vs)) (ahead self.new) }
     {
-        let token = self.cursor.token;
-        match token {
-            Token::Name(letters) if letters.bytes == b"main".as_slice() => {
-                Ok(self.word_of(letters)?)
-            }
-            _ => Err(self.unexpected()),
+        let mut list = Vec::new(self.alloc);
+        let Token::Name(letters) = self.cursor.token else {
+            return Ok(list);
+        };
+        list.push(self.word_of(letters)?)?;
+        while let Token::Terminal(Terminal::Comma) = self.cursor.token {
+            self.cursor.advance();
+            list.push(self.word()?)?;
         }
+        Ok(list)
     }
 }

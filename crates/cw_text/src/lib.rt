@@ -1,11 +1,12 @@
 //! Texts of programs: the syntax tree, and the reader that gives it.
-//! A program is cells, plain ones and arrays, and `main`, with the statements `let`, assignment, `out`, `atomic`,
-//! `spawn` and `sync`.
+//! A program is cells, plain ones and arrays, and functions, with the statements `let`, assignment, call, `out`, `if`,
+//! `while`, `atomic`, `spawn`, `sync` and `return`.
 //! Stands on `cw_base`.
 //! Contracts cite `specs/Text.antt`, which says what a whole text reads as, over `specs/Lexemes.antt` (tokens),
 //! `specs/Grammar.antt` (which tokens are a program, and the first fault of those that are none) and `specs/Syntax.antt`
-//! (the tree without its places in memory). `specs/Places.antt` says of the tokens where in the text they stand, and
-//! `specs/Printed.antt` which tokens a tree is printed as.
+//! (the tree without its places in memory). `specs/Written.antt` is the grammar alternative by alternative,
+//! `specs/Places.antt` says of the tokens where in the text they stand, and `specs/Printed.antt` which tokens a tree is
+//! printed as.
 #![tactic(auto)]
 
 ghost use Rattle.std.specs.Prelude.{ℕ, List, ◌≡◌};
@@ -13,11 +14,12 @@ ghost use Rattle.cw_text.specs.declared.terminal.Terminal.{Terminal};
 ghost use Rattle.cw_text.specs.Lexemes.{Lexemes, lexemes};
 ghost use Rattle.cw_text.specs.Places.{Follow};
 ghost use Rattle.cw_text.specs.Grammar.{program_of};
-ghost use Rattle.cw_text.specs.Printed.{HasSmallNumbers, IsReadable, only_name_lines, printed};
+ghost use Rattle.cw_text.specs.Printed.{HasSmallNumbers, IsReadable, only_tree_lines, printed};
 ghost use Rattle.cw_text.specs.PrintedRow.{Worked};
 ghost use Rattle.cw_text.specs.Syntax.{Declaration};
 ghost use Rattle.cw_text.specs.Text.{program};
-ghost use Rattle.cw_text.specs.Rows.{Tokens, Programs, Arrays, Heights, Brackets, Indexes, Refusals};
+ghost use Rattle.cw_text.specs.Written.{IsProgram};
+ghost use Rattle.cw_text.specs.Rows.{Tokens, Programs, Arrays, Choices, Functions, Heights, Brackets, Indexes, Branches, Calls, Refusals};
 
 mod ast;
 mod cursor;
@@ -42,9 +44,13 @@ pub fn worked_texts()
     ensures tokens { Tokens }
     ensures programs { Programs }
     ensures arrays { Arrays }
+    ensures choices { Choices }
+    ensures functions { Functions }
     ensures heights { Heights }
     ensures brackets { Brackets }
     ensures indexes { Indexes }
+    ensures branches { Branches }
+    ensures calls { Calls }
     ensures refusals { Refusals }
 {}
 
@@ -53,11 +59,17 @@ pub fn tokens_follow()
     ensures { (words : List Terminal) (text : List ℕ) → Follow words text 0 (lexemes words text) }
 {}
 
+/// Tokens are read as a tree exactly where they spell it, by the alternatives of the grammar.
+pub fn read_is_written()
+    ensures written { (xs : Lexemes) (ds : List Declaration) → program_of xs ≡ Ok ds → IsProgram ds xs }
+    ensures read { (xs : Lexemes) (ds : List Declaration) → IsProgram ds xs → program_of xs ≡ Ok ds }
+{}
+
 /// Reading undoes printing: a tree's tokens read as that tree, with its lines, if it can be read at all. The tree of
-/// whatever was read can be. Of the lines of tokens only those of names count.
+/// whatever was read can be. Of the lines of tokens only those of names and of `return` count.
 pub fn printed_is_read()
     ensures read { (ds : List Declaration) → IsReadable ds → program_of (printed ds) ≡ Ok ds }
-    ensures lines { (xs ys : Lexemes) (ds : List Declaration) → only_name_lines xs ≡ only_name_lines ys →
+    ensures lines { (xs ys : Lexemes) (ds : List Declaration) → only_tree_lines xs ≡ only_tree_lines ys →
         program_of xs ≡ Ok ds → program_of ys ≡ Ok ds }
     ensures readable { (xs : Lexemes) (ds : List Declaration) →
         HasSmallNumbers xs → program_of xs ≡ Ok ds → IsReadable ds }

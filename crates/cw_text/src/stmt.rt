@@ -1,8 +1,8 @@
 ghost use Rattle.std.specs.Prelude.{◌≡◌, ◌≤◌, ◌<◌, ◌∷◌, [], List, OnOk, IfNone, IfOk, OnSome};
 ghost use Rattle.cw_text.specs.Cursor.{count_of, rest_of};
-ghost use Rattle.cw_text.specs.Grammar.{Symbol, Values, a_block, a_term, a_word, act, assignment, atomic_done, block, exactly, expr, let_done, out_done, pending, push, read, spawn_done, stated, stmts, sync_done, word, word_at};
+ghost use Rattle.cw_text.specs.Grammar.{Symbol, Values, a_block, a_line, a_term, a_word, act, assignment, atomic_done, block, choose_done, exactly, expr, let_done, otherwise, out_done, pending, push, read, repeat_done, return_done, spawn_done, stated, stmts, sync_done, word, word_at};
 ghost use Rattle.cw_text.specs.Parser.{GoesOn, Parses, ahead, statement_read};
-ghost use Rattle.cw_text.specs.Syntax.{block_of, statement_of, term_of};
+ghost use Rattle.cw_text.specs.Syntax.{block_of, empty, statement_of, term_of};
 ghost use Rattle.cw_text.specs.declared.terminal.Terminal.TheVariants as Terminal;
 
 use crate::cursor::Token;
@@ -49,10 +49,13 @@ impl<'a> Parser<'a> {
         match self.cursor.token {
             Token::Terminal(Terminal::Let) => Ok(Some(self.let_statement()?)),
             Token::Terminal(Terminal::Out) => Ok(Some(self.out_statement()?)),
+            Token::Terminal(Terminal::If) => Ok(Some(self.if_statement()?)),
+            Token::Terminal(Terminal::While) => Ok(Some(self.while_statement()?)),
             Token::Terminal(Terminal::Atomic) => Ok(Some(self.atomic_statement()?)),
             Token::Terminal(Terminal::Spawn) => Ok(Some(self.spawn_statement()?)),
             Token::Terminal(Terminal::Sync) => Ok(Some(self.sync_statement()?)),
-            Token::Name(letters) => Ok(Some(self.assignment(letters)?)),
+            Token::Terminal(Terminal::Return) => Ok(Some(self.return_statement()?)),
+            Token::Name(letters) => Ok(Some(self.named_statement(letters)?)),
             _ => Ok(None),
         }
     }
@@ -84,6 +87,60 @@ impl<'a> Parser<'a> {
         let value = self.expr()?;
         self.expect(Terminal::Semicolon)?;
         Ok(Stmt::Out(value.expr))
+    }
+
+    /// A choice, whose keyword is next.
+    #[cycle(statement)]
+    #[tactic(auto, using(crate::proofs::Blocks::inner_is_block, crate::proofs::Steps::steps))]
+    fn if_statement(&mut self) -> Result<Stmt, TextRefusal>
+        requires { self.old.depth ≤ 200 }
+        ensures same { OnOk result (self.new.depth ≡ self.old.depth) }
+        ensures shorter { OnOk result (count_of (ahead self.new) < count_of (rest_of (ahead self.old))) }
+        ensures read { Parses result self.old.depth
+            (expr ∷ block ∷ act (push (a_block empty)) ∷ otherwise ∷ act choose_done ∷ [])
+            (λ s. stated (statement_of s)) (rest_of (ahead self.old)) (ahead self.new) }
+    {
+        self.cursor.advance();
+        let test = self.expr()?.expr;
+        let then = self.block()?;
+        let other = self.otherwise()?;
+        Ok(Stmt::If { test, then, other })
+    }
+
+    /// What is done where a test does not hold: a block behind `else`, or nothing.
+    #[cycle(statement)]
+    #[tactic(auto, using(crate::proofs::Steps::steps))]
+    fn otherwise(&mut self) -> Result<Vec<Stmt>, TextRefusal>
+        requires { self.old.depth ≤ 200 }
+        ensures same { OnOk result (self.new.depth ≡ self.old.depth) }
+        ensures shorter { OnOk result (count_of (ahead self.new) ≤ count_of (ahead self.old)) }
+        ensures read { (k : List Symbol) (vs : Values) → pending k ≡ self.old.depth →
+            GoesOn result (read (otherwise ∷ k) (a_block empty ∷ vs) (ahead self.old))
+            (λ b. read k (a_block (block_of b.items) ∷ vs)) (ahead self.new) }
+    {
+        match self.cursor.token {
+            Token::Terminal(Terminal::Else) => {
+                self.cursor.advance();
+                self.block()
+            }
+            _ => Ok(Vec::new(self.alloc)),
+        }
+    }
+
+    /// A loop, whose keyword is next.
+    #[cycle(statement)]
+    #[tactic(auto, using(crate::proofs::Blocks::inner_is_block, crate::proofs::Steps::steps))]
+    fn while_statement(&mut self) -> Result<Stmt, TextRefusal>
+        requires { self.old.depth ≤ 200 }
+        ensures same { OnOk result (self.new.depth ≡ self.old.depth) }
+        ensures shorter { OnOk result (count_of (ahead self.new) < count_of (rest_of (ahead self.old))) }
+        ensures read { Parses result self.old.depth (expr ∷ block ∷ act repeat_done ∷ [])
+            (λ s. stated (statement_of s)) (rest_of (ahead self.old)) (ahead self.new) }
+    {
+        self.cursor.advance();
+        let test = self.expr()?.expr;
+        let body = self.block()?;
+        Ok(Stmt::While { test, body })
     }
 
     /// An atomic block, whose keyword is next.
@@ -129,9 +186,26 @@ impl<'a> Parser<'a> {
         Ok(Stmt::Sync)
     }
 
-    /// An assignment, whose name is next.
+    /// The end of a function with its value, whose keyword is next.
+    #[tactic(auto, using(crate::proofs::Steps::steps))]
+    fn return_statement(&mut self) -> Result<Stmt, TextRefusal>
+        requires { self.old.depth ≤ 200 }
+        ensures same { OnOk result (self.new.depth ≡ self.old.depth) }
+        ensures shorter { OnOk result (count_of (ahead self.new) < count_of (rest_of (ahead self.old))) }
+        ensures read { Parses result self.old.depth
+            (act (push (a_line self.old.cursor.line)) ∷ expr ∷ exactly Terminal.Semicolon ∷ act return_done ∷ [])
+            (λ s. stated (statement_of s)) (rest_of (ahead self.old)) (ahead self.new) }
+    {
+        let line = self.cursor.line;
+        self.cursor.advance();
+        let value = self.expr()?.expr;
+        self.expect(Terminal::Semicolon)?;
+        Ok(Stmt::Return { line, value })
+    }
+
+    /// An assignment or a call, whose name is next.
     #[tactic(auto, using(crate::proofs::Steps::steps, crate::proofs::Steps::value_begins))]
-    fn assignment(&mut self, letters: Letters<'a>) -> Result<Stmt, TextRefusal>
+    fn named_statement(&mut self, letters: Letters<'a>) -> Result<Stmt, TextRefusal>
         requires { self.old.depth ≤ 200 }
         ensures same { OnOk result (self.new.depth ≡ self.old.depth) }
         ensures shorter { OnOk result (count_of (ahead self.new) < count_of (rest_of (ahead self.old))) }
@@ -150,6 +224,11 @@ impl<'a> Parser<'a> {
                 let at = self.bracketed(Terminal::SquareClose)?.expr;
                 let value = self.assigned_value()?;
                 Ok(Stmt::AssignAt { name, at, value })
+            }
+            Token::Terminal(Terminal::ParenOpen) => {
+                let args = self.arguments()?.list;
+                self.expect(Terminal::Semicolon)?;
+                Ok(Stmt::Call { name, args })
             }
             _ => Err(self.unexpected()),
         }

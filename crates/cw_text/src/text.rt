@@ -22,8 +22,9 @@ fn line_of(text: &[u8], place: usize) -> u32
 
 /// Reads a program. The answer is the tree that the text spells, or the text's first fault with its line.
 ///
-/// A program is cells, plain ones and arrays, and the function `main`. Its statements are `let`, assignments to names
-/// and to elements of arrays, `out`, `sync`, and the blocks `atomic` and `spawn`, which may stand in one another.
+/// A program is cells, plain ones and arrays, and functions, each with its parameters. Its statements are `let`,
+/// assignments to names and to elements of arrays, calls, `out`, `sync`, `return`, the choice `if` with its `else` or
+/// without, the loop `while`, and the blocks `atomic` and `spawn`. Blocks may stand in one another.
 ///
 /// A text has at most 1,048,576 bytes, or it is `TooLong`, on line 0. Then a byte that is in no whole UTF-8 character
 /// is `NotUtf8`, wherever it stands. Only then the tokens are read one by one, up to the first that is no token

@@ -1,7 +1,7 @@
+mod Asked
 mod Given
-mod Limits
 mod Numbers
+mod OverSource
 mod Parameters
 pub mod Pieces
 pub mod Statuses
-mod Wordless

@@ -1,38 +1,52 @@
--- Main of a text that can be read has no parameters.
-use Rattle.std.proofs.Common.{◌≡◌, ℕ, Bool, true, false, cond, List, [], ◌∷◌, length, Option, Some, sym, ap, ◌∙◌, subst}
-use Rattle.std.specs.Prelude.{codes}
-use Rattle.std.specs.Str.{bytes_eq}
+-- How many parameters main has: in the source as in the code that it is compiled to.
+use Rattle.std.proofs.Common.{◌≡◌, ◌∙◌, ℕ, ℤ, List, length, Option, Some, None, IfSome, IsSomeAnd, ap, subst, sym}
+use Rattle.std.specs.Prelude.{slice_get}
+use Rattle.std.specs.Result.{result_ok}
 use Rattle.std.proofs.lemmas.Option.{same_Some}
-use Rattle.std.proofs.lemmas.List.Elements.{All-head, All-tail}
-use Rattle.cw_text.specs.declared.ast.Word.{Word}
-use Rattle.cw_text.specs.Syntax.{Declaration, cell, func}
-use Rattle.cw_text.specs.Printed.{IsReadable, IsReadableDeclaration}
-use Rattle.cw_text.proofs.ReadPrograms.{text_is_readable}
-use Rattle.cw_code.specs.declared.program.Program.{Program}
+use Rattle.cw_text.specs.Syntax.{Declaration}
 use Rattle.cw_code.specs.declared.instruction.Code.{Code}
-use Rattle.cw_strand.specs.Meaning.{Function, function_of}
-use Rattle.cw_strand.specs.Coded.{MainTakes}
-use Rattle.cw_strand.specs.Compilation.{code_of}
+use Rattle.cw_code.specs.declared.instruction.Func.{Func}
+use Rattle.cw_code.specs.declared.program.Program.{Program}
+use Rattle.cw_strand.specs.Coded as coded
+use Rattle.cw_strand.specs.Compilation.{code_of, main_function}
+use Rattle.cw_strand.specs.Meaning.{MainTakes, params_in}
+use Rattle.cw_strand.specs.Programs.{IsProgramOf}
 use Rattle.cw_strand.proofs.MainCode.{main_code}
 use Rattle.cw_serial.specs.Jobs.{Takes}
-use Rattle.cw_top.specs.Refusals.{Spells}
+use Rattle.cw_top.specs.Refusals.{AsksFor, IsMisfit, Spells, named, of_reading}
 
-first_or_later : (b : Bool) (f g : Function) (o : Option Function) → cond b (Some f) o ≡ Some g → f.params ≡ [] → (o ≡ Some g → g.params ≡ []) → g.params ≡ []
-first_or_later true f g o is none later = subst (λ (h : Function). h.params ≡ []) (same_Some f g is) none
-first_or_later false f g o is none later = later is
+module _ (ds : List Declaration) (p : Program) (is : IsProgramOf ds p) (n : ℕ) where
+  code_takes : MainTakes ds n → Takes p n
+  code_takes h =
+      let m = main_code ds is.named in
+      let same : m.func.params ≡ n = m.params ∙ (sym (ap params_in m.found) ∙ h) in
+      let takes : coded.MainTakes p.code p.main n =
+      subst (λ (c : Code). coded.MainTakes c p.main n) (sym is.code)
+      (subst (λ (k : ℕ). coded.MainTakes (code_of ds) k n) (sym is.main) (m.func, m.numbered, same)) in
+      takes
 
-readable_params : (ds : List Declaration) (n : List ℕ) (f : Function) → IsReadable ds → function_of ds n ≡ Some f → f.params ≡ []
-readable_params [] n f h is = absurd cc
-readable_params (cell x l len i ∷ ds) n f h is = readable_params ds n f (All-tail IsReadableDeclaration (cell x l len i) ds h) is
-readable_params (func x l ps b ∷ ds) n f h is =
-    first_or_later (bytes_eq x n) (record { params = ps; body = b }) f (function_of ds n) is (All-head IsReadableDeclaration (func x l ps b) ds h).1
-    (readable_params ds n f (All-tail IsReadableDeclaration (func x l ps b) ds h))
+  pub source_takes : Takes p n → MainTakes ds n
+  source_takes (f, there, params) =
+      let m = main_code ds is.named in
+      let at : slice_get (code_of ds).funcs (main_function ds) ≡ Some f = sym (ap (λ (c : Code). slice_get c.funcs p.main) is.code ∙ ap (slice_get (code_of ds).funcs) is.main) ∙ there in
+      let same : m.func ≡ f = same_Some m.func f (sym m.numbered ∙ at) in
+      ap params_in m.found ∙ (sym m.params ∙ (ap (λ (g : Func). g.params) same ∙ params))
 
-pub no_words : (bytes : List ℕ) (p : Program) → Spells bytes p → Takes p 0
-no_words bytes p (ds, (spelled, is)) =
-    let m = main_code ds is.named in
-    let none = readable_params ds (codes "main") m.function (text_is_readable bytes ds spelled) m.found in
-    let takes : MainTakes p.code p.main 0 =
-    subst (λ (c : Code). MainTakes c p.main 0) (sym is.code)
-    (subst (λ (n : ℕ). MainTakes (code_of ds) n 0) (sym is.main) (m.func, m.numbered, m.params ∙ ap (λ (ps : List Word). length ps) none)) in
-    takes
+module _ (n : ℕ) (bytes : List ℕ) (p : Program) (spells : Spells bytes p) where
+  pub takes : AsksFor bytes n → Takes p n
+  takes asks =
+      let same : asks.0 ≡ spells.0 = same_Some asks.0 spells.0 (sym (ap result_ok asks.1.0) ∙ ap result_ok spells.1.0) in
+      code_takes spells.0 p spells.1.1 n (subst (λ (ds : List Declaration). MainTakes ds n) same asks.1.1)
+
+  pub asks : Takes p n → AsksFor bytes n
+  asks t = (spells.0, (spells.1.0, source_takes spells.0 p spells.1.1 n t))
+
+-- the words do not fit where the program takes another number of them
+pub misfits : (left : Option (List ℕ)) (words : List ℤ) (p : Program) → IfSome left (λ bytes. Spells bytes p) → (Takes p (length words) → ⊥) → IfSome left (IsMisfit words)
+misfits None words p spells other = tt
+misfits (Some bytes) words p spells other = (ap of_reading spells.1.0 ∙ ap named spells.1.1.named, λ a. other (takes (length words) bytes p spells a))
+
+-- words that a program takes do fit
+pub fits : (left : Option (List ℕ)) (words : List ℤ) (p : Program) → IfSome left (λ bytes. Spells bytes p) → Takes p (length words) → IsSomeAnd left (IsMisfit words) → ⊥
+fits None words p spells t misfit = misfit
+fits (Some bytes) words p spells t misfit = misfit.1 (asks (length words) bytes p spells t)

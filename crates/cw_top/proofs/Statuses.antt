@@ -1,5 +1,5 @@
 -- What the statuses say, from the causes of the notes.
-use Rattle.std.proofs.Common.{◌≡◌, ◌≢◌, ◌⊎◌, inl, inr, List, ℕ, ℤ, Option, Some, None, IsSomeAnd, IfSome, ◌↔◌, sym, ◌∙◌, subst}
+use Rattle.std.proofs.Common.{◌≡◌, ◌≢◌, ◌⊎◌, inl, inr, List, length, ℕ, ℤ, Option, Some, None, IsSomeAnd, IfSome, sym, ◌∙◌, subst}
 use Rattle.cw_io.specs.Outside.{Appends}
 use Rattle.cw_code.specs.declared.CellInfo.{CellInfo}
 use Rattle.cw_code.specs.declared.Limits.{Limits}
@@ -8,6 +8,7 @@ use Rattle.cw_tree.specs.declared.picks.Picks.{Picks}
 use Rattle.cw_tree.specs.Shape.{IsTree}
 use Rattle.cw_serial.specs.declared.ends.SerialEnd.{SerialEnd}
 use Rattle.cw_serial.specs.declared.ends.SerialEnd.TheVariants as last
+use Rattle.cw_serial.specs.Jobs.{Takes}
 use Rattle.cw_record.specs.declared.record.Record.{Record}
 use Rattle.cw_record.specs.declared.record_end.RecordEnd.{RecordEnd}
 use Rattle.cw_record.specs.declared.record_end.RecordEnd.TheVariants.{Finished, Fault, Budget, Moves}
@@ -18,9 +19,10 @@ use Rattle.cw_top.specs.declared.command.Command.{Command}
 use Rattle.cw_top.specs.declared.command.Command.TheVariants.{Run}
 use Rattle.cw_top.specs.declared.outcome.Note.{Note}
 use Rattle.cw_top.specs.declared.outcome.Note.TheVariants as note
-use Rattle.cw_top.specs.Refusals.{refusal}
+use Rattle.cw_top.specs.Refusals.{AsksFor, IsMisfit, refusal}
+use Rattle.cw_top.proofs.Parameters.{fits}
 use Rattle.cw_top.specs.Texts.{end_text, finished_text}
-use Rattle.cw_top.specs.Outcome.{Accepts, MayEndWith, HasCause, IsMisused, IsRefusedFor, IsRunOf, IsStatus, Writes, WritesEndOfOneMemory, end_of_one_memory, status_of_end}
+use Rattle.cw_top.specs.Outcome.{Accepts, MayBeMisusedWith, MayEndWith, HasCause, IsMisused, IsRefusedFor, IsRunBy, IsRunOf, IsStatus, IsSurelyMisused, Writes, WritesEndOfOneMemory, end_of_one_memory, status_of_end}
 
 -- words that are no command come to status 2
 of_none : (kept : Option Record) (status : ℕ) (n : Note) → n ≡ note.Usage → IsStatus kept status n → status ≡ 2
@@ -37,20 +39,20 @@ no_fault : (kept : Option Record) (status : ℕ) → IsStatus kept status note.N
 no_fault None status h = absurd h
 no_fault (Some r) status h = no_end r.end status h
 
-pub usage : (command : Option Command) (kept : Option Record) (status : ℕ) (n : Note) (left : Option (List ℕ)) (r w : Type 0) → IsStatus kept status n → HasCause command n left r w → (status ≡ 2) ↔ IsMisused command left
-usage None kept status n left r w is cause = (λ h. tt, λ h. of_none kept status n cause is)
-usage (Some (Run ws ls)) kept status note.Nothing left r w is cause = (λ h. absurd ((no_fault kept status is).0 h), λ h. absurd h)
-usage (Some (Run ws ls)) kept status note.Usage left r w is cause = absurd cause
-usage (Some (Run ws ls)) kept status note.Memory left r w (none, is) cause = (λ h. cc, λ h. absurd h)
-usage (Some (Run ws ls)) kept status note.Read left r w (none, is) cause = (λ h. cc, λ h. absurd h)
-usage (Some (Run ws ls)) kept status note.Write left r w (some, is) cause = (λ h. cc, λ h. absurd h)
-usage (Some (Run ws ls)) kept status (note.Text f) left r w (none, is) cause = (λ h. cc, λ h. absurd h)
-usage (Some (Run ws ls)) kept status (note.Name f) left r w (none, is) cause = (λ h. cc, λ h. absurd h)
+pub usage : (command : Option Command) (kept : Option Record) (status : ℕ) (n : Note) (left : Option (List ℕ)) (r w : Type 0) → IsStatus kept status n → HasCause command n left r w → status ≡ 2 → IsMisused command left
+usage None kept status n left r w is cause h = tt
+usage (Some (Run ws ls)) kept status note.Nothing left r w is cause h = absurd ((no_fault kept status is).0 h)
+usage (Some (Run ws ls)) kept status note.Usage left r w is cause h = cause
+usage (Some (Run ws ls)) kept status note.Memory left r w (none, is) cause h = cc
+usage (Some (Run ws ls)) kept status note.Read left r w (none, is) cause h = cc
+usage (Some (Run ws ls)) kept status note.Write left r w (some, is) cause h = cc
+usage (Some (Run ws ls)) kept status (note.Text f) left r w (none, is) cause h = cc
+usage (Some (Run ws ls)) kept status (note.Name f) left r w (none, is) cause h = cc
 
 pub read_fault : (command : Option Command) (kept : Option Record) (status : ℕ) (n : Note) (left : Option (List ℕ)) (r w : Type 0) → IsStatus kept status n → HasCause command n left r w → status ≡ 3 → r
 read_fault None kept status n left r w is cause h = let two = of_none kept status n cause is in cc
 read_fault (Some (Run ws ls)) kept status note.Nothing left r w is cause h = absurd ((no_fault kept status is).1 h)
-read_fault (Some (Run ws ls)) kept status note.Usage left r w is cause h = absurd cause
+read_fault (Some (Run ws ls)) kept status note.Usage left r w (none, is) cause h = cc
 read_fault (Some (Run ws ls)) kept status note.Memory left r w (none, is) cause h = cc
 read_fault (Some (Run ws ls)) kept status note.Read left r w is cause h = cause
 read_fault (Some (Run ws ls)) kept status note.Write left r w (some, is) cause h = cc
@@ -60,7 +62,7 @@ read_fault (Some (Run ws ls)) kept status (note.Name f) left r w (none, is) caus
 pub write_fault : (command : Option Command) (kept : Option Record) (status : ℕ) (n : Note) (left : Option (List ℕ)) (r w : Type 0) → IsStatus kept status n → HasCause command n left r w → status ≡ 4 → w
 write_fault None kept status n left r w is cause h = let two = of_none kept status n cause is in cc
 write_fault (Some (Run ws ls)) kept status note.Nothing left r w is cause h = absurd ((no_fault kept status is).2 h)
-write_fault (Some (Run ws ls)) kept status note.Usage left r w is cause h = absurd cause
+write_fault (Some (Run ws ls)) kept status note.Usage left r w (none, is) cause h = cc
 write_fault (Some (Run ws ls)) kept status note.Memory left r w (none, is) cause h = cc
 write_fault (Some (Run ws ls)) kept status note.Read left r w (none, is) cause h = cc
 write_fault (Some (Run ws ls)) kept status note.Write left r w is cause h = cause
@@ -70,7 +72,7 @@ write_fault (Some (Run ws ls)) kept status (note.Name f) left r w (none, is) cau
 pub refused : (command : Option Command) (kept : Option Record) (status : ℕ) (n : Note) (left : Option (List ℕ)) (r w : Type 0) → IsStatus kept status n → HasCause command n left r w → status ≡ 5 → IsRefusedFor n left
 refused None kept status n left r w is cause h = let two = of_none kept status n cause is in cc
 refused (Some (Run ws ls)) kept status note.Nothing left r w is cause h = absurd ((no_fault kept status is).3 h)
-refused (Some (Run ws ls)) kept status note.Usage left r w is cause h = absurd cause
+refused (Some (Run ws ls)) kept status note.Usage left r w (none, is) cause h = cc
 refused (Some (Run ws ls)) kept status note.Memory left r w (none, is) cause h = cc
 refused (Some (Run ws ls)) kept status note.Read left r w (none, is) cause h = cc
 refused (Some (Run ws ls)) kept status note.Write left r w (some, is) cause h = cc
@@ -85,20 +87,41 @@ ended (Budget x) status h is = absurd h
 ended Moves status h is = absurd h
 
 -- bytes that are not refused are refused for no reason
-not_refused : (left : Option (List ℕ)) (n : Note) → IsSomeAnd left (λ bytes. refusal bytes ≡ None) → IsRefusedFor n left → ⊥
-not_refused None n h why = h
-not_refused (Some bytes) n h why = cc
+not_refused : (left : Option (List ℕ)) (P : List ℕ → Type 0) (n : Note) → IsSomeAnd left (λ bytes. (refusal bytes ≡ None) × P bytes) → IsRefusedFor n left → ⊥
+not_refused None P n h why = h
+not_refused (Some bytes) P n (h, p) why = cc
+
+-- words that fit are no misfit
+fitting : (left : Option (List ℕ)) (words : List ℤ) → IsSomeAnd left (λ bytes. (refusal bytes ≡ None) × AsksFor bytes (length words)) → IfSome left (IsMisfit words) → ⊥
+fitting None words h misfit = h
+fitting (Some bytes) words h misfit = misfit.1 h.1
+
+-- where there is a run the words fit
+run_fits : (ws : List ℤ) (ls : Limits) (left : Option (List ℕ)) (x : Record) → IsRunBy (Run ws ls) left x → IsSomeAnd left (IsMisfit ws) → ⊥
+run_fits ws ls left x run = fits left ws x.program run.runs (subst (λ (vs : List ℤ). Takes x.program (length vs)) run.words run.coherent.words)
+
+pub misused : (command : Option Command) (kept : Option Record) (status : ℕ) (n : Note) (left : Option (List ℕ)) (r w : Type 0) → IsStatus kept status n → HasCause command n left r w → IfSome kept (IsRunOf command left) → IsSurelyMisused command left → (r → ⊥) → MayBeMisusedWith command status
+misused None kept status n left r w is cause run misfit no_r = of_none kept status n cause is
+misused (Some (Run ws ls)) None status note.Nothing left r w is cause run misfit no_r = absurd is
+misused (Some (Run ws ls)) (Some x) status note.Nothing left r w is cause run misfit no_r = absurd (run_fits ws ls left x run misfit)
+misused (Some (Run ws ls)) kept status note.Usage left r w (none, is) cause run misfit no_r = inl is
+misused (Some (Run ws ls)) kept status note.Memory left r w (none, is) cause run misfit no_r = inr is
+misused (Some (Run ws ls)) kept status note.Read left r w is cause run misfit no_r = absurd (no_r cause)
+misused (Some (Run ws ls)) None status note.Write left r w (some, is) cause run misfit no_r = cc
+misused (Some (Run ws ls)) (Some x) status note.Write left r w is cause run misfit no_r = absurd (run_fits ws ls left x run misfit)
+misused (Some (Run ws ls)) kept status (note.Text f) left r w is cause run misfit no_r = absurd (not_refused left (λ bytes. AsksFor bytes (length ws) → ⊥) (note.Text f) misfit cause)
+misused (Some (Run ws ls)) kept status (note.Name f) left r w is cause run misfit no_r = absurd (not_refused left (λ bytes. AsksFor bytes (length ws) → ⊥) (note.Name f) misfit cause)
 
 pub complete : (command : Option Command) (kept : Option Record) (status : ℕ) (n : Note) (left : Option (List ℕ)) (r w : Type 0) → IsStatus kept status n → HasCause command n left r w → IfSome kept (IsRunOf command left) → Accepts command left → (r → ⊥) → (w → ⊥) → MayEndWith command status
 complete None kept status n left r w is cause run accepted no_r no_w = of_none kept status n cause is
 complete (Some (Run ws ls)) None status note.Nothing left r w is cause run accepted no_r no_w = absurd is
 complete (Some (Run ws ls)) (Some x) status note.Nothing left r w is cause run accepted no_r no_w = ended x.end status run.done.ended is
-complete (Some (Run ws ls)) kept status note.Usage left r w is cause run accepted no_r no_w = absurd cause
+complete (Some (Run ws ls)) kept status note.Usage left r w is cause run accepted no_r no_w = absurd (fitting left ws accepted cause)
 complete (Some (Run ws ls)) kept status note.Memory left r w (none, is) cause run accepted no_r no_w = inr (inr is)
 complete (Some (Run ws ls)) kept status note.Read left r w is cause run accepted no_r no_w = absurd (no_r cause)
 complete (Some (Run ws ls)) kept status note.Write left r w is cause run accepted no_r no_w = absurd (no_w cause)
-complete (Some (Run ws ls)) kept status (note.Text f) left r w is cause run accepted no_r no_w = absurd (not_refused left (note.Text f) accepted cause)
-complete (Some (Run ws ls)) kept status (note.Name f) left r w is cause run accepted no_r no_w = absurd (not_refused left (note.Name f) accepted cause)
+complete (Some (Run ws ls)) kept status (note.Text f) left r w is cause run accepted no_r no_w = absurd (not_refused left (λ bytes. AsksFor bytes (length ws)) (note.Text f) accepted cause)
+complete (Some (Run ws ls)) kept status (note.Name f) left r w is cause run accepted no_r no_w = absurd (not_refused left (λ bytes. AsksFor bytes (length ws)) (note.Name f) accepted cause)
 
 -- where a run's status is 0 the machine finished, with the memory and the outputs that were written
 at_zero : (cells : List CellInfo) (t : List Node) (e : RecordEnd) (picks : Picks) (s : SerialEnd) (old new : Option (List ℕ)) → 0 ≡ status_of_end e → SameEnd e picks s → Appends old new (end_text cells t e) → (memory outputs : List ℤ) × (s ≡ last.Finished memory outputs) × Appends old new (finished_text cells memory outputs)

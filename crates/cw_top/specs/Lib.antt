@@ -4,4 +4,5 @@ pub mod Refusals
 pub mod Reasons
 pub mod Texts
 pub mod Outcome
+pub mod OverSource
 pub mod Rows

@@ -1,6 +1,6 @@
 -- How the words behind a command are read: as the options that they give, each with its value, and the words that belong to
--- no option. And the number that an option has.
-use Rattle.std.specs.Prelude.{ℕ, ◌==◌, ◌&&◌, Bool, not, List, [], ◌∷◌, drop, Option, Some, None, if◌then◌else◌, codes, nat_eq, nat_le, option_map}
+-- no option. And the numbers that options and words spell.
+use Rattle.std.specs.Prelude.{ℕ, ℤ, pos, neg_ℤ, ◌-◌, ◌^◌, ◌==◌, ◌&&◌, Bool, not, List, [], ◌∷◌, drop, Option, Some, None, if◌then◌else◌, codes, nat_eq, nat_le, option_and_then, option_map}
 use Rattle.std.specs.List.{after_first, before_first, list_all, list_any, starts_with}
 use Rattle.std.specs.Str.{all_ascii_digits, bytes_eq, byte}
 use Rattle.std.specs.Str.Parse.{digits_value}
@@ -33,21 +33,47 @@ is_option w = starts_with nat_eq w (codes "--")
 abbrev pub is_equals : ℕ → Bool
 is_equals c = c == byte "="
 
--- What words give: `--name=value`, or `--name` with the value as the next word, which may then not begin with a hyphen. Here
--- `name` is that of the option whose value is still to come, if there is one.
+-- what `--` begins: words that belong to no option, up to the end
+abbrev pub only_words : List (List ℕ) → Given
+only_words ws = record { options = []; words = ws }
+
+-- What words give. An option is `--name=value`, or `--name` with the value as the next word, which may then not begin with a
+-- hyphen. A word without a hyphen in front belongs to no option; nor does any word behind the first `--`. Here `name` is that of the
+-- option whose value is still to come, if there is one.
 abbrev pub given_on : (name : Option (List ℕ)) → List (List ℕ) → Option Given
-given_on None [] = Some (record { options = []; words = [] })
+given_on None [] = Some (only_words [])
 given_on (Some name) [] = None
 given_on (Some name) (w ∷ ws) = if has_hyphen w then None else option_map (with_option name w) (given_on None ws)
 given_on None (w ∷ ws) =
     let text = drop 2 w in
     if not (has_hyphen w) then option_map (with_word w) (given_on None ws)
     else (if not (is_option w) then None
+    else (if bytes_eq w (codes "--") then Some (only_words ws)
     else (if list_any is_equals text then option_map (with_option (before_first is_equals text) (after_first is_equals text)) (given_on None ws)
-    else given_on (Some text) ws))
+    else given_on (Some text) ws)))
 
 abbrev pub given : List (List ℕ) → Option Given
 given ws = given_on None ws
+
+-- ## Numbers
+
+-- the number within these bounds that a text spells, which is one decimal digit or more, and nothing else
+abbrev pub number_within : (least most : ℕ) → List ℕ → Option ℕ
+number_within least most [] = None
+number_within least most (d ∷ ds) =
+    let n = digits_value 10 (d ∷ ds) in
+    if all_ascii_digits (d ∷ ds) && nat_le least n && nat_le n most then Some n else None
+
+-- The integer of 64 bits that a word spells: one decimal digit or more, with or without a hyphen in front.
+abbrev pub integer_of : List ℕ → Option ℤ
+integer_of w =
+    if has_hyphen w then option_map (λ n. neg_ℤ (pos n)) (number_within 0 (2 ^ 63) (drop 1 w))
+    else option_map pos (number_within 0 (2 ^ 63 - 1) w)
+
+-- the integers that words spell, if each of them spells one
+abbrev pub integers_of : List (List ℕ) → Option (List ℤ)
+integers_of [] = Some []
+integers_of (w ∷ ws) = option_and_then (λ n. option_map (λ ns. n ∷ ns) (integers_of ws)) (integer_of w)
 
 -- ## The number of an option
 
@@ -56,13 +82,6 @@ pub record NumberOption : Type 0 where
   pub name : List ℕ
   pub least : ℕ
   pub most : ℕ
-
--- the number within these bounds that a text spells, which is one decimal digit or more, and nothing else
-abbrev pub number_within : (least most : ℕ) → List ℕ → Option ℕ
-number_within least most [] = None
-number_within least most (d ∷ ds) =
-    let n = digits_value 10 (d ∷ ds) in
-    if all_ascii_digits (d ∷ ds) && nat_le least n && nat_le n most then Some n else None
 
 -- the values that an option of this name is given
 abbrev pub values_of : (name : List ℕ) → List GivenOption → List (List ℕ)

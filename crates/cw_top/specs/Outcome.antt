@@ -1,9 +1,8 @@
 -- What a status says: a part for each thing that the top call promises. What depends on the command is a function of it, with
 -- a case for each command and one for words that are none, so that a further command adds its cases and changes no clause.
-use Rattle.std.specs.Prelude.{◌≡◌, ◌≤◌, ◌⊎◌, ℕ, ℤ, List, [], ◌++◌, length, Option, Some, None, IfSome, IsSome, IsSomeAnd}
+use Rattle.std.specs.Prelude.{◌≡◌, ◌≤◌, ◌⊎◌, ℕ, ◌+◌, ℤ, List, [], ◌++◌, length, Option, Some, None, IfSome, IsSome, IsSomeAnd}
 use Rattle.cw_io.specs.Outside.{Takes, Appends, AppendsFront, RunsDry}
 use Rattle.cw_code.specs.declared.CellInfo.{CellInfo}
-use Rattle.cw_code.specs.declared.Limits.{Limits}
 use Rattle.cw_record.specs.declared.record.Record.{Record}
 use Rattle.cw_record.specs.declared.record_end.RecordEnd.{RecordEnd}
 use Rattle.cw_record.specs.declared.record_end.RecordEnd.TheVariants.{Finished, Fault, Budget, Moves}
@@ -16,8 +15,9 @@ use Rattle.cw_top.specs.declared.command.Command.{Command}
 use Rattle.cw_top.specs.declared.command.Command.TheVariants.{Run}
 use Rattle.cw_top.specs.declared.outcome.Note.{Note}
 use Rattle.cw_top.specs.declared.outcome.Note.TheVariants as note
-use Rattle.cw_top.specs.Refusals.{refusal, Spells}
+use Rattle.cw_top.specs.Refusals.{AsksFor, IsMisfit, refusal, Spells}
 use Rattle.cw_top.specs.Texts.{finished_text, run_text}
+use Rattle.cw_top.specs.Words.{limits_of, words_of}
 
 -- ## The status, the note and the run
 
@@ -48,6 +48,15 @@ abbrev pub most_read : Option Command → ℕ
 most_read None = 0
 most_read (Some (Run words limits)) = most_bytes
 
+-- how often at most a read of a command gives no byte: once, and what it is told then ends its reading
+abbrev pub most_ends : Option Command → ℕ
+most_ends None = 0
+most_ends (Some (Run words limits)) = 1
+
+-- A count rose by so much at most, and did not fall.
+abbrev pub RisesAtMost : ℕ → (before after : ℕ) → Type 0
+RisesAtMost most before after = (before ≤ after) × (after ≤ before + most)
+
 -- At most so many bytes were taken.
 abbrev pub TakesAtMost : ℕ → (old new : Option (List ℕ)) → Type 0
 TakesAtMost most old new = (bytes : List ℕ) × (length bytes ≤ most) × Takes old new bytes
@@ -65,18 +74,12 @@ ReadsWhole (Some (Run words limits)) old new = RunsDry old new
 abbrev pub IsRefusedFor : Note → Option (List ℕ) → Type 0
 IsRefusedFor n left = IfSome left (λ bytes. refusal bytes ≡ Some n)
 
--- a source, with its bytes told, that a command accepts
+-- a source, with its bytes told, that a command accepts: it is not refused, and asks for as many words as the command has
 abbrev pub Accepts : Option Command → Option (List ℕ) → Type 0
 Accepts None left = Unit {0}
-Accepts (Some (Run words limits)) left = IsSomeAnd left (λ bytes. refusal bytes ≡ None)
+Accepts (Some (Run words limits)) left = IsSomeAnd left (λ bytes. (refusal bytes ≡ None) × AsksFor bytes (length words))
 
 -- ## The run
-
-abbrev pub words_of : Command → List ℤ
-words_of (Run words limits) = words
-
-abbrev pub limits_of : Command → Limits
-limits_of (Run words limits) = limits
 
 -- what a command runs: the compilation of what the whole source spells
 abbrev pub Runs : Command → (left : Option (List ℕ)) → Program → Type 0
@@ -141,25 +144,36 @@ pub record WritesEndOfOneMemory (command : Option Command) (r : Record) (old new
 
 -- ## The statuses that come, and their causes
 
--- why a run comes to this note: want of memory is free, each fault has its cause
-abbrev pub IsCauseOfRun : Note → (left : Option (List ℕ)) (read_failed write_failed : Type 0) → Type 0
-IsCauseOfRun note.Nothing left read_failed write_failed = Unit {0}
-IsCauseOfRun note.Usage left read_failed write_failed = ⊥
-IsCauseOfRun note.Memory left read_failed write_failed = Unit {0}
-IsCauseOfRun note.Read left read_failed write_failed = read_failed
-IsCauseOfRun note.Write left read_failed write_failed = write_failed
-IsCauseOfRun (note.Text f) left read_failed write_failed = IsRefusedFor (note.Text f) left
-IsCauseOfRun (note.Name f) left read_failed write_failed = IsRefusedFor (note.Name f) left
+-- why a run of these words comes to this note: want of memory is free, each fault has its cause
+abbrev pub IsCauseOfRun : List ℤ → Note → (left : Option (List ℕ)) (read_failed write_failed : Type 0) → Type 0
+IsCauseOfRun words note.Nothing left read_failed write_failed = Unit {0}
+IsCauseOfRun words note.Usage left read_failed write_failed = IfSome left (IsMisfit words)
+IsCauseOfRun words note.Memory left read_failed write_failed = Unit {0}
+IsCauseOfRun words note.Read left read_failed write_failed = read_failed
+IsCauseOfRun words note.Write left read_failed write_failed = write_failed
+IsCauseOfRun words (note.Text f) left read_failed write_failed = IsRefusedFor (note.Text f) left
+IsCauseOfRun words (note.Name f) left read_failed write_failed = IsRefusedFor (note.Name f) left
 
 -- why a command comes to this note
 abbrev pub HasCause : Option Command → Note → (left : Option (List ℕ)) (read_failed write_failed : Type 0) → Type 0
 HasCause None n left read_failed write_failed = n ≡ note.Usage
-HasCause (Some (Run words limits)) n left read_failed write_failed = IsCauseOfRun n left read_failed write_failed
+HasCause (Some (Run words limits)) n left read_failed write_failed = IsCauseOfRun words n left read_failed write_failed
 
--- where the words are of no use: they are no command, whatever the source is
+-- where the words are of no use: they are no command, whatever the source is, or the source is not refused and asks for another
+-- number of them
 abbrev pub IsMisused : Option Command → (left : Option (List ℕ)) → Type 0
 IsMisused None left = Unit {0}
-IsMisused (Some (Run words limits)) left = ⊥
+IsMisused (Some (Run words limits)) left = IfSome left (IsMisfit words)
+
+-- The source's bytes are told, and the command is of no use for them.
+abbrev pub IsSurelyMisused : Option Command → (left : Option (List ℕ)) → Type 0
+IsSurelyMisused None left = Unit {0}
+IsSurelyMisused (Some (Run words limits)) left = IsSomeAnd left (IsMisfit words)
+
+-- the statuses that words of no use come to, where no read fails
+abbrev pub MayBeMisusedWith : Option Command → ℕ → Type 0
+MayBeMisusedWith None status = status ≡ 2
+MayBeMisusedWith (Some (Run words limits)) status = (status ≡ 2) ⊎ (status ≡ 1)
 
 -- the statuses that a command comes to, where it accepts the source and neither a read nor a write fails
 abbrev pub MayEndWith : Option Command → ℕ → Type 0

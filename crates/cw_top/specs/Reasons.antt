@@ -33,11 +33,12 @@ WhyRefused refused.OutOfMemory bytes = Unit {0}
 WhyRefused (refused.Text f) bytes = refusal bytes ≡ Some (note.Text f)
 WhyRefused (refused.Name f) bytes = refusal bytes ≡ Some (note.Name f)
 
--- There is no run where reading stopped, or where the bytes are refused.
-abbrev pub WhyNoRun : NoRun → (read_failed : Type 0) (left : Option (List ℕ)) → Type 0
-WhyNoRun no_run.OutOfMemory read_failed left = Unit {0}
-WhyNoRun (no_run.Stopped s) read_failed left = WhyStopped s read_failed
-WhyNoRun (no_run.Refused r) read_failed left = IfSome left (WhyRefused r)
+-- There is no run where reading stopped, where the bytes are refused, or where the words do not fit.
+abbrev pub WhyNoRun : NoRun → (read_failed misfit : Type 0) (left : Option (List ℕ)) → Type 0
+WhyNoRun no_run.OutOfMemory read_failed misfit left = Unit {0}
+WhyNoRun (no_run.Stopped s) read_failed misfit left = WhyStopped s read_failed
+WhyNoRun (no_run.Refused r) read_failed misfit left = IfSome left (WhyRefused r)
+WhyNoRun no_run.Misfit read_failed misfit left = misfit
 
 abbrev pub note_of_stop : Stop → Note
 note_of_stop stop.OutOfMemory = note.Memory
@@ -53,3 +54,4 @@ abbrev pub note_of : NoRun → Note
 note_of no_run.OutOfMemory = note.Memory
 note_of (no_run.Stopped s) = note_of_stop s
 note_of (no_run.Refused r) = note_of_refusal r
+note_of no_run.Misfit = note.Usage

@@ -1,11 +1,11 @@
--- Which words are a command, and what they say. So far there is one, `run`, with two options and without words of its own.
-use Rattle.std.specs.Prelude.{◌≡◌, ◌==◌, ◌&&◌, ◌^◌, length, List, [], ◌∷◌, ℕ, Option, Some, None, codes, if◌then◌else◌, map, option_and_then, option_map, string_bytes, String}
+-- Which words are a command, and what they say. So far there is one, `run`, with two options and the words of main.
+use Rattle.std.specs.Prelude.{◌^◌, List, [], ◌∷◌, ℕ, ℤ, Option, None, codes, if◌then◌else◌, map, option_and_then, option_map, string_bytes, String}
 use Rattle.std.specs.declared.alloc.Global.{Global}
 use Rattle.std.specs.Str.{bytes_eq}
 use Rattle.cw_code.specs.declared.Limits.{Limits}
 use Rattle.cw_top.specs.declared.command.Command.{Command}
 use Rattle.cw_top.specs.declared.command.Command.TheVariants.{Run}
-use Rattle.cw_top.specs.Options.{Given, GivenOption, NumberOption, are_known, given, number_of}
+use Rattle.cw_top.specs.Options.{Given, GivenOption, NumberOption, are_known, given, integers_of, number_of}
 
 -- the limits of a run whose command gives none
 abbrev pub default_limits : Limits
@@ -29,7 +29,9 @@ limits_given os =
 
 -- the run that options and words ask for
 abbrev pub run_given : Given → Option Command
-run_given g = if (length g.words == 0) && are_known run_options g.options then option_map (Run []) (limits_given g.options) else None
+run_given g =
+    if are_known run_options g.options then option_and_then (λ ns. option_map (Run ns) (limits_given g.options)) (integers_of g.words)
+    else None
 
 -- the run that the words behind `run` ask for
 abbrev pub run_with : List (List ℕ) → Option Command
@@ -40,10 +42,11 @@ abbrev pub command_of : List (List ℕ) → Option Command
 command_of [] = None
 command_of (name ∷ words) = if bytes_eq name (codes "run") then run_with words else None
 
--- A run has as many words as a program may ask for: so far that is none.
-abbrev pub HasNoWords : Option Command → Type 0
-HasNoWords None = Unit {0}
-HasNoWords (Some (Run words limits)) = words ≡ []
+abbrev pub words_of : Command → List ℤ
+words_of (Run words limits) = words
+
+abbrev pub limits_of : Command → Limits
+limits_of (Run words limits) = limits
 
 -- the command that these words are, which come behind the program's name, if they are one
 abbrev pub command_in : List (String Global) → Option Command

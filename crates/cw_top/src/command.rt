@@ -1,8 +1,8 @@
-ghost use Rattle.std.specs.Prelude.{◌≡◌, map, string_bytes};
-ghost use Rattle.cw_top.specs.Words.{command_of, default_limits, run_with};
+ghost use Rattle.std.specs.Prelude.{◌≡◌, ◌++◌, ◌∷◌, [], IfOk, IfNone, IfSome, IsOkAnd, IsSome, IsSomeAnd, None, OnErr, map, string_bytes};
+ghost use Rattle.cw_top.specs.Words.{command_of, default_limits, limits_of, run_with, words_of};
 
-use crate::options::{number_within, option_of};
-use cw_base::Seq;
+use crate::options::{integer_of, number_within, option_of};
+use cw_base::{OutOfMemory, Seq};
 use cw_code::Limits;
 use std::alloc::Global;
 
@@ -29,27 +29,57 @@ fn default_limits() -> Limits
     }
 }
 
-// The run that the words behind `run` ask for. So far it has no words of its own.
-fn run_with(alloc: Global, words: &[String]) -> Option<Command>
-    ensures { result ≡ run_with (map string_bytes words.now) }
+// Words that were read, or want of memory, which stays: so it hides no word behind it that is of no use.
+type Kept = Result<Seq<i64>, OutOfMemory>;
+
+fn with_word(kept: Kept, word: i64) -> Kept
+    ensures { IfOk result (λ ns. IsOkAnd kept (λ ms. ns ≡ ms ++ word ∷ [])) }
+{
+    let mut words = kept?;
+    words.push(word)?;
+    Ok(words)
+}
+
+// A run that was asked for.
+#[derive(Drop)]
+struct Asked {
+    words: Kept,
+    limits: Limits,
+}
+
+// The run that the words behind `run` ask for.
+fn asked_by(alloc: Global, words: &[String]) -> Option<Asked>
+    ensures some { IfSome result (λ a. IsSomeAnd (run_with (map string_bytes words.now)) (λ c. (a.limits ≡ limits_of c) × IfOk a.words (λ ns. ns ≡ words_of c))) }
+    ensures none { IfNone result (run_with (map string_bytes words.now) ≡ None) }
 {
     let mut fuel = None;
     let mut size = None;
+    let mut kept = Ok(Seq::new(alloc));
+    let mut only_words = false;
     let mut rest = words;
     while let Some((word, behind)) = rest.split_first() {
-        let (name, value, behind) = option_of(word.as_str(), behind)?;
-        if name == "fuel" && fuel.is_none() {
-            fuel = Some(number_within(value, 1, MOST_FUEL)?);
-        } else if name == "size" && size.is_none() {
-            size = Some(number_within(value, 1, MOST_SIZE)? as u32);
+        let word = word.as_str();
+        if only_words || !word.starts_with("-") {
+            kept = with_word(kept, integer_of(word)?);
+            rest = behind;
+        } else if word == "--" {
+            only_words = true;
+            rest = behind;
         } else {
-            return None;
+            let (name, value, behind) = option_of(word, behind)?;
+            if name == "fuel" && fuel.is_none() {
+                fuel = Some(number_within(value, 1, MOST_FUEL)?);
+            } else if name == "size" && size.is_none() {
+                size = Some(number_within(value, 1, MOST_SIZE)? as u32);
+            } else {
+                return None;
+            }
+            rest = behind;
         }
-        rest = behind;
     }
     let limits = default_limits();
-    Some(Command::Run {
-        words: Seq::new(alloc),
+    Some(Asked {
+        words: kept,
         limits: Limits {
             fuel: fuel.unwrap_or(limits.fuel),
             size: size.unwrap_or(limits.size),
@@ -58,13 +88,23 @@ fn run_with(alloc: Global, words: &[String]) -> Option<Command>
     })
 }
 
-/// The command that these words are, which come behind the program's name, if they are one.
-pub fn command_of(alloc: Global, words: &[String]) -> Option<Command>
-    ensures { result ≡ command_of (map string_bytes words.now) }
+/// The command that these words are, which come behind the program's name, if they are one. Want of memory is told only of words
+/// that are one.
+pub fn command_of(alloc: Global, words: &[String]) -> Result<Option<Command>, OutOfMemory>
+    ensures exact { IfOk result (λ c. c ≡ command_of (map string_bytes words.now)) }
+    ensures memory { OnErr result (IsSome (command_of (map string_bytes words.now))) }
 {
-    let (name, rest) = words.split_first()?;
-    if name.as_str() == "run" {
-        return run_with(alloc, rest);
+    let Some((name, rest)) = words.split_first() else {
+        return Ok(None);
+    };
+    if name.as_str() != "run" {
+        return Ok(None);
     }
-    None
+    let Some(asked) = asked_by(alloc, rest) else {
+        return Ok(None);
+    };
+    Ok(Some(Command::Run {
+        words: asked.words?,
+        limits: asked.limits,
+    }))
 }

@@ -2,8 +2,8 @@
 //! its status.
 //! Stands on all crates below.
 //! Contracts cite `specs/Words.antt` (which words are which command, from `specs/Options.antt`, how words give options),
-//! `specs/Refusals.antt` (why a source is refused), `specs/Reasons.antt` (why there is no run), `specs/Texts.antt` (what is written) and
-//! `specs/Outcome.antt` (what a status says).
+//! `specs/Refusals.antt` (why a source is refused), `specs/Reasons.antt` (why there is no run), `specs/Texts.antt` (what is written),
+//! `specs/Outcome.antt` (what a status says) and `specs/OverSource.antt` (what a run is over the syntax of its source).
 #![tactic(auto)]
 
 mod command;

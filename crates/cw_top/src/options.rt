@@ -1,17 +1,20 @@
-ghost use Rattle.std.specs.Prelude.{◌≡◌, ◌<◌, ◌≤◌, ◌≢◌, ◌∷◌, [], IfNone, IfSome, length, map, option_map, string_bytes};
-ghost use Rattle.cw_top.specs.Options.{given, number_within, with_option};
+ghost use Rattle.std.specs.Prelude.{◌≡◌, ◌<◌, ◌≤◌, ◌≢◌, ◌∷◌, codes, IfNone, IfSome, IsTrue, None, length, map, option_map, string_bytes};
+ghost use Rattle.cw_top.specs.Options.{given, has_hyphen, integer_of, number_within, with_option};
 
-/// The option that a word begins, with its value and the words behind both.
+/// The option that a word begins, with its value and the words behind both. The word `--` begins none.
 pub fn option_of<'a>(
     word: &'a str,
     behind: &'a [String],
 ) -> Option<(&'a str, &'a str, &'a [String])>
     ensures some { IfSome result (λ r. given (word.now ∷ map string_bytes behind.now)
         ≡ option_map (with_option r.0.now r.1.now) (given (map string_bytes r.2.now))) }
-    ensures none { IfNone result (IfSome (given (word.now ∷ map string_bytes behind.now)) (λ g. g.words ≢ [])) }
+    ensures none { IfNone result (IsTrue (has_hyphen word.now) → word.now ≢ codes "--" → given (word.now ∷ map string_bytes behind.now) ≡ None) }
     ensures fewer { IfSome result (λ r. length r.2.now ≤ length behind.now) }
 {
     let text = word.strip_prefix("--")?;
+    if text.is_empty() {
+        return None;
+    }
     if let Some((name, value)) = text.split_once('=') {
         return Some((name, value, behind));
     }
@@ -37,4 +40,15 @@ pub fn number_within(value: &str, least: u64, most: u64) -> Option<u64>
         return None;
     }
     Some(number)
+}
+
+/// The integer that a word spells.
+pub fn integer_of(word: &str) -> Option<i64>
+    ensures { result ≡ integer_of word.now }
+{
+    // `parse` takes a plus, which a word may not have.
+    if word.starts_with('+') {
+        return None;
+    }
+    word.parse::<i64>().ok()
 }

@@ -6,7 +6,7 @@ use cw_text::TextFault;
 #[derive(Clone, Copy, PartialEq, Eq, Debug)]
 pub enum Note {
     Nothing,
-    /// The words are no command.
+    /// The words are no command, or not as many as main has parameters.
     Usage,
     /// Want of memory.
     Memory,
@@ -26,7 +26,7 @@ pub enum Note {
 /// |---|---|
 /// | 0 | the run finished, and its text was written |
 /// | 1 | want of memory; nothing was written |
-/// | 2 | the words are no command; nothing was read or written |
+/// | 2 | the words are no command, and nothing was read; or they are not as many as main has parameters; nothing was written |
 /// | 3 | a read failed; nothing was written |
 /// | 4 | a write failed; a front of the text was written |
 /// | 5 | the source was refused; nothing was written |

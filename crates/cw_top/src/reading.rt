@@ -1,10 +1,9 @@
 ghost use Rattle.std.specs.Prelude.{◌≡◌, ◌-◌, ◌<◌, ◌≤◌, length, Ok, IfOk, IfErr, IfSome, IsErrOf, OnOk};
 ghost use Rattle.cw_io.specs.Outside.{IsDry, Rose, RunsDry, Takes};
 ghost use Rattle.cw_strand.specs.Programs.{IsCompiled};
-ghost use Rattle.cw_serial.specs.Jobs.{Takes as AsksFor};
 ghost use Rattle.cw_top.specs.declared.reasons.NoRun.TheVariants.{Stopped};
 ghost use Rattle.cw_top.specs.declared.reasons.Stop.TheVariants.{ReadFault};
-ghost use Rattle.cw_top.specs.Outcome.{GivesOn, TakesAtMost, most_bytes};
+ghost use Rattle.cw_top.specs.Outcome.{GivesOn, RisesAtMost, TakesAtMost, most_bytes};
 ghost use Rattle.cw_top.specs.Reasons.{WhyNoRun, WhyRefused, WhyStopped};
 ghost use Rattle.cw_top.specs.Refusals.{Spells};
 
@@ -31,6 +30,8 @@ fn read_more<S: Source>(source: &mut S, bytes: &mut Vec<u8>) -> Result<usize, St
     ensures given { IfOk result (λ n. GivesOn (S.left source.old) (S.left source.new) bytes.old.items bytes.new.items n) }
     ensures few { OnOk result (length bytes.new.items ≤ most_bytes) }
     ensures end { result ≡ Ok 0 → IsDry (S.left source.old) }
+    ensures once { RisesAtMost 1 (S.ends source.old) (S.ends source.new) }
+    ensures none { IfOk result (λ n. 0 < n → S.ends source.new ≡ S.ends source.old) }
 {
     let mut buffer = [0u8; ROOM];
     let room = ROOM.min(MOST_BYTES - bytes.len());
@@ -47,6 +48,7 @@ fn read_all<S: Source>(alloc: Global, source: &mut S) -> Result<Vec<u8>, Stop>
     ensures taken { TakesAtMost most_bytes (S.left source.old) (S.left source.new) }
     ensures given { IfOk result (λ bytes. Takes (S.left source.old) (S.left source.new) bytes.items) }
     ensures whole { IfOk result (λ bytes. length bytes.items < most_bytes → RunsDry (S.left source.old) (S.left source.new)) }
+    ensures once { RisesAtMost 1 (S.ends source.old) (S.ends source.new) }
 {
     let mut bytes = Vec::new(alloc);
     'pieces: while bytes.len() < MOST_BYTES {
@@ -58,11 +60,10 @@ fn read_all<S: Source>(alloc: Global, source: &mut S) -> Result<Vec<u8>, Stop>
     Ok(bytes)
 }
 
-// The program that bytes spell, compiled. Its main has no parameters, as in any text that can be read so far.
+// The program that bytes spell, compiled.
 fn program_of(alloc: Global, bytes: &[u8]) -> Result<Program, Refusal>
     ensures spelled { IfOk result (λ p. Spells bytes.now p) }
     ensures compiled { IfOk result (λ p. IsCompiled p) }
-    ensures words { IfOk result (λ p. AsksFor p 0) }
     ensures why { IfErr result (λ r. WhyRefused r bytes.now) }
 {
     let ast = read_program(alloc, bytes)?;
@@ -73,12 +74,12 @@ fn program_of(alloc: Global, bytes: &[u8]) -> Result<Program, Refusal>
 pub fn program_from<S: Source>(alloc: Global, source: &mut S) -> Result<Program, NoRun>
     ensures later { S.faults source.old ≤ S.faults source.new }
     ensures kept { (IsErrOf result (Stopped ReadFault) → ⊥) → S.faults source.new ≡ S.faults source.old }
-    ensures why { IfErr result (λ n. WhyNoRun n (Rose (S.faults source.old) (S.faults source.new)) (S.left source.old)) }
+    ensures why { IfErr result (λ n. WhyNoRun n (Rose (S.faults source.old) (S.faults source.new)) ⊥ (S.left source.old)) }
     ensures taken { TakesAtMost most_bytes (S.left source.old) (S.left source.new) }
     ensures whole { OnOk result (RunsDry (S.left source.old) (S.left source.new)) }
+    ensures once { RisesAtMost 1 (S.ends source.old) (S.ends source.new) }
     ensures spelled { IfOk result (λ p. IfSome (S.left source.old) (λ bytes. Spells bytes p)) }
     ensures compiled { IfOk result (λ p. IsCompiled p) }
-    ensures words { IfOk result (λ p. AsksFor p 0) }
 {
     let bytes = read_all(alloc, source)?;
     Ok(program_of(alloc, bytes.as_slice())?)

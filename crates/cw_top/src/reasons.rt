@@ -76,6 +76,8 @@ pub enum NoRun {
     OutOfMemory,
     Stopped(Stop),
     Refused(Refusal),
+    /// Main has another number of parameters than there are words.
+    Misfit,
 }
 
 impl From<OutOfMemory> for NoRun {

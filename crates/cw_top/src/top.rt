@@ -1,15 +1,17 @@
-ghost use Rattle.std.specs.Prelude.{◌≡◌, ◌↔◌, ◌≤◌, None, Some, IfOk, IfErr, IfSome, IsErrOf, IsSomeAnd, IsTrue, OnOk, OnSome, []};
+ghost use Rattle.std.specs.Prelude.{◌≡◌, ◌≤◌, None, Some, IfOk, IfErr, IfSome, IsErrOf, IsSomeAnd, IsTrue, OnOk, OnSome, []};
 ghost use Rattle.cw_io.specs.Outside.{Appends, AppendsFront, Keeps, Rose, RunsDry, TellsOn};
 ghost use Rattle.cw_tree.specs.Nodes.{is_strand};
 ghost use Rattle.cw_record.specs.Order.{ending_strand};
 ghost use Rattle.cw_top.specs.declared.command.Command.TheVariants.{Run};
-ghost use Rattle.cw_top.specs.declared.reasons.NoRun.TheVariants.{Stopped};
+ghost use Rattle.cw_top.specs.declared.reasons.NoRun.TheVariants.{Misfit, Stopped};
 ghost use Rattle.cw_top.specs.declared.reasons.Stop.TheVariants.{ReadFault};
 ghost use Rattle.cw_top.specs.declared.reasons.NotWritten.TheVariants.{OutOfMemory, WriteFault};
-ghost use Rattle.cw_top.specs.Outcome.{Accepts, MayEndWith, HasCause, IsMisused, IsRefusedFor, IsRunOf, IsStatus, ReadsWhole, TakesAtMost, Writes, WritesEndOfOneMemory, most_bytes, most_read, status_of_end};
+ghost use Rattle.cw_top.specs.Outcome.{Accepts, MayBeMisusedWith, MayEndWith, HasCause, IsMisused, IsRefusedFor, IsRunOf, IsSurelyMisused, IsStatus, ReadsWhole, RisesAtMost, TakesAtMost, Writes, WritesEndOfOneMemory, most_bytes, most_ends, most_read, status_of_end};
+ghost use Rattle.cw_top.specs.OverSource.{IsRunOfSource};
 ghost use Rattle.cw_top.specs.Reasons.{WhyNoRun, note_of};
+ghost use Rattle.cw_top.specs.Refusals.{IsMisfit};
 ghost use Rattle.cw_top.specs.Texts.{run_text};
-ghost use Rattle.cw_top.specs.Words.{HasNoWords, command_in};
+ghost use Rattle.cw_top.specs.Words.{command_in};
 
 use crate::command::{Command, command_of};
 use crate::reading::program_from;
@@ -19,6 +21,7 @@ use cw_base::Seq;
 use cw_code::Limits;
 use cw_io::{Gate, Sink, Source, write_all};
 use cw_record::{Record, RecordEnd, depth_first};
+use cw_serial::takes_words;
 use std::alloc::Global;
 use std::sync::Wait;
 use std::thread::Threads;
@@ -41,15 +44,19 @@ fn run_of<S: Source>(
     limits: Limits,
     source: &mut S,
 ) -> Result<Record, NoRun>
-    requires { words ≡ [] }
     ensures later { S.faults source.old ≤ S.faults source.new }
     ensures kept { (IsErrOf result (Stopped ReadFault) → ⊥) → S.faults source.new ≡ S.faults source.old }
-    ensures why { IfErr result (λ n. WhyNoRun n (Rose (S.faults source.old) (S.faults source.new)) (S.left source.old)) }
+    ensures why { IfErr result (λ n. WhyNoRun n (Rose (S.faults source.old) (S.faults source.new)) (IfSome (S.left source.old) (IsMisfit words)) (S.left source.old)) }
     ensures taken { TakesAtMost most_bytes (S.left source.old) (S.left source.new) }
     ensures whole { OnOk result (RunsDry (S.left source.old) (S.left source.new)) }
+    ensures misfit { IsErrOf result Misfit → RunsDry (S.left source.old) (S.left source.new) }
+    ensures once { RisesAtMost 1 (S.ends source.old) (S.ends source.new) }
     ensures run { IfOk result (IsRunOf (Some (Run words limits)) (S.left source.old)) }
 {
     let program = program_from(alloc, source)?;
+    if !takes_words(&program, words.len()) {
+        return Err(NoRun::Misfit);
+    }
     Ok(depth_first(alloc, program, words, limits)?)
 }
 
@@ -71,12 +78,14 @@ fn write_run<K: Sink>(alloc: Global, run: &Record, sink: &mut K) -> Result<(), N
 fn without_run(why: NoRun) -> Reply
     ensures status { IsStatus result.kept result.status result.note }
     ensures note { result.note ≡ note_of why }
+    ensures misfit { result.status ≡ 2 → why ≡ Misfit }
     ensures none { result.kept ≡ None }
 {
     let (status, note) = match why {
         NoRun::Stopped(Stop::ReadFault) => (3, Note::Read),
         NoRun::Refused(Refusal::Text(fault)) => (5, Note::Text(fault)),
         NoRun::Refused(Refusal::Name(fault)) => (5, Note::Name(fault)),
+        NoRun::Misfit => (2, Note::Usage),
         _ => (1, Note::Memory),
     };
     Reply {
@@ -94,7 +103,6 @@ fn ran<S: Source, K: Sink>(
     source: &mut S,
     sink: &mut K,
 ) -> Reply
-    requires { words ≡ [] }
     ensures read_later { S.faults source.old ≤ S.faults source.new }
     ensures write_later { K.faults sink.old ≤ K.faults sink.new }
     ensures read_kept { (result.status ≡ 3 → ⊥) → S.faults source.new ≡ S.faults source.old }
@@ -103,6 +111,8 @@ fn ran<S: Source, K: Sink>(
     ensures cause { HasCause (Some (Run words limits)) result.note (S.left source.old) (Rose (S.faults source.old) (S.faults source.new)) (Rose (K.faults sink.old) (K.faults sink.new)) }
     ensures taken { TakesAtMost most_bytes (S.left source.old) (S.left source.new) }
     ensures whole { OnSome result.kept (RunsDry (S.left source.old) (S.left source.new)) }
+    ensures judged { result.status ≡ 2 → RunsDry (S.left source.old) (S.left source.new) }
+    ensures once { RisesAtMost 1 (S.ends source.old) (S.ends source.new) }
     ensures run { IfSome result.kept (IsRunOf (Some (Run words limits)) (S.left source.old)) }
     ensures written { Writes (Some (Run words limits)) result.kept result.note (K.written sink.old) (K.written sink.new) }
     ensures tells { (result.status ≡ 4 → ⊥) → TellsOn (K.written sink.old) (K.written sink.new) }
@@ -133,7 +143,6 @@ fn answer<S: Source, K: Sink>(
     source: &mut S,
     sink: &mut K,
 ) -> Reply
-    requires { HasNoWords command }
     ensures read_later { S.faults source.old ≤ S.faults source.new }
     ensures write_later { K.faults sink.old ≤ K.faults sink.new }
     ensures read_kept { (result.status ≡ 3 → ⊥) → S.faults source.new ≡ S.faults source.old }
@@ -142,6 +151,8 @@ fn answer<S: Source, K: Sink>(
     ensures cause { HasCause command result.note (S.left source.old) (Rose (S.faults source.old) (S.faults source.new)) (Rose (K.faults sink.old) (K.faults sink.new)) }
     ensures taken { TakesAtMost (most_read command) (S.left source.old) (S.left source.new) }
     ensures whole { OnSome result.kept (ReadsWhole command (S.left source.old) (S.left source.new)) }
+    ensures judged { result.status ≡ 2 → OnSome command (ReadsWhole command (S.left source.old) (S.left source.new)) }
+    ensures once { RisesAtMost (most_ends command) (S.ends source.old) (S.ends source.new) }
     ensures run { IfSome result.kept (IsRunOf command (S.left source.old)) }
     ensures written { Writes command result.kept result.note (K.written sink.old) (K.written sink.new) }
     ensures tells { (result.status ≡ 4 → ⊥) → TellsOn (K.written sink.old) (K.written sink.new) }
@@ -157,11 +168,12 @@ fn answer<S: Source, K: Sink>(
 }
 
 /// Does all that the program does. `words` are the command's words without the program's name; so far the only command is
-/// `run`, with the options `--fuel` and `--size`. It reads a program from the source, runs it, and writes its text
-/// (`result_text`) to the sink.
+/// `run`, with the options `--fuel` and `--size` and the words of main. It reads a program from the source, runs it with those
+/// words, and writes its text (`result_text`) to the sink.
 ///
 /// The statuses are those of `Reply`. At most 1,048,577 bytes are read, one more than a text may have, and never more are asked
-/// for. Refusals are looked for in this order: words, read, text, names, run, write; want of memory may stand at any place.
+/// for. Refusals are looked for in this order: words, read, text, names, number of words, run, write; want of memory may stand at
+/// any place behind the words.
 /// The gate is not called yet.
 pub fn cwstm<R: Threads + Wait + Sync, S: Source, K: Sink, G: Gate>(
     rt: &R,
@@ -176,7 +188,13 @@ pub fn cwstm<R: Threads + Wait + Sync, S: Source, K: Sink, G: Gate>(
 
     // Each answer has its cause, by the command.
     ensures cause { HasCause (command_in words.now) result.note (S.left source.old) (Rose (S.faults source.old) (S.faults source.new)) (Rose (K.faults sink.old) (K.faults sink.new)) }
-    ensures usage { (result.status ≡ 2) ↔ IsMisused (command_in words.now) (S.left source.old) }
+
+    // Status 2 comes only where the words are of no use. Where they surely are, want of memory alone may come before it.
+    ensures usage { result.status ≡ 2 → IsMisused (command_in words.now) (S.left source.old) }
+    ensures misused { IsSurelyMisused (command_in words.now) (S.left source.old)
+        → (Rose (S.faults source.old) (S.faults source.new) → ⊥) → MayBeMisusedWith (command_in words.now) result.status }
+    ensures judged { result.status ≡ 2 → OnSome (command_in words.now) (ReadsWhole (command_in words.now) (S.left source.old) (S.left source.new)) }
+
     ensures read_fault { result.status ≡ 3 → Rose (S.faults source.old) (S.faults source.new) }
     ensures write_fault { result.status ≡ 4 → Rose (K.faults sink.old) (K.faults sink.new) }
     ensures refused { result.status ≡ 5 → IsRefusedFor result.note (S.left source.old) }
@@ -188,11 +206,18 @@ pub fn cwstm<R: Threads + Wait + Sync, S: Source, K: Sink, G: Gate>(
     ensures run { IfSome result.kept (IsRunOf (command_in words.now) (S.left source.old)) }
     ensures whole { OnSome result.kept (ReadsWhole (command_in words.now) (S.left source.old) (S.left source.new)) }
 
+    // One memory does the same over the syntax tree that the source spells.
+    ensures source { IfSome result.kept (IsRunOfSource (command_in words.now) (S.left source.old)) }
+
     // With status 0 the text of what one memory comes to was written.
     ensures finished { result.status ≡ 0 → IsSomeAnd result.kept (λ r. WritesEndOfOneMemory (command_in words.now) r (K.written sink.old) (K.written sink.new)) }
 
     ensures unread { most_read (command_in words.now) ≡ 0 → Keeps (S.left source.old) (S.left source.new) }
     ensures taken { TakesAtMost (most_read (command_in words.now)) (S.left source.old) (S.left source.new) }
+
+    // Reading ends with the first read that gives no byte: at the end of the source, at a failure, or into an empty buffer.
+    // So the source is asked at most once at its end, and not again after it failed. Words that are no command ask for nothing.
+    ensures once { RisesAtMost (most_ends (command_in words.now)) (S.ends source.old) (S.ends source.new) }
     ensures written { Writes (command_in words.now) result.kept result.note (K.written sink.old) (K.written sink.new) }
 
     // Unless a write failed, a sink that told still tells.
@@ -204,5 +229,8 @@ pub fn cwstm<R: Threads + Wait + Sync, S: Source, K: Sink, G: Gate>(
     ensures read_kept { (result.status ≡ 3 → ⊥) → S.faults source.new ≡ S.faults source.old }
     ensures write_kept { (result.status ≡ 4 → ⊥) → K.faults sink.new ≡ K.faults sink.old }
 {
-    answer(alloc, command_of(alloc, words), source, sink)
+    let Ok(command) = command_of(alloc, words) else {
+        return without_run(NoRun::OutOfMemory);
+    };
+    answer(alloc, command, source, sink)
 }

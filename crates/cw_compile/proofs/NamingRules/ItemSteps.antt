@@ -1,5 +1,5 @@
 -- What one more item adds to what is declared.
-use Rattle.std.proofs.Common.{◌≡◌, ℕ, ℤ, ◌+◌, List, [], ◌∷◌, ◌++◌, cond, if◌then◌else◌, nat_lt, Bool, true, false, Option, Some, None, refl, append_assoc, arith}
+use Rattle.std.proofs.Common.{◌≡◌, ℕ, ℤ, ◌+◌, List, [], ◌∷◌, ◌++◌, length, cond, if◌then◌else◌, nat_lt, Bool, true, false, Option, Some, None, refl, append_assoc, arith}
 use Rattle.std.specs.Option.{option_or}
 use Rattle.std.specs.Cmp.Lexicographic.{bytes_decides}
 use Rattle.cw_text.specs.declared.ast.Word.{Word}
@@ -45,10 +45,10 @@ module _ {old new : Declared} (x : List ℕ) (line : ℕ) where
   }
 
   -- a function whose name is new
-  pub adds_function : (params : List Word) (body : Block) (ds : List Declaration) → declared_new (find x old.names) line ≡ None → IsSame new.names ((x, a_function) ∷ old.names) → new.elements ≡ old.elements → new.cells.items ≡ old.cells.items → IsSameWith (func x line params body ∷ ds) old ds new
+  pub adds_function : (params : List Word) (body : Block) (ds : List Declaration) → declared_new (find x old.names) line ≡ None → IsSame new.names ((x, a_function (length params)) ∷ old.names) → new.elements ≡ old.elements → new.cells.items ≡ old.cells.items → IsSameWith (func x line params body ∷ ds) old ds new
   adds_function params body ds none same size cells = record {
     faults = rw (none, size, in_items_same same old.elements ds) refl;
-    names = names_next x line a_function (globals ds) none same;
+    names = names_next x line (a_function (length params)) (globals ds) none same;
     cells = rw (cells, size) refl;
     elements = rw size refl;
   }

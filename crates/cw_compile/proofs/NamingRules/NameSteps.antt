@@ -1,10 +1,11 @@
 -- Going over statements and parameters one by one, where what was looked at so far has no fault.
-use Rattle.std.proofs.Common.{◌≡◌, ℕ, ◌+◌, ◌<◌, List, ◌∷◌, ◌++◌, length, drop, get_or, None, refl, ap, sym, ◌∙◌, append_assoc}
+use Rattle.std.proofs.Common.{◌≡◌, ℕ, suc, ◌+◌, ◌<◌, Bool, List, [], ◌∷◌, ◌++◌, length, drop, get_or, None, refl, ap, sym, ◌∙◌, append_assoc}
 use Rattle.std.proofs.lemmas.List.{drop_more}
 use Rattle.cw_text.specs.declared.ast.Word.{Word}
+use Rattle.cw_text.specs.declared.ast.Expr.{Expr}
 use Rattle.cw_text.specs.declared.ast.Stmt.{Stmt}
-use Rattle.cw_text.specs.Syntax.{statement_of, block_of}
-use Rattle.cw_strand.specs.Names.{Scope, find, a_local, declared_new, scope_after, in_statement, in_block, in_params, with_params}
+use Rattle.cw_text.specs.Syntax.{term_of, terms_of, statement_of, block_of}
+use Rattle.cw_strand.specs.Names.{Scope, find, a_local, declared_new, scope_after, count_of, in_term, in_terms, in_statement, in_block, in_params, with_params}
 use Rattle.cw_compile.specs.declared.naming.visible.Visible.{Visible}
 use Rattle.cw_compile.specs.NamingRules.Visible.{StaysVisible}
 
@@ -13,8 +14,17 @@ pub item_first : {X : Type 0} (xs : List X) (i : ℕ) (x : X) → i < length xs 
 item_first xs i x lt is = drop_more xs i x lt ∙ ap (λ y. y ∷ drop (i + 1) xs) (sym is)
 
 -- a statement without a fault: what is left is looked at with the names after it
-pub in_block_next : (g : Scope) (xs : List Stmt) (i : ℕ) (x : Stmt) → i < length xs → x ≡ get_or xs i x → in_statement g (statement_of x) ≡ None → in_block g (block_of (drop i xs)) ≡ in_block (scope_after (statement_of x) g) (block_of (drop (i + 1) xs))
-in_block_next g xs i x lt is none = rw (item_first xs i x lt is, none) refl
+pub in_block_next : (g : Scope) (inside : Bool) (xs : List Stmt) (i : ℕ) (x : Stmt) → i < length xs → x ≡ get_or xs i x → in_statement g inside (statement_of x) ≡ None → in_block g inside (block_of (drop i xs)) ≡ in_block (scope_after (statement_of x) g) inside (block_of (drop (i + 1) xs))
+in_block_next g inside xs i x lt is none = rw (item_first xs i x lt is, none) refl
+
+-- an argument without a fault, in the same way
+pub in_terms_next : (g : Scope) (xs : List Expr) (i : ℕ) (x : Expr) → i < length xs → x ≡ get_or xs i x → in_term g (term_of x) ≡ None → in_terms g (terms_of (drop i xs)) ≡ in_terms g (terms_of (drop (i + 1) xs))
+in_terms_next g xs i x lt is none = rw (item_first xs i x lt is, none) refl
+
+-- the arguments are as many as the expressions
+pub arguments_counted : (xs : List Expr) → count_of (terms_of xs) ≡ length xs
+arguments_counted [] = refl
+arguments_counted (x ∷ xs) = ap suc (arguments_counted xs)
 
 -- a parameter whose name is new, in the same way
 module _ (g : Scope) (ws : List Word) (i : ℕ) (w : Word) (lt : i < length ws) (is : w ≡ get_or ws i w) where

@@ -12,7 +12,7 @@ abbrev pub thing_of : Thing → names.Thing
 thing_of thing.Local = names.a_local
 thing_of thing.Cell = names.a_cell
 thing_of thing.Array = names.an_array
-thing_of thing.Function = names.a_function
+thing_of (thing.Function n) = names.a_function n
 
 -- the scope of these names, each with what it stands for
 abbrev pub scope_of : {Y : Type 0} → List (String Y × Thing) → Scope

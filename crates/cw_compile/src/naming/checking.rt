@@ -1,8 +1,8 @@
-ghost use Rattle.std.specs.Prelude.{◌≡◌, map, OnOk, IfOk, Some};
+ghost use Rattle.std.specs.Prelude.{◌≡◌, map, OnOk, IfOk, Some, false};
 ghost use Rattle.std.specs.List.{position_from};
 ghost use Rattle.std.specs.Result.{result_err};
-ghost use Rattle.cw_text.specs.Syntax.{term_of, statement_of, block_of, declaration_of};
-ghost use Rattle.cw_strand.specs.Names.{find, used, indexed, in_term, in_statement, scope_after, in_block, in_params, with_params, ◌then◌, in_functions, main_of, naming_fault, without_main};
+ghost use Rattle.cw_text.specs.Syntax.{term_of, terms_of, statement_of, block_of, declaration_of};
+ghost use Rattle.cw_strand.specs.Names.{find, used, indexed, called, count_of, returned_from, in_term, in_terms, in_statement, scope_after, in_block, in_params, with_params, ◌then◌, in_functions, main_of, naming_fault, without_main};
 ghost use Rattle.cw_compile.specs.NamingRules.Items.{IsAllOf, is_main};
 ghost use Rattle.cw_compile.specs.NamingRules.Scopes.{Finds};
 ghost use Rattle.cw_compile.specs.NamingRules.Visible.{StaysVisible, visible_in};
@@ -22,7 +22,7 @@ fn used(visible: &Visible<'_>, word: &Word) -> Result<(), NameFault>
     let kind = match visible.find(&word.name) {
         Some(Thing::Local | Thing::Cell) => return Ok(()),
         Some(Thing::Array) => NameKind::NotACell,
-        Some(Thing::Function) => NameKind::NotALocal,
+        Some(Thing::Function(_)) => NameKind::NotALocal,
         None => NameKind::Unknown,
     };
     Err(NameFault {
@@ -37,7 +37,7 @@ fn indexed(visible: &Visible<'_>, word: &Word) -> Result<(), NameFault>
 {
     let kind = match visible.find(&word.name) {
         Some(Thing::Array) => return Ok(()),
-        Some(Thing::Local | Thing::Cell | Thing::Function) => NameKind::NotACell,
+        Some(Thing::Local | Thing::Cell | Thing::Function(_)) => NameKind::NotACell,
         None => NameKind::Unknown,
     };
     Err(NameFault {
@@ -46,7 +46,36 @@ fn indexed(visible: &Visible<'_>, word: &Word) -> Result<(), NameFault>
     })
 }
 
+/// The fault of a name that is called with so many arguments.
+fn called(visible: &Visible<'_>, word: &Word, args: usize) -> Result<(), NameFault>
+    ensures { result_err result ≡ called (find word.now.name (visible_in visible.now)) args word.now.line }
+{
+    let kind = match visible.find(&word.name) {
+        Some(Thing::Function(params)) if params == args => return Ok(()),
+        Some(Thing::Function(_)) => NameKind::WrongCount,
+        Some(Thing::Local | Thing::Cell | Thing::Array) | None => NameKind::Unknown,
+    };
+    Err(NameFault {
+        kind,
+        line: word.line,
+    })
+}
+
+/// The fault of a `return` that may stand inside an `atomic` or a `spawn` block of its function.
+fn returned_from(inside: bool, line: u32) -> Result<(), NameFault>
+    ensures { result_err result ≡ returned_from inside line }
+{
+    if inside {
+        return Err(NameFault {
+            kind: NameKind::ReturnInside,
+            line,
+        });
+    }
+    Ok(())
+}
+
 /// The first fault in an expression.
+#[cycle(expression)]
 fn in_term(visible: &Visible<'_>, term: &Expr) -> Result<(), NameFault>
     ensures { result_err result ≡ in_term (visible_in visible.now) (term_of term.now) }
 {
@@ -57,6 +86,7 @@ fn in_term(visible: &Visible<'_>, term: &Expr) -> Result<(), NameFault>
             indexed(visible, name)?;
             in_term(visible, at)
         }
+        Expr::Call { name, args } => in_call(visible, name, args.as_slice()),
         Expr::Unary { of, .. } => in_term(visible, of),
         Expr::Binary { left, right, .. } => {
             in_term(visible, left)?;
@@ -65,10 +95,29 @@ fn in_term(visible: &Visible<'_>, term: &Expr) -> Result<(), NameFault>
     }
 }
 
-/// The first fault in a statement. What the statement declares is visible afterwards.
+/// The first fault in a call: its name with the number of its arguments, and then the arguments.
+#[cycle(expression)]
+#[tactic(auto, using(crate::proofs::NamingRules::NameSteps::arguments_counted))]
+fn in_call(visible: &Visible<'_>, name: &Word, args: &[Expr]) -> Result<(), NameFault>
+    ensures { result_err result ≡ (called (find name.now.name (visible_in visible.now)) (count_of (terms_of args.now)) name.now.line
+        then in_terms (visible_in visible.now) (terms_of args.now)) }
+{
+    called(visible, name, args.len())?;
+    for arg in args {
+        in_term(visible, arg)?;
+    }
+    Ok(())
+}
+
+/// The first fault in a statement, which may stand inside an `atomic` or a `spawn` block of its function. What the statement declares is
+/// visible afterwards.
 #[cycle(walk)]
-fn in_statement<'a>(visible: &mut Visible<'a>, statement: &'a Stmt) -> Result<(), NameRefusal>
-    ensures exact { Finds result (in_statement (visible_in visible.old) (statement_of statement.now)) }
+fn in_statement<'a>(
+    visible: &mut Visible<'a>,
+    inside: bool,
+    statement: &'a Stmt,
+) -> Result<(), NameRefusal>
+    ensures exact { Finds result (in_statement (visible_in visible.old) inside (statement_of statement.now)) }
     ensures visible { OnOk result (visible_in visible.new ≡ scope_after (statement_of statement.now) (visible_in visible.old)) }
     ensures outer { OnOk result (StaysVisible visible.old visible.new) }
 {
@@ -87,23 +136,42 @@ fn in_statement<'a>(visible: &mut Visible<'a>, statement: &'a Stmt) -> Result<()
             in_term(visible, at)?;
             in_term(visible, value)?;
         }
+        Stmt::Call { name, args } => in_call(visible, name, args.as_slice())?,
         Stmt::Out(value) => in_term(visible, value)?,
-        Stmt::Atomic(body) => in_block(visible, body.as_slice())?,
-        Stmt::Spawn(body) => in_block(visible, body.as_slice())?,
+        Stmt::If { test, then, other } => {
+            in_term(visible, test)?;
+            in_block(visible, inside, then.as_slice())?;
+            in_block(visible, inside, other.as_slice())?;
+        }
+        Stmt::While { test, body } => {
+            in_term(visible, test)?;
+            in_block(visible, inside, body.as_slice())?;
+        }
+        Stmt::Atomic(body) => in_block(visible, true, body.as_slice())?,
+        Stmt::Spawn(body) => in_block(visible, true, body.as_slice())?,
         Stmt::Sync => {}
+        Stmt::Return { line, value } => {
+            returned_from(inside, *line)?;
+            in_term(visible, value)?;
+        }
     }
     Ok(())
 }
 
-/// The first fault in the statements of a block. What they declare is visible to the block's end.
+/// The first fault in the statements of a block, which may stand inside an `atomic` or a `spawn` block of its function. What they declare is
+/// visible to the block's end.
 #[cycle(walk)]
-fn in_block<'a>(visible: &mut Visible<'a>, body: &'a [Stmt]) -> Result<(), NameRefusal>
-    ensures exact { Finds result (in_block (visible_in visible.old) (block_of body.now)) }
+fn in_block<'a>(
+    visible: &mut Visible<'a>,
+    inside: bool,
+    body: &'a [Stmt],
+) -> Result<(), NameRefusal>
+    ensures exact { Finds result (in_block (visible_in visible.old) inside (block_of body.now)) }
     ensures outer { OnOk result (visible.new ≡ visible.old) }
 {
     let outer = visible.locals();
     for statement in body {
-        in_statement(visible, statement)?;
+        in_statement(visible, inside, statement)?;
     }
     visible.forget(outer)?;
     Ok(())
@@ -128,11 +196,11 @@ fn in_function<'a>(
     params: &'a [Word],
     body: &'a [Stmt],
 ) -> Result<(), NameRefusal>
-    ensures { Finds result (in_params names.now params.now then in_block (with_params names.now params.now) (block_of body.now)) }
+    ensures { Finds result (in_params names.now params.now then in_block (with_params names.now params.now) false (block_of body.now)) }
 {
     let mut visible = Visible::new(alloc, names);
     in_params(&mut visible, params)?;
-    in_block(&mut visible, body)
+    in_block(&mut visible, false, body)
 }
 
 /// The first fault in the functions among the items, of which these are the names.
@@ -148,7 +216,7 @@ fn in_functions<'a>(names: &'a Scope, alloc: Global, items: &'a [Item]) -> Resul
 }
 
 /// Whether an item is the function `main`.
-pub(crate) fn is_main(item: &Item) -> bool
+fn is_main(item: &Item) -> bool
     ensures { result ≡ is_main (declaration_of item.now) }
 {
     match item {

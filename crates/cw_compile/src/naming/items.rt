@@ -84,9 +84,14 @@ impl Declared {
                 })?;
                 self.elements += size;
             }
-            Item::Func { name, line, .. } => {
+            Item::Func {
+                name,
+                line,
+                params,
+                ..
+            } => {
                 declared_new(self.names.find(name), *line)?;
-                self.names.add(alloc, name, Thing::Function)?;
+                self.names.add(alloc, name, Thing::Function(params.len()))?;
             }
         }
         Ok(())

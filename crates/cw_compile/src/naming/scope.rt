@@ -15,7 +15,8 @@ pub(crate) enum Thing {
     Cell,
     /// A cell with elements.
     Array,
-    Function,
+    /// A function with so many parameters.
+    Function(usize),
 }
 
 /// Names, and what each of them stands for.

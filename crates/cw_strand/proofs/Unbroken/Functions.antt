@@ -1,6 +1,6 @@
 -- The code of a program without a naming fault breaks no rule.
-use Rattle.std.proofs.Common.{◌≡◌, ◌∙◌, ℕ, ◌+◌, ◌≤◌, true, false, not, List, [], ◌∷◌, ◌++◌, length, refl, sym, ap, subst, arith, None, Some, pos, length-append, add-zero}
-use Rattle.std.specs.Prelude.{slice_get, if◌then◌else◌}
+use Rattle.std.proofs.Common.{◌≡◌, ◌∙◌, ℕ, ◌+◌, ◌≤◌, true, false, not, List, [], ◌∷◌, ◌++◌, length, refl, sym, ap, subst, arith, None, pos, length-append, add-zero}
+use Rattle.std.specs.Prelude.{if◌then◌else◌}
 use Rattle.std.proofs.lemmas.Bool.{eq-eqb, le-leb, le-ltb, lt-leb}
 use Rattle.cw_text.specs.declared.ast.Word.{Word}
 use Rattle.cw_text.specs.Syntax.{Block, Declaration, cell, func}
@@ -8,34 +8,36 @@ use Rattle.cw_code.specs.declared.CellInfo.{CellInfo}
 use Rattle.cw_code.specs.declared.instruction.Instr.{Instr}
 use Rattle.cw_code.specs.declared.instruction.Func.{Func}
 use Rattle.cw_code.specs.declared.instruction.Code.{Code}
-use Rattle.cw_code.specs.declared.effects.Effect.TheVariants as effect
 use Rattle.cw_code.specs.Rules.{places, size_of, place_faults, is_laid, faults_from}
 use Rattle.cw_code.proofs.Expected.{AllFit}
 use Rattle.cw_code.proofs.Passes.{no_fault, none_of_two, none_at_places}
-use Rattle.cw_code.proofs.Walk.{at, expected, at_first, Walks, further, one, no_target}
-use Rattle.cw_strand.specs.Names.{◌then◌, globals, in_params, in_block, in_functions, in_items, without_main, main_of, naming_fault, cells_of}
+use Rattle.cw_code.proofs.Walk.{at, expected, at_first, Walks, further}
+use Rattle.cw_strand.specs.Names.{◌then◌, globals, in_params, in_block, in_functions, in_items, without_main, main_of, cells_of}
 use Rattle.cw_strand.specs.Names as names
-use Rattle.cw_strand.specs.Compilation.{Slots, code_of, instrs_from, funcs_from, function_code, block_code, with_params, most}
+use Rattle.cw_strand.specs.Compilation.{Slots, code_of, function_names, instrs_from, funcs_from, function_code, block_code, with_params, most}
 use Rattle.cw_strand.specs.Compilation as instr
 use Rattle.cw_strand.specs.Laws.{BreaksNoRule}
 use Rattle.cw_strand.proofs.Numbering.{most_from, scope_of, scope_of_params, count_of_params}
-use Rattle.cw_strand.proofs.FitTasks as fit
+use Rattle.cw_strand.proofs.StandingNames as standing
 use Rattle.cw_strand.proofs.Doing.{HasAt, front, behind, stands_behind}
 use Rattle.cw_strand.proofs.Unbroken.Terms.{push_fits}
-use Rattle.cw_strand.proofs.Unbroken.Statements.{wait_fits, block_fits}
+use Rattle.cw_strand.proofs.Unbroken.Statements.{wait_fits, ret_fits, block_fits}
 
-module _ (ds : List Declaration) where
+module _ (ds : List Declaration) (all_named : in_functions (globals ds) ds ≡ None) where
   abbrev code : Code
   code = code_of ds
 
   abbrev cells : List CellInfo
   cells = cells_of ds
 
+  abbrev function_list : List (List ℕ)
+  function_list = function_names ds
+
   -- ## A function
 
-  module _ (p : ℕ) (ps : List Word) (body : Block) (named : in_block (scope_of ds (with_params ps [])) body ≡ None) (has : HasAt code.instrs p (function_code cells p ps body)) where
+  module _ (p : ℕ) (ps : List Word) (body : Block) (named : in_block (scope_of ds (with_params ps [])) false body ≡ None) (has : HasAt code.instrs p (function_code cells function_list p ps body)) where
     abbrev here : List Instr
-    here = function_code cells p ps body
+    here = function_code cells function_list p ps body
 
     abbrev f : Func
     f = record { params = length ps; locals = most (length ps) body; start = p; end = p + length here }
@@ -44,7 +46,7 @@ module _ (ds : List Declaration) where
     g = with_params ps []
 
     abbrev is : List Instr
-    is = block_code cells g p body
+    is = block_code cells function_list g p body
 
     -- the function gives 0 at its end
     abbrev ending : List Instr
@@ -52,16 +54,6 @@ module _ (ds : List Declaration) where
 
     long : length here ≡ length is + 3
     long = length-append is ending
-
-    ret_fits : (q : ℕ) → p ≤ q → slice_get code.instrs q ≡ Some instr.ret → expected code f q ≡ at 1 0 0 → Walks code f q (q + 1) (at 0 0 0)
-    ret_fits q from there is = one code f q instr.ret (Some effect.Ret) (at 1 0 0) (at 0 0 0) refl from there is refl (record {
-      operands = refl;
-      room = omega arith;
-      border = λ border. absurd (let never : false ≡ true = border in cc);
-      whole = refl;
-      last = λ passed. absurd (let never : true ≡ false = passed in cc);
-      target = no_target code f instr.ret (Some effect.Ret) q (at 1 0 0) refl;
-    })
 
     walks : Walks code f p (p + length here) (at 0 0 0)
     walks =
@@ -73,10 +65,10 @@ module _ (ds : List Declaration) where
         let rest = behind code.instrs p is ending has in
         let ends : q + 1 + 1 + 1 ≡ p + length here = omega (arith, long) in
         subst (λ r. Walks code f p r (at 0 0 0)) ends
-        (further code f p q (q + 1 + 1 + 1) (at 0 0 0) (at 0 0 0) (block_fits ds f body g p 0 0 named visible room (omega arith) (front code.instrs p is ending has) (omega (arith, long)) (at_first code f)) (λ w.
-        further code f q (q + 1) (q + 1 + 1 + 1) (at 0 0 0) (at 0 0 0) (wait_fits ds f q 0 0 (omega arith) (omega (arith, long)) rest.0 w) (λ v.
-        further code f (q + 1) (q + 1 + 1) (q + 1 + 1 + 1) (at 1 0 0) (at 0 0 0) (push_fits ds f g visible (q + 1) 0 0 0 (omega arith) (omega (arith, long)) (pos 0) rest.1.0 v) (λ u.
-        ret_fits (q + 1 + 1) (omega arith) rest.1.1.0 u))))
+        (further code f p q (q + 1 + 1 + 1) (at 0 0 0) (at 0 0 0) (block_fits ds f all_named false body g p 0 0 (refl, refl) named visible room (omega arith) (front code.instrs p is ending has) (omega (arith, long)) (at_first code f)) (λ w.
+        further code f q (q + 1) (q + 1 + 1 + 1) (at 0 0 0) (at 0 0 0) (wait_fits ds f all_named 0 q 0 0 (omega arith) (omega (arith, long)) rest.0 w) (λ v.
+        further code f (q + 1) (q + 1 + 1) (q + 1 + 1 + 1) (at 1 0 0) (at 0 0 0) (push_fits ds f all_named g visible (q + 1) 0 0 0 (omega arith) (omega (arith, long)) (pos 0) rest.1.0 v) (λ u.
+        ret_fits ds f all_named (q + 1 + 1) (omega arith) rest.1.1.0 u))))
 
     all_fit : AllFit code f (expected code f)
     all_fit = record { starts = at_first code f; some = omega (arith, long); each = walks.fits }
@@ -93,23 +85,24 @@ module _ (ds : List Declaration) where
 
   -- ## The functions
 
-  functions_break_none : (rest : List Declaration) (p : ℕ) → HasAt code.instrs p (instrs_from cells p rest) → p + length (instrs_from cells p rest) ≡ length code.instrs → in_functions (globals ds) rest ≡ None → faults_from code true p (funcs_from cells p rest) ≡ []
+  functions_break_none : (rest : List Declaration) (p : ℕ) → HasAt code.instrs p (instrs_from cells function_list p rest) → p + length (instrs_from cells function_list p rest) ≡ length code.instrs → in_functions (globals ds) rest ≡ None → faults_from code true p (funcs_from cells function_list p rest) ≡ []
   functions_break_none [] p has ends named = no_fault _ _ p (le-ltb p (length code.instrs) (omega arith))
   functions_break_none (cell x l len i ∷ rest) p has ends named = functions_break_none rest p has ends named
   functions_break_none (func x l ps b ∷ rest) p has ends named =
-      let here = function_code cells p ps b in
-      let later = instrs_from cells (p + length here) rest in
-      let in_body = in_block (names.with_params (globals ds) ps) b in
+      let here = function_code cells function_list p ps b in
+      let later = instrs_from cells function_list (p + length here) rest in
+      let in_body = in_block (names.with_params (globals ds) ps) false b in
       let in_rest = in_functions (globals ds) rest in
-      let parts = fit.no_fault in_body in_rest (fit.no_fault (in_params (globals ds) ps) (in_body then in_rest) named).1 in
-      let fine : in_block (scope_of ds (with_params ps [])) b ≡ None = subst (λ g. in_block g b ≡ None) (scope_of_params ds ps []) parts.0 in
+      let parts = standing.no_fault in_body in_rest (standing.no_fault (in_params (globals ds) ps) (in_body then in_rest) named).1 in
+      let fine : in_block (scope_of ds (with_params ps [])) false b ≡ None = subst (λ g. in_block g false b ≡ None) (scope_of_params ds ps []) parts.0 in
       let long = length-append here later in
-      func_breaks_none p ps b fine (front code.instrs p here later has) (funcs_from cells (p + length here) rest) (omega (arith, long))
+      func_breaks_none p ps b fine (front code.instrs p here later has) (funcs_from cells function_list (p + length here) rest) (omega (arith, long))
       (functions_break_none rest (p + length here) (behind code.instrs p here later has) (omega (arith, long)) parts.1)
 
 pub breaks_no_rule : BreaksNoRule
 breaks_no_rule ds named =
     let functions = in_functions (globals ds) ds in
     let last = without_main (main_of ds) in
-    let later = (fit.no_fault (in_items [] 0 ds) (functions then last) named).1 in
-    functions_break_none ds ds 0 (stands_behind [] (code_of ds).instrs) (omega arith) (fit.no_fault functions last later).0
+    let later = (standing.no_fault (in_items [] 0 ds) (functions then last) named).1 in
+    let all_named = (standing.no_fault functions last later).0 in
+    functions_break_none ds all_named ds 0 (stands_behind [] (code_of ds).instrs) (omega arith) all_named

@@ -1,17 +1,20 @@
 use Rattle.std.proofs.Common.{refl}
+use Rattle.cw_text.specs.Printed.{printed}
 use Rattle.cw_text.proofs.Lines.{program_of-same}
-use Rattle.cw_text.proofs.PrintedPrograms.{printed_read}
-use Rattle.cw_text.proofs.ReadPrograms.{read_is_readable, text_is_readable}
+use Rattle.cw_text.proofs.PrintedIsWritten.{printed_is_written}
+use Rattle.cw_text.proofs.ReadPrograms.{text_is_readable}
+use Rattle.cw_text.proofs.WrittenIsRead.{written_is_read}
+use Rattle.cw_text.proofs.WrittenIsReadable.{read_is_readable}
 use Rattle.cw_text.proofs.printed_is_read.Goals as goal
 
 pub returns-clause-read : goal.returns-clause-read
-returns-clause-read c = printed_read
+returns-clause-read c = λ ds h. written_is_read (printed ds) ds (printed_is_written ds h)
 
 pub returns-clause-readable : goal.returns-clause-readable
 returns-clause-readable c = read_is_readable
 
 pub returns-clause-texts : goal.returns-clause-texts
-returns-clause-texts c = λ text ds h. printed_read ds (text_is_readable text ds h)
+returns-clause-texts c = λ text ds h. written_is_read (printed ds) ds (printed_is_written ds (text_is_readable text ds h))
 
 pub returns-clause-lines : goal.returns-clause-lines
 returns-clause-lines c = program_of-same

@@ -8,6 +8,7 @@ invariant-loop-item l =
     let left = map declaration_of (drop l.item-index l.items) in
     record {
       elements : l.emitter.elements ≡ l.initial.emitter.elements;
-      instrs : l.emitter.code ++ instrs_from l.emitter.elements (length l.emitter.code) left ≡ instrs_from l.emitter.elements 0 (map declaration_of l.items);
-      funcs : l.funcs.items ++ funcs_from l.emitter.elements (length l.emitter.code) left ≡ funcs_from l.emitter.elements 0 (map declaration_of l.items);
+      functions : l.emitter.functions ≡ l.initial.emitter.functions;
+      instrs : l.emitter.code ++ instrs_from l.emitter.elements l.emitter.functions (length l.emitter.code) left ≡ instrs_from l.emitter.elements l.emitter.functions 0 (map declaration_of l.items);
+      funcs : l.funcs.items ++ funcs_from l.emitter.elements l.emitter.functions (length l.emitter.code) left ≡ funcs_from l.emitter.elements l.emitter.functions 0 (map declaration_of l.items);
     }

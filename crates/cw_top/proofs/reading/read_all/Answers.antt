@@ -7,6 +7,7 @@ pub pieces-preserved : goal.pieces-preserved
 pieces-preserved g c = record {
   few = c.in_ok-count.ensures.few;
   same = search rules;
+  none = search rules;
   given = Takes-gives _ _ _ _ _ _ c.pieces.invariant.given c.in_ok-count.ensures.given;
 }
 

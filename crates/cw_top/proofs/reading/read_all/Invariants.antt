@@ -9,6 +9,7 @@ invariant-pieces g l =
     record {
       few : length l.bytes.items ≤ most_bytes;
       same : source.faults l.source ≡ source.faults l.fn.source;
+      none : source.ends l.source ≡ source.ends l.fn.source;
       given : Takes (source.left l.fn.source) (source.left l.source) l.bytes.items;
     }
 

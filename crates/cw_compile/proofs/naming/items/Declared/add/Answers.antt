@@ -1,4 +1,4 @@
-use Rattle.std.proofs.Common.{rules, w64, refl, ap, sym, ◌+◌}
+use Rattle.std.proofs.Common.{rules, w64, ◌≡◌, refl, ap, sym, ◌+◌, length, arith}
 use mir.Val.{SFits}
 use Rattle.std.proofs.lemmas.Int.{to_z-of_z}
 use Rattle.cw_compile.proofs.NamingRules.ItemSteps.{adds_cell, adds_function}
@@ -14,5 +14,7 @@ returns-in_ok-push-in-Cell c = λ ds. rw c.in-Cell.is
     (let fits : SFits w64 c.in-Cell.init = search rules in rw (← c.in_ok-clone-in-Cell.ensures) (simp to_z-of_z at c.in_ok-push-in-Cell.ensures.items)))
 
 pub returns-in_ok-add-in-Func : goal.returns-in_ok-add-in-Func
-returns-in_ok-add-in-Func c = λ ds. rw c.in-Func.is
-    (adds_function _ _ _ _ ds (rw (← c.find-in-Func.ensures) (sym c.in_ok-declared_new-in-Func.ensures)) c.in_ok-add-in-Func.ensures refl refl)
+returns-in_ok-add-in-Func c = λ ds.
+    let count : c.len.result ≡ length c.in-Func.params.items = omega (arith, c.len.ensures, c.in-Func.params.ok.0) in
+    rw c.in-Func.is
+    (adds_function _ _ _ _ ds (rw (← c.find-in-Func.ensures) (sym c.in_ok-declared_new-in-Func.ensures)) (rw count at c.in_ok-add-in-Func.ensures) refl refl)

@@ -1,0 +1,32 @@
+-- The run of a source, over its syntax. What this file cites is the grammar, the names, the meaning over the syntax, the machine with one
+-- memory, and the order of a run: no instructions, no rules of code, no compilation.
+use Rattle.std.specs.Prelude.{◌≡◌, ℕ, ℤ, List, length, Option, None, Ok, IfSome, IsSomeAnd}
+use Rattle.cw_text.specs.Syntax.{Declaration}
+use Rattle.cw_text.specs.Text.{program}
+use Rattle.cw_code.specs.declared.Limits.{Limits}
+use Rattle.cw_strand.specs.Names.{naming_fault, cells_of, first_memory}
+use Rattle.cw_strand.specs.Meaning.{MainTakes, strands_of}
+use Rattle.cw_record.specs.declared.record.Record.{Record}
+use Rattle.cw_record.specs.Replay.{Replays}
+use Rattle.cw_top.specs.declared.command.Command.{Command}
+use Rattle.cw_top.specs.declared.command.Command.TheVariants.{Run}
+
+-- A run of the syntax tree that these bytes spell, with these words and limits: one memory that runs the strands of the tree, in the order
+-- that is kept, does at each step what the run's tree has there, each atomic block without a break, and comes to the end of the run.
+pub record IsRunOfSyntax (words : List ℤ) (limits : Limits) (bytes : List ℕ) (r : Record) : Type 0 where
+  pub source : List Declaration
+  pub spelled : program bytes ≡ Ok source
+  -- no name in it is at fault, and its main takes these words
+  pub named : naming_fault source ≡ None
+  pub takes : MainTakes source (length words)
+  -- the cells of the text that is written are those that it declares
+  pub cells : r.program.cells ≡ cells_of source
+  pub replays : Replays (strands_of source words limits) (first_memory (cells_of source)) limits.aborts r.tree r.conflicts r.order r.end
+
+-- what a command's run is over the source, where its bytes are told
+abbrev pub IsRunOverSource : Command → (left : Option (List ℕ)) → Record → Type 0
+IsRunOverSource (Run words limits) left r = IfSome left (λ bytes. IsRunOfSyntax words limits bytes r)
+
+-- Only a command leaves a run, and it is its own over the source too.
+abbrev pub IsRunOfSource : Option Command → (left : Option (List ℕ)) → Record → Type 0
+IsRunOfSource command left r = IsSomeAnd command (λ c. IsRunOverSource c left r)
