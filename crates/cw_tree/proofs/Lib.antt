@@ -45,3 +45,11 @@ pub mod NextBefore
 pub mod NextStamps
 pub mod ClosedStamps
 pub mod NextPending
+pub mod Children
+pub mod DepthFirst
+pub mod Visits
+pub mod Renumbered
+pub mod Askers
+pub mod Renaming
+pub mod Siblings
+pub mod InOrderSound

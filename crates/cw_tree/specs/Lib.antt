@@ -17,3 +17,6 @@ pub mod WorkedRun
 pub mod VictimsAt
 pub mod NextNodes
 pub mod Newest
+pub mod InOrder
+pub mod Links
+pub mod OrderLaws

@@ -1,5 +1,9 @@
+ghost use Rattle.std.specs.Prelude.{◌≡◌, map, IfOk, IfErr};
+ghost use Rattle.cw_tree.specs.InOrder.{conflict_in_order, conflicts_in_order, halt_in_order, in_order, renamed};
+ghost use Rattle.cw_tree.specs.Nodes.{all_nodes};
+
 use crate::{Conflict, Entry, Tree};
-use cw_base::Seq;
+use cw_base::{OutOfMemory, Seq};
 use cw_code::FaultKind;
 
 /// Why a run stopped before its end. A strand is named by its node.
@@ -17,4 +21,100 @@ pub struct Closed {
     pub journals: Seq<Seq<Entry>>,
     pub conflicts: Seq<Conflict>,
     pub halt: Option<Halt>,
+}
+
+/// What names nodes: the tree, the conflicts, and why a run stopped.
+#[derive(Drop)]
+struct Naming {
+    tree: Tree,
+    conflicts: Seq<Conflict>,
+    halt: Option<Halt>,
+}
+
+impl Closed {
+    /// The same with the tree's nodes numbered depth first, and the conflicts as the tree lists their askers.
+    pub fn in_order(self) -> Result<Closed, (Closed, OutOfMemory)>
+        ensures tree { IfOk result (λ c. c.tree ≡ in_order self.tree) }
+        ensures journals { IfOk result (λ c. c.journals ≡ self.journals) }
+        ensures conflicts { IfOk result (λ c. c.conflicts ≡ conflicts_in_order self.tree self.conflicts) }
+        ensures halt { IfOk result (λ c. c.halt ≡ halt_in_order self.tree self.halt) }
+        ensures err { IfErr result (λ e. e.0 ≡ self) }
+    {
+        match self.naming() {
+            Ok(naming) => Ok(Closed {
+                tree: naming.tree,
+                journals: self.journals,
+                conflicts: naming.conflicts,
+                halt: naming.halt,
+            }),
+            Err(error) => Err((self, error)),
+        }
+    }
+
+    fn naming(&self) -> Result<Naming, OutOfMemory>
+        ensures tree { IfOk result (λ c. c.tree ≡ in_order self.now.tree) }
+        ensures conflicts { IfOk result (λ c. c.conflicts ≡ conflicts_in_order self.now.tree self.now.conflicts) }
+        ensures halt { IfOk result (λ c. c.halt ≡ halt_in_order self.now.tree self.now.halt) }
+    {
+        let (tree, numbers) = self.tree.in_order()?;
+        let conflicts = conflicts_in_order(&self.tree, &numbers, self.conflicts.as_slice())?;
+        let halt = halt_in_order(&self.tree, numbers.as_slice(), self.halt);
+        Ok(Naming {
+            tree,
+            conflicts,
+            halt,
+        })
+    }
+}
+
+fn conflicts_in_order(
+    tree: &Tree,
+    numbers: &Vec<u32>,
+    conflicts: &[Conflict],
+) -> Result<Seq<Conflict>, OutOfMemory>
+    requires { numbers.now.items ≡ map (renamed tree.now) (all_nodes tree.now) }
+    ensures { IfOk result (λ cs. cs ≡ conflicts_in_order tree.now conflicts.now) }
+{
+    let mut sorted = Vec::with_capacity(*numbers.allocator(), conflicts.len())?;
+    for conflict in conflicts {
+        sorted.push(conflict_in_order(tree, numbers, conflict)?)?;
+    }
+    sorted.sort_by_key(|conflict| conflict.asker)?;
+    Ok(Seq::from_vec(sorted))
+}
+
+fn conflict_in_order(
+    tree: &Tree,
+    numbers: &Vec<u32>,
+    conflict: &Conflict,
+) -> Result<Conflict, OutOfMemory>
+    requires { numbers.now.items ≡ map (renamed tree.now) (all_nodes tree.now) }
+    ensures { IfOk result (λ c. c ≡ conflict_in_order tree.now conflict.now) }
+{
+    let chain = Vec::from_slice(*numbers.allocator(), conflict.chain.as_slice())?;
+    Ok(Conflict {
+        cell: conflict.cell,
+        last: conflict.last,
+        asker: tree.renamed(numbers.as_slice(), conflict.asker),
+        block: conflict.block,
+        victim: conflict.victim,
+        attempt: conflict.attempt,
+        chain: Seq::from_vec(chain),
+    })
+}
+
+fn halt_in_order(tree: &Tree, numbers: &[u32], halt: Option<Halt>) -> Option<Halt>
+    requires { numbers.now ≡ map (renamed tree.now) (all_nodes tree.now) }
+    ensures { result ≡ halt_in_order tree.now halt }
+{
+    match halt {
+        Some(Halt::Fault { strand, kind }) => Some(Halt::Fault {
+            strand: tree.renamed(numbers, strand),
+            kind,
+        }),
+        Some(Halt::Budget { strand }) => Some(Halt::Budget {
+            strand: tree.renamed(numbers, strand),
+        }),
+        other => other,
+    }
 }

@@ -1,5 +1,6 @@
 ghost use Rattle.cw_tree.specs.ChainLaws.{ConflictsAt, ConflictsGrow, ConflictsClose, NewestGrow, NewestClose, ChainsGrow, ChainsClose, ChainsExtend, PartsAreChains, EachFollows, SomeAreChains, BeneathIsEnd, StampsGrow, StampsClose, StampsExtend, PartsOfStamps, EachStampFollows, SomeOfStamps, StampsBeneath, StampConflictsGrow, StampConflictsClose, StacksGrow, StacksClose, FrontsOfStacks, StacksTell};
 ghost use Rattle.cw_tree.specs.NextNodes.{SoundCloses, SoundForks, SoundGrows, SoundRefuses};
+ghost use Rattle.cw_tree.specs.OrderLaws.{AncestorsStay, NodesStay, NumberedDepthFirst, NumbersDiffer, SeriesStay, SiblingsStay, SoundStays, TreesStay};
 ghost use Rattle.cw_tree.specs.VictimsAt.{VictimsAt, VictimsGrow, VictimRows};
 
 /// An access that is made next at a place: with what it conflicts, and what stays of that as others act.
@@ -57,4 +58,16 @@ pub fn trees_stay_sound()
     ensures refuses { SoundRefuses }
     ensures forks { SoundForks }
     ensures closes { SoundCloses }
+{}
+
+/// A tree in depth-first order is the same tree with its nodes renamed.
+pub fn orders_rename()
+    ensures trees { TreesStay }
+    ensures nodes { NodesStay }
+    ensures numbers { NumbersDiffer }
+    ensures ancestors { AncestorsStay }
+    ensures siblings { SiblingsStay }
+    ensures numbered { NumberedDepthFirst }
+    ensures series { SeriesStay }
+    ensures sound { SoundStays }
 {}

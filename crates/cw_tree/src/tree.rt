@@ -4,6 +4,7 @@ ghost use Rattle.cw_tree.specs.Nodes.{is_block_kind, parent_of, is_strand, is_fo
 ghost use Rattle.cw_tree.specs.Walks.{IsNumbered};
 
 mod name;
+mod order;
 mod walks;
 
 use crate::{BlockState, Kind, Node};

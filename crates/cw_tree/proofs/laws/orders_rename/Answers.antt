@@ -1,0 +1,7 @@
+use Rattle.cw_tree.proofs.Renaming.{trees_stay, nodes_stay, numbers_differ, ancestors_stay}
+use Rattle.cw_tree.proofs.Siblings.{siblings_stay, numbered_depth_first}
+use Rattle.cw_tree.proofs.InOrderSound.{series_stay, sound_stays}
+use Rattle.cw_tree.proofs.laws.orders_rename.Goals as goal
+
+pub returns : goal.returns
+returns c = record { trees = trees_stay; nodes = nodes_stay; numbers = numbers_differ; ancestors = ancestors_stay; siblings = siblings_stay; numbered = numbered_depth_first; series = series_stay; sound = sound_stays }

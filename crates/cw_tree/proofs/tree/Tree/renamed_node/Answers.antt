@@ -1,0 +1,5 @@
+use Rattle.cw_tree.proofs.Renumbered.{node_is}
+use Rattle.cw_tree.proofs.tree.Tree.renamed_node.Goals as goal
+
+pub returns : goal.returns
+returns c = node_is c.args.self.now c.args.n c.node-node.result.now c.copied.result c.renamed.result c.node-node.ensures c.copied.ensures c.renamed.ensures

@@ -1,0 +1,152 @@
+ghost use Rattle.std.specs.Prelude.{◌≡◌, ◌++◌, ◌<◌, length, map, reverse, IfOk, OnOk};
+ghost use Rattle.cw_tree.specs.InOrder.{in_order, node_in_order, renamed};
+ghost use Rattle.cw_tree.specs.Nodes.{all_nodes};
+ghost use Rattle.cw_tree.specs.Series.{children, depth_first};
+ghost use Rattle.cw_tree.specs.Links.{last_child, child_before};
+
+use crate::{Kind, Node, Tree};
+use cw_base::OutOfMemory;
+
+/// For each node its last child, and the last earlier child of its parent.
+#[derive(Drop)]
+struct Family {
+    last: Vec<Option<u32>>,
+    before: Vec<Option<u32>>,
+}
+
+impl Family {
+    fn of_tree(tree: &Tree) -> Result<Family, OutOfMemory>
+        ensures last { IfOk result (λ f. f.last.items ≡ map (last_child tree.now) (all_nodes tree.now)) }
+        ensures before { IfOk result (λ f. f.before.items ≡ map (child_before tree.now) (all_nodes tree.now)) }
+    {
+        let count = tree.nodes().len();
+        let alloc = *tree.nodes.allocator();
+        let mut last = vec![in alloc; None; count]?;
+        let mut before = vec![in alloc; None; count]?;
+        for n in 1..count as u32 {
+            let parent = tree.parent(n) as usize;
+            before[n as usize] = last[parent];
+            last[parent] = Some(n);
+        }
+        Ok(Family { last, before })
+    }
+
+    // Puts a node's children on a stack, the first one last.
+    fn push_children(&self, tree: &Tree, n: u32, stack: &mut Vec<u32>) -> Result<(), OutOfMemory>
+        requires there { n < length tree.now }
+        requires last { self.now.last.items ≡ map (last_child tree.now) (all_nodes tree.now) }
+        requires before { self.now.before.items ≡ map (child_before tree.now) (all_nodes tree.now) }
+        ensures { OnOk result (stack.new.items ≡ stack.old.items ++ reverse (children tree.now n)) }
+    {
+        let mut next = self.last[n as usize];
+        while let Some(child) = next {
+            stack.push(child)?;
+            next = self.before[child as usize];
+        }
+        Ok(())
+    }
+}
+
+// Each call takes memory and steps for each node of the tree, however deep it is.
+impl Tree {
+    /// The nodes, depth first.
+    pub fn depth_first(&self) -> Result<Vec<u32>, OutOfMemory>
+        ensures { IfOk result (λ order. order.items ≡ depth_first self.now) }
+    {
+        // a hint to the prover: the root is there, and each other node has a smaller parent
+        let _ = self.nodes();
+        let alloc = *self.nodes.allocator();
+        let family = Family::of_tree(self)?;
+        let mut order = Vec::new(alloc);
+        // the nodes to come to, the next one last
+        let mut stack = Vec::new(alloc);
+        stack.push(0)?;
+        while let Some(n) = stack.pop() {
+            family.push_children(self, n, &mut stack)?;
+            order.push(n)?;
+        }
+        Ok(order)
+    }
+
+    /// The tree with its nodes numbered depth first, and for each node its new number.
+    pub fn in_order(&self) -> Result<(Tree, Vec<u32>), OutOfMemory>
+        ensures tree { IfOk result (λ r. r.0 ≡ in_order self.now) }
+        ensures numbers { IfOk result (λ r. r.1.items ≡ map (renamed self.now) (all_nodes self.now)) }
+    {
+        // a hint to the prover: the root is there, and each other node has a smaller parent
+        let _ = self.nodes();
+        let order = self.depth_first()?;
+        let numbers = self.numbers(order.as_slice())?;
+        let mut nodes = Vec::with_capacity(*self.nodes.allocator(), order.len())?;
+        for n in order.as_slice() {
+            nodes.push(self.renamed_node(numbers.as_slice(), *n))?;
+        }
+        Ok((Tree { nodes }, numbers))
+    }
+
+    // For each node its place in depth-first order.
+    fn numbers(&self, order: &[u32]) -> Result<Vec<u32>, OutOfMemory>
+        requires { order.now ≡ depth_first self.now }
+        ensures { IfOk result (λ numbers. numbers.items ≡ map (renamed self.now) (all_nodes self.now)) }
+    {
+        // a hint to the prover: each node has a smaller parent
+        let count = self.nodes().len();
+        let mut numbers = vec![in *self.nodes.allocator(); 0u32; count]?;
+        for (place, n) in order.iter().enumerate() {
+            numbers[*n as usize] = place as u32;
+        }
+        Ok(numbers)
+    }
+
+    // The new number of a node, by those of all nodes. What is no node comes after them all.
+    pub(crate) fn renamed(&self, numbers: &[u32], n: u32) -> u32
+        requires { numbers.now ≡ map (renamed self.now) (all_nodes self.now) }
+        ensures { result ≡ renamed self.now n }
+    {
+        // a hint to the prover: a tree has fewer than 2 ^ 32 nodes
+        let _ = self.nodes();
+        let place = n as usize;
+        if place < numbers.len() {
+            numbers[place]
+        } else {
+            numbers.len() as u32
+        }
+    }
+
+    // A node as it stands in the tree that is numbered anew.
+    fn renamed_node(&self, numbers: &[u32], n: u32) -> Node
+        requires there { n < length self.now }
+        requires numbers { numbers.now ≡ map (renamed self.now) (all_nodes self.now) }
+        ensures { result ≡ node_in_order self.now n }
+    {
+        let node = self.node(n);
+        Node {
+            parent: self.renamed(numbers, node.parent),
+            kind: copied(&node.kind),
+            state: node.state,
+            stamp: node.stamp,
+            end: node.end,
+        }
+    }
+}
+
+// The same kind: it holds no more than numbers.
+fn copied(kind: &Kind) -> Kind
+    ensures { result ≡ kind.now }
+{
+    match kind {
+        Kind::Strand => Kind::Strand,
+        Kind::Fork => Kind::Fork,
+        Kind::Block => Kind::Block,
+        Kind::Read { cell, value } => Kind::Read {
+            cell: *cell,
+            value: *value,
+        },
+        Kind::Write { cell, value } => Kind::Write {
+            cell: *cell,
+            value: *value,
+        },
+        Kind::Out { value } => Kind::Out { value: *value },
+        Kind::Tried { cell } => Kind::Tried { cell: *cell },
+    }
+}
