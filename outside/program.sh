@@ -147,6 +147,8 @@ printf 'fn main(x) { out y; }' > source
 try 'a naming fault of a main with parameters' 5 '' $'cwstm: line 1: Unknown\n' run
 printf 'fn f() { atomic { f(); } } fn main() { f(); }' > source
 try '10,000 functions and blocks in each other' 6 $'fault Depth in 0\n' '' run
+printf 'fn f() { spawn { f(); } } fn main() { f(); }' > source
+try 'a strand of 333,333 forks' 6 "fault Fuel in 0$(printf '.1l%.0s' $(seq 333333))"$'\n' '' run
 
 # ## Reading and writing that fail
 
