@@ -8,9 +8,10 @@ use Rattle.std.specs.Prelude.{◌≡◌, ◌⊎◌, ℕ, ◌+◌, ◌-◌, ◌^�
 abbrev pub Rose : ℕ → ℕ → Type 0
 Rose before after = (before < after) ⊎ (after ≡ 2 ^ 64 - 1)
 
--- Faults never fall; a failure is told only where they rose, and with success they are as before.
+-- Faults never fall, and rise by one at most; a failure is told only where they rose, and with success they are as before.
 pub record CountsFaults {T E : Type 0} (before after : ℕ) (result : Result T E) : Type 0 where
   pub later : before ≤ after
+  pub one : after ≤ before + 1
   pub failed : IsErr result → Rose before after
   pub kept : OnOk result (after ≡ before)
 

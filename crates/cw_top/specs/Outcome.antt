@@ -48,7 +48,7 @@ abbrev pub most_read : Option Command → ℕ
 most_read None = 0
 most_read (Some (Run words limits)) = most_bytes
 
--- how often at most a read of a command gives no byte: once, and what it is told then ends its reading
+-- so many reads of a command give no byte at most: one, after which it reads no more
 abbrev pub most_ends : Option Command → ℕ
 most_ends None = 0
 most_ends (Some (Run words limits)) = 1

@@ -27,7 +27,7 @@ refusal bytes = of_reading (program bytes)
 abbrev pub Spells : List ℕ → Program → Type 0
 Spells bytes p = (ds : List Declaration) × ((program bytes ≡ Ok ds) × IsProgramOf ds p)
 
--- Main of the program that these bytes spell has so many parameters.
+-- Main of the program that these bytes spell has so many parameters; 0 where it has no main.
 abbrev pub AsksFor : List ℕ → ℕ → Type 0
 AsksFor bytes n = (ds : List Declaration) × ((program bytes ≡ Ok ds) × MainTakes ds n)
 
