@@ -60,13 +60,26 @@ fn sinks_in_memory_hold_what_was_written(rt: HostRuntime) -> Result<(), Fail> {
     Ok(())
 }
 
-/// A reader that fails in every call.
+/// A reader that fails, gives a byte, gives none, and then gives another byte in each call.
 #[derive(Drop)]
-struct Broken;
+struct Ragged {
+    calls: usize,
+}
 
-impl Read for Broken {
-    fn read(&mut self, _buf: &mut [u8]) -> io::Result<usize> {
-        Err(io::Error::from(ErrorKind::Other))
+impl Read for Ragged {
+    fn read(&mut self, buf: &mut [u8]) -> io::Result<usize> {
+        let call = self.calls;
+        self.calls = self.calls.saturating_add(1);
+        if call == 0 {
+            return Err(io::Error::from(ErrorKind::Other));
+        }
+        match buf.first_mut() {
+            Some(first) if call != 2 => {
+                *first = if call == 1 { b'a' } else { b'b' };
+                Ok(1)
+            }
+            _ => Ok(0),
+        }
     }
 }
 
@@ -74,7 +87,8 @@ impl Read for Broken {
 fn readers_are_sources(rt: HostRuntime) {
     let mut whole = ReadSource::new(b"abcde".as_slice());
     expect_reads(&rt, &mut whole, &[Some(b"abc"), Some(b"de"), Some(b"")]);
-    expect_reads(&rt, &mut ReadSource::new(Broken), &[None, None]);
+    let mut ragged = ReadSource::new(Ragged { calls: 0 });
+    expect_reads(&rt, &mut ragged, &[None, Some(b"a"), Some(b""), Some(b"b")]);
 }
 
 /// A writer that takes at most two bytes a call, and cannot flush more than it has room for.
@@ -99,6 +113,27 @@ impl Write for Pipe {
     }
 }
 
+/// A writer whose first call fails.
+#[derive(Drop)]
+struct Clogged {
+    calls: usize,
+}
+
+impl Write for Clogged {
+    fn write(&mut self, buf: &[u8]) -> io::Result<usize> {
+        let is_first = self.calls == 0;
+        self.calls = self.calls.saturating_add(1);
+        if is_first {
+            return Err(io::Error::from(ErrorKind::BrokenPipe));
+        }
+        Ok(buf.len())
+    }
+
+    fn flush(&mut self) -> io::Result<()> {
+        Ok(())
+    }
+}
+
 #[test]
 fn writers_are_sinks(rt: HostRuntime) -> Result<(), Fail> {
     let mut held = Vec::new(rt.alloc());
@@ -115,6 +150,8 @@ fn writers_are_sinks(rt: HostRuntime) -> Result<(), Fail> {
             "room {room}"
         );
     }
+    let mut clogged = WriteSink::new(Clogged { calls: 0 });
+    assert!(rt; write_all(&mut clogged, b"out 1\n").is_err());
     Ok(())
 }
 
