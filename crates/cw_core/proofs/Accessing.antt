@@ -18,7 +18,7 @@ use Rattle.cw_trace.specs.declared.verdict.Verdict.TheVariants.{Free, Within, Ag
 use Rattle.cw_trace.specs.Columns.{used}
 use Rattle.cw_trace.specs.Stands.{column}
 use Rattle.cw_trace.specs.Query.{verdict}
-use Rattle.cw_trace.specs.Verdicts.{is_against}
+use Rattle.cw_trace.specs.Verdicts.{Tells, is_against}
 use Rattle.cw_trace.proofs.Answering.{decides}
 use Rattle.cw_open.specs.Machine.{Machine, live, value_of, is_running, is_free}
 use Rattle.cw_open.specs.Steps.{Met, Step, accesses, refuses, after_all}
@@ -125,6 +125,18 @@ module _ (first : List ℤ) (k : State) (core : IsCore first k) (s c : ℕ) (wri
 
   -- ## Refused
 
+  -- what the columns tell of the newest access
+  pub told_newest : (last : ℕ) → newest (live m c) ≡ last ∷ [] → Tells t (access_at t last) p (verdict k.tier k.words (record { strand = column_of k (access_at t last); stamp = last }) (column_of k s))
+  told_newest last is =
+      let w = well first k core in
+      let a = (state first k core).listed.accesses c last (newest_in (live m c) last is) in
+      let v = access_at t last in
+      let named : v ≡ a.0 = ap (access_at t) (sym a.2) ∙ access_named t w.sound.stamps c a.0 a.1 in
+      let touched : touches t c v ≡ true = ap (touches t c) named ∙ a.1 in
+      let stamped : last ≡ stamp_of t v = sym a.2 ∙ ap (stamp_of t) (sym named) in
+      decides k.tier k.words (record { strand = column_of k v; stamp = last }) (column_of k s) t k.splits (joins k) (is_open m) c v p core.stands w.sound.tree w.sound.stamps (in_order first k core s running ready) (goes first k core s running ready) touched
+      (ap (λ z. (let q : Mark = record { strand = column t (used k.tier) v; stamp = z } in q)) stamped) (sym (column_place first k core s (used k.tier) running))
+
   abbrev met : Met
   met = met_by k s c
 
@@ -135,15 +147,9 @@ module _ (first : List ℤ) (k : State) (core : IsCore first k) (s c : ℕ) (wri
   refused e =
       let (last, is, conflicts) = newest_one t (live m c) p e in
       let same : met.last ≡ last = ap (λ us. unwrap_or (find (λ v. true) us) 0) is in
-      let w = well first k core in
-      let a = (state first k core).listed.accesses c last (newest_in (live m c) last is) in
       let v = access_at t met.last in
-      let named : v ≡ a.0 = ap (access_at t) (same ∙ sym a.2) ∙ access_named t w.sound.stamps c a.0 a.1 in
-      let touched : touches t c v ≡ true = ap (touches t c) named ∙ a.1 in
-      let stamped : met.last ≡ stamp_of t v = same ∙ sym a.2 ∙ ap (stamp_of t) (sym named) in
       let stopped : conflict_at t v p ≡ true = ap (λ z. conflict_at t (access_at t z) p) same ∙ conflicts in
-      let told = decides k.tier k.words (record { strand = column_of k v; stamp = met.last }) (column_of k s) t k.splits (joins k) (is_open m) c v p core.stands w.sound.tree w.sound.stamps (in_order first k core s running ready) (goes first k core s running ready) touched
-      (ap (λ z. (let q : Mark = record { strand = column t (used k.tier) v; stamp = z } in q)) stamped) (sym (column_place first k core s (used k.tier) running)) in
+      let told = told_newest met.last (is ∙ ap (λ z. z ∷ []) (sym same)) in
       let v_against = against_some (verdict k.tier k.words (record { strand = column_of k v; stamp = met.last }) (column_of k s)) (told.against ∙ stopped) in
       record {
         last = is ∙ ap (λ z. z ∷ []) (sym same);

@@ -55,7 +55,7 @@ in_child t f c i =
     let z = and_parts (nat_lt 0 c) (nat_eq (parent_of t c) f) w.1 in
     record { some = ltb-true 0 c z.0; there = in_below c (length t) w.0; up = eqb-true (parent_of t c) f z.1 }
 
-children_rise : (t : List Node) (f : ℕ) → Rises (children t f)
+pub children_rise : (t : List Node) (f : ℕ) → Rises (children t f)
 children_rise t f = rises_filter (is_child t f) (all_nodes t) (below_rises (length t))
 
 none_in : (xs : List ℕ) (v : ℕ) → nat_eq (length xs) 0 ≡ true → In v xs → ⊥
@@ -84,7 +84,7 @@ module _ (first : List ℤ) (k : State) (core : IsCore first k) (f : ℕ) (fork 
   no_join = unjoined k (well first k core) core.joined core.left_first core.stands f fork unjoined_f
 
   -- a fork that is split names traces, and one that is not names none
-  names : (z : Bool) → has k.splits col ≡ z → fork_column t f + 1 < used k.tier → is_trace k.tier col ≡ z
+  pub names : (z : Bool) → has k.splits col ≡ z → fork_column t f + 1 < used k.tier → is_trace k.tier col ≡ z
   names z e low =
       let odd = odd_column t f in
       let self : left_of col ≡ col = left_odd col odd in

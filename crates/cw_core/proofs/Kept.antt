@@ -53,7 +53,7 @@ module _ (first : List ℤ) (k : State) (core : IsCore first k) where
   abbrev m : Machine
   m = k.machine
 
-  free_ready : (s : ℕ) → (is_free m s && not (waits_for_left k s)) ≡ true → (is_free m s ≡ true) × (waits_for_left k s ≡ false)
+  pub free_ready : (s : ℕ) → (is_free m s && not (waits_for_left k s)) ≡ true → (is_free m s ≡ true) × (waits_for_left k s ≡ false)
   free_ready s e = let z = and_parts (is_free m s) (not (waits_for_left k s)) e in (z.0, not-true (waits_for_left k s) z.1)
 
   pub keeps : (e : Event) → fits_now k e ≡ true → IsKept first k e

@@ -38,7 +38,7 @@ abbrev pub filtered : (ℕ → Bool) → List (List ℕ) → List ℕ → List (
 filtered f ls [] = ls
 filtered f ls (c ∷ cs) = filtered f (slice_set ls c (filter f (listed ls c))) cs
 
-filtered_length : (f : ℕ → Bool) (ls : List (List ℕ)) (cs : List ℕ) → length (filtered f ls cs) ≡ length ls
+pub filtered_length : (f : ℕ → Bool) (ls : List (List ℕ)) (cs : List ℕ) → length (filtered f ls cs) ≡ length ls
 filtered_length f ls [] = refl
 filtered_length f ls (c ∷ cs) = filtered_length f (slice_set ls c (filter f (listed ls c))) cs ∙ length-set ls c (filter f (listed ls c))
 
@@ -83,25 +83,25 @@ module _ (first : List ℤ) (k : State) (core : IsCore first k) (s : ℕ) (rolls
   abbrev m : Machine
   m = k.machine
 
-  abbrev p : ℕ
+  abbrev pub p : ℕ
   p = place t s
 
-  abbrev beside : ℕ → Bool
+  abbrev pub beside : ℕ → Bool
   beside u = not (is_above t p (access_at t u))
 
-  abbrev cs : List ℕ
+  abbrev pub cs : List ℕ
   cs = touched k s
 
-  abbrev ls : List (List ℕ)
+  abbrev pub ls : List (List ℕ)
   ls = filtered beside m.lists cs
 
-  abbrev v : List Node
+  abbrev pub v : List Node
   v = closed t p Aborted (next k)
 
-  running : is_running m s ≡ true
+  pub running : is_running m s ≡ true
   running = (rolls_runs m s rolls).running
 
-  within : in_block m s ≡ true
+  pub within : in_block m s ≡ true
   within = (rolls_runs m s rolls).within
 
   undone : (xs : List (List ℕ)) (ds : List ℕ) → after_all (record m { lists = xs }) (map (undoes s) ds) ≡ record m { lists = filtered beside xs ds }
@@ -115,7 +115,7 @@ module _ (first : List ℤ) (k : State) (core : IsCore first k) (s : ℕ) (rolls
     undo_run (slice_set xs d (filter beside (listed xs d))) ds (λ c i. let h = low c (inr i) in let len = length-set xs d (filter beside (listed xs d)) in omega arith),
   )
 
-  low : (c : ℕ) → In c cs → c < length m.lists
+  pub low : (c : ℕ) → In c cs → c < length m.lists
   low c i = in_below c (length m.lists) (in_filter (λ c. list_any (λ u. is_above t p (access_at t u)) (live m c)) c (below (length m.lists)) i).0
 
   listed_low : (xs : List (List ℕ)) (d u : ℕ) → In u (listed xs d) → d < length xs
@@ -123,7 +123,7 @@ module _ (first : List ℤ) (k : State) (core : IsCore first k) (s : ℕ) (rolls
   listed_low (x ∷ xs) zero u i = omega arith
   listed_low (x ∷ xs) (suc d) u i = let h = listed_low xs d u i in omega arith
 
-  none_beneath : (d u : ℕ) → In u (listed ls d) → beside u ≡ true
+  pub none_beneath : (d u : ℕ) → In u (listed ls d) → beside u ≡ true
   none_beneath d u i =
       let w = was_listed beside m.lists cs low d u i in
       elim (cases_Bool (is_above t p (access_at t u))) [
@@ -132,10 +132,10 @@ module _ (first : List ℤ) (k : State) (core : IsCore first k) (s : ℕ) (rolls
             w.1 (filter_in (λ c. list_any (λ u. is_above t p (access_at t u)) (live m c)) d (below (length m.lists)) (below_in d (length m.lists) (listed_low m.lists d u w.0)) (any_from (λ u. is_above t p (access_at t u)) u (live m d) w.0 over))
       ]
 
-  abbrev rolled : Machine
+  abbrev pub rolled : Machine
   rolled = record m { tree = v; lists = ls; clock = max m.clock (next k) }
 
-  machine_is : after_all m (steps_of k (event.Roll s)) ≡ rolled
+  pub machine_is : after_all m (steps_of k (event.Roll s)) ≡ rolled
   machine_is = after_more m (map (undoes s) cs) (aborts s (next k) ∷ []) ∙ ap (λ z. after_all z (aborts s (next k) ∷ [])) (undone m.lists cs)
 
   run : IsRun at_once m (steps_of k (event.Roll s))
@@ -155,7 +155,7 @@ module _ (first : List ℤ) (k : State) (core : IsCore first k) (s : ℕ) (rolls
       let P : ℕ → Type 0 = λ u. In u (listed ls c) in
       subst P (sym w.2) (in_filtered beside m.lists cs low c (stamp_of t n) (all_listed first k core c n w.0 w.1) (not_from_false (is_above t p (access_at t (stamp_of t n))) (ap (is_above t p) (access_named t (well first k core).sound.stamps c n w.0) ∙ off)))
 
-  abbrev state_with : Machine → State
+  abbrev pub state_with : Machine → State
   state_with z = record (after k (event.Roll s)) { machine = z }
 
   pub keeps_roll : IsKept first k (event.Roll s)

@@ -53,6 +53,13 @@ abbrev pub is_stop : Event → Bool
 is_stop (event.Stop h) = true
 is_stop _ = false
 
+-- a commit, a roll and a stop take no memory
+abbrev pub takes_none : Event → Bool
+takes_none (event.Commit s) = true
+takes_none (event.Roll s) = true
+takes_none (event.Stop h) = true
+takes_none _ = false
+
 -- after a stop nothing fits, and once a budget is spent a stop alone
 abbrev pub fits : State → Event → Bool
 fits k e = is_none k.halt && (is_none (spent k) || is_stop e) && fits_now k e

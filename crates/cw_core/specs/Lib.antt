@@ -2,3 +2,9 @@ pub mod State
 pub mod Events
 pub mod Laws
 pub mod Rows
+pub mod Kept
+pub mod Held
+pub mod Links
+pub mod Undone
+pub mod Closing
+pub mod ClosedLaws

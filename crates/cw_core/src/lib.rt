@@ -2,14 +2,22 @@
 //! open machine.
 //! Stands on `cw_tree`, `cw_trace`, `cw_xconf`, `cw_stack` and `cw_open`.
 //! Contracts cite `specs/State.antt` (what is seen of a core), `specs/Events.antt` (which events fit, the steps that each stands for, and
-//! how it is answered) and `specs/Laws.antt` (what is true of a core between events); `specs/Rows.antt` tries them.
+//! how it is answered), `specs/Laws.antt` (what is true of a core between events) and `specs/Closing.antt` (what it leaves);
+//! `specs/ClosedLaws.antt` has laws of that, `specs/Rows.antt` tries them.
 #![tactic(auto)]
 
+ghost use Rattle.cw_core.specs.ClosedLaws.{CellsStay, EndsStay, FaultsStay, JournalsStay, RefusalsStay, RollsBackStays};
 ghost use Rattle.cw_core.specs.Laws.{AnswersAreOfTheMachine, CellsAreChains, EventsAreRuns, ListsAreRuns, SplitsChangeNothing, StartsAreCores, StrandsGoOn};
 ghost use Rattle.cw_core.specs.Rows.{Budgets, Joins, Rolls, Splits};
 
+mod cores;
 mod event;
+mod held;
+mod linked;
+mod row;
+mod undo;
 
+pub use cores::Core;
 pub use event::{Event, Reply};
 
 /// Each event that fits is a run of the open machine by just the steps that it stands for, after which the core stands for what they lead
@@ -31,6 +39,16 @@ pub fn cores_stand()
 pub fn splits_change_no_answer()
     ensures splits { SplitsChangeNothing }
     ensures answers { AnswersAreOfTheMachine }
+{}
+
+/// What is true of the tree, the journals and the conflicts that a run leaves is true of them in depth-first order.
+pub fn closed_in_order()
+    ensures cells { CellsStay }
+    ensures journals { JournalsStay }
+    ensures ends { EndsStay }
+    ensures refusals { RefusalsStay }
+    ensures rolls_back { RollsBackStays }
+    ensures faults { FaultsStay }
 {}
 
 /// What the definitions say of lists of events.

@@ -38,7 +38,7 @@ by_cell m u c l there here other d =
       | inr ne ↦ (let P : List ℕ → Type 0 = λ us. IsChained u d us in subst P (sym (listed_other m.lists c d l ne)) (other d))
     ]
 
-access_touched : (c : ℕ) (write : Option ℤ) (v : ℤ) → touches_kind c (access_kind c write v) ≡ true
+pub access_touched : (c : ℕ) (write : Option ℤ) (v : ℤ) → touches_kind c (access_kind c write v) ≡ true
 access_touched c None v = eq-eqb c c refl
 access_touched c (Some w) v = eq-eqb c c refl
 
@@ -77,7 +77,7 @@ module _ (first : List ℤ) (m : Machine) (s : IsState first m) (h : AreChained 
   chained_after (joins f) a z = h
   chained_after (stops x) a z = h
 
-chained_opening : (first : List ℤ) → AreChained (opening first)
+pub chained_opening : (first : List ℤ) → AreChained (opening first)
 chained_opening first c =
     let P : List ℕ → Type 0 = λ us. IsChained (opening first).tree c us in
     subst P (sym (empty_lists first c)) (record { chain = record { accesses = All-nil (HasAccess (opening first).tree c); chain = tt }; ended = tt })

@@ -31,14 +31,14 @@ pub record IsChained (t : List Node) (c : ℕ) (us : List ℕ) : Type 0 where
   pub chain : IsChainOf t c us
   pub ended : AllEndedBetween t (map (access_at t) us)
 
-names_same : (t u : List Node) → AreStamps t → AreStamps u → (c : ℕ) → ((n : ℕ) → touches t c n ≡ true → (touches u c n ≡ true) × (stamp_of u n ≡ stamp_of t n)) → (us : List ℕ) → ((s : ℕ) → In s us → HasAccess t c s) → map (access_at u) us ≡ map (access_at t) us
+pub names_same : (t u : List Node) → AreStamps t → AreStamps u → (c : ℕ) → ((n : ℕ) → touches t c n ≡ true → (touches u c n ≡ true) × (stamp_of u n ≡ stamp_of t n)) → (us : List ℕ) → ((s : ℕ) → In s us → HasAccess t c s) → map (access_at u) us ≡ map (access_at t) us
 names_same t u st su c kept us a =
     map_same (access_at u) (access_at t) us (λ s i.
     let h = a s i in
     let k = kept h.0 h.1 in
     same_name t u st su c s h.0 h.1 h.2 k.0 (k.1 ∙ h.2))
 
-kept_grown : (t xs : List Node) (c n : ℕ) → touches t c n ≡ true → (touches (t ++ xs) c n ≡ true) × (stamp_of (t ++ xs) n ≡ stamp_of t n)
+pub kept_grown : (t xs : List Node) (c n : ℕ) → touches t c n ≡ true → (touches (t ++ xs) c n ≡ true) × (stamp_of (t ++ xs) n ≡ stamp_of t n)
 kept_grown t xs c n e = let h = node_there (λ y. touches_kind c y.kind) t n e in (node_grown t xs (λ y. touches_kind c y.kind) n h ∙ e, number_grown t xs (λ y. y.stamp) n h)
 
 module _ (t : List Node) (r : IsRooted t) (st : AreStamps t) (c : ℕ) (us : List ℕ) (a : (s : ℕ) → In s us → HasAccess t c s) (h : IsChained t c us) where

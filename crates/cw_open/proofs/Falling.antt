@@ -16,7 +16,7 @@ use Rattle.cw_tree.proofs.Members.{in_below, below_in}
 use Rattle.cw_open.specs.Machine.{Machine, falls, is_dying, leads_back}
 
 -- some of these passes, and so some of these and more, where each that passed still does
-any_kept : {X : Type 0} (P : X → Type 0) (p q : X → Bool) (xs ys : List X) → All P xs → ((x : X) → P x → p x ≡ true → q x ≡ true) → list_any p xs ≡ true → list_any q (xs ++ ys) ≡ true
+pub any_kept : {X : Type 0} (P : X → Type 0) (p q : X → Bool) (xs ys : List X) → All P xs → ((x : X) → P x → p x ≡ true → q x ≡ true) → list_any p xs ≡ true → list_any q (xs ++ ys) ≡ true
 any_kept P p q [] ys all f e = absurd (cc e)
 any_kept P p q (x ∷ xs) ys all f e =
     elim (or_cases (p x) (list_any p xs) e) [
@@ -24,7 +24,7 @@ any_kept P p q (x ∷ xs) ys all f e =
       | inr a ↦ or_right (q x) (list_any q (xs ++ ys)) (any_kept P p q xs ys (All-tail P x xs all) f a)
     ]
 
-any_weaker : {X : Type 0} (p q : X → Bool) (xs : List X) → ((x : X) → p x ≡ true → q x ≡ true) → list_any p xs ≡ true → list_any q xs ≡ true
+pub any_weaker : {X : Type 0} (p q : X → Bool) (xs : List X) → ((x : X) → p x ≡ true → q x ≡ true) → list_any p xs ≡ true → list_any q xs ≡ true
 any_weaker p q [] f e = e
 any_weaker p q (x ∷ xs) f e =
     elim (or_cases (p x) (list_any p xs) e) [

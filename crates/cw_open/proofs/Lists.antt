@@ -40,7 +40,7 @@ module _ (m : Machine) (w : IsWell m) (s : ℕ) (running : is_running m s ≡ tr
   free_no_back : is_dying m s ≡ false → leads_back m (strand_of m.tree p) p ≡ true → ⊥
   free_no_back lives e = let P : ℕ → Type 0 = λ s. leads_back m s p ≡ true in absurd (cc (lives, back_dies m s p (subst P same_strand e)))
 
-  rolls : rolls_back m s ≡ true → leads_back m (strand_of m.tree p) p ≡ true
+  pub rolls : rolls_back m s ≡ true → leads_back m (strand_of m.tree p) p ≡ true
   rolls e =
       let P : ℕ → Type 0 = λ s. leads_back m s p ≡ true in
       subst P (sym same_strand) (and_parts (is_running m s && in_block m s) (leads_back m s p) e).1

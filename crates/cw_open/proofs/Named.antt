@@ -111,3 +111,19 @@ live_new t x r w =
     let there = w.there in
     let le = ancestor_le t r b x.parent there over in
     not_from_false (is_aborted (t ++ x ∷ []) b) (node_grown t (x ∷ []) (λ y. is_block_kind y.kind && is_aborted_state y.state) b (omega arith) ∙ none_aborted t x.parent w b over))
+
+block_kind_no : (k : Kind) → is_block_kind k ≡ true → (is_strand_kind k ≡ false) × (is_tried_kind k ≡ false)
+block_kind_no Block e = (refl, refl)
+block_kind_no Strand e = absurd (cc e)
+block_kind_no Fork e = absurd (cc e)
+block_kind_no (Read c v) e = absurd (cc e)
+block_kind_no (Write c v) e = absurd (cc e)
+block_kind_no (Out v) e = absurd (cc e)
+block_kind_no (Tried c) e = absurd (cc e)
+
+-- a block has a stamp
+pub block_stamp : (t : List Node) → AreStamps t → (n : ℕ) → is_block t n ≡ true → 0 < stamp_of t n
+block_stamp t s n e =
+    let no_strand = not_at_node t (λ x. is_block_kind x.kind) (λ x. is_strand_kind x.kind) (λ x f. (block_kind_no x.kind f).0) n e in
+    let no_tried = not_at_node t (λ x. is_block_kind x.kind) (λ x. is_tried_kind x.kind) (λ x f. (block_kind_no x.kind f).1) n e in
+    ltb-true 0 (stamp_of t n) (s.there n (node_there (λ x. is_block_kind x.kind) t n e) ∙ not_from_false (is_strand t n || is_tried t n) (or_from (is_strand t n) (is_tried t n) no_strand no_tried))

@@ -23,7 +23,7 @@ use Rattle.cw_open.proofs.Trees.{stands_well}
 use Rattle.cw_open.proofs.TreeSteps.{free_runs}
 use Rattle.cw_open.proofs.Named.{access_named}
 use Rattle.cw_open.proofs.ChainSteps.{newest_in}
-use Rattle.cw_open.proofs.States.{states}
+use Rattle.cw_open.proofs.States.{IsState, states}
 
 -- an access holds nothing
 access_holds : (c : ℕ) (k : Kind) → touches_kind c k ≡ true → (is_strand_kind k || is_fork_kind k || is_block_kind k) ≡ false
@@ -107,9 +107,8 @@ module _ (t : List Node) (s : IsSound t) (c u b p : ℕ) (access : touches t c u
       omega (arith, one, ap one_if e, ap one_if not_earlier, ap one_if (place.last u low)))
 
 -- what a refused access met
-pub told : (first : List ℤ) (m : Machine) (s c : ℕ) (write : Option ℤ) (met : Met) → Reached at_once first m → Allowed at_once m (refuses s c write met) → IsMet m.tree (place m.tree s) c met
-told first m s c write met reached a =
-    let state = states at_once first m reached in
+pub met_is : (first : List ℤ) (m : Machine) (s c : ℕ) (write : Option ℤ) (met : Met) → IsState first m → Allowed at_once m (refuses s c write met) → IsMet m.tree (place m.tree s) c met
+met_is first m s c write met state a =
     let well = state.well in
     let t = m.tree in
     let z = and_parts (is_free m s) (nat_lt c (length m.lists)) a.0 in
@@ -129,3 +128,6 @@ told first m s c write met reached a =
       parallel = are_parallel t well.sound c u b p touched x.0 x.1 at off;
       block = (b, and_from (is_block t b && is_above t b u) (not (is_ancestor t b p)) (and_from (is_block t b) (is_above t b u) (pending_block t b x.0) x.1) y.1, stamped);
     }
+
+pub told : (first : List ℤ) (m : Machine) (s c : ℕ) (write : Option ℤ) (met : Met) → Reached at_once first m → Allowed at_once m (refuses s c write met) → IsMet m.tree (place m.tree s) c met
+told first m s c write met reached a = met_is first m s c write met (states at_once first m reached) a

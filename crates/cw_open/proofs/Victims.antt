@@ -28,7 +28,7 @@ use Rattle.cw_tree.proofs.Growing.{length_more, node_grown, number_grown, is_abo
 use Rattle.cw_tree.proofs.Closing.{length_closed, node_closed, number_closed, is_above_closed}
 use Rattle.cw_tree.proofs.NextBefore.{above_down}
 use Rattle.cw_open.specs.Machine.{Machine, has_finished, falls, is_running, in_block, is_dying, is_free, leads_back, rolls_back}
-use Rattle.cw_open.specs.Steps.{Met, Step, forks, begins, accesses, refuses, outputs, commits, undoes, aborts, finishes, joins, stops, refusal, after}
+use Rattle.cw_open.specs.Steps.{Met, Step, forks, begins, accesses, refuses, outputs, commits, undoes, aborts, finishes, joins, stops, refusal, after, opening}
 use Rattle.cw_open.specs.Runs.{Rules, Allowed, Reached, at_any_time}
 use Rattle.cw_open.specs.Laws.{VictimsAreAbove, DyingRollBack, FreeAreSafe}
 use Rattle.cw_open.proofs.NodeKinds.{pending_block, fork_no_strand, fork_no_block_at}
@@ -75,7 +75,7 @@ told_closed t r p state end c w = record {
 }
 
 -- the outermost of some nodes that pass is one of them
-outermost_in : (q : ℕ → Bool) (ns : List ℕ) (b : ℕ) → outermost q ns ≡ Some b → In b ns × (q b ≡ true)
+pub outermost_in : (q : ℕ → Bool) (ns : List ℕ) (b : ℕ) → outermost q ns ≡ Some b → In b ns × (q b ≡ true)
 outermost_in q [] b e = absurd (cc e)
 outermost_in q (n ∷ ns) b e = by (outermost q ns) (q n) refl e (outermost_in q ns b) where
   by : (o : Option ℕ) (x : Bool) → q n ≡ x → option_or o (cond x (Some n) None) ≡ Some b → (o ≡ Some b → In b ns × (q b ≡ true)) → In b (n ∷ ns) × (q b ≡ true)
@@ -84,7 +84,7 @@ outermost_in q (n ∷ ns) b e = by (outermost q ns) (q n) refl e (outermost_in q
   by None false is f more = absurd (cc f)
 
 -- a new conflict
-told_new : (m : Machine) → IsRooted m.tree → (p : ℕ) → p < length m.tree → (c : ℕ) (met : Met) → IsTold (m.tree ++ fresh_node p (Tried c) 0 ∷ []) (refusal m p c met)
+pub told_new : (m : Machine) → IsRooted m.tree → (p : ℕ) → p < length m.tree → (c : ℕ) (met : Met) → IsTold (m.tree ++ fresh_node p (Tried c) 0 ∷ []) (refusal m p c met)
 told_new m r p h c met =
     let t = m.tree in
     let x = fresh_node p (Tried c) 0 in
@@ -108,7 +108,7 @@ told_new m r p h c met =
           )
 
 -- what one conflict of some that are told passes, it passes another test
-any_told : {t : List Node} (p q : Conflict → Bool) (cs : List Conflict) → All (IsTold t) cs → ((c : Conflict) → IsTold t c → p c ≡ true → q c ≡ true) → list_any p cs ≡ true → list_any q cs ≡ true
+pub any_told : {t : List Node} (p q : Conflict → Bool) (cs : List Conflict) → All (IsTold t) cs → ((c : Conflict) → IsTold t c → p c ≡ true → q c ≡ true) → list_any p cs ≡ true → list_any q cs ≡ true
 any_told p q [] all f e = absurd (cc e)
 any_told {t} p q (c ∷ cs) all f e =
     elim (or_cases (p c) (list_any p cs) e) [
@@ -142,10 +142,14 @@ pub record IsToldState (first : List ℤ) (m : Machine) : Type 0 where
   pub state : IsState first m
   pub told : AreTold m
 
+pub told_opening : (first : List ℤ) → IsToldState first (opening first)
+told_opening first = record { state = state_opening first; told = All-nil _ }
+
+pub told_state_after : (r : Rules) (first : List ℤ) (m : Machine) (e : Step) → IsToldState first m → Allowed r m e → IsToldState first (after m e)
+told_state_after r first m e w a = record { state = state_after r first m e w.state a; told = told_after r first m e w.state w.told a }
+
 pub told_states : (r : Rules) (first : List ℤ) (m : Machine) → Reached r first m → IsToldState first m
-told_states r first =
-    by_run r first (IsToldState first) (record { state = state_opening first; told = All-nil _ })
-    (λ m e w a. record { state = state_after r first m e w.state a; told = told_after r first m e w.state w.told a })
+told_states r first = by_run r first (IsToldState first) (told_opening first) (told_state_after r first)
 
 -- ## What a victim is to a running strand
 
@@ -160,7 +164,7 @@ module _ (first : List ℤ) (m : Machine) (w : IsToldState first m) where
   r = well.sound.tree.rooted
 
   -- of a conflict that was recorded, a block with the victim's stamp is above the asker
-  victim_above : (c : Conflict) → IsTold t c → (b : ℕ) → is_victim t (c ∷ []) b ≡ true → is_above t b c.asker ≡ true
+  pub victim_above : (c : Conflict) → IsTold t c → (b : ℕ) → is_victim t (c ∷ []) b ≡ true → is_above t b c.asker ≡ true
   victim_above c told b e =
       let z = and_parts (is_block t b) (list_any (λ c. option_map_or (λ v. nat_eq v (stamp_of t b)) (victim_of c) false) (c ∷ [])) e in
       let low = node_there (λ n. is_block_kind n.kind) t b z.0 in

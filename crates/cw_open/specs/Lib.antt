@@ -3,4 +3,8 @@ pub mod Steps
 pub mod Runs
 pub mod Open
 pub mod Laws
+pub mod Times
+pub mod Told
+pub mod Reads
+pub mod Left
 pub mod Rows

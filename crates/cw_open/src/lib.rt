@@ -2,11 +2,15 @@
 //! code here that runs.
 //! Stands on `cw_tree`.
 //! Contracts cite `specs/Machine.antt` (the state, and where its strands stand), `specs/Steps.antt` (the steps, and what each does),
-//! `specs/Runs.antt` (what each step needs, and runs), `specs/Open.antt` (nodes that are still open) and `specs/Laws.antt` (what is true of
-//! every state that a run leads to); `specs/Rows.antt` tries them.
+//! `specs/Runs.antt` (what each step needs, and runs), `specs/Open.antt` (nodes that are still open), `specs/Laws.antt` (what is true of
+//! every state that a run leads to), `specs/Reads.antt` (what live reads met), `specs/Times.antt` (when stamps are drawn)
+//! and `specs/Told.antt` (what is true of refused accesses); `specs/Rows.antt` tries them.
 #![tactic(auto)]
 
 ghost use Rattle.cw_open.specs.Laws.{AtOnceIsAtAnyTime, BlocksHaveEnded, CellsFit, ClocksAreLatest, DyingRollBack, FreeAreSafe, ListsAreChains, ListsAreLive, ListsHaveAll, ListsRise, OpenAreNested, RefusalsAreTold, StrandsStandAtPlaces, TreesAreSound, VictimsAreAbove};
+ghost use Rattle.cw_open.specs.Left.{HistoriesAreLeft};
+ghost use Rattle.cw_open.specs.Reads.{ReadsAreMet};
+ghost use Rattle.cw_open.specs.Told.{AbortedAreVictims, AheadIsTimely, AskersAreTried, AtOnceIsTold, CommittedAreSafe, ConflictsAreRecorded, DeadGoBack, DyingGoBack, StopsAreLeftOut, ToldIsAtAnyTime};
 ghost use Rattle.cw_open.specs.Rows.{Beneath, Inside, InnerCommitted, Outer, Twice};
 
 /// The tree of every state: it is sound, its open nodes are nested, its running strands stand at places, and the clock is at its latest
@@ -24,6 +28,11 @@ pub fn lists_of_runs()
     ensures rise { ListsRise }
     ensures live { ListsAreLive }
     ensures all { ListsHaveAll }
+{}
+
+/// Where an access may conflict with the newest one alone, each live read has what the live accesses before it left.
+pub fn reads_of_runs()
+    ensures reads { ReadsAreMet }
 {}
 
 /// Where an access may conflict with the newest one alone, each list is a chain, and what stands between two of a list has ended.
@@ -45,6 +54,40 @@ pub fn victims_of_runs()
 pub fn runs_at_once()
     ensures runs { AtOnceIsAtAnyTime }
     ensures told { RefusalsAreTold }
+{}
+
+/// Each refused access has its conflict. Where an access is refused when its conflict can tell what it met, and stamps are drawn in time, each
+/// conflict is a recorded one when it is made, and stays one.
+pub fn conflicts_of_runs()
+    ensures askers { AskersAreTried }
+    ensures recorded { ConflictsAreRecorded }
+{}
+
+/// What was rolled back was so for a victim, and no victim is committed. A strand that is dying does nothing but roll back and finish: in its
+/// place a refused access with a victim, an aborted block that is none, and a fork of which a strand died are the last.
+pub fn dying_go_back()
+    ensures aborted { AbortedAreVictims }
+    ensures committed { CommittedAreSafe }
+    ensures dying { DyingGoBack }
+    ensures dead { DeadGoBack }
+{}
+
+/// Where an access is refused as soon as it conflicts with the newest one, its conflict can tell what it met, and stamps are drawn in time
+/// where each exceeds the clock.
+pub fn conflicts_at_once()
+    ensures told { AtOnceIsTold }
+    ensures timely { AheadIsTimely }
+{}
+
+/// What a run leaves where no undo is under way: its journals, conflicts and rolled-back blocks are as they have to be.
+pub fn histories_of_runs()
+    ensures left { HistoriesAreLeft }
+    ensures any_time { ToldIsAtAnyTime }
+{}
+
+/// A run without its stops is a run: a strand that stopped stands where it ran.
+pub fn stops_are_left_out()
+    ensures stops { StopsAreLeftOut }
 {}
 
 /// What the definitions say of small runs.

@@ -1,4 +1,5 @@
 pub mod Arguments
+pub mod Below
 pub mod Bounding
 pub mod Calls
 pub mod CodeLaws
@@ -10,10 +11,12 @@ pub mod Following
 pub mod FunctionCode
 pub mod Lawful
 pub mod LocalWork
+pub mod Lowest
 pub mod MainCode
 pub mod Needing
 pub mod Numbering
 pub mod Pasts
+pub mod Returning
 pub mod SameWants
 pub mod Settling
 pub mod Sharing

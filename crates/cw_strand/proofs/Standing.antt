@@ -2,7 +2,7 @@
 use Rattle.std.proofs.Common.{◌≡◌, ℕ, zero, suc, ◌+◌, ◌-◌, ◌<◌, ◌≤◌, Bool, true, false, max, min, List, [], ◌∷◌, length, drop, reverse, Option, Some, Result, Ok, Err, refl, sym, ap, ◌∙◌, subst, arith, ℤ, pos, negsuc, length-append, length-drop, nat_lt}
 use Rattle.std.specs.Prelude.{slice_get, Contains, if◌then◌else◌, nat_le}
 use Rattle.std.proofs.Math.Nat.{le-max_left}
-use Rattle.std.proofs.lemmas.List.{length-reverse, length-set, length-replicate, length-take-le}
+use Rattle.std.proofs.lemmas.List.{nil_from_length, length-reverse, length-set, length-replicate, length-take-le}
 use Rattle.std.proofs.lemmas.Bool.{ltb-false, ltb-true}
 use Rattle.cw_code.specs.declared.instruction.Instr.{Instr}
 use Rattle.cw_code.specs.declared.instruction.Func.{Func}
@@ -25,7 +25,7 @@ use Rattle.cw_strand.specs.Arithmetic.{is_zero}
 use Rattle.cw_strand.specs.Meaning.{in_place, one_more, both_counts, most_frames}
 use Rattle.cw_strand.specs.Coded as coded
 use Rattle.cw_strand.specs.Coded.{Frame, State, Step, index, goes_to, with_value, locals_for, joined, counted, counts, spends, result, in_range, read_local, write_local, returned, wait_in, starts_at}
-use Rattle.cw_strand.specs.Standing.{StandsAt, WaitAt, NoneOver, StandsIn, StandsWanting, Stands}
+use Rattle.cw_strand.specs.Standing.{StandsAt, WaitAt, NoneOver, StandsIn, HasBegun, StandsWanting, Stands}
 
 there : {X : Type 0} (xs : List X) (n : ℕ) → n < length xs → (x : X) × (slice_get xs n ≡ Some x)
 there [] n lt = absurd (omega arith)
@@ -53,12 +53,12 @@ module _ (code : Code) where
   stands_either true x y g h = g refl
   stands_either false x y g h = h refl
 
-  -- at a want that no strand forks at
-  at_want : (w : Want) (s : State) → (w ≡ Fork → ⊥) → StandsIn code s → StandsWanting code w s
-  at_want w s other h = record { stands = h; beside = λ is. absurd (other is) }
+  -- at a want at which no strand forks and no block begins
+  at_want : (w : Want) (s : State) → (w ≡ Fork → ⊥) → (w ≡ Begin → ⊥) → StandsIn code s → StandsWanting code w s
+  at_want w s no_fork no_begin h = record { stands = h; beside = λ is. absurd (no_fork is); begun = λ is. absurd (no_begin is) }
 
   at_fault : (k : FaultKind) (s : State) → StandsIn code s → Stands code (wants (Fault k) s)
-  at_fault k s h = at_want (Fault k) s (λ is. cc) h
+  at_fault k s h = at_want (Fault k) s (λ is. cc) (λ is. cc) h
 
   pub given_stands : (given : Given) (s : State) → StandsIn code s → StandsIn code (with_value given s)
   given_stands Nothing s h = h
@@ -123,8 +123,8 @@ module _ (code : Code) (ok : faults code ≡ []) where
   counted_stands : (s : State) (go : State → Step) → StandsIn code s → Stands code (go (record s { size = s.size + 1 })) → Stands code (counted s go)
   counted_stands s go f g = stands_either code (nat_le s.limits.size s.size) _ _ (λ e. at_fault code Size s f) (λ e. g)
 
-  wants_counted : (w : Want) (s : State) → (w ≡ Fork → ⊥) → StandsIn code s → Stands code (counts w s)
-  wants_counted w s other f = counted_stands s (λ u. wants w u) f (at_want code w (record s { size = s.size + 1 }) other (record { current = f.current; callers = f.callers; scopes = over_less s.size (s.size + 1) s.scopes (omega arith) f.scopes }))
+  wants_counted : (w : Want) (s : State) → (w ≡ Fork → ⊥) → (w ≡ Begin → ⊥) → StandsIn code s → Stands code (counts w s)
+  wants_counted w s no_fork no_begin f = counted_stands s (λ u. wants w u) f (at_want code w (record s { size = s.size + 1 }) no_fork no_begin (record { current = f.current; callers = f.callers; scopes = over_less s.size (s.size + 1) s.scopes (omega arith) f.scopes }))
 
   spent_stands : (s : State) (go : State → Step) → StandsIn code s → Stands code (go (record s { fuel = s.fuel + 1 })) → Stands code (spends s go)
   spent_stands s go f g = stands_either code (nat_le s.limits.fuel s.fuel) _ _ (λ e. at_fault code Fuel s f) (λ e. g)
@@ -149,10 +149,10 @@ module _ (code : Code) (ok : faults code ≡ []) where
   waited_stands : (ns : List ℕ) (p : ℕ) (vs : List ℤ) (s : State) → NoneOver s.size ns → StandsIn code s → StandsIn code (goes_to p vs s) → Stands code (wait_in ns p vs s)
   waited_stands [] p vs s low f g = g
   waited_stands (zero ∷ ns) p vs s low f g = g
-  waited_stands (suc n ∷ ns) p vs s low f g = at_want code Sync (record s { scopes = n ∷ ns }) (λ is. cc) (record { current = f.current; callers = f.callers; scopes = (omega (arith, low.0), low.1) })
+  waited_stands (suc n ∷ ns) p vs s low f g = at_want code Sync (record s { scopes = n ∷ ns }) (λ is. cc) (λ is. cc) (record { current = f.current; callers = f.callers; scopes = (omega (arith, low.0), low.1) })
 
   returned_stands : (fs : List Frame) (v : ℤ) (s : State) → StandsIn code s → WaitAt code fs → Stands code (returned fs v s)
-  returned_stands [] v s f w = at_want code Done s (λ is. cc) f
+  returned_stands [] v s f w = at_want code Done s (λ is. cc) (λ is. cc) f
   returned_stands (g ∷ fs) v s f w = record { current = w.0; callers = w.1; scopes = over_behind s.size s.scopes f.scopes }
 
   -- a function begins, with its arguments and zeros
@@ -174,6 +174,17 @@ module _ (code : Code) (ok : faults code ≡ []) where
     moved : (p : ℕ) (vs : List ℤ) → StandsAt code p (length s.current.locals) (length vs) → StandsIn code (goes_to p vs s)
     moved p vs h = record { current = h; callers = f.callers; scopes = f.scopes }
 
+    -- a block has begun where no operand was left
+    begun_block : (vs : List ℤ) → Here s.current.place (length s.current.locals) (length vs) i t.Begin → length vs ≡ 0 → HasBegun code (record (goes_to (s.current.place + 1) vs s) { scopes = 0 ∷ s.scopes; size = s.size + 1 })
+    unfolding onward
+    begun_block vs w none = record {
+      operands = nil_from_length vs none;
+      scopes = s.scopes;
+      opened = refl;
+      current = onward w refl 0 (omega (arith, none));
+      within = let some : 0 < w.at.situation.blocks + 1 = omega arith in some;
+    }
+
     act_stands : (e : Effect) (vs : List ℤ) → Here s.current.place (length s.current.locals) (length vs) i e → Stands code (coded.act code e i (s.current.place + 1) vs s)
     act_stands t.Push vs w = moved _ (i.a ∷ vs) (onward w refl _ (omega arith))
     act_stands t.Local vs w =
@@ -185,10 +196,10 @@ module _ (code : Code) (ok : faults code ≡ []) where
         let n = below_names i.a w.at.func.locals (tested _ _ _ w.operands) in
         let lt : index i.a < length s.current.locals = subst (λ z. index z < length s.current.locals) (sym n.1) (omega (arith, n.2, w.at.locals_there)) in
         write_stands (index i.a) v (s.current.place + 1) vs s lt f (onward w refl _ (omega arith))
-    act_stands t.Load vs w = wants_counted _ _ (λ is. cc) (moved _ (pos 0 ∷ vs) (onward w refl _ (omega arith)))
-    act_stands t.LoadAt (n ∷ vs) w = range_stands _ n s _ f (wants_counted _ _ (λ is. cc) (moved _ (pos 0 ∷ vs) (onward w refl _ (omega arith))))
-    act_stands t.Store (v ∷ vs) w = wants_counted _ _ (λ is. cc) (moved _ vs (onward w refl _ (omega arith)))
-    act_stands t.StoreAt (v ∷ n ∷ vs) w = range_stands _ n s _ f (wants_counted _ _ (λ is. cc) (moved _ vs (onward w refl _ (omega arith))))
+    act_stands t.Load vs w = wants_counted _ _ (λ is. cc) (λ is. cc) (moved _ (pos 0 ∷ vs) (onward w refl _ (omega arith)))
+    act_stands t.LoadAt (n ∷ vs) w = range_stands _ n s _ f (wants_counted _ _ (λ is. cc) (λ is. cc) (moved _ (pos 0 ∷ vs) (onward w refl _ (omega arith))))
+    act_stands t.Store (v ∷ vs) w = wants_counted _ _ (λ is. cc) (λ is. cc) (moved _ vs (onward w refl _ (omega arith)))
+    act_stands t.StoreAt (v ∷ n ∷ vs) w = range_stands _ n s _ f (wants_counted _ _ (λ is. cc) (λ is. cc) (moved _ vs (onward w refl _ (omega arith))))
     act_stands (t.Lift o) (x ∷ vs) w = result_stands _ (s.current.place + 1) vs s f (onward w refl _ (omega arith))
     act_stands (t.Join o) (y ∷ x ∷ vs) w = result_stands _ (s.current.place + 1) vs s f (onward w refl _ (omega arith))
     act_stands t.Jump vs w = moved _ vs (jumped w refl (tested _ _ _ w.operands) _ (omega arith))
@@ -209,17 +220,26 @@ module _ (code : Code) (ok : faults code ≡ []) where
         (called_stands (slice_get code.funcs (index i.a)) x.0 here (contained code.funcs n.0 x.0 x.1) (s.current.place + 1) vs spent (omega (arith, w.room, count)) (record { current = f.current; callers = f.callers; scopes = f.scopes }) (onward w refl _ (omega (arith, w.room, count, length-drop x.0.params vs))))
     act_stands t.Ret (v ∷ vs) w = returned_stands s.callers v s f f.callers
     act_stands t.Drop (v ∷ vs) w = moved _ vs (onward w refl _ (omega arith))
-    act_stands t.Out (v ∷ vs) w = wants_counted _ _ (λ is. cc) (moved _ vs (onward w refl _ (omega arith)))
-    act_stands t.Begin vs w = wants_counted Begin (record (goes_to (s.current.place + 1) vs s) { scopes = 0 ∷ s.scopes }) (λ is. cc) (record { current = onward w refl _ (omega arith); callers = f.callers; scopes = (omega arith, f.scopes) })
-    act_stands t.End vs w = at_want code End (record (goes_to (s.current.place + 1) vs s) { scopes = drop 1 s.scopes }) (λ is. cc) (record { current = onward w refl _ (omega arith); callers = f.callers; scopes = over_behind s.size s.scopes f.scopes })
+    act_stands t.Out (v ∷ vs) w = wants_counted _ _ (λ is. cc) (λ is. cc) (moved _ vs (onward w refl _ (omega arith)))
+    act_stands t.Begin vs w =
+        let here : StandsAt code (s.current.place + 1) (length s.current.locals) (length vs) = onward w refl _ (omega arith) in
+        let none : length vs ≡ 0 = omega (arith, w.at.operands_there, w.around.border refl) in
+        let begun : State = record (goes_to (s.current.place + 1) vs s) { scopes = 0 ∷ s.scopes } in
+        counted_stands begun (λ u. wants Begin u) (record { current = here; callers = f.callers; scopes = (omega arith, f.scopes) }) (record {
+          stands = record { current = here; callers = f.callers; scopes = (omega arith, over_less s.size (s.size + 1) s.scopes (omega arith) f.scopes) };
+          beside = λ is. absurd (let no : Begin ≡ Fork = is in cc);
+          begun = λ is. begun_block vs w none;
+        })
+    act_stands t.End vs w = at_want code End (record (goes_to (s.current.place + 1) vs s) { scopes = drop 1 s.scopes }) (λ is. cc) (λ is. cc) (record { current = onward w refl _ (omega arith); callers = f.callers; scopes = over_behind s.size s.scopes f.scopes })
     act_stands t.Fork vs w =
         let none : length vs ≡ 0 = omega (arith, w.at.operands_there, w.around.border refl) in
         counted_stands s (λ u. wants Fork (record (goes_to (index i.a) vs u) { scopes = one_more u.scopes; beside = s.current.place + 1 })) f (record {
           stands = record { current = jumped w refl (tested _ _ _ w.operands) _ (omega arith); callers = f.callers; scopes = over_more s.size s.scopes f.scopes };
           beside = λ is. record { current = onward w refl _ (omega arith); callers = tt; scopes = (omega arith, tt) };
+          begun = λ is. absurd (let no : Fork ≡ Begin = is in cc);
         })
     act_stands t.Sync vs w = waited_stands s.scopes (s.current.place + 1) vs s f.scopes f (moved _ vs (onward w refl _ (omega arith)))
-    act_stands t.Done vs w = at_want code Done s (λ is. cc) f
+    act_stands t.Done vs w = at_want code Done s (λ is. cc) (λ is. cc) f
     act_stands t.Tick vs w = spent_stands s (λ u. on (goes_to (s.current.place + 1) vs u)) f (record { current = onward w refl _ (omega arith); callers = f.callers; scopes = f.scopes })
     act_stands t.Set [] w = absurd (omega (arith, w.room))
     act_stands t.LoadAt [] w = absurd (omega (arith, w.room))

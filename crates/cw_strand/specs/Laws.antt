@@ -5,7 +5,7 @@ use Rattle.cw_code.specs.declared.Limits.{Limits}
 use Rattle.cw_code.specs.declared.instruction.Code.{Code}
 use Rattle.cw_code.specs.Rules.{faults}
 use Rattle.cw_strand.specs.declared.want.Want.{Want}
-use Rattle.cw_strand.specs.declared.want.Want.TheVariants.{Load, Store, Done}
+use Rattle.cw_strand.specs.declared.want.Want.TheVariants.{Load, Store, Begin, Done}
 use Rattle.cw_strand.specs.Strands.{Strands, Reached, IsDeep, Closes, IsLawful}
 use Rattle.cw_strand.specs.Running.{Standing, Settles, NeverStuck, Visits}
 use Rattle.cw_strand.specs.Pasts.{Past, became, CanBe, WantTheSame}
@@ -13,7 +13,8 @@ use Rattle.cw_strand.specs.Names.{naming_fault}
 use Rattle.cw_strand.specs.Meaning as meaning
 use Rattle.cw_strand.specs.Meaning.{State, Task, finish, finish_main}
 use Rattle.cw_strand.specs.Coded as coded
-use Rattle.cw_strand.specs.Standing.{StandsIn, Stands}
+use Rattle.cw_strand.specs.Standing.{StandsIn, StandsWanting, Stands}
+use Rattle.cw_strand.specs.Saving.{StaysIn, Inside, StillStands}
 use Rattle.cw_strand.specs.Compilation.{code_of, main_function}
 
 -- ## Over the syntax
@@ -94,6 +95,14 @@ CodeNamesElements =
     (code : Code) (main : ℕ) (words : List ℤ) (limits : Limits) → faults code ≡ []
     → let s = coded.strands_of code main words limits in
     (own : List ℕ) (x : Standing coded.State) → Reached s own x → NamesElement code (s.want x)
+
+-- What stood below the begin of a block stands there still for each strand inside the block that does not want its end.
+abbrev pub BeginStaysBelow : Type 0
+BeginStaysBelow =
+    (code : Code) (main : ℕ) (words : List ℤ) (limits : Limits) → faults code ≡ []
+    → let s = coded.strands_of code main words limits in
+    (begin x : Standing coded.State) (forks inner : ℕ) → s.want begin ≡ Begin → StandsWanting code Begin begin.state
+    → Inside s begin forks inner x → StaysIn (s.want x) inner → StillStands begin.state x.state
 
 -- ## Compiled code
 

@@ -6,6 +6,7 @@ pub mod Names
 pub mod Meaning
 pub mod Coded
 pub mod Standing
+pub mod Saving
 pub mod Acting
 pub mod Compilation
 pub mod Programs

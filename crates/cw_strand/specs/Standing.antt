@@ -1,12 +1,12 @@
 -- Where a strand of code stands: each of its functions at a place of the code, with the locals and the operands that stand there.
-use Rattle.std.specs.Prelude.{◌≡◌, ◌≤◌, ℕ, suc, true, List, [], ◌∷◌, length, Contains, Some, ℤ}
+use Rattle.std.specs.Prelude.{◌≡◌, ◌<◌, ◌≤◌, ℕ, suc, true, List, [], ◌∷◌, length, Contains, Some, ℤ}
 use Rattle.cw_code.specs.declared.Limits.{Limits}
 use Rattle.cw_code.specs.declared.instruction.Func.{Func}
 use Rattle.cw_code.specs.declared.instruction.Code.{Code}
 use Rattle.cw_code.specs.declared.situation.Situation.{Situation}
 use Rattle.cw_code.specs.Rules.{inside, known_at, places}
 use Rattle.cw_strand.specs.declared.want.Want.{Want}
-use Rattle.cw_strand.specs.declared.want.Want.TheVariants.{Fork}
+use Rattle.cw_strand.specs.declared.want.Want.TheVariants.{Begin, Fork}
 use Rattle.cw_strand.specs.declared.want.Given.{Given}
 use Rattle.cw_strand.specs.Running.{stand, on, wants, stuck}
 use Rattle.cw_strand.specs.Coded.{Frame, State, Step, left, with_value, runs}
@@ -38,10 +38,19 @@ module _ (code : Code) where
     pub callers : WaitAt s.callers
     pub scopes : NoneOver s.size s.scopes
 
-  -- At its want: so does the left strand of its fork.
+  -- A block has just begun: the strand stands inside a block, with no operand, and on all scopes stands one that waits for nothing.
+  pub record HasBegun (s : State) : Type 0 where
+    pub operands : s.current.operands ≡ []
+    pub scopes : List ℕ
+    pub opened : s.scopes ≡ 0 ∷ scopes
+    pub current : StandsAt s.current.place (length s.current.locals) 0
+    pub within : 0 < current.situation.blocks
+
+  -- At its want: so does the left strand of its fork; and at the begin of a block that has begun.
   pub record StandsWanting (w : Want) (s : State) : Type 0 where
     pub stands : StandsIn s
     pub beside : w ≡ Fork → StandsIn (left s)
+    pub begun : w ≡ Begin → HasBegun s
 
   -- so does what its next step leads to, and there is one
   abbrev pub Stands : Step → Type 0

@@ -3,11 +3,12 @@
 //! `specs/Strands.antt` is the law of strands that all layers above take as a parameter, and `specs/Running.antt` makes one from steps. It
 //! is given twice: by `specs/Meaning.antt` from the syntax tree, and by `specs/Coded.antt` from compiled code; `specs/Compilation.antt` is
 //! the code of a tree. `specs/Names.antt` has the naming rules, `specs/Arithmetic.antt` the operators, `specs/Pasts.antt` what it is that
-//! two laws want the same. `specs/Laws.antt` has what holds of strands, `specs/Rows.antt` the worked programs.
+//! two laws want the same, `specs/Saving.antt` what is inside a block and what it needs to go back to its begin. `specs/Laws.antt` has what
+//! holds of strands, `specs/Rows.antt` the worked programs.
 #![tactic(auto)]
 
 ghost use Rattle.cw_strand.specs.Laws.{LocalWorkEnds, ForksEnd, EndsOnlyWhenDone, BlocksClose, StrandsAreLawful};
-ghost use Rattle.cw_strand.specs.Laws.{CodeIsNeverStuck, StandsOn, VisitedStand, CodeWorkEnds, CodeForksEnd, CodeNamesElements};
+ghost use Rattle.cw_strand.specs.Laws.{CodeIsNeverStuck, StandsOn, VisitedStand, CodeWorkEnds, CodeForksEnd, CodeNamesElements, BeginStaysBelow};
 ghost use Rattle.cw_strand.specs.Laws.{BreaksNoRule, WantsOfTheSource, CodeEndsOnlyWhenDone, CodeIsLawful, ClosesWithIt};
 ghost use Rattle.cw_strand.specs.Pasts.{CanBe, Past, WantTheSame};
 ghost use Rattle.cw_strand.specs.Rows.{Arrays, Calls, Choices, Depths, Faults, Traces, Forks, Loops, Returns, Spent, Codes, Endings};
@@ -17,11 +18,12 @@ ghost use Rattle.std.specs.Prelude.{◌↔◌};
 mod led;
 mod naming;
 mod operators;
+mod scopes;
 mod strand;
 mod want;
 
 pub use naming::{NameFault, NameKind};
-pub use strand::Strand;
+pub use strand::{Saved, Strand};
 pub use want::{Given, Want};
 
 /// Worked programs: their naming faults, their code, and what their strands want, over the syntax and over the code.
@@ -88,6 +90,12 @@ pub fn code_forks_end()
 /// Over code that breaks no rule a strand loads and stores only elements of the cells.
 pub fn code_names_elements()
     ensures { CodeNamesElements }
+{}
+
+/// Over code that breaks no rule what stood below the begin of a block stands there still for each strand inside the block: so each may go
+/// back to the begin, with what was kept there.
+pub fn begin_stays_below()
+    ensures { BeginStaysBelow }
 {}
 
 /// The code of a program without a naming fault breaks no rule.

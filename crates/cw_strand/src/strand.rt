@@ -5,13 +5,16 @@ mod calls;
 mod cells;
 mod locals;
 mod operands;
+mod saving;
 mod scopes;
 
 use crate::led::Led;
+use crate::scopes::Scopes;
 use crate::{Given, Want};
 use calls::take_locals;
 use cw_base::{OutOfMemory, Stack};
 use cw_code::{Limits, Program};
+pub use saving::Saved;
 use std::alloc::Global;
 use std::marker::Model;
 
@@ -40,7 +43,7 @@ pub struct Strand {
     locals: Vec<i64>,
     callers: Stack<Frame>,
     /// For each scope that waits at its end, how many forks it has to wait for.
-    scopes: Stack<u32>,
+    scopes: Scopes,
     fuel: u64,
     /// Past the limit only where two strands were joined.
     size: u64,
@@ -89,7 +92,7 @@ impl Strand {
         for word in words {
             arguments.push(*word)?;
         }
-        let mut scopes = Stack::new(alloc);
+        let mut scopes = Scopes::new(alloc);
         scopes.push(0)?;
         Ok(Strand {
             place: func.start as usize,
@@ -127,7 +130,7 @@ impl Strand {
         ensures stands { (code : Code) → StandsWanting code Fork self.old → IfOk result (λ s. StandsIn code s) }
     {
         let alloc = *self.locals.allocator();
-        let mut scopes = Stack::new(alloc);
+        let mut scopes = Scopes::new(alloc);
         scopes.push(0)?;
         Ok(Strand {
             place: self.beside,
@@ -142,7 +145,8 @@ impl Strand {
         })
     }
 
-    /// The right strand, where it ended, goes on as the strand that forked.
+    /// The right strand, where it ended, goes on as the strand that forked. Where one of the two was given up before its end, it stands there as
+    /// that strand. Takes no memory.
     pub fn joined(&mut self, left: Strand)
         ensures joined { self.new ≡ joined_of self.old left }
         ensures stands { (code : Code) → StandsIn code self.old → StandsIn code self.new }

@@ -16,7 +16,7 @@ use Rattle.std.specs.Str.{bytes_eq}
 take_while_passes : (p : ℕ → Bool) (x : ℕ) (xs : List ℕ) → p x ≡ true → take_while p (x ∷ xs) ≡ x ∷ take_while p xs
 take_while_passes p x xs h = rw (take_while-cons p x xs, h) refl
 
-word_of_letter : (c : ℕ) → is_letter c ≡ true → is_word c ≡ true
+pub word_of_letter : (c : ℕ) → is_letter c ≡ true → is_word c ≡ true
 word_of_letter c h = ap (λ b. b || is_ascii_digit c) h
 
 pub word_is_front : (ks : List Terminal) (text : List ℕ) → 0 < length text → is_blank (get_or text 0 0) ≡ false → is_letter (get_or text 0 0) ≡ true →

@@ -1,5 +1,7 @@
 pub mod Blocks
 pub mod Digits
+pub mod Forgetting
+pub mod Forgotten
 pub mod Fronts
 pub mod Levels
 pub mod Lines
@@ -8,10 +10,14 @@ pub mod Passing
 pub mod Places
 pub mod Prefixes
 pub mod PrintedIsWritten
+pub mod PrintedTexts
+pub mod Printing
 pub mod ReadIsWritten
 pub mod ReadPrograms
 pub mod Readable
 pub mod Readings
+pub mod Scanned
+pub mod Spellable
 pub mod Spelled
 pub mod Steps
 pub mod Turns

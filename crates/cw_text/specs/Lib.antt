@@ -10,3 +10,5 @@ pub mod Rows
 pub mod Printed
 pub mod Written
 pub mod PrintedRow
+pub mod PrintedText
+pub mod WithoutLines

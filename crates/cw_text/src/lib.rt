@@ -1,23 +1,25 @@
-//! Texts of programs: the syntax tree, and the reader that gives it.
+//! Texts of programs: the syntax tree, the reader that gives it, and the printer that writes it as a text again.
 //! A program is cells, plain ones and arrays, and functions, with the statements `let`, assignment, call, `out`, `if`,
 //! `while`, `atomic`, `spawn`, `sync` and `return`.
 //! Stands on `cw_base`.
 //! Contracts cite `specs/Text.antt`, which says what a whole text reads as, over `specs/Lexemes.antt` (tokens),
 //! `specs/Grammar.antt` (which tokens are a program, and the first fault of those that are none) and `specs/Syntax.antt`
 //! (the tree without its places in memory). `specs/Written.antt` is the grammar alternative by alternative,
-//! `specs/Places.antt` says of the tokens where in the text they stand, and `specs/Printed.antt` which tokens a tree is
-//! printed as.
+//! `specs/Places.antt` says of the tokens where in the text they stand, `specs/Printed.antt` which tokens a tree is
+//! printed as, `specs/PrintedText.antt` as which text, and `specs/WithoutLines.antt` what is the same tree but for the lines.
 #![tactic(auto)]
 
-ghost use Rattle.std.specs.Prelude.{ℕ, List, ◌≡◌};
+ghost use Rattle.std.specs.Prelude.{ℕ, List, length, ◌≡◌, ◌≤◌};
 ghost use Rattle.cw_text.specs.declared.terminal.Terminal.{Terminal};
-ghost use Rattle.cw_text.specs.Lexemes.{Lexemes, lexemes};
+ghost use Rattle.cw_text.specs.Lexemes.{Lexemes, keywords, lexemes};
 ghost use Rattle.cw_text.specs.Places.{Follow};
 ghost use Rattle.cw_text.specs.Grammar.{program_of};
-ghost use Rattle.cw_text.specs.Printed.{HasSmallNumbers, IsReadable, only_tree_lines, printed};
+ghost use Rattle.cw_text.specs.Printed.{HasSmallNumbers, IsReadable, only_tree_lines, printed, tokens};
 ghost use Rattle.cw_text.specs.PrintedRow.{Worked};
+ghost use Rattle.cw_text.specs.PrintedText.{AreSpellable, printed_text};
 ghost use Rattle.cw_text.specs.Syntax.{Declaration};
-ghost use Rattle.cw_text.specs.Text.{program};
+ghost use Rattle.cw_text.specs.Text.{program, reading};
+ghost use Rattle.cw_text.specs.WithoutLines.{IsReadAs, tokens_without_lines, tree_without_lines};
 ghost use Rattle.cw_text.specs.Written.{IsProgram};
 ghost use Rattle.cw_text.specs.Rows.{Tokens, Programs, Arrays, Choices, Functions, Heights, Brackets, Indexes, Branches, Calls, Refusals};
 
@@ -28,6 +30,7 @@ mod fault;
 mod item;
 mod letters;
 mod parser;
+mod print;
 mod scan;
 mod spelling;
 mod stmt;
@@ -36,6 +39,7 @@ mod text;
 
 pub use ast::{Ast, Expr, Item, Op, Stmt, Word};
 pub use fault::{TextFault, TextKind, TextRefusal};
+pub use print::print_program;
 pub use terminal::Terminal;
 pub use text::read_program;
 
@@ -76,4 +80,17 @@ pub fn printed_is_read()
     ensures texts { (text : List ℕ) (ds : List Declaration) →
         program text ≡ Ok ds → program_of (printed ds) ≡ Ok ds }
     ensures worked { Worked }
+{}
+
+/// Reading undoes printing, of whole texts: what a tree is printed as reads as that tree, but for its lines, if it is short
+/// enough and the tree can be read at all. The tree of whatever text was read can be. Lines have no part in what is printed,
+/// so a printed text is printed as itself again.
+pub fn reading_undoes_printing()
+    ensures tokens { (xs ys : Lexemes) (ds : List Declaration) → tokens_without_lines xs ≡ tokens_without_lines ys →
+        program_of xs ≡ Ok ds → IsReadAs (program_of ys) ds }
+    ensures trees { (most : ℕ) (ds : List Declaration) → IsReadable ds → AreSpellable (tokens ds) →
+        length (printed_text ds) ≤ most → IsReadAs (reading keywords most (printed_text ds)) ds }
+    ensures texts { (text : List ℕ) (ds : List Declaration) → program text ≡ Ok ds →
+        length (printed_text ds) ≤ 1048576 → IsReadAs (program (printed_text ds)) ds }
+    ensures again { (ds es : List Declaration) → tree_without_lines ds ≡ tree_without_lines es → printed_text ds ≡ printed_text es }
 {}

@@ -1,2 +1,3 @@
+mod cores;
 mod queries;
 mod traces;

@@ -1,4 +1,4 @@
-use cw_text::{TextKind, TextRefusal, read_program};
+use cw_text::{TextKind, TextRefusal, print_program, read_program};
 use std::alloc::{AllocError, Global};
 use std::test::Fail;
 
@@ -105,6 +105,35 @@ fn length_is_limited(rt: HostRuntime) -> Result<(), Fail> {
     for (length, end, wanted) in table {
         let text = padded(rt.alloc(), length, end)?;
         assert_eq!(rt; read_as(rt.alloc(), &text), wanted);
+    }
+    Ok(())
+}
+
+// What the program of a text is printed as.
+fn printed(alloc: Global, text: &[u8]) -> Result<Vec<u8>, TextRefusal> {
+    let ast = read_program(alloc, text)?;
+    Ok(print_program(alloc, &ast)?)
+}
+
+#[test]
+fn programs_are_printed_and_their_texts_as_themselves(rt: HostRuntime) -> Result<(), Fail> {
+    let table: [(&[u8], &[u8]); 4] = [
+        (b"", b""),
+        (b"fn main(){}", b"fn main ( ) {\n}\n"),
+        (
+            b"fn main(){if 1{}else{sync;}}",
+            b"fn main ( ) {\nif 1 {\n}\nelse {\nsync ;\n}\n}\n",
+        ),
+        (
+            b"cell a[3]=0;cell b=-5;fn f(x){if x<(1-(2-x)){return (x+1)*2;}else{}} fn main(){a[f(1)]=- -(b);f(a[0]);}",
+            b"cell a [ 3 ] ;\ncell b = - 5 ;\nfn f ( x ) {\nif x < 1 - ( 2 - x ) {\nreturn ( x + 1 ) * 2 ;\n}\n}\nfn main ( ) {\na [ f ( 1 ) ] = - - b ;\nf ( a [ 0 ] ) ;\n}\n",
+        ),
+    ];
+    for (text, wanted) in table {
+        let first = printed(rt.alloc(), text)?;
+        assert_eq!(rt; first.as_slice(), wanted);
+        let again = printed(rt.alloc(), wanted)?;
+        assert_eq!(rt; again.as_slice(), wanted);
     }
     Ok(())
 }

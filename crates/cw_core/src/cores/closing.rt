@@ -1,0 +1,87 @@
+ghost use Rattle.std.specs.Prelude.{◌≡◌, ℕ, map, slice_get, Some, IfOk, IfErr, OnOk};
+ghost use Rattle.cw_stack.specs.Cells.{CellParts, AreSteps};
+ghost use Rattle.cw_tree.specs.InOrder.{in_order, conflicts_in_order, halt_in_order};
+ghost use Rattle.cw_core.specs.Closing.{journals_of};
+
+use crate::cores::Core;
+use crate::linked::Linked;
+use cw_base::{OutOfMemory, Seq};
+use cw_stack::Cell;
+use cw_tree::{Closed, Conflict, Entry};
+use std::alloc::Global;
+
+/// The entries of each cell.
+fn journals(alloc: Global, cells: &[Cell]) -> Result<Seq<Seq<Entry>>, OutOfMemory>
+    ensures entries { IfOk result (λ js. js ≡ map (λ c. c.entries) cells.now) }
+    ensures steps { OnOk result ((i : ℕ) (c : CellParts) → slice_get cells.now i ≡ Some c → AreSteps c.first c.entries) }
+{
+    let mut journals = Vec::with_capacity(alloc, cells.len())?;
+    for cell in cells {
+        let entries = Vec::from_slice(alloc, cell.journal())?;
+        journals.push(Seq::from_vec(entries))?;
+    }
+    Ok(Seq::from_vec(journals))
+}
+
+/// The same conflict once more.
+fn copy(alloc: Global, conflict: &Conflict) -> Result<Conflict, OutOfMemory>
+    ensures { IfOk result (λ c. c ≡ conflict.now) }
+{
+    let chain = Vec::from_slice(alloc, conflict.chain.as_slice())?;
+    Ok(Conflict {
+        cell: conflict.cell,
+        last: conflict.last,
+        asker: conflict.asker,
+        block: conflict.block,
+        victim: conflict.victim,
+        attempt: conflict.attempt,
+        chain: Seq::from_vec(chain),
+    })
+}
+
+/// The same conflicts once more.
+fn copies(alloc: Global, conflicts: &[Conflict]) -> Result<Seq<Conflict>, OutOfMemory>
+    ensures { IfOk result (λ cs. cs ≡ conflicts.now) }
+{
+    let mut copies = Vec::with_capacity(alloc, conflicts.len())?;
+    for conflict in conflicts {
+        copies.push(copy(alloc, conflict)?)?;
+    }
+    Ok(Seq::from_vec(copies))
+}
+
+impl Core {
+    /// What the core leaves: its tree in depth-first order, each cell's live accesses, its conflicts as the tree lists their askers, and why
+    /// it stopped. Without the memory for it the core is handed back as it was.
+    pub fn close(mut self) -> Result<Closed, (Core, OutOfMemory)>
+        ensures tree { IfOk result (λ c. c.tree ≡ in_order self.machine.tree) }
+        ensures journals { IfOk result (λ c. c.journals ≡ journals_of self) }
+        ensures conflicts { IfOk result (λ c. c.conflicts ≡ conflicts_in_order self.machine.tree self.machine.conflicts) }
+        ensures halt { IfOk result (λ c. c.halt ≡ halt_in_order self.machine.tree self.halt) }
+        ensures err { IfErr result (λ e. e.0 ≡ self) }
+    {
+        let alloc = *self.rows.allocator();
+        let journals = match journals(alloc, self.cells.as_slice()) {
+            Ok(journals) => journals,
+            Err(error) => return Err((self, error)),
+        };
+        let conflicts = match copies(alloc, self.conflicts.as_slice()) {
+            Ok(conflicts) => conflicts,
+            Err(error) => return Err((self, error)),
+        };
+        let (tree, links) = self.tree.apart();
+        let closed = Closed {
+            tree,
+            journals,
+            conflicts,
+            halt: self.halt,
+        };
+        match closed.in_order() {
+            Ok(closed) => Ok(closed),
+            Err((closed, error)) => {
+                self.tree = Linked::of_parts(closed.tree, links);
+                Err((self, error))
+            }
+        }
+    }
+}

@@ -1,0 +1,6 @@
+use Rattle.cw_open.proofs.GoingBack.{askers_tried}
+use Rattle.cw_open.proofs.Recorded.{conflicts_recorded}
+use Rattle.cw_open.proofs.conflicts_of_runs.Goals as goal
+
+pub returns : goal.returns
+returns c = record { askers = askers_tried; recorded = conflicts_recorded }

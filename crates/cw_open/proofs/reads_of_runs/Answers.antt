@@ -1,0 +1,5 @@
+use Rattle.cw_open.proofs.Reading.{reads_met}
+use Rattle.cw_open.proofs.reads_of_runs.Goals as goal
+
+pub returns : goal.returns
+returns c = record { reads = reads_met }

@@ -1,0 +1,56 @@
+-- What a run leaves in its tree, journals and conflicts, where an access may conflict with the newest one alone. The conflicts stand as they
+-- were made, so in the order of their askers' numbers.
+use Rattle.std.specs.Prelude.{◌≡◌, ℕ, ℤ, false, IsTrue, is_some, All, List, [], ◌∷◌, length, map, filter, slice_get, Some, unwrap_or}
+use Rattle.std.specs.List.{list_any}
+use Rattle.cw_tree.specs.declared.node.Node.{Node}
+use Rattle.cw_tree.specs.declared.access.Entry.{Entry}
+use Rattle.cw_tree.specs.declared.conflict.Conflict.{Conflict}
+use Rattle.cw_tree.specs.Nodes.{is_tried, is_aborted, is_committed, all_nodes}
+use Rattle.cw_tree.specs.Walks.{path}
+use Rattle.cw_tree.specs.Accesses.{written}
+use Rattle.cw_tree.specs.Stacks.{access_at}
+use Rattle.cw_tree.specs.Journals.{FitsCells, AreJournals, JournalsEnded}
+use Rattle.cw_tree.specs.Refusals.{IsRecorded, is_victim, RollsBack}
+use Rattle.cw_tree.specs.Newest.{newest}
+use Rattle.cw_tree.specs.NextNodes.{IsSound}
+use Rattle.cw_open.specs.Machine.{Machine, live}
+use Rattle.cw_open.specs.Laws.{NoneUndone}
+use Rattle.cw_open.specs.Times.{ReachedInTime}
+use Rattle.cw_open.specs.Told.{as_told}
+
+-- e is the entry of the access with this stamp, which met value v
+pub record IsEntryAt (t : List Node) (v : ℤ) (s : ℕ) (e : Entry) : Type 0 where
+  pub stamp : e.mark.stamp ≡ s
+  pub wrote : e.wrote ≡ is_some (written t (access_at t s))
+  pub value : e.value ≡ unwrap_or (written t (access_at t s)) v
+  pub old : e.old ≡ v
+
+-- the entries of a list of accesses, of which the first met value v
+abbrev pub AreEntriesAt : List Node → ℤ → List ℕ → List Entry → Type 0
+AreEntriesAt t v [] [] = Unit {0}
+AreEntriesAt t v [] (e ∷ es) = ⊥
+AreEntriesAt t v (s ∷ ss) [] = ⊥
+AreEntriesAt t v (s ∷ ss) (e ∷ es) = IsEntryAt t v s e × AreEntriesAt t (unwrap_or (written t (access_at t s)) v) ss es
+
+-- the entries of each cell's list
+pub record AreKept (m : Machine) (kept : List (List Entry)) : Type 0 where
+  pub len : length kept ≡ length m.first
+  pub each : (c : ℕ) (v : ℤ) (es : List Entry) → slice_get m.first c ≡ Some v → slice_get kept c ≡ Some es → AreEntriesAt m.tree v (live m c) es
+
+-- the history of a run, whose conflicts stand in the order of their askers' numbers
+pub record IsHistoryAsMade (t : List Node) (first : List ℤ) (kept : List (List Entry)) (cs : List Conflict) : Type 0 where
+  pub sound : IsSound t
+  pub cells : FitsCells t (length first)
+  pub journals : AreJournals t first kept
+  pub ended : JournalsEnded t (length first)
+  pub each : map (λ c. c.asker) cs ≡ filter (is_tried t) (all_nodes t)
+  pub recorded : All (IsRecorded t) cs
+  pub aborted : (b : ℕ) → IsTrue (is_aborted t b) → IsTrue (list_any (is_victim t cs) (path t b))
+  pub committed : (b : ℕ) → IsTrue (is_committed t b) → is_victim t cs b ≡ false
+  pub rolls_back : RollsBack t cs
+
+-- where no undo is under way, this is what a run leaves
+abbrev pub HistoriesAreLeft : Type 0
+HistoriesAreLeft =
+    (first : List ℤ) (m : Machine) (kept : List (List Entry)) → ReachedInTime (as_told (λ t us w. newest us)) first m → NoneUndone m → AreKept m kept
+    → IsHistoryAsMade m.tree first kept m.conflicts

@@ -1,0 +1,93 @@
+-- Machines that refuse an access whenever its conflict can tell what it met, and the laws of refused accesses.
+use Rattle.std.specs.Prelude.{◌≡◌, ℕ, ℤ, ◌<◌, ◌≤◌, ◌&&◌, false, IsTrue, All, List, [], ◌∷◌, ◌++◌, length, map, filter, Option}
+use Rattle.std.specs.List.{list_any}
+use Rattle.std.specs.List.Sorted.{IsStrictlyIncreasing}
+use Rattle.cw_tree.specs.declared.node.Node.{Node}
+use Rattle.cw_tree.specs.Nodes.{parent_of, is_strand, is_committed, is_aborted, is_tried, all_nodes}
+use Rattle.cw_tree.specs.Walks.{path}
+use Rattle.cw_tree.specs.Series.{place, has_later}
+use Rattle.cw_tree.specs.Accesses.{HasAccess}
+use Rattle.cw_tree.specs.Refusals.{IsRecorded, is_victim, RollsBack}
+use Rattle.cw_tree.specs.Newest.{newest}
+use Rattle.cw_open.specs.Machine.{Machine, has_finished, finished_dead, is_running, is_dying}
+use Rattle.cw_open.specs.Steps.{Met, Step, opening}
+use Rattle.cw_open.specs.Runs.{Rules, IsMet, IsRun, Reached, at_once, at_any_time}
+use Rattle.cw_open.specs.Times.{AreTimely, ReachedInTime, AreAhead}
+use Rattle.cw_open.specs.Laws.{OfEachState}
+
+-- the newest accesses of its cell, as a conflict tells them: one to eight stamps, rising, and last that of the access that it met
+pub record IsNewest (t : List Node) (c : ℕ) (met : Met) : Type 0 where
+  pub len : (1 ≤ length met.chain) × (length met.chain ≤ 8)
+  pub rises : IsStrictlyIncreasing met.chain
+  pub accesses : All (HasAccess t c) met.chain
+  pub last : (us : List ℕ) × (met.chain ≡ us ++ met.last ∷ [])
+
+-- an access may be refused where a conflict can tell what it met
+abbrev pub as_told : (List Node → List ℕ → Option ℤ → List ℕ) → Rules
+as_told asked = record { asked = asked; MayRefuse = λ m s c w met. IsMet m.tree (place m.tree s) c met × IsNewest m.tree c met }
+
+-- ## Conflicts
+
+-- each refused access has its conflict, in the order in which they were refused
+abbrev pub AskersAreTried : Type 0
+AskersAreTried = OfEachState (λ first m. map (λ c. c.asker) m.conflicts ≡ filter (is_tried m.tree) (all_nodes m.tree))
+
+-- each conflict tells what was met when it was made, and does so ever after
+abbrev pub ConflictsAreRecorded : Type 0
+ConflictsAreRecorded =
+    (asked : List Node → List ℕ → Option ℤ → List ℕ) (first : List ℤ) (m : Machine) → ReachedInTime (as_told asked) first m → All (IsRecorded m.tree) m.conflicts
+
+-- ## Victims
+
+-- an aborted block is a victim, or stands beneath one
+abbrev pub AbortedAreVictims : Type 0
+AbortedAreVictims = OfEachState (λ first m. (b : ℕ) → IsTrue (is_aborted m.tree b) → IsTrue (list_any (is_victim m.tree m.conflicts) (path m.tree b)))
+
+-- and a committed one is none
+abbrev pub CommittedAreSafe : Type 0
+CommittedAreSafe = OfEachState (λ first m. (b : ℕ) → IsTrue (is_committed m.tree b) → is_victim m.tree m.conflicts b ≡ false)
+
+-- ## On the way back
+
+-- after a refused access with a victim, and after an aborted block that is none, a strand makes nothing more in their place
+abbrev pub DyingGoBack : Type 0
+DyingGoBack = OfEachState (λ first m. RollsBack m.tree m.conflicts)
+
+-- The fork of strand x, which died, stands beneath a victim, and is the last that was made in its place: there no block is committed, and no
+-- strand finishes but dead; a running strand that stands there is dying.
+pub record IsLeft (m : Machine) (x : ℕ) : Type 0 where
+  pub victim : IsTrue (list_any (is_victim m.tree m.conflicts) (path m.tree (parent_of m.tree x)))
+  pub last : has_later m.tree (parent_of m.tree x) ≡ false
+  pub block : is_committed m.tree (parent_of m.tree (parent_of m.tree x)) ≡ false
+  pub strand : IsTrue (is_strand m.tree (parent_of m.tree (parent_of m.tree x)) && has_finished m (parent_of m.tree (parent_of m.tree x))) → IsTrue (finished_dead m (parent_of m.tree (parent_of m.tree x)))
+  pub dying : (s : ℕ) → IsTrue (is_running m s) → place m.tree s ≡ parent_of m.tree (parent_of m.tree x) → IsTrue (is_dying m s)
+
+abbrev pub DeadGoBack : Type 0
+DeadGoBack = OfEachState (λ first m. (x : ℕ) → 0 < x → IsTrue (finished_dead m x) → IsLeft m x)
+
+-- ## Told runs
+
+-- where an access is refused when its conflict can tell what it met, it may be refused at any time
+abbrev pub ToldIsAtAnyTime : Type 0
+ToldIsAtAnyTime = (asked : List Node → List ℕ → Option ℤ → List ℕ) (first : List ℤ) (m : Machine) → ReachedInTime (as_told asked) first m → Reached (at_any_time asked) first m
+
+-- ## Where an access is refused as soon as it conflicts
+
+-- a conflict can tell what it met
+abbrev pub AtOnceIsTold : Type 0
+AtOnceIsTold = (first : List ℤ) (es : List Step) → IsRun at_once (opening first) es → IsRun (as_told (λ t us w. newest us)) (opening first) es
+
+-- and where each stamp is drawn by the step that uses it, all are drawn in time
+abbrev pub AheadIsTimely : Type 0
+AheadIsTimely = (first : List ℤ) (es : List Step) → IsRun at_once (opening first) es → AreAhead (opening first) es → AreTimely (λ n. 0) (opening first) es
+
+-- ## Strands that stopped
+
+-- the machine, with no strand stopped
+abbrev pub unstopped : Machine → Machine
+unstopped m = record m { stopped = [] }
+
+-- a run without its stops is a run
+abbrev pub StopsAreLeftOut : Type 0
+StopsAreLeftOut =
+    (asked : List Node → List ℕ → Option ℤ → List ℕ) (first : List ℤ) (m : Machine) → Reached (at_any_time asked) first m → Reached (at_any_time asked) first (unstopped m)

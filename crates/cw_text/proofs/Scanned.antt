@@ -1,0 +1,152 @@
+-- The text of tokens is read as these tokens, but for their lines.
+use Rattle.std.proofs.Common.{◌≡◌, ℕ, ◌+◌, ◌^◌, ◌<◌, ◌&&◌, Bool, true, false, List, [], ◌∷◌, ◌++◌, length, take, refl, ap, ◌∙◌, arith, rules}
+use Rattle.std.proofs.Math.Seq.{drop-append_seam}
+use Rattle.std.proofs.lemmas.Bool.Decides.{nat_tests}
+use Rattle.std.proofs.lemmas.Fmt.{IsAscii-decimal, decimal_nonempty, digits_decimal, digits_value-decimal}
+use Rattle.std.proofs.lemmas.List.Sums.{take_while-cons}
+use Rattle.std.proofs.lemmas.Str.{IsAscii-append, IsUtf8-from_ascii}
+use Rattle.std.proofs.lemmas.Str.Ascii.{IsAscii-cons, IsAscii-nil}
+use Rattle.std.proofs.lemmas.Str.Parse.{IsNumeralModel, numerals_by_fold}
+use Rattle.std.specs.Char.{is_ascii_digit}
+use Rattle.std.specs.Fmt.{decimal}
+use Rattle.std.specs.List.{list_all, take_while}
+use Rattle.std.specs.Prelude.{nat_le}
+use Rattle.std.specs.Str.{IsAscii, IsUtf8}
+use Rattle.cw_text.specs.declared.terminal.Terminal.TheVariants as m
+use Rattle.cw_text.specs.Lexemes.{Token, Lexemes, name as a_name, number as a_number, terminal, bad, end, after_digits, end_on, found, front, is_blank, is_letter, is_word, keywords, lexemes, lexemes_from, line_after, value_of_digits}
+use Rattle.cw_text.specs.Printed.{Placed, before}
+use Rattle.cw_text.specs.PrintedText.{AreSpellable, IsName, IsSpellable, blank_behind, more, none, spelled, text_of}
+use Rattle.cw_text.specs.WithoutLines.{tokens_without_lines}
+use Rattle.cw_text.proofs.Digits.{value_on}
+use Rattle.cw_text.proofs.Fronts.{number_is_front, word_is_front}
+use Rattle.cw_text.proofs.Passing.{begun, newlines_in, passed}
+
+-- ## Words and digits up to a blank
+
+both_left : (a b : Bool) → (a && b) ≡ true → a ≡ true
+both_left true b h = refl
+both_left false b h = cc
+
+both_right : (a b : Bool) → (a && b) ≡ true → b ≡ true
+both_right true b h = h
+both_right false b h = cc
+
+take_while_all : (p : ℕ → Bool) (xs : List ℕ) (c : ℕ) (rest : List ℕ) → list_all p xs ≡ true → p c ≡ false → take_while p (xs ++ c ∷ rest) ≡ xs
+take_while_all p [] c rest all stops = rw (take_while-cons p c rest, stops) refl
+take_while_all p (x ∷ xs) c rest all stops =
+    rw (take_while-cons p x (xs ++ c ∷ rest), both_left (p x) (list_all p xs) all, take_while_all p xs c rest (both_right (p x) (list_all p xs) all) stops) refl
+
+after_digits_all : (ds : List ℕ) (c : ℕ) (rest : List ℕ) → list_all is_ascii_digit ds ≡ true → is_ascii_digit c ≡ false → after_digits (ds ++ c ∷ rest) ≡ c ∷ rest
+after_digits_all [] c rest all stops = rw stops refl
+after_digits_all (d ∷ ds) c rest all stops =
+    rw (both_left (is_ascii_digit d) (list_all is_ascii_digit ds) all) (after_digits_all ds c rest (both_right (is_ascii_digit d) (list_all is_ascii_digit ds) all) stops)
+
+letter_is_no_blank : (c : ℕ) → is_letter c ≡ true → is_blank c ≡ false
+letter_is_no_blank c h = grind (arith, nat_tests)
+
+digit_is_no_blank : (c : ℕ) → is_ascii_digit c ≡ true → is_blank c ≡ false
+digit_is_no_blank c h = grind (arith, nat_tests)
+
+digit_is_no_letter : (c : ℕ) → is_ascii_digit c ≡ true → is_letter c ≡ false
+digit_is_no_letter c h = grind (arith, nat_tests)
+
+-- ## The front of a token's bytes
+
+name_is_front : (n rest : List ℕ) → IsName n → front keywords (n ++ 32 ∷ rest) ≡ found (a_name n) (length n)
+name_is_front [] rest is = cc
+name_is_front (c ∷ cs) rest is =
+    let text = (c ∷ cs) ++ 32 ∷ rest in
+    let e : take_while is_word text ≡ c ∷ cs = take_while_all is_word (c ∷ cs) 32 rest is.1 refl in
+    word_is_front keywords text (omega arith) (letter_is_no_blank c is.0) is.0
+    ∙ rw (e, is.2) refl
+
+-- `value_of_digits` is the number that digits write
+own : IsNumeralModel (λ ds. list_all is_ascii_digit ds ≡ true) (value_on 0)
+own = numerals_by_fold _ (search rules) value_on (search rules)
+
+digits_are_front : (ds rest : List ℕ) (n : ℕ) → 0 < length ds → list_all is_ascii_digit ds ≡ true → value_of_digits ds ≡ n → n < 2 ^ 63 →
+    front keywords (ds ++ 32 ∷ rest) ≡ found (a_number n) (length ds)
+digits_are_front [] rest n some all value small = absurd (omega arith)
+digits_are_front (d ∷ ds) rest n some all value small =
+    let text = (d ∷ ds) ++ 32 ∷ rest in
+    let digit = both_left (is_ascii_digit d) (list_all is_ascii_digit ds) all in
+    let taken : take_while is_ascii_digit text ≡ d ∷ ds = take_while_all is_ascii_digit (d ∷ ds) 32 rest all refl in
+    let left : after_digits text ≡ 32 ∷ rest = after_digits_all (d ∷ ds) 32 rest all refl in
+    let fits : nat_le (2 ^ 63) n ≡ false = grind (arith, nat_tests) in
+    number_is_front keywords text (omega arith) (digit_is_no_blank d digit) (digit_is_no_letter d digit) digit
+    ∙ rw (taken, left, value, fits) refl
+
+spelled_is_front : (t : Token) (rest : List ℕ) → IsSpellable t → front keywords (spelled t ++ blank_behind t ∷ rest) ≡ found t (length (spelled t))
+spelled_is_front (a_name n) rest is = name_is_front n rest is
+spelled_is_front (a_number n) rest is =
+    digits_are_front (decimal n) rest n (decimal_nonempty n (omega arith)) (digits_decimal own n (omega arith)) (digits_value-decimal own n (omega arith)) is
+spelled_is_front (terminal m.Cell) rest is = refl
+spelled_is_front (terminal a) rest is = refl
+spelled_is_front (bad k) rest is = absurd is
+spelled_is_front end rest is = absurd is
+
+-- ## Tokens one after the other
+
+blank_is : (t : Token) → is_blank (blank_behind t) ≡ true
+blank_is (terminal m.Semicolon) = refl
+blank_is (terminal m.BraceOpen) = refl
+blank_is (terminal m.BraceClose) = refl
+blank_is (terminal a) = refl
+blank_is t = refl
+
+blank_passed : (line b : ℕ) (rest : List ℕ) → is_blank b ≡ true → lexemes_from keywords line 0 (b ∷ rest) ≡ lexemes_from keywords (line_after b line) 0 rest
+blank_passed line b rest is = rw is refl
+
+some_behind : (xs : List ℕ) (c : ℕ) (rest : List ℕ) → 0 < length (xs ++ c ∷ rest)
+some_behind [] c rest = omega arith
+some_behind (x ∷ xs) c rest = omega arith
+
+token_first : (t : Token) (line : ℕ) (bytes rest : List ℕ) → front keywords (bytes ++ blank_behind t ∷ rest) ≡ found t (length bytes) →
+    lexemes_from keywords line 0 (bytes ++ blank_behind t ∷ rest) ≡
+    Lexemes.comes t line (lexemes_from keywords (line_after (blank_behind t) (line + newlines_in (take (length bytes) (bytes ++ blank_behind t ∷ rest)))) 0 rest)
+token_first t line bytes rest is =
+    let text = bytes ++ blank_behind t ∷ rest in
+    let behind = line + newlines_in (take (length bytes) text) in
+    begun keywords line text (some_behind bytes (blank_behind t) rest)
+    ∙ rw is (ap (λ xs. Lexemes.comes t line xs) (passed keywords line (length bytes) text
+    ∙ ap (λ rest. lexemes_from keywords behind 0 rest) (drop-append_seam bytes (blank_behind t ∷ rest))
+    ∙ blank_passed behind (blank_behind t) rest (blank_is t)))
+
+scanned_from : (ps : List Placed) (line : ℕ) → AreSpellable ps → tokens_without_lines (lexemes_from keywords line 0 (text_of ps)) ≡ tokens_without_lines (before ps (end_on 1))
+scanned_from [] line none = refl
+scanned_from ((t, l) ∷ ps) line (more is rest) =
+    rw (token_first t line (spelled t) (text_of ps) (spelled_is_front t (text_of ps) is)) (ap (λ xs. Lexemes.comes t 1 xs) (scanned_from ps _ rest))
+
+pub scanned : (ps : List Placed) → AreSpellable ps → tokens_without_lines (lexemes keywords (text_of ps)) ≡ tokens_without_lines (before ps (end_on 1))
+scanned ps are = scanned_from ps 1 are
+
+-- ## Characters
+
+word_is_ascii : (c : ℕ) → is_word c ≡ true → c < 128
+word_is_ascii c h = grind (arith, nat_tests)
+
+name_is_ascii : (n : List ℕ) → list_all is_word n ≡ true → IsAscii n
+name_is_ascii [] all = IsAscii-nil
+name_is_ascii (c ∷ cs) all =
+    IsAscii-cons c cs (word_is_ascii c (both_left (is_word c) (list_all is_word cs) all)) (name_is_ascii cs (both_right (is_word c) (list_all is_word cs) all))
+
+spelled_is_ascii : (t : Token) → IsSpellable t → IsAscii (spelled t)
+spelled_is_ascii (a_name n) is = name_is_ascii n is.1
+spelled_is_ascii (a_number n) is = IsAscii-decimal n (omega arith)
+spelled_is_ascii (terminal m.Cell) is = search rules
+spelled_is_ascii (terminal a) is = search rules
+spelled_is_ascii (bad k) is = absurd is
+spelled_is_ascii end is = absurd is
+
+blank_is_ascii : (t : Token) → blank_behind t < 128
+blank_is_ascii (terminal m.Semicolon) = omega arith
+blank_is_ascii (terminal a) = omega arith
+blank_is_ascii t = omega arith
+
+text_is_ascii : (ps : List Placed) → AreSpellable ps → IsAscii (text_of ps)
+text_is_ascii [] none = IsAscii-nil
+text_is_ascii ((t, l) ∷ ps) (more is rest) =
+    IsAscii-append (spelled t) (blank_behind t ∷ text_of ps) (spelled_is_ascii t is) (IsAscii-cons (blank_behind t) (text_of ps) (blank_is_ascii t) (text_is_ascii ps rest))
+
+pub text_is_utf8 : (ps : List Placed) → AreSpellable ps → IsUtf8 (text_of ps)
+text_is_utf8 ps are = IsUtf8-from_ascii (text_of ps) (text_is_ascii ps are)

@@ -1,0 +1,20 @@
+use Rattle.std.proofs.Common.{◌≡◌, [], sym, ◌∙◌, map, arith}
+use Rattle.cw_text.specs.Printed.{tokens}
+use Rattle.cw_text.specs.PrintedText.{printed_text, with_tokens}
+use Rattle.cw_text.specs.Syntax.{declaration_of, tree_of}
+use Rattle.cw_text.proofs.Printing.{items_next, items_over, with_tokens_text}
+use Rattle.cw_text.proofs.print.print_program.Goals as goal
+
+pub loop-item-preserved : goal.loop-item-preserved
+loop-item-preserved c =
+    rw c.in_ok-item.ensures
+    (sym (items_next c.loop-item.printer c.deref-item-items.result.now c.loop-item.item-index c.item-item.result c.loop-item-test.true c.item-item.is) ∙ c.loop-item.invariant)
+
+pub returns : goal.returns
+returns c =
+    let items = c.deref-item-items.result.now in
+    let whole : with_tokens c.new.result.items (tokens (map declaration_of items)) ≡ printed_text (tree_of c.args.ast.now) =
+    rw (c.new.ensures.items, c.deref-item-items.ensures.value) (with_tokens_text [] (tokens (tree_of c.args.ast.now))) in
+    let all : c.loop-item.printer ≡ printed_text (tree_of c.args.ast.now) =
+    items_over c.loop-item.printer (with_tokens c.new.result.items (tokens (map declaration_of items))) items c.loop-item.item-index (omega (arith, c.loop-item-test.false)) c.loop-item.invariant ∙ whole in
+    cc

@@ -1,0 +1,52 @@
+-- The text that a tree is printed as: the bytes of its tokens, each with a newline or a space behind it.
+use Rattle.std.specs.Prelude.{ℕ, ◌≡◌, ◌<◌, ◌^◌, true, List, [], ◌∷◌, ◌++◌}
+use Rattle.std.specs.Fmt.{decimal}
+use Rattle.std.specs.List.{list_all}
+use Rattle.cw_text.specs.declared.terminal.Terminal.TheVariants as m
+use Rattle.cw_text.specs.Lexemes.{Token, name as a_name, number as a_number, terminal, bad, end, begins_by, is_letter, is_word, keywords, spelling, word_token}
+use Rattle.cw_text.specs.Printed.{Placed, tokens}
+use Rattle.cw_text.specs.Syntax.{Declaration}
+
+-- the bytes of a token; a tree has no other ones
+abbrev pub spelled : Token → List ℕ
+spelled (a_name n) = n
+spelled (a_number n) = decimal n
+spelled (terminal a) = spelling a
+spelled (bad k) = []
+spelled end = []
+
+-- a newline behind `;`, `{` and `}`, and a space behind any other token
+abbrev pub blank_behind : Token → ℕ
+blank_behind (terminal m.Semicolon) = 10
+blank_behind (terminal m.BraceOpen) = 10
+blank_behind (terminal m.BraceClose) = 10
+blank_behind t = 32
+
+abbrev pub text_of : List Placed → List ℕ
+text_of [] = []
+text_of (p ∷ ps) = spelled p.0 ++ blank_behind p.0 ∷ text_of ps
+
+abbrev pub printed_text : List Declaration → List ℕ
+printed_text ds = text_of (tokens ds)
+
+-- a text with the bytes of these tokens behind it
+abbrev pub with_tokens : List ℕ → List Placed → List ℕ
+with_tokens text [] = text
+with_tokens text (p ∷ ps) = with_tokens (text ++ (spelled p.0 ++ blank_behind p.0 ∷ [])) ps
+
+-- ## What can be read
+
+-- letters, digits and `_`, no digit first, and no keyword
+abbrev pub IsName : List ℕ → Type 0
+IsName n = (begins_by is_letter n ≡ true) × (list_all is_word n ≡ true) × (word_token keywords n ≡ a_name n)
+
+-- a token that its bytes spell
+abbrev pub IsSpellable : Token → Type 0
+IsSpellable (a_name n) = IsName n
+IsSpellable (a_number n) = n < 2 ^ 63
+IsSpellable (terminal a) = Unit {0}
+IsSpellable t = ⊥
+
+pub data AreSpellable : List Placed → Type 0 where
+  none : AreSpellable []
+  more : {t : Token} {l : ℕ} {ps : List Placed} → IsSpellable t → AreSpellable ps → AreSpellable ((t, l) ∷ ps)

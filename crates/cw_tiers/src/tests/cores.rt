@@ -1,0 +1,341 @@
+ghost use Rattle.std.specs.Prelude.{◌<◌};
+
+use cw_code::Limits;
+use cw_core::{Core, Event, Reply};
+use cw_tree::{Closed, Conflict, Halt};
+use std::alloc::Global;
+use std::test::Fail;
+
+/// The words of a reply.
+fn told(alloc: Global, reply: &Reply) -> Result<String, Fail> {
+    Ok(match reply {
+        Reply::Done => format!(in alloc; "done ")?,
+        Reply::Value(value) => format!(in alloc; "{value} ")?,
+        Reply::Conflict(conflict) => conflict_told(alloc, conflict)?,
+        Reply::Forked { left, right, fork } => format!(in alloc; "fork {fork} {left} {right} ")?,
+        Reply::Inline { left, right } => format!(in alloc; "inline {left} {right} ")?,
+        Reply::Early { before } => format!(in alloc; "early {before} ")?,
+    })
+}
+
+fn conflict_told(alloc: Global, conflict: &Conflict) -> Result<String, Fail> {
+    let chain = conflict.chain.as_slice();
+    let Conflict {
+        cell,
+        last,
+        asker,
+        block,
+        victim,
+        attempt,
+        ..
+    } = conflict;
+    Ok(format!(in alloc; "conflict {cell} {last} {asker} {block} {victim} {attempt} {chain:?} ")?)
+}
+
+/// The replies to a list of events, each of which is made if it fits, and then the stamp of the newest node.
+fn replies(
+    alloc: Global,
+    first: &[i64],
+    strands: u32,
+    aborts: u32,
+    events: &[Event],
+) -> Result<String, Fail>
+    requires { 0 < strands }
+{
+    let limits = Limits {
+        fuel: 0,
+        size: 0,
+        aborts,
+        strands,
+        moves: 0,
+    };
+    let mut core = Core::new(alloc, first, limits)?;
+    let mut text = String::new(alloc);
+    for event in events {
+        let line = made(alloc, &mut core, *event)?;
+        text.push_str(line.as_str())?;
+    }
+    let stamp = core.tree().nodes().last().map_or(0, |node| node.stamp);
+    let line = format!(in alloc; "{stamp} ")?;
+    text.push_str(line.as_str())?;
+    Ok(text)
+}
+
+/// The reply to an event, or that it does not fit.
+fn made(alloc: Global, core: &mut Core, event: Event) -> Result<String, Fail> {
+    if !core.fits(&event) {
+        return Ok(format!(in alloc; "no ")?);
+    }
+    let reply = core.step(event)?;
+    told(alloc, &reply)
+}
+
+fn read(strand: u32, cell: u32) -> Event {
+    Event::Access {
+        strand,
+        cell,
+        write: None,
+    }
+}
+
+fn write(strand: u32, cell: u32, value: i64) -> Event {
+    Event::Access {
+        strand,
+        cell,
+        write: Some(value),
+    }
+}
+
+#[test]
+fn replies_to_events(rt: HostRuntime) -> Result<(), Fail> {
+    let table: [(&[i64], u32, u32, &[Event], &str); 6] = [
+        // a fork outward is to be split first; a fork without columns
+        (
+            &[0],
+            5,
+            100000,
+            &[
+                Event::Fork { strand: 0 },
+                Event::Fork { strand: 2 },
+                Event::Split { fork: 4 },
+                Event::Split { fork: 1 },
+                Event::Split { fork: 4 },
+                Event::Fork { strand: 5 },
+                Event::Split { fork: 7 },
+                Event::Begin { strand: 9 },
+                Event::Begin { strand: 8 },
+            ],
+            "fork 1 2 3 fork 4 5 6 early 1 done done inline 8 9 no no done 4 ",
+        ),
+        // what a block committed within wrote is rolled back
+        (
+            &[7, 8, 0],
+            100,
+            100000,
+            &[
+                Event::Fork { strand: 0 },
+                Event::Split { fork: 1 },
+                Event::Begin { strand: 2 },
+                write(2, 2, 1),
+                Event::Begin { strand: 3 },
+                Event::Begin { strand: 3 },
+                read(3, 0),
+                write(3, 0, 8),
+                Event::Commit { strand: 3 },
+                read(3, 1),
+                write(3, 1, 9),
+                write(3, 2, 2),
+                Event::Commit { strand: 3 },
+                Event::Roll { strand: 3 },
+                read(2, 2),
+                Event::Begin { strand: 3 },
+                read(3, 0),
+                read(3, 1),
+            ],
+            "fork 1 2 3 done done 1 done done 7 8 done 8 9 conflict 2 3 12 2 4 1 [3] no done 1 done 7 8 15 ",
+        ),
+        // a write in a split fork joined in a block
+        (
+            &[0, 0],
+            100,
+            100000,
+            &[
+                Event::Fork { strand: 0 },
+                Event::Split { fork: 1 },
+                Event::Begin { strand: 2 },
+                Event::Fork { strand: 2 },
+                Event::Split { fork: 5 },
+                write(7, 0, 1),
+                write(6, 1, 5),
+                Event::Finish {
+                    strand: 7,
+                    dead: false,
+                },
+                Event::Finish {
+                    strand: 6,
+                    dead: false,
+                },
+                Event::Join { fork: 5 },
+                write(3, 0, 2),
+                write(2, 1, 1),
+                write(3, 0, 2),
+                Event::Commit { strand: 2 },
+                write(3, 0, 2),
+            ],
+            "fork 1 2 3 done done fork 5 6 7 done 1 5 done done done conflict 0 4 10 2 0 1 [4] 1 conflict 0 4 12 2 0 2 [4] done 2 8 ",
+        ),
+        // and in one joined before a block
+        (
+            &[0, 0],
+            100,
+            100000,
+            &[
+                Event::Fork { strand: 0 },
+                Event::Split { fork: 1 },
+                Event::Fork { strand: 2 },
+                Event::Split { fork: 4 },
+                write(6, 0, 1),
+                write(5, 1, 5),
+                Event::Finish {
+                    strand: 6,
+                    dead: false,
+                },
+                Event::Finish {
+                    strand: 5,
+                    dead: false,
+                },
+                Event::Join { fork: 4 },
+                Event::Begin { strand: 2 },
+                write(3, 0, 2),
+            ],
+            "fork 1 2 3 done fork 4 5 6 done 1 5 done done done done 2 6 ",
+        ),
+        // a budget is spent beneath a strand that waits
+        (
+            &[0],
+            100,
+            1,
+            &[
+                Event::Fork { strand: 0 },
+                Event::Split { fork: 1 },
+                Event::Begin { strand: 2 },
+                write(2, 0, 1),
+                Event::Begin { strand: 3 },
+                Event::Fork { strand: 3 },
+                write(8, 0, 2),
+                Event::Stop {
+                    halt: Halt::Budget { strand: 8 },
+                },
+                Event::Commit { strand: 2 },
+                Event::Finish {
+                    strand: 8,
+                    dead: true,
+                },
+                Event::Stop {
+                    halt: Halt::Budget { strand: 3 },
+                },
+                Event::Stop { halt: Halt::Memory },
+            ],
+            "fork 1 2 3 done done 1 done fork 7 8 9 conflict 0 3 10 2 4 1 [3] no no no done no 0 ",
+        ),
+        // strands that die, and their parent rolls back
+        (
+            &[0],
+            100,
+            2,
+            &[
+                Event::Fork { strand: 0 },
+                Event::Split { fork: 1 },
+                Event::Begin { strand: 2 },
+                write(2, 0, 1),
+                Event::Begin { strand: 3 },
+                Event::Fork { strand: 3 },
+                write(8, 0, 2),
+                Event::Stop {
+                    halt: Halt::Budget { strand: 3 },
+                },
+                Event::Finish {
+                    strand: 8,
+                    dead: true,
+                },
+                Event::Finish {
+                    strand: 9,
+                    dead: true,
+                },
+                Event::Join { fork: 7 },
+                Event::Commit { strand: 3 },
+                Event::Roll { strand: 3 },
+                Event::Begin { strand: 3 },
+            ],
+            "fork 1 2 3 done done 1 done fork 7 8 9 conflict 0 3 10 2 4 1 [3] no done done done no done done 7 ",
+        ),
+    ];
+    for (first, strands, aborts, events, wanted) in table {
+        if strands > 0 {
+            let text = replies(rt.alloc(), first, strands, aborts, events)?;
+            assert_eq!(rt; text.as_str(), wanted);
+        }
+    }
+    Ok(())
+}
+
+/// So many blocks in one another with a write in the innermost one, and an access that it refuses.
+fn refused_by_a_deep_write(alloc: Global, depth: u32) -> Result<Vec<Event>, Fail> {
+    let mut events = Vec::new(alloc);
+    events.push(Event::Fork { strand: 0 })?;
+    events.push(Event::Split { fork: 1 })?;
+    for _ in 0..depth {
+        events.push(Event::Begin { strand: 2 })?;
+    }
+    events.push(write(2, 0, 1))?;
+    events.push(read(3, 0))?;
+    events.push(Event::Out {
+        strand: 3,
+        value: 0,
+    })?;
+    Ok(events)
+}
+
+#[test]
+fn a_refusal_draws_no_stamp(rt: HostRuntime) -> Result<(), Fail> {
+    let events = refused_by_a_deep_write(rt.alloc(), 5_000)?;
+    let text = replies(rt.alloc(), &[0], 100, 100_000, events.as_slice())?;
+    let last = "done 1 conflict 0 5002 5005 2 0 1 [5002] done 5003 ";
+    assert!(rt; text.as_str().ends_with(last));
+    Ok(())
+}
+
+/// The parents of the nodes, the askers of the conflicts, and the stamps of each cell's accesses.
+fn closed_told(alloc: Global, closed: &Closed) -> Result<String, Fail> {
+    let mut text = String::new(alloc);
+    for node in closed.tree.nodes() {
+        let line = format!(in alloc; "{} ", node.parent)?;
+        text.push_str(line.as_str())?;
+    }
+    for conflict in closed.conflicts.as_slice() {
+        let line = format!(in alloc; "asker {} ", conflict.asker)?;
+        text.push_str(line.as_str())?;
+    }
+    for journal in closed.journals.as_slice() {
+        for entry in journal.as_slice() {
+            let line = format!(in alloc; "stamp {} ", entry.mark.stamp)?;
+            text.push_str(line.as_str())?;
+        }
+    }
+    Ok(text)
+}
+
+/// What is left of a core after these events, each of which is made if it fits.
+fn closed_after(alloc: Global, events: &[Event]) -> Result<String, Fail> {
+    let limits = Limits {
+        fuel: 0,
+        size: 0,
+        aborts: 9,
+        strands: 9,
+        moves: 0,
+    };
+    let mut core = Core::new(alloc, &[0], limits)?;
+    for event in events {
+        let _line = made(alloc, &mut core, *event)?;
+    }
+    match core.close() {
+        Ok(closed) => closed_told(alloc, &closed),
+        Err((_core, error)) => Err(error.into()),
+    }
+}
+
+#[test]
+fn a_core_is_closed_in_order(rt: HostRuntime) -> Result<(), Fail> {
+    let events = [
+        Event::Fork { strand: 0 },
+        Event::Split { fork: 1 },
+        Event::Begin { strand: 3 },
+        write(3, 0, 1),
+        write(2, 0, 2),
+        Event::Commit { strand: 3 },
+        write(2, 0, 2),
+    ];
+    let text = closed_after(rt.alloc(), &events)?;
+    assert_eq!(rt; text.as_str(), "0 0 1 2 2 1 5 6 asker 3 stamp 3 stamp 5 ");
+    Ok(())
+}
