@@ -1,7 +1,8 @@
 #!/usr/bin/env bash
 # Measures a core, by a program in a copy of the crates that drives 100,000 and 1,000,000 events of each kind, each of which is made where
 # it fits: accesses of a few cells; outputs; blocks that begin and commit; forks that are split and joined, one after another; refusals of an
-# access in 2,000 blocks, which then roll back one by one; and refusals of one in 2,000 forks, where no block has to fall. Prints ns an event (the median of seven runs, without the time of a run
+# access in 2,000 blocks, which then roll back one by one; and 10,000 and 100,000 refusals of one in 2,000 forks, where no block has to fall,
+# so that each is a walk over 4,000 nodes. Prints ns an event (the median of seven runs, without the time of a run
 # of no events) and the time of all; the machine is named last.
 # Usage: bench/core.sh, at the repository's top. The crates beneath the program are proved first, where no check kept them.
 set -eu
@@ -176,7 +177,7 @@ for kind in accesses outputs blocks turns refusals; do
     echo "$kind: $("$program" "$kind" "$events") events, $(((all - $(took "$kind" 0)) / events)) ns an event, $((all / 1000000)) ms in all"
   done
 done
-for events in 100000 1000000; do
+for events in 10000 100000; do
   all=$(took forks "$events")
   echo "refusals in 2,000 forks: $("$program" forks "$events") events, $(((all - $(took forks 0)) / events)) ns an event, $((all / 1000000)) ms in all"
 done

@@ -1,5 +1,5 @@
 -- Splits and joins are runs of the open machine, and keep what is true of a core.
-use Rattle.std.proofs.Common.{◌≡◌, ℕ, suc, ◌+◌, ◌<◌, ◌≤◌, List, [], ◌∷◌, length, refl, ap, sym, ◌∙◌, subst, arith, Bool, true, false, cond, Option, Some, None, inl, inr, nat_eq, nat_lt}
+use Rattle.std.proofs.Common.{◌≡◌, ℕ, ◌+◌, ◌<◌, ◌≤◌, List, [], ◌∷◌, length, refl, ap, sym, ◌∙◌, subst, arith, Bool, true, false, cond, Option, Some, None, inl, inr, nat_eq, nat_lt}
 use Rattle.std.specs.Prelude.{◌%◌, ◌==◌, ◌&&◌, ◌||◌, not, ℤ, is_none}
 use Rattle.std.specs.List.{list_any, list_all}
 use Rattle.std.proofs.lemmas.Bool.{and_parts, and_from, or_cases, or_left, or_right, or_parts, not-true, not_from_true, not_from_false, ltb-true, lt-ltb, eqb-true, eq-eqb, ne_eqb}
@@ -14,7 +14,7 @@ use Rattle.cw_tree.proofs.Lists.{In, any_from, all_in}
 use Rattle.cw_tree.proofs.Members.{in_below, below_in, in_filter}
 use Rattle.cw_tree.proofs.There.{node_there}
 use Rattle.cw_tree.proofs.NextTrees.{is_child}
-use Rattle.cw_trace.specs.Columns.{Columns, used, owner, parts, back_to, around_fork, is_trace, before_split, split_at, merged, left_of}
+use Rattle.cw_trace.specs.Columns.{Columns, used, owner, back_to, around_fork, is_trace, before_split, split_at, merged, left_of}
 use Rattle.cw_trace.specs.Stands.{fork_column, is_apart}
 use Rattle.cw_trace.specs.Keeps.{Keeps}
 use Rattle.cw_trace.specs.Running.{IsOrdered, IsUnstarted, IsDone}
@@ -31,6 +31,7 @@ use Rattle.cw_core.specs.declared.event.Event.TheVariants as event
 use Rattle.cw_core.specs.State.{State, joins, has_columns, is_split}
 use Rattle.cw_core.specs.Events.{steps_of, after, is_unstarted, is_early}
 use Rattle.cw_core.specs.Laws.{IsCore}
+use Rattle.cw_core.proofs.Alike.{parts_length}
 use Rattle.cw_core.proofs.Joined.{joins_of, joins_more, joins_no_more}
 use Rattle.cw_core.proofs.Ordering.{columns_used, unjoined, open_fork, ordered, strand_under, closed_strand}
 use Rattle.cw_core.proofs.LeftFirst.{left_tier, left_shut}
@@ -151,10 +152,6 @@ module _ (first : List ℤ) (k : State) (core : IsCore first k) (f : ℕ) (fork 
           is_none_tells : (o : Option ℕ) → is_none o ≡ true → o ≡ None
           is_none_tells None e = refl
           is_none_tells (Some x) e = absurd (cc e)
-
-          parts_length : (t f i : ℕ) (os : List ℕ) → length (parts t f i os) ≡ length os
-          parts_length t f i [] = refl
-          parts_length t f i (o ∷ os) = ap suc (parts_length t f (suc i) os)
 
           same_used : used (split_at col k.tier) ≡ used k.tier
           same_used = parts_length (owner k.tier col) col 0 k.tier.owners

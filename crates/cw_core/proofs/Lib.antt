@@ -9,6 +9,7 @@ pub mod Forks
 pub mod Accessing
 pub mod Rolling
 pub mod Kept
+pub mod Alike
 pub mod Splits
 pub mod Tails
 pub mod Places
@@ -25,6 +26,7 @@ pub mod Finishes
 pub mod Stopping
 pub mod Splitting
 pub mod HeldSplit
+pub mod EarlySplits
 pub mod OneFork
 pub mod Rejoining
 pub mod HeldJoin

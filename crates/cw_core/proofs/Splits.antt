@@ -1,32 +1,23 @@
--- What a split leaves as it was, and what answers come from.
-use Rattle.std.proofs.Common.{◌≡◌, ℕ, suc, ◌+◌, List, [], ◌∷◌, length, refl, ap, ◌∙◌, Bool, true, false, cond, Option, nat_le}
-use Rattle.std.specs.Prelude.{ℤ, find, is_none, unwrap_or}
+-- What a split leaves as it was, and what answers come from; so lists of events that differ in their splits alone are answered alike.
+use Rattle.std.proofs.Common.{◌≡◌, ℕ, ◌+◌, List, [], ◌∷◌, length, refl, ap, sym, ◌∙◌, subst, Bool, true, false, cond, Option, nat_le}
+use Rattle.std.specs.Prelude.{ℤ, find, unwrap_or}
 use Rattle.cw_tree.specs.Series.{place}
 use Rattle.cw_tree.specs.Newest.{newest, last_eight}
-use Rattle.cw_trace.specs.Columns.{used, owner, parts, split_at}
-use Rattle.cw_trace.specs.Stands.{fork_column}
+use Rattle.cw_trace.specs.Columns.{used}
 use Rattle.cw_open.specs.Machine.{Machine, live, value_of}
 use Rattle.cw_open.specs.Steps.{refusal}
 use Rattle.cw_open.specs.Runs.{meets}
+use Rattle.cw_core.specs.declared.event.Event.{Event}
 use Rattle.cw_core.specs.declared.event.Event.TheVariants as event
 use Rattle.cw_core.specs.declared.event.Reply.{Reply}
 use Rattle.cw_core.specs.declared.event.Reply.TheVariants as reply
-use Rattle.cw_core.specs.Events.{is_early, met_by}
-use Rattle.cw_core.specs.Laws.{without_block, SplitsChangeNothing, AnswersAreOfTheMachine}
-
-parts_length : (t f i : ℕ) (os : List ℕ) → length (parts t f i os) ≡ length os
-parts_length t f i [] = refl
-parts_length t f i (o ∷ os) = ap suc (parts_length t f (suc i) os)
+use Rattle.cw_core.specs.State.{State}
+use Rattle.cw_core.specs.Events.{after, reply_to, met_by, after_events}
+use Rattle.cw_core.specs.Laws.{without_block, without_splits, other_answers, AreAlike, SplitsChangeNothing, AlikeAnswer, SplitsChangeNoAnswer}
+use Rattle.cw_core.proofs.Alike.{alike_self, alike_sym, alike_trans, alike_after, alike_split}
 
 pub splits : SplitsChangeNothing
-splits k f = (refl, same (is_none (is_early k f)), room (is_none (is_early k f))) where
-  same : (z : Bool) → used (cond z (split_at (fork_column k.machine.tree f) k.tier) k.tier) ≡ used k.tier
-  same true = parts_length (owner k.tier (fork_column k.machine.tree f)) (fork_column k.machine.tree f) 0 k.tier.owners
-  same false = refl
-
-  room : (z : Bool) → (cond z (split_at (fork_column k.machine.tree f) k.tier) k.tier).room ≡ k.tier.room
-  room true = refl
-  room false = refl
+splits k f = (refl, alike_split k f)
 
 -- an answer to an access, by whether it conflicts: the block is of no account
 access_same : (z : Bool) (m : Machine) (p c last b d : ℕ) (chain : List ℕ) (v : ℤ)
@@ -43,21 +34,37 @@ answer s c w m block =
 abbrev fork_answer : (columns room n : ℕ) → Reply
 fork_answer columns room n = cond (nat_le (columns + 2) room) (reply.Forked (n + 1) (n + 2) n) (reply.Inline (n + 1) (n + 2))
 
--- two cores with one machine
-pub answers : AnswersAreOfTheMachine
-answers k j (event.Fork s) same columns room other =
+pub answers : AlikeAnswer
+answers k j (event.Fork s) a other =
     ap without_block
-    (ap (λ u. fork_answer u k.tier.room (length k.machine.tree)) columns ∙ ap (λ r. fork_answer (used j.tier) r (length k.machine.tree)) room ∙ ap (λ (m : Machine). fork_answer (used j.tier) j.tier.room (length m.tree)) same)
-answers k j (event.Access s c w) same columns room other =
+    (ap (λ u. fork_answer u k.tier.room (length k.machine.tree)) a.columns ∙ ap (λ r. fork_answer (used j.tier) r (length k.machine.tree)) a.room ∙ ap (λ (m : Machine). fork_answer (used j.tier) j.tier.room (length m.tree)) a.machine)
+answers k j (event.Access s c w) a other =
     let block = (met_by k s c).block in
     let m = k.machine in
     access_same (meets m.tree (newest (live m c)) (place m.tree s)) m (place m.tree s) c (unwrap_or (find (λ u. true) (newest (live m c))) 0) block (met_by j s c).block (last_eight (live m c)) (unwrap_or w (value_of m c))
-    ∙ ap (λ (m : Machine). without_block (answer s c w m (met_by j s c).block)) same
-answers k j (event.Begin s) same columns room other = refl
-answers k j (event.Out s v) same columns room other = refl
-answers k j (event.Commit s) same columns room other = refl
-answers k j (event.Roll s) same columns room other = refl
-answers k j (event.Finish s dead) same columns room other = refl
-answers k j (event.Split f) same columns room other = absurd (cc other)
-answers k j (event.Join f) same columns room other = refl
-answers k j (event.Stop h) same columns room other = refl
+    ∙ ap (λ (m : Machine). without_block (answer s c w m (met_by j s c).block)) a.machine
+answers k j (event.Begin s) a other = refl
+answers k j (event.Out s v) a other = refl
+answers k j (event.Commit s) a other = refl
+answers k j (event.Roll s) a other = refl
+answers k j (event.Finish s dead) a other = refl
+answers k j (event.Split f) a other = absurd (cc other)
+answers k j (event.Join f) a other = refl
+answers k j (event.Stop h) a other = refl
+
+-- ## Lists
+
+-- the same events without their splits
+unsplit : (k j : State) (es : List Event) → AreAlike k j → (other_answers k es ≡ other_answers j (without_splits es)) × AreAlike (after_events k es) (after_events j (without_splits es))
+unsplit k j [] a = (refl, a)
+unsplit k j (event.Split f ∷ es) a = unsplit (after k (event.Split f)) j es (alike_trans (after k (event.Split f)) k j (alike_split k f) a)
+unsplit k j (e ∷ es) a =
+    let more = unsplit (after k e) (after j e) es (alike_after k j e a) in
+    (ap (λ r. r ∷ other_answers (after k e) es) (answers k j e a refl) ∙ ap (λ rs. without_block (reply_to j e) ∷ rs) more.0, more.1)
+
+pub lists : SplitsChangeNoAnswer
+lists k es fs same =
+    let a = unsplit k k es (alike_self k) in
+    let b = unsplit k k fs (alike_self k) in
+    let P : List Event → Type 0 = λ xs. AreAlike (after_events k es) (after_events k xs) in
+    (a.0 ∙ ap (other_answers k) same ∙ sym b.0, alike_trans (after_events k es) (after_events k (without_splits fs)) (after_events k fs) (subst P same a.1) (alike_sym (after_events k fs) (after_events k (without_splits fs)) b.1))

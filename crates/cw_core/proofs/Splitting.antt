@@ -1,5 +1,5 @@
 -- The parts of a core after a split.
-use Rattle.std.proofs.Common.{◌≡◌, ℕ, suc, ◌/◌, ◌<◌, List, [], ◌∷◌, length, refl, ap, sym, ◌∙◌, subst, arith, Bool, true, false, cond, Option, Some, None, nat_eq, inl, inr}
+use Rattle.std.proofs.Common.{◌≡◌, ℕ, ◌/◌, ◌<◌, List, [], ◌∷◌, length, refl, ap, sym, ◌∙◌, subst, arith, Bool, true, false, cond, Option, Some, None, nat_eq, inl, inr}
 use Rattle.std.specs.Prelude.{◌&&◌, ◌||◌, not, slice_get, is_none, find, unwrap_or}
 use Rattle.std.proofs.lemmas.Bool.{and_parts, and_from, or_left, eqb-true, eq-eqb, false_from_ne_true, not-true}
 use Rattle.cw_tree.specs.Nodes.{is_fork_kind, is_fork, all_nodes}
@@ -8,7 +8,7 @@ use Rattle.cw_tree.proofs.Lists.{In}
 use Rattle.cw_tree.proofs.Members.{below_in}
 use Rattle.cw_tree.proofs.There.{node_there}
 use Rattle.cw_stack.specs.Cells.{CellParts}
-use Rattle.cw_trace.specs.Columns.{used, owner, parts, split_at, before_split}
+use Rattle.cw_trace.specs.Columns.{used, owner, split_at, before_split}
 use Rattle.cw_trace.specs.Stands.{fork_column}
 use Rattle.cw_trace.specs.Outward.{NextBars}
 use Rattle.cw_trace.proofs.Counting.{fork_column_one}
@@ -20,6 +20,7 @@ use Rattle.cw_core.specs.declared.row.Row.{Row}
 use Rattle.cw_core.specs.State.{State, joins, has_columns, is_split}
 use Rattle.cw_core.specs.Events.{fits, fits_now, is_unstarted, fork_at, after}
 use Rattle.cw_core.specs.Kept.{IsRow, AreRows, AreParts, changed, with_split}
+use Rattle.cw_core.proofs.Alike.{parts_length}
 use Rattle.cw_core.proofs.Kept.{events}
 use Rattle.cw_core.proofs.Going.{well, root_open}
 use Rattle.cw_core.proofs.Ordering.{open_fork, ordered, unjoined}
@@ -51,10 +52,6 @@ may_split k f e =
     let z = and_parts (is_fork m.tree f && has_columns k f) (not (is_split k f)) y.0 in
     let w = and_parts (is_fork m.tree f) (has_columns k f) z.0 in
     record { fork = w.0; columns = w.1; uncut = sym (ap (λ q. q && has k.splits (fork_column m.tree f)) w.1) ∙ not-true (is_split k f) z.1; unjoined = not-true (has m.joined f) y.1 }
-
-parts_length : (t f i : ℕ) (os : List ℕ) → length (parts t f i os) ≡ length os
-parts_length t f i [] = refl
-parts_length t f i (o ∷ os) = ap suc (parts_length t f (suc i) os)
 
 module _ (k : State) (f : ℕ) (may : MaySplit k f) where
   abbrev m : Machine
@@ -145,6 +142,14 @@ module _ (k : State) (f : ℕ) (may : MaySplit k f) where
 
 -- ## The fork that is to be split before
 
+-- a fork is found by its column
+pub fork_is : (k : State) (h : ℕ) → is_fork k.machine.tree h ≡ true → (c : ℕ) → fork_column k.machine.tree h ≡ c → fork_at k c ≡ h
+fork_is k h fork c same =
+    let t = k.machine.tree in
+    ap (λ o. unwrap_or o 0)
+    (find_one (λ n. is_fork t n && nat_eq (fork_column t n) c) h (all_nodes t) (below_in h (length t) (node_there (λ y. is_fork_kind y.kind) t h fork)) (and_from (is_fork t h) (nat_eq (fork_column t h) c) fork (eq-eqb (fork_column t h) c same))
+    (λ v p. let y = and_parts (is_fork t v) (nat_eq (fork_column t v) c) p in fork_column_one t v h y.0 fork (eqb-true (fork_column t v) c y.1 ∙ sym same)))
+
 pub record IsBefore (k : State) (forks : List ℕ) (c : ℕ) : Type 0 where
   pub low : c / 2 < length forks
   pub named : (f : ℕ) → slice_get forks (c / 2) ≡ Some f → fork_at k c ≡ f
@@ -169,7 +174,5 @@ is_before k f rows forks cells last w may c bars =
       named = λ h e.
           (let z = w.forked.each (c / 2) h e in
           let same : fork_column t h ≡ c = omega (arith, z.1, odd, at) in
-          ap (λ o. unwrap_or o 0)
-          (find_one (λ n. is_fork t n && nat_eq (fork_column t n) c) h (all_nodes t) (below_in h (length t) (node_there (λ y. is_fork_kind y.kind) t h z.0)) (and_from (is_fork t h) (nat_eq (fork_column t h) c) z.0 (eq-eqb (fork_column t h) c same))
-          (λ v p. let y = and_parts (is_fork t v) (nat_eq (fork_column t v) c) p in fork_column_one t v h y.0 z.0 (eqb-true (fork_column t v) c y.1 ∙ sym same))));
+          fork_is k h z.0 c same);
     }

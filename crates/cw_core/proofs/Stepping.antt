@@ -5,9 +5,9 @@ use Rattle.cw_open.specs.Runs.{IsRun, at_once}
 use Rattle.cw_core.specs.declared.event.Event.{Event}
 use Rattle.cw_core.specs.State.{State}
 use Rattle.cw_core.specs.Events.{fits, after, steps_of}
-use Rattle.cw_core.specs.Laws.{IsCore}
+use Rattle.cw_core.specs.Laws.{IsCore, HasChains}
 use Rattle.cw_core.proofs.Going.{state}
-use Rattle.cw_core.proofs.Kept.{events}
+use Rattle.cw_core.proofs.Kept.{events, cells}
 
 module _ (k : State) (core : IsCore k.machine.first k) (e : Event) (fit : fits k e ≡ true) where
   pub runs : IsRun at_once k.machine (steps_of k e)
@@ -22,7 +22,13 @@ module _ (k : State) (core : IsCore k.machine.first k) (e : Event) (fit : fits k
       let R : List ℤ → Type 0 = λ vs. IsCore vs j in
       subst R (sym (state k.machine.first j there).values) there
 
+  pub chains_after : (j : State) (x : Event) → e ≡ x → j ≡ after k x → HasChains j
+  chains_after j x is same = cells j.machine.first j (stands_after j x is same)
+
   -- and for the old one, where it was not made
   pub stands : {A E : Type 0} → (r : Result A E) (j : State) (x : Event) → e ≡ x → OnOk r (j ≡ after k x) → OnErr r (j ≡ k) → IsCore j.machine.first j
   stands (Ok a) j x is ok err = stands_after j x is ok
   stands (Err b) j x is ok err = let P : State → Type 0 = λ j. IsCore j.machine.first j in subst P (sym err) core
+
+  pub chains : {A E : Type 0} → (r : Result A E) (j : State) (x : Event) → e ≡ x → OnOk r (j ≡ after k x) → OnErr r (j ≡ k) → HasChains j
+  chains r j x is ok err = cells j.machine.first j (stands r j x is ok err)

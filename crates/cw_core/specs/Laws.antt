@@ -1,6 +1,7 @@
 -- What is true of a core between events.
-use Rattle.std.specs.Prelude.{◌≡◌, ◌≢◌, ℕ, ℤ, ◌<◌, Bool, true, false, IsTrue, List, length, map}
+use Rattle.std.specs.Prelude.{◌≡◌, ◌≢◌, ◌⊎◌, ℕ, ℤ, ◌<◌, Bool, true, false, not, IsTrue, List, [], ◌∷◌, length, map, filter, if◌then◌else◌}
 use Rattle.cw_tree.specs.declared.node.Node.{Node}
+use Rattle.cw_tree.specs.declared.conflict.Conflict.{Conflict}
 use Rattle.cw_tree.specs.Nodes.{parent_of, stamp_of, is_fork}
 use Rattle.cw_tree.specs.Walks.{has, is_ancestor}
 use Rattle.cw_tree.specs.Series.{place}
@@ -9,7 +10,8 @@ use Rattle.cw_trace.specs.Columns.{Columns, used}
 use Rattle.cw_trace.specs.Stands.{GoesOn}
 use Rattle.cw_trace.specs.Keeps.{Keeps}
 use Rattle.cw_trace.specs.Running.{IsUnsplit}
-use Rattle.cw_open.specs.Machine.{live, is_running}
+use Rattle.cw_trace.specs.Outward.{IsBarring}
+use Rattle.cw_open.specs.Machine.{Machine, live, is_running}
 use Rattle.cw_open.specs.Steps.{after_all, opening}
 use Rattle.cw_open.specs.Open.{is_open}
 use Rattle.cw_open.specs.Runs.{IsRun, Reached, at_once}
@@ -57,10 +59,12 @@ ListsAreRuns =
 -- ## What follows
 
 -- each cell's list has just its live accesses, and they are a chain
+abbrev pub HasChains : State → Type 0
+HasChains k = (c : ℕ) → (live k.machine c ≡ map (stamp_of k.machine.tree) (live_accesses k.machine.tree c)) × IsChainOf k.machine.tree c (live k.machine c)
+
+-- this is so of each core
 abbrev pub CellsAreChains : Type 0
-CellsAreChains =
-    (first : List ℤ) (k : State) → IsCore first k → (c : ℕ)
-    → (live k.machine c ≡ map (stamp_of k.machine.tree) (live_accesses k.machine.tree c)) × IsChainOf k.machine.tree c (live k.machine c)
+CellsAreChains = (first : List ℤ) (k : State) → IsCore first k → HasChains k
 
 -- a strand that may step goes on beneath each pending block begun in its trace: what the query asks
 abbrev pub StrandsGoOn : Type 0
@@ -70,21 +74,67 @@ StrandsGoOn =
 
 -- ## Splits
 
--- an answer but for the block that a conflict names
+-- fork m is outward of fork f in its trace, and was neither split nor joined
+abbrev pub Bars : State → (f m : ℕ) → Type 0
+Bars k f m = IsBarring k.tier k.machine.tree k.splits (joins k) f m
+
+-- fork m bars fork f, and each other that does is further out
+pub record IsNextOut (k : State) (f m : ℕ) : Type 0 where
+  pub bars : Bars k f m
+  pub next : (n : ℕ) → Bars k f n → IsTrue (is_ancestor k.machine.tree n m)
+
+-- a split is done where no fork bars it, and else it is early, and names the next one outward
+abbrev pub SplitsAreAnswered : Type 0
+SplitsAreAnswered =
+    (first : List ℤ) (k : State) (f : ℕ) → IsCore first k → IsTrue (fits k (event.Split f))
+    → ((reply_to k (event.Split f) ≡ reply.Done) × ((m : ℕ) → Bars k f m → ⊥)) ⊎ ((m : ℕ) × (reply_to k (event.Split f) ≡ reply.Early m) × IsNextOut k f m)
+
+-- ## What splits change
+
+-- a conflict but for the block that it names
+abbrev pub blockless : Conflict → Conflict
+blockless c = record c { block = 0 }
+
 abbrev pub without_block : Reply → Reply
-without_block (reply.Conflict c) = reply.Conflict (record c { block = 0 })
+without_block (reply.Conflict c) = reply.Conflict (blockless c)
 without_block r = r
+
+abbrev pub without_blocks : Machine → Machine
+without_blocks m = record m { conflicts = map blockless m.conflicts }
 
 abbrev pub is_split_event : Event → Bool
 is_split_event (event.Split f) = true
 is_split_event _ = false
 
+-- two cores that are the same but for what splits change
+pub record AreAlike (k j : State) : Type 0 where
+  pub machine : without_blocks k.machine ≡ without_blocks j.machine
+  pub columns : used k.tier ≡ used j.tier
+  pub room : k.tier.room ≡ j.tier.room
+  pub budget : k.budget ≡ j.budget
+  pub halt : k.halt ≡ j.halt
+
 -- a split changes neither the open machine nor the number of columns in use
 abbrev pub SplitsChangeNothing : Type 0
-SplitsChangeNothing = (k : State) (f : ℕ) → ((after k (event.Split f)).machine ≡ k.machine) × (used (after k (event.Split f)).tier ≡ used k.tier) × ((after k (event.Split f)).tier.room ≡ k.tier.room)
+SplitsChangeNothing = (k : State) (f : ℕ) → ((after k (event.Split f)).machine ≡ k.machine) × AreAlike (after k (event.Split f)) k
 
--- and the answer to any other event comes from these alone, but for the block of a conflict
-abbrev pub AnswersAreOfTheMachine : Type 0
-AnswersAreOfTheMachine =
-    (k j : State) (e : Event) → k.machine ≡ j.machine → used k.tier ≡ used j.tier → k.tier.room ≡ j.tier.room → is_split_event e ≡ false
-    → without_block (reply_to k e) ≡ without_block (reply_to j e)
+-- two such cores answer each event but a split alike, but for the block of a conflict
+abbrev pub AlikeAnswer : Type 0
+AlikeAnswer = (k j : State) (e : Event) → AreAlike k j → is_split_event e ≡ false → without_block (reply_to k e) ≡ without_block (reply_to j e)
+
+-- and they stay so, whatever event is made of both
+abbrev pub AlikeStay : Type 0
+AlikeStay = (k j : State) (e : Event) → AreAlike k j → AreAlike (after k e) (after j e)
+
+abbrev pub without_splits : List Event → List Event
+without_splits es = filter (λ e. not (is_split_event e)) es
+
+-- the answers to all of a list of events but its splits, but for the blocks that conflicts name
+abbrev pub other_answers : State → List Event → List Reply
+other_answers k [] = []
+other_answers k (e ∷ es) = if is_split_event e then other_answers (after k e) es else without_block (reply_to k e) ∷ other_answers (after k e) es
+
+-- so two lists of events that differ in their splits alone have the same other answers, and lead to cores that are alike
+abbrev pub SplitsChangeNoAnswer : Type 0
+SplitsChangeNoAnswer =
+    (k : State) (es fs : List Event) → without_splits es ≡ without_splits fs → (other_answers k es ≡ other_answers k fs) × AreAlike (after_events k es) (after_events k fs)

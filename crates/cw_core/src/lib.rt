@@ -7,7 +7,7 @@
 #![tactic(auto)]
 
 ghost use Rattle.cw_core.specs.ClosedLaws.{CellsStay, EndsStay, FaultsStay, JournalsStay, RefusalsStay, RollsBackStays};
-ghost use Rattle.cw_core.specs.Laws.{AnswersAreOfTheMachine, CellsAreChains, EventsAreRuns, ListsAreRuns, SplitsChangeNothing, StartsAreCores, StrandsGoOn};
+ghost use Rattle.cw_core.specs.Laws.{AlikeAnswer, AlikeStay, CellsAreChains, EventsAreRuns, ListsAreRuns, SplitsAreAnswered, SplitsChangeNoAnswer, SplitsChangeNothing, StartsAreCores, StrandsGoOn};
 ghost use Rattle.cw_core.specs.Rows.{Budgets, Joins, Rolls, Splits};
 
 mod cores;
@@ -35,10 +35,18 @@ pub fn cores_stand()
     ensures goes_on { StrandsGoOn }
 {}
 
-/// A split changes no later answer but that of a split, and the block that a conflict names.
+/// A split is early exactly where a fork outward in the trace of its fork was neither split nor joined, and then names the next one outward.
+pub fn splits_are_answered()
+    ensures early { SplitsAreAnswered }
+{}
+
+/// A split changes no later answer but that of a split and the block that a conflict names: lists of events that differ in their splits alone
+/// have the same other answers.
 pub fn splits_change_no_answer()
     ensures splits { SplitsChangeNothing }
-    ensures answers { AnswersAreOfTheMachine }
+    ensures answers { AlikeAnswer }
+    ensures stay { AlikeStay }
+    ensures lists { SplitsChangeNoAnswer }
 {}
 
 /// What is true of the tree, the journals and the conflicts that a run leaves is true of them in depth-first order.

@@ -32,7 +32,7 @@ in_reverse v (x ∷ xs) i =
       | inr j ↦ elim j [ inl e ↦ inl e | inr n ↦ absurd n ]
     ]
 
-suffix_same : (p q : ℕ → Bool) (xs : List ℕ) → ((v : ℕ) → In v xs → p v ≡ q v) → suffix_len p xs ≡ suffix_len q xs
+pub suffix_same : (p q : ℕ → Bool) (xs : List ℕ) → ((v : ℕ) → In v xs → p v ≡ q v) → suffix_len p xs ≡ suffix_len q xs
 suffix_same p q xs f = prefix_same p q (reverse xs) (λ v i. f v (in_reverse v xs i))
 
 -- ## Elders

@@ -97,7 +97,7 @@ states Pending a b = absurd (cc a)
 states Aborted a b = absurd (cc b)
 
 -- a block that is neither pending nor rolled back is committed
-only_committed : (t : List Node) (b : ℕ) → is_block t b ≡ true → is_pending t b ≡ false → is_aborted t b ≡ false → is_committed t b ≡ true
+pub only_committed : (t : List Node) (b : ℕ) → is_block t b ≡ true → is_pending t b ≡ false → is_aborted t b ≡ false → is_committed t b ≡ true
 only_committed t b = by (slice_get t b) where
   both : (k : Bool) (s : BlockState) → k ≡ true → (k && is_pending_state s) ≡ false → (k && is_aborted_state s) ≡ false → (k && is_committed_state s) ≡ true
   both true s e a c = states s a c

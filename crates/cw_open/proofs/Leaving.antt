@@ -29,7 +29,7 @@ named_back t s c [] f = refl
 named_back t s c (n ∷ ns) f =
     ap (λ k. k ∷ map (access_at t) (map (stamp_of t) ns)) (access_named t s c n (f n (inl refl))) ∙ ap (λ ks. n ∷ ks) (named_back t s c ns (λ k i. f k (inr i)))
 
-live_touched : (t : List Node) (c n : ℕ) → In n (live_accesses t c) → touches t c n ≡ true
+pub live_touched : (t : List Node) (c n : ℕ) → In n (live_accesses t c) → touches t c n ≡ true
 live_touched t c n i =
     let p = λ (n : ℕ). touches t c n && is_live t n in
     (and_parts (touches t c n) (is_live t n) (in_filter p n (all_nodes t) (by_key_in (stamp_of t) n (filter p (all_nodes t)) i)).1).0

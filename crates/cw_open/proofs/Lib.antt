@@ -38,3 +38,9 @@ pub mod Ahead
 pub mod Reading
 pub mod Unstopped
 pub mod Leaving
+pub mod Renamed
+pub mod RenamedConflicts
+pub mod RenamedHistory
+pub mod RenamedPlaces
+pub mod SeriesRise
+pub mod Spending

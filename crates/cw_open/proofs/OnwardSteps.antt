@@ -75,7 +75,7 @@ module _ (t u : List Node) (p stamp : ℕ) (r : IsRooted t) (g : IsGrowth t u p 
 -- ## A block is closed
 
 -- the cell of which a node is a refused access
-abbrev tells : Option Node → Option ℕ
+abbrev pub tells : Option Node → Option ℕ
 tells None = None
 tells (Some y) = tried_cell_in y.kind
 

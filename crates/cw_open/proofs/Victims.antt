@@ -217,7 +217,7 @@ module _ (first : List ℤ) (m : Machine) (w : IsToldState first m) where
         ]
 
     -- a pending block beneath a running strand is its place or above that
-    over_own : (v : ℕ) → is_pending t v ≡ true → is_ancestor t s v ≡ true → is_ancestor t v p ≡ true
+    pub over_own : (v : ℕ) → is_pending t v ≡ true → is_ancestor t s v ≡ true → is_ancestor t v p ≡ true
     over_own v pending below =
         let h = node_there (λ n. is_block_kind n.kind && is_pending_state n.state) t v pending in
         let tree = well.sound.tree in

@@ -6,13 +6,15 @@ use Rattle.cw_tree.specs.declared.node.Node.{Node}
 use Rattle.cw_tree.specs.declared.access.Entry.{Entry}
 use Rattle.cw_tree.specs.declared.conflict.Conflict.{Conflict}
 use Rattle.cw_tree.specs.Nodes.{is_tried, is_aborted, is_committed, all_nodes}
-use Rattle.cw_tree.specs.Walks.{path}
+use Rattle.cw_tree.specs.Walks.{IsNumbered, path}
 use Rattle.cw_tree.specs.Accesses.{written}
 use Rattle.cw_tree.specs.Stacks.{access_at}
 use Rattle.cw_tree.specs.Journals.{FitsCells, AreJournals, JournalsEnded}
 use Rattle.cw_tree.specs.Refusals.{IsRecorded, is_victim, RollsBack}
 use Rattle.cw_tree.specs.Newest.{newest}
 use Rattle.cw_tree.specs.NextNodes.{IsSound}
+use Rattle.cw_tree.specs.Histories.{IsHistory}
+use Rattle.cw_tree.specs.InOrder.{in_order, conflicts_in_order}
 use Rattle.cw_open.specs.Machine.{Machine, live}
 use Rattle.cw_open.specs.Laws.{NoneUndone}
 use Rattle.cw_open.specs.Times.{ReachedInTime}
@@ -54,3 +56,9 @@ abbrev pub HistoriesAreLeft : Type 0
 HistoriesAreLeft =
     (first : List ℤ) (m : Machine) (kept : List (List Entry)) → ReachedInTime (as_told (λ t us w. newest us)) first m → NoneUndone m → AreKept m kept
     → IsHistoryAsMade m.tree first kept m.conflicts
+
+-- and in depth-first order, with the conflicts as that lists their askers, it is a history
+abbrev pub HistoriesAreInOrder : Type 0
+HistoriesAreInOrder =
+    (first : List ℤ) (m : Machine) (kept : List (List Entry)) → ReachedInTime (as_told (λ t us w. newest us)) first m → NoneUndone m → AreKept m kept → IsNumbered m.tree
+    → IsHistory (in_order m.tree) first kept (conflicts_in_order m.tree m.conflicts)

@@ -7,4 +7,5 @@ pub mod Times
 pub mod Told
 pub mod Reads
 pub mod Left
+pub mod Spent
 pub mod Rows

@@ -8,9 +8,10 @@
 #![tactic(auto)]
 
 ghost use Rattle.cw_open.specs.Laws.{AtOnceIsAtAnyTime, BlocksHaveEnded, CellsFit, ClocksAreLatest, DyingRollBack, FreeAreSafe, ListsAreChains, ListsAreLive, ListsHaveAll, ListsRise, OpenAreNested, RefusalsAreTold, StrandsStandAtPlaces, TreesAreSound, VictimsAreAbove};
-ghost use Rattle.cw_open.specs.Left.{HistoriesAreLeft};
+ghost use Rattle.cw_open.specs.Left.{HistoriesAreInOrder, HistoriesAreLeft};
 ghost use Rattle.cw_open.specs.Reads.{ReadsAreMet};
 ghost use Rattle.cw_open.specs.Told.{AbortedAreVictims, AheadIsTimely, AskersAreTried, AtOnceIsTold, CommittedAreSafe, ConflictsAreRecorded, DeadGoBack, DyingGoBack, StopsAreLeftOut, ToldIsAtAnyTime};
+ghost use Rattle.cw_open.specs.Spent.{SpentAreInOrder};
 ghost use Rattle.cw_open.specs.Rows.{Beneath, Inside, InnerCommitted, Outer, Twice};
 
 /// The tree of every state: it is sound, its open nodes are nested, its running strands stand at places, and the clock is at its latest
@@ -79,15 +80,22 @@ pub fn conflicts_at_once()
     ensures timely { AheadIsTimely }
 {}
 
-/// What a run leaves where no undo is under way: its journals, conflicts and rolled-back blocks are as they have to be.
+/// What a run leaves where no undo is under way: its journals, conflicts and rolled-back blocks are as they have to be, and in depth-first
+/// order they are a history.
 pub fn histories_of_runs()
     ensures left { HistoriesAreLeft }
+    ensures in_order { HistoriesAreInOrder }
     ensures any_time { ToldIsAtAnyTime }
 {}
 
 /// A run without its stops is a run: a strand that stopped stands where it ran.
 pub fn stops_are_left_out()
     ensures stops { StopsAreLeftOut }
+{}
+
+/// A strand that has spent its budget, and after that made no step, has spent it in depth-first order too.
+pub fn spent_are_in_order()
+    ensures spent { SpentAreInOrder }
 {}
 
 /// What the definitions say of small runs.

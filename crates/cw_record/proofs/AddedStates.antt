@@ -10,13 +10,13 @@ use Rattle.cw_tree.specs.declared.node.Kind.{Kind}
 use Rattle.cw_tree.specs.declared.node.Kind.TheVariants.{Strand}
 use Rattle.cw_tree.specs.Nodes.{parent_of, last_below, is_strand, is_fork, is_committed, is_strand_kind, is_fork_kind, is_block_kind, first_state, fresh_node}
 use Rattle.cw_tree.specs.Walks.{IsRooted, is_ancestor}
+use Rattle.cw_tree.specs.Links.{is_child, last_child}
 use Rattle.cw_tree.proofs.Ancestors.{ancestor_self, ancestor_step}
 use Rattle.cw_tree.proofs.Growing.{get_append, get_next, length_more, node_grown, number_grown, node_new, number_new, ancestor_grown, rooted_more}
+use Rattle.cw_tree.proofs.Children.{last_passes}
 use Rattle.cw_serial.specs.Room.Strands.{StrandState}
 use Rattle.cw_record.specs.declared.worker.Branch.{Branch}
 use Rattle.cw_record.specs.Drawn.{added}
-use Rattle.cw_record.specs.Walked.{is_child, last_child}
-use Rattle.cw_record.proofs.Children.{last_passes}
 use Rattle.cw_record.proofs.Faults.{last_none}
 use Rattle.cw_record.proofs.States.{States, behind, reached, side, begins_in, begins, DoesAs, Does, AreStates, IsOver, JoinsAt}
 use Rattle.cw_record.proofs.KeptStates.{does_same, Keeps, below_same, behind_same, states_kept, does_kept}

@@ -10,26 +10,25 @@ use Rattle.cw_tree.specs.declared.node.BlockState.{BlockState}
 use Rattle.cw_tree.specs.Nodes.{passes, parent_of, last_below, is_strand, is_fork, is_committed, is_fork_kind, fresh_node}
 use Rattle.cw_tree.specs.Walks.{is_ancestor}
 use Rattle.cw_tree.specs.Series.{children}
+use Rattle.cw_tree.specs.Links.{is_child, last_child}
 use Rattle.cw_tree.proofs.Ancestors.{ancestor_self, ancestor_step, ancestor_up, ancestor_le}
 use Rattle.cw_tree.proofs.Growing.{length_more}
 use Rattle.cw_tree.proofs.Lists.{In}
+use Rattle.cw_tree.proofs.Children.{last_passes}
+use Rattle.cw_tree.proofs.Visits.{child_in}
 use Rattle.cw_serial.specs.Room.Strands.{StrandState, state_of}
 use Rattle.cw_serial.specs.declared.standing.Standing.{Standing as Written}
 use Rattle.cw_record.specs.declared.worker.Branch.{Branch}
 use Rattle.cw_record.specs.declared.worker.Branch.TheVariants.{Left, Right}
 use Rattle.cw_record.specs.Drawn.{added}
-use Rattle.cw_record.specs.Walked.{is_child, last_child}
 use Rattle.cw_record.proofs.AddedStates.{StartsAt, with_node, state_same, node_keeps, reached_new, starts_right, over_new, knows_down}
 use Rattle.cw_record.proofs.Building.{IsBuilt}
-use Rattle.cw_record.proofs.Children.{last_passes}
-use Rattle.cw_record.proofs.Everywhere.{in_children}
 use Rattle.cw_record.proofs.KeptStates.{reached_same}
 use Rattle.cw_record.proofs.KnownStates.{Known, Knows, HasWaited}
 use Rattle.cw_record.proofs.NodeKinds.{strand_alone, fork_some}
 use Rattle.cw_record.proofs.ReachedStates.{same_itself, with_after, last_right_in, still, knows_up, joins_up}
 use Rattle.cw_record.proofs.States.{States, reached, DoesAs, Does, IsOver, JoinsAt, two_below}
 use Rattle.cw_record.proofs.StepStates.{undone_way}
-use Rattle.cw_record.proofs.There.{IsChild}
 
 module _ (s : Strands StrandState) where
   module _ (t : List Node) (p clock : ℕ) (b : IsBuilt t p clock) (f : ℕ) (rest : List Branch) (a : StrandState) (x : States StrandState) (strand : is_strand t p ≡ true) (fork : is_fork t f ≡ true) (some : 0 < p) (up : parent_of t p ≡ f) (over : is_over (s.want a) ≡ true) where
@@ -156,9 +155,6 @@ module _ (s : Strands StrandState) where
             (second.0 ∙ sym here.0, second.1 ∙ sym here.1)
         are_two (c ∷ d ∷ n ∷ cs) e short ip il ir = absurd (omega arith)
 
-      in_fork : (n : ℕ) → IsChild t f n → In n (children t f)
-      in_fork n c = (let P : ℕ → Type 0 = λ i. In n (children t i) in subst P c.parent (in_children t b.rooted n c.some c.there))
-
       abbrev joins : States StrandState
       joins = with_after s t t b.rooted x f some_f there_f last_f (same_itself t f b.rooted) (s.joined a (state_of left))
 
@@ -170,7 +166,7 @@ module _ (s : Strands StrandState) where
 
       joined_here : JoinsAt s t joins f
       joined_here l r child before =
-          let z = are_two l r (sym (ap (λ n. last_below (is_child t n) r) child.parent) ∙ before) (children t f) refl few (in_fork p (record { some = some; there = b.there; parent = up })) (in_fork l0 k.waits.0.child) (in_fork r child) in
+          let z = are_two l r (sym (ap (λ n. last_below (is_child t n) r) child.parent) ∙ before) (children t f) refl few (child_in t b.rooted f p (record { some = some; there = b.there; parent = up })) (child_in t b.rooted f l0 k.waits.0.child) (child_in t b.rooted f r child) in
           let w = k.waits.0 in
           let under = outer in
           let lower = low_f in

@@ -11,27 +11,28 @@ use Rattle.cw_tree.specs.Nodes.{parent_of, is_strand, is_fork, is_block, is_fork
 use Rattle.cw_tree.specs.Walks.{IsRooted, is_ancestor}
 use Rattle.cw_tree.specs.Series.{children, has_later}
 use Rattle.cw_tree.specs.Shape.{IsTree, NonePending}
+use Rattle.cw_tree.specs.Links.{is_child, last_child}
 use Rattle.cw_tree.proofs.Ancestors.{ancestor_self, ancestor_root, ancestor_step, ancestor_up, ancestor_le, ancestor_past, ancestor_trans}
 use Rattle.cw_tree.proofs.Growing.{length_more, node_grown, node_new, number_grown, ancestor_grown, rooted_more}
 use Rattle.cw_tree.proofs.Lists.{any_in}
 use Rattle.cw_tree.proofs.Members.{in_below, in_filter}
 use Rattle.cw_tree.proofs.There.{node_there}
+use Rattle.cw_tree.proofs.Children.{last_passes}
+use Rattle.cw_tree.proofs.NextTrees.{no_fork}
 use Rattle.cw_serial.specs.Room.Strands.{StrandState}
 use Rattle.cw_record.specs.declared.worker.Branch.{Branch}
 use Rattle.cw_record.specs.Drawn.{added}
 use Rattle.cw_record.specs.Coherent.{Follows, StrandEnded, HasNoOpenFork}
 use Rattle.cw_record.specs.Records.{BlocksAround}
-use Rattle.cw_record.specs.Walked.{is_child, last_child}
 use Rattle.cw_record.proofs.AddedStates.{StartsAt, with_node, node_keeps, starts_left, starts_right, states_more, parent_new, is_new}
 use Rattle.cw_record.proofs.Behind.{Over, over_lower}
 use Rattle.cw_record.proofs.Building.{IsBuilt}
-use Rattle.cw_record.proofs.Children.{last_passes}
 use Rattle.cw_record.proofs.KeptStates.{reached_same}
 use Rattle.cw_record.proofs.KnownStates.{Knows, Moves, over_old, joins_kept}
 use Rattle.cw_record.proofs.NodeKinds.{strand_alone, fork_other, fork_no_block, fork_some, pending_block, pending_no_member}
 use Rattle.cw_record.proofs.Shaped.{IsShaped, tree_of_shape}
 use Rattle.cw_record.proofs.States.{States, reached, AreStates, AreShut, IsOver, JoinsAt, all_follow, strand_ended, fork_joined}
-use Rattle.cw_record.proofs.StepStates.{undone_way, no_fork, committed_block}
+use Rattle.cw_record.proofs.StepStates.{undone_way, committed_block}
 use Rattle.cw_record.proofs.Unstarted.{with_strands}
 use Rattle.cw_record.proofs.Waiting.{one_unstarted}
 use Rattle.cw_record.specs.Items.{is_act}
@@ -292,6 +293,6 @@ module _ (s : Strands StrandState) where
 
     pub fault_stops : (fs : List ℕ) → Over t p fs → All (λ f. is_fork t f ≡ true) fs → IsShaped (with_strands t fs) [] → Stops (with_strands t fs) p a
     fault_stops fs o forks shape =
-        let (y, h) = all_stopped t p b.there a fs t x (no_fork t p clock b) (are_on t b.rooted p b.there fs o forks) begin_stopped in
+        let (y, h) = all_stopped t p b.there a fs t x (no_fork t p b.place) (are_on t b.rooted p b.there fs o forks) begin_stopped in
         let more = map (λ f. fresh_node f Strand 0) fs in
         stops_here t p clock b fs shape a y h (number_grown t more (λ w. w.parent)) (λ n m l. ancestor_grown t more b.rooted n m l) (node_grown t more (λ w. is_block_kind w.kind && is_committed_state w.state))

@@ -12,8 +12,8 @@ use Rattle.cw_tree.specs.declared.node.BlockState.{BlockState}
 use Rattle.cw_tree.specs.declared.node.BlockState.TheVariants.{Pending, Committed, Aborted}
 use Rattle.cw_tree.specs.Nodes.{parent_of, passes, last_below, is_fork, is_block, is_block_kind, is_committed, is_committed_state}
 use Rattle.cw_tree.specs.Walks.{IsRooted}
-use Rattle.cw_record.specs.Walked.{is_child, last_child, child_before}
-use Rattle.cw_record.proofs.Children.{last_passes}
+use Rattle.cw_tree.specs.Links.{is_child, last_child, child_before}
+use Rattle.cw_tree.proofs.Children.{last_passes}
 use Rattle.cw_record.proofs.Faults.{last_same}
 use Rattle.cw_record.proofs.States.{States, enters, behind, reached, side, begins_in, begins, DoesAs, Does, AreStates}
 

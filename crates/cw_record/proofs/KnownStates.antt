@@ -6,13 +6,13 @@ use Rattle.cw_strand.specs.Strands.{Strands, is_over}
 use Rattle.cw_tree.specs.declared.node.Node.{Node}
 use Rattle.cw_tree.specs.Nodes.{parent_of, is_strand, is_fork}
 use Rattle.cw_tree.specs.Walks.{IsRooted, is_ancestor}
+use Rattle.cw_tree.specs.Links.{is_child, child_before}
 use Rattle.cw_tree.proofs.Ancestors.{ancestor_self, ancestor_up, ancestor_trans}
+use Rattle.cw_tree.proofs.Children.{last_passes}
+use Rattle.cw_tree.proofs.DepthFirst.{IsChild}
 use Rattle.cw_serial.specs.Room.Strands.{StrandState, state_of}
 use Rattle.cw_record.specs.declared.worker.Branch.{Branch}
 use Rattle.cw_record.specs.declared.worker.Branch.TheVariants.{Left, Right}
-use Rattle.cw_record.specs.Walked.{is_child, child_before}
-use Rattle.cw_record.proofs.Children.{last_passes}
-use Rattle.cw_record.proofs.There.{IsChild}
 use Rattle.cw_record.proofs.States.{States, reached, AreStates, IsOver, JoinsAt}
 use Rattle.cw_record.proofs.KeptStates.{Keeps, reached_same, before_same}
 

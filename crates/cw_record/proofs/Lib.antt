@@ -12,8 +12,6 @@ pub mod There
 pub mod Outside
 pub mod Steps
 pub mod Names
-pub mod Children
-pub mod DepthFirst
 pub mod Found
 pub mod SameNames
 pub mod Listing
@@ -45,7 +43,6 @@ pub mod ClosedStamps
 pub mod Running
 pub mod NotedJournals
 pub mod Doers
-pub mod Everywhere
 pub mod GoingOn
 pub mod Named
 pub mod RunSteps
@@ -83,3 +80,6 @@ pub mod StepStates
 pub mod EndStates
 pub mod FollowedStates
 pub mod ShownItems
+pub mod ClosedStrands
+pub mod RenamedStrands
+pub mod ClosedRuns

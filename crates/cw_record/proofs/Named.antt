@@ -1,10 +1,10 @@
 -- The listed names of a run give each strand its turns.
 use Rattle.std.proofs.Common.{◌≡◌, ℕ, zero, suc, ◌<◌, ◌≤◌, List, [], ◌∷◌, ◌++◌, length, map, refl, ap, sym, ◌∙◌, arith, Bool, true, false, cond, Some, None, inl, inr, subst, option_map}
-use Rattle.std.specs.Prelude.{slice_get, All}
+use Rattle.std.specs.Prelude.{slice_get}
 use Rattle.std.specs.List.{filter, flat_map}
 use Rattle.std.proofs.lemmas.Bool.{lt-ltb}
 use Rattle.std.proofs.lemmas.List.{map-append}
-use Rattle.std.proofs.lemmas.List.Elements.{All-head, All-tail, All-weaker, filter-append}
+use Rattle.std.proofs.lemmas.List.Elements.{filter-append}
 use Rattle.std.proofs.lemmas.Option.{slice_get-map}
 use Rattle.cw_tree.specs.declared.node.Node.{Node}
 use Rattle.cw_tree.specs.declared.picks.Name.{Name}
@@ -14,17 +14,16 @@ use Rattle.cw_tree.specs.Walks.{IsRooted}
 use Rattle.cw_tree.specs.Series.{children, walk, depth_first, strand_of}
 use Rattle.cw_tree.specs.Names.{name_of, turn}
 use Rattle.cw_tree.proofs.Lists.{In}
+use Rattle.cw_tree.proofs.DepthFirst.{child_is, whole, walk_step}
+use Rattle.cw_tree.proofs.Visits.{all_come}
 use Rattle.cw_serial.specs.Machine.{parent_in, with_turn, turns_in, turns}
 use Rattle.cw_record.specs.declared.items.OrderItem.{OrderItem}
 use Rattle.cw_record.specs.Listed.{once, index_of, without_last, last_turn, names, listed_name, listed_names, number_of}
 use Rattle.cw_record.specs.Order.{node_of, pick_of}
 use Rattle.cw_record.specs.Replay.{doer}
 use Rattle.cw_tree.proofs.There.{node_there}
-use Rattle.cw_record.proofs.There.{IsChild, children_are}
 use Rattle.cw_record.proofs.StrandIs.{strand_is}
 use Rattle.cw_record.proofs.Names.{name_strand, name_other, without_added, last_added}
-use Rattle.cw_record.proofs.DepthFirst.{whole, walk_step}
-use Rattle.cw_record.proofs.Everywhere.{everywhere}
 use Rattle.cw_record.proofs.GoingOn.{IsIn, is_in_head, is_in_tail, EachAfter, GoesOn, IsReached, each_append, each_once, is_in_once, is_found, follows}
 
 -- ## Names of which each goes on from an earlier one
@@ -79,16 +78,17 @@ module _ (t : List Node) (r : IsRooted t) where
       (inr (subst P (sym up) h.2, name ∙ ap (λ p. p ++ turn t n ∷ []) (sym up) ∙ ap (λ x. without_last (name_of t n) ++ x ∷ []) (sym last)), rest (name_of t n ∷ seen) (is_in_head (name_of t n) seen))
   node_step false n ns seen e h rest = (let P : List Turn → Type 0 = λ p. IsIn p seen in rest seen (subst P (sym (name_other t r n h.0 h.1 e)) h.2))
 
-  flat_reached : (f : ℕ → List ℕ) → ((n : ℕ) (seen : List (List Turn)) → HasParent seen n → AreReached seen (f n)) → (ns : List ℕ) (seen : List (List Turn)) → All (HasParent seen) ns → AreReached seen (flat_map f ns)
+  flat_reached : (f : ℕ → List ℕ) → ((n : ℕ) (seen : List (List Turn)) → HasParent seen n → AreReached seen (f n)) → (ns : List ℕ) (seen : List (List Turn)) → ((n : ℕ) → In n ns → HasParent seen n) → AreReached seen (flat_map f ns)
   flat_reached f each [] seen h = tt
   flat_reached f each (n ∷ ns) seen h =
       let P : List (List Turn) → Type 0 = EachAfter IsReached seen in
-      subst P (sym (names_append (f n) (flat_map f ns))) (each_append (names_on (f n)) (names_on (flat_map f ns)) seen (each n seen (All-head (HasParent seen) n ns h)) (flat_reached f each ns seen (All-tail (HasParent seen) n ns h)))
+      subst P (sym (names_append (f n) (flat_map f ns))) (each_append (names_on (f n)) (names_on (flat_map f ns)) seen (each n seen (h n (inl refl))) (flat_reached f each ns seen (λ m i. h m (inr i))))
 
-  children_have : (n : ℕ) (seen : List (List Turn)) → IsIn (name_of t n) seen → All (HasParent seen) (children t n)
-  children_have n seen h =
+  children_have : (n : ℕ) (seen : List (List Turn)) → IsIn (name_of t n) seen → (m : ℕ) → In m (children t n) → HasParent seen m
+  children_have n seen h m i =
+      let c = child_is t n m i in
       let P : ℕ → Type 0 = λ x. IsIn (name_of t x) seen in
-      All-weaker (IsChild t n) (HasParent seen) (λ m c. (c.some, c.there, subst P (sym c.parent) h)) (children t n) (children_are t n)
+      (c.some, c.there, subst P (sym c.parent) h)
 
   walk_reached : (k n : ℕ) (seen : List (List Turn)) → HasParent seen n → AreReached seen (walk t k n)
   walk_reached zero n seen h = node_step (is_strand t n) n [] seen refl h (λ more i. tt)
@@ -106,7 +106,7 @@ module _ (t : List Node) (r : IsRooted t) where
     name_there false g = g
 
   is_listed : (s : ℕ) → s < length t → is_strand t s ≡ true → IsIn (name_of t s) (names t)
-  is_listed s h e = is_in_once (names_on (depth_first t)) (name_of t s) (name_met s (depth_first t) (everywhere t r s h) e)
+  is_listed s h e = is_in_once (names_on (depth_first t)) (name_of t s) (name_met s (depth_first t) (all_come t r s h) e)
 
   module _ (root : is_strand t 0 ≡ true) where
     -- the names after the root's

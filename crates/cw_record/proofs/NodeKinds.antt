@@ -1,7 +1,7 @@
 -- Kinds of nodes exclude one another, and what a new node of a kind is.
 use Rattle.std.proofs.Common.{◌≡◌, ℕ, zero, suc, ◌<◌, List, refl, arith, true, false, Option, Some, None}
 use Rattle.std.specs.Prelude.{◌&&◌, ◌||◌, slice_get}
-use Rattle.std.proofs.lemmas.Bool.{and_parts, or_from, false_from_ne_true}
+use Rattle.std.proofs.lemmas.Bool.{and_parts, false_from_ne_true}
 use Rattle.cw_tree.specs.declared.node.Node.{Node}
 use Rattle.cw_tree.specs.declared.node.Kind.{Kind}
 use Rattle.cw_tree.specs.declared.node.Kind.TheVariants.{Strand, Fork, Block}
@@ -53,10 +53,6 @@ fork_no_block t n =
       by : (o : Option Node) → passes (λ x. is_fork_kind x.kind) o ≡ true → passes (λ x. is_block_kind x.kind) o ≡ false
       by None e = absurd (cc e)
       by (Some x) e = fork_kind x.kind e
-
--- a fork is no strand and no block
-pub fork_alone : (t : List Node) (n : ℕ) → is_fork t n ≡ true → (is_strand t n || is_block t n) ≡ false
-fork_alone t n fork = or_from (is_strand t n) (is_block t n) (fork_other t n fork) (fork_no_block t n fork)
 
 -- a pending block is a block
 pub pending_block : (t : List Node) (n : ℕ) → is_pending t n ≡ true → is_block t n ≡ true

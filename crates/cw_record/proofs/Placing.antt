@@ -16,8 +16,8 @@ use Rattle.cw_tree.proofs.Forks.{same_truth}
 use Rattle.cw_tree.proofs.Numbers.{of_counts, counts_of}
 use Rattle.cw_tree.proofs.Agreeing.{OneMore, ancestor_same, strand_of_same}
 use Rattle.cw_tree.proofs.StrandForks.{forks_of}
+use Rattle.cw_tree.proofs.NextTrees.{only_fork, no_fork}
 use Rattle.cw_record.proofs.Building.{IsBuilt}
-use Rattle.cw_record.proofs.NodeKinds.{fork_alone}
 use Rattle.cw_record.proofs.NoneAborted.{not_aborted}
 
 module _ (t : List Node) (p clock : ℕ) (b : IsBuilt t p clock) (u : List Node) (m : OneMore t u p) where
@@ -51,7 +51,7 @@ module _ (t : List Node) (p clock : ℕ) (b : IsBuilt t p clock) (u : List Node)
 
   -- a node that is not on the way to the place, right in a node on this way that is no fork, is before the new node
   aside : (n : ℕ) → 0 < n → n < g → is_fork t (parent_of t n) ≡ false → is_ancestor t n p ≡ false → is_ancestor t (parent_of t n) p ≡ true → is_before u n g ≡ true
-  aside n q h no_fork off on =
+  aside n q h plain off on =
       let q_low : parent_of t n < n = b.rooted n q h in
       let over : is_ancestor u (parent_of t n) g ≡ true = over_place (parent_of t n) (omega arith) ∙ on in
       let z = branch u m.rooted (parent_of t n) g low (omega arith) over in
@@ -71,7 +71,7 @@ module _ (t : List Node) (p clock : ℕ) (b : IsBuilt t p clock) (u : List Node)
       before_of u n g (record {
         first = n;
         second = z.child;
-        ordered = record { some = q; less = less; same = up; no_fork = ap (is_fork u) (m.agree.parents n h) ∙ m.agree.forks (parent_of t n) (omega arith) ∙ no_fork };
+        ordered = record { some = q; less = less; same = up; no_fork = ap (is_fork u) (m.agree.parents n h) ∙ m.agree.forks (parent_of t n) (omega arith) ∙ plain };
         over_first = ancestor_self u n;
         over_second = z.over;
       })
@@ -111,8 +111,7 @@ module _ (t : List Node) (p clock : ℕ) (b : IsBuilt t p clock) (u : List Node)
         by_case n q h more k e (inl strand) (inr off) = inl (let P : ℕ → Type 0 = λ s. is_ancestor t s p ≡ true in subst P (sym e ∙ strand_of_strand t b.rooted n q h strand) (strand_over t b.rooted p b.there))
         by_case n q h more k e (inr other) (inr off) =
             let up = parent_kind n other k in
-            let no_fork : is_fork t (parent_of t n) ≡ false = false_from_ne_true (is_fork t (parent_of t n)) (λ f. absurd (cc (up, fork_alone t (parent_of t n) f))) in
-            inr (elim (more (kind_more (parent_of t n) up) (sym (strand_of_other t b.rooted n q h other) ∙ e)) [ inl on ↦ aside n q h no_fork off on | inr before ↦ before_down n q h before ])
+            inr (elim (more (kind_more (parent_of t n) up) (sym (strand_of_other t b.rooted n q h other) ∙ e)) [ inl on ↦ aside n q h (no_fork t (parent_of t n) up) off on | inr before ↦ before_down n q h before ])
 
   -- beneath a fork another strand begins
   strand_beneath : (n : ℕ) → is_fork t n ≡ true → (k : ℕ) → k < g → (is_strand t k || is_block t k) ≡ true → is_ancestor t n k ≡ true → n < strand_of t k
@@ -121,7 +120,7 @@ module _ (t : List Node) (p clock : ℕ) (b : IsBuilt t p clock) (u : List Node)
       (λ s e. absurd (differ 0 s (sym (ancestor_root t n e))))
       (λ k q h more s e. by_kind k q h more s e (cases_Bool (is_strand t k))) where
         differ : (k : ℕ) → (is_strand t k || is_block t k) ≡ true → k ≢ n
-        differ k s e = let P : ℕ → Type 0 = λ x. (is_strand t x || is_block t x) ≡ false in absurd (cc (s, subst P (sym e) (fork_alone t n fork)))
+        differ k s e = let P : ℕ → Type 0 = λ x. (is_strand t x || is_block t x) ≡ false in absurd (cc (s, subst P (sym e) (only_fork t n fork)))
 
         by_kind : (k : ℕ) → 0 < k → k < g → ((is_strand t (parent_of t k) || is_block t (parent_of t k)) ≡ true → is_ancestor t n (parent_of t k) ≡ true → n < strand_of t (parent_of t k))
             → (is_strand t k || is_block t k) ≡ true → is_ancestor t n k ≡ true → (is_strand t k ≡ true) ⊎ (is_strand t k ≡ false) → n < strand_of t k

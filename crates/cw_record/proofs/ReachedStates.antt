@@ -6,12 +6,12 @@ use Rattle.cw_strand.specs.Strands.{Strands}
 use Rattle.cw_tree.specs.declared.node.Node.{Node}
 use Rattle.cw_tree.specs.Nodes.{parent_of, last_below, is_strand, is_fork, is_block, is_committed}
 use Rattle.cw_tree.specs.Walks.{IsRooted, is_ancestor}
+use Rattle.cw_tree.specs.Links.{is_child, last_child}
 use Rattle.cw_tree.proofs.Ancestors.{ancestor_self, ancestor_step, ancestor_le}
+use Rattle.cw_tree.proofs.Children.{last_passes}
 use Rattle.cw_serial.specs.Room.Strands.{StrandState}
 use Rattle.cw_record.specs.declared.worker.Branch.{Branch}
-use Rattle.cw_record.specs.Walked.{is_child, last_child}
 use Rattle.cw_record.proofs.AddedStates.{with_state, state_same, state_other}
-use Rattle.cw_record.proofs.Children.{last_passes}
 use Rattle.cw_record.proofs.Faults.{last_is}
 use Rattle.cw_record.proofs.KeptStates.{Keeps, below_same, reached_same, states_kept, does_kept}
 use Rattle.cw_record.proofs.KnownStates.{Knows, Moves, Waits, over_kept, joins_kept, waits_kept}

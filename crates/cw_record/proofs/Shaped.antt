@@ -1,7 +1,7 @@
 -- The tree of one worker is a computation tree, but for strands that are still to come.
 use Rattle.std.proofs.Common.{◌≡◌, ℕ, zero, suc, ◌+◌, ◌<◌, List, [], ◌∷◌, length, refl, ap, sym, ◌∙◌, arith, Bool, true, false, inl, inr, subst, nat_eq, nat_lt, append-nil}
 use Rattle.std.specs.Prelude.{◌&&◌, ◌||◌, All, IsTrue, count_by}
-use Rattle.std.proofs.lemmas.Bool.{and_from, or_cases, or_left, or_right, eq-eqb, ne_eqb, lt-ltb, false_from_ne_true}
+use Rattle.std.proofs.lemmas.Bool.{and_from, or_left, or_right, eq-eqb, ne_eqb, lt-ltb}
 use Rattle.std.proofs.lemmas.List.Elements.{All-nil, All-cons, All-head, All-tail, All-weaker}
 use Rattle.std.proofs.lemmas.List.Sums.{length-filter, sum_by-cons}
 use Rattle.cw_tree.specs.declared.node.Node.{Node}
@@ -13,26 +13,21 @@ use Rattle.cw_tree.specs.Walks.{IsRooted}
 use Rattle.cw_tree.specs.Series.{children}
 use Rattle.cw_tree.specs.ForkCounts.{one_if}
 use Rattle.cw_tree.specs.Shape.{IsTree}
+use Rattle.cw_tree.specs.Links.{is_child}
 use Rattle.cw_tree.proofs.Counting.{count, count_step, count_same}
 use Rattle.cw_tree.proofs.Growing.{get_append, length_more, node_new, number_new, node_grown, number_grown, rooted_more}
 use Rattle.cw_tree.proofs.Closing.{length_closed, node_closed, number_closed, same_closed, rooted_closed}
-use Rattle.cw_record.specs.Drawn.{added, forked}
-use Rattle.cw_record.specs.Walked.{is_child}
-use Rattle.cw_record.proofs.DepthFirst.{no_children}
-use Rattle.cw_tree.proofs.NextTrees.{each_more}
-use Rattle.cw_record.proofs.NodeKinds.{fork_alone}
+use Rattle.cw_tree.proofs.DepthFirst.{no_children, child_is}
+use Rattle.cw_tree.proofs.Lists.{In}
+use Rattle.cw_tree.proofs.NextTrees.{each_more, may_hold, no_fork, holds_here}
 use Rattle.cw_tree.proofs.There.{node_there}
-use Rattle.cw_record.proofs.There.{children_are}
+use Rattle.cw_record.specs.Drawn.{added, forked}
 use Rattle.cw_record.proofs.Unstarted.{with_strands}
 use Rattle.cw_record.proofs.Waiting.{one_unstarted}
 
 -- how often a node is listed
 abbrev pub times : ℕ → List ℕ → ℕ
 times n = count_by (λ m. nat_eq m n)
-
--- a node that may have children
-abbrev pub may_hold : List Node → ℕ → Bool
-may_hold t n = is_strand t n || is_fork t n || is_block t n
 
 -- With one more strand in each of these forks, once for each time that it is listed, the tree is a computation tree; and no
 -- access was refused.
@@ -71,13 +66,11 @@ shaped_root = record {
 }
 
 -- two numbers that pass a test
-two : (p : ℕ → Bool) (ns : List ℕ) → length ns ≡ 2 → All (λ n. p n ≡ true) ns → (l r : ℕ) × (ns ≡ l ∷ r ∷ []) × IsTrue (p l && p r)
+two : (p : ℕ → Bool) (ns : List ℕ) → length ns ≡ 2 → ((n : ℕ) → In n ns → p n ≡ true) → (l r : ℕ) × (ns ≡ l ∷ r ∷ []) × IsTrue (p l && p r)
 two p [] e all = absurd (omega (arith, e))
 two p (l ∷ []) e all = absurd (omega (arith, e))
 two p (l ∷ r ∷ n ∷ ns) e all = absurd (omega (arith, e))
-two p (l ∷ r ∷ []) e all =
-    let rest = All-tail (λ n. p n ≡ true) l (r ∷ []) all in
-    (l, r, refl, and_from (p l) (p r) (All-head (λ n. p n ≡ true) l (r ∷ []) all) (All-head (λ n. p n ≡ true) r [] rest))
+two p (l ∷ r ∷ []) e all = (l, r, refl, and_from (p l) (p r) (all l (inl refl)) (all r (inr (inl refl))))
 
 -- Where no strand is to come it is a computation tree.
 pub tree_of_shape : (t : List Node) → IsShaped t [] → IsTree t
@@ -85,7 +78,7 @@ tree_of_shape t s = record {
   some = s.some;
   rooted = s.rooted;
   root = s.root;
-  forks = λ f h e. two (is_strand t) (children t f) (omega (arith, s.forks f e)) (λ k d l. let c = children_are t f k d l in s.strands _ c.there c.some ∙ ap (is_fork t) c.parent ∙ e);
+  forks = λ f h e. two (is_strand t) (children t f) (omega (arith, s.forks f e)) (λ n i. let c = child_is t f n i in s.strands n c.there c.some ∙ ap (is_fork t) c.parent ∙ e);
   strands = λ n h p e. sym (s.strands n h p) ∙ e;
   parents = s.parents;
 }
@@ -186,23 +179,13 @@ shaped_strands [] t s = let P : List Node → Type 0 = λ u. IsShaped u [] in su
 shaped_strands (f ∷ fs) t s = let P : List Node → Type 0 = λ u. IsShaped u [] in subst P (one_unstarted t f fs) (shaped_strands fs (added t f Strand 0) (shaped_strand t f fs s))
 
 module _ (t : List Node) (fs : List ℕ) (s : IsShaped t fs) (p : ℕ) (there : p < length t) (place : (is_strand t p || is_block t p) ≡ true) where
-  no_fork : is_fork t p ≡ false
-  no_fork = false_from_ne_true (is_fork t p) (λ e. absurd (cc (place, fork_alone t p e)))
-
-  holds_here : may_hold t p ≡ true
-  holds_here =
-      elim (or_cases (is_strand t p) (is_block t p) place) [
-        | inl e ↦ or_left (is_strand t p || is_fork t p) (is_block t p) (or_left (is_strand t p) (is_fork t p) e)
-        | inr e ↦ or_right (is_strand t p || is_fork t p) (is_block t p) e
-      ]
-
   apart : (f : ℕ) → is_fork t f ≡ true → one_if (nat_eq p f) ≡ 0
-  apart f e = ap one_if (ne_eqb p f (λ q. absurd (cc (ap (is_fork t) q, no_fork, e))))
+  apart f e = ap one_if (ne_eqb p f (λ q. absurd (cc (ap (is_fork t) q, no_fork t p place, e))))
 
   -- a node that is no strand, no fork and no refused access
   pub shaped_beside : (kind : Kind) (stamp : ℕ) → is_strand_kind kind ≡ false → is_fork_kind kind ≡ false → is_tried_kind kind ≡ false → IsShaped (added t p kind stamp) fs
   shaped_beside kind stamp no_strand other made =
-      shaped_more t fs s p there kind stamp made fs (no_strand ∙ sym no_fork) holds_here (forks_kept t fs s p there kind stamp fs s.to_come) (λ f e. omega (arith, apart f e)) (λ e. absurd (cc (e, other)))
+      shaped_more t fs s p there kind stamp made fs (no_strand ∙ sym (no_fork t p place)) (holds_here t p place) (forks_kept t fs s p there kind stamp fs s.to_come) (λ f e. omega (arith, apart f e)) (λ e. absurd (cc (e, other)))
 
   -- a fork, with its left strand
   pub shaped_forked : (stamp : ℕ) → IsShaped (forked t p stamp) (length t ∷ fs)
@@ -213,7 +196,7 @@ module _ (t : List Node) (fs : List ℕ) (s : IsShaped t fs) (p : ℕ) (there : 
       let old = forks_kept t fs s p there Fork stamp fs s.to_come in
       let F : ℕ → Type 0 = λ f. is_fork u f ≡ true in
       shaped_strand u n (n ∷ fs)
-      (shaped_more t fs s p there Fork stamp refl (n ∷ n ∷ fs) (sym no_fork) holds_here (All-cons F n (n ∷ fs) is_new (All-cons F n fs is_new old))
+      (shaped_more t fs s p there Fork stamp refl (n ∷ n ∷ fs) (sym (no_fork t p place)) (holds_here t p place) (All-cons F n (n ∷ fs) is_new (All-cons F n fs is_new old))
       (λ f e. let h : f < n = node_there (λ y. is_fork_kind y.kind) t f e in omega (arith, times_more f n (n ∷ fs), times_more f n fs, apart f e, ap one_if (ne_eqb n f (λ q. omega arith))))
       (λ e. omega (arith, times_more n n (n ∷ fs), times_more n n fs, ap one_if (eq-eqb n n refl), none_listed n fs (to_come_there t fs s))))
 

@@ -63,7 +63,7 @@ block_kind_shows : (k : Kind) → is_block_kind k ≡ true → shown_kind k ≡ 
 block_kind_shows Block e = refl
 block_kind_shows _ e = absurd (cc e)
 
-block_shows : (o : Option Node) → passes (λ x. is_block_kind x.kind) o ≡ true → shown_node o ≡ []
+pub block_shows : (o : Option Node) → passes (λ x. is_block_kind x.kind) o ≡ true → shown_node o ≡ []
 block_shows None e = refl
 block_shows (Some x) e = block_kind_shows x.kind e
 

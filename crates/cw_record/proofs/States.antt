@@ -1,12 +1,12 @@
 -- States told node by node, as a run goes, make the states of a coherent record: where each node begins, what it wants there, and which
 -- strands are over.
 use Rattle.std.proofs.Common.{◌≡◌, ℕ, zero, suc, ◌+◌, ◌<◌, ◌≤◌, List, [], ◌∷◌, ◌++◌, length, refl, ap, sym, ◌∙◌, subst, arith, Bool, true, false, cond, inl, inr, Option, Some, None, nat_lt, nat_eq, length-append}
-use Rattle.std.specs.Prelude.{◌⊎◌, ◌&&◌, ◌||◌, All, slice_get, if◌then◌else◌}
+use Rattle.std.specs.Prelude.{◌⊎◌, ◌&&◌, ◌||◌, slice_get, if◌then◌else◌}
 use Rattle.std.specs.List.{filter}
-use Rattle.std.proofs.lemmas.Bool.{and_parts, ltb-true, eqb-true, not_from_false, false_from_ne_true}
+use Rattle.std.proofs.lemmas.Bool.{and_parts, ltb-true, eqb-true, not_from_false}
 use Rattle.std.proofs.lemmas.List.{append-nil}
 use Rattle.std.proofs.lemmas.Option.{slice_get_within}
-use Rattle.std.proofs.lemmas.List.Elements.{filter-append, All-head, All-tail}
+use Rattle.std.proofs.lemmas.List.Elements.{filter-append}
 use Rattle.cw_strand.specs.declared.want.Want.TheVariants as want
 use Rattle.cw_strand.specs.declared.want.Given.TheVariants.{Nothing, Value}
 use Rattle.cw_strand.specs.Strands.{Strands, is_over}
@@ -19,12 +19,14 @@ use Rattle.cw_tree.specs.Nodes.{parent_of, passes, below, last_below, is_strand,
 use Rattle.cw_tree.specs.Walks.{IsRooted}
 use Rattle.cw_tree.specs.Series.{children, has_later}
 use Rattle.cw_tree.specs.Shape.{IsTree}
-use Rattle.cw_record.specs.Walked.{is_child, last_child, child_before}
+use Rattle.cw_tree.specs.Links.{is_child, last_child, child_before}
+use Rattle.cw_tree.proofs.Children.{last_passes}
+use Rattle.cw_tree.proofs.DepthFirst.{IsChild, child_is}
+use Rattle.cw_tree.proofs.Lists.{In}
+use Rattle.cw_tree.proofs.NextTrees.{no_fork}
+use Rattle.cw_serial.proofs.Numbers.{snoc_same}
 use Rattle.cw_record.specs.Coherent.{InSeries, IsWanted, IsForkOf, StrandEnded, alone, joined, IsJoined, Follows}
 use Rattle.cw_record.specs.Replay.{IsAccessOf}
-use Rattle.cw_record.proofs.Children.{last_passes}
-use Rattle.cw_record.proofs.NodeKinds.{fork_alone}
-use Rattle.cw_record.proofs.There.{IsChild, children_are}
 
 -- ## The last that passes
 
@@ -35,22 +37,12 @@ none_below p (suc k) e = by (p k) (none_below p k) (sym (filter-append p (below 
   by true more f = absurd (omega (arith, ap length f, length-append (filter p (below k)) (k ∷ [])))
   by false more f = more (sym (append-nil (filter p (below k))) ∙ f)
 
--- a list that ends with one member is another one that does
-front_same : (xs ys : List ℕ) (m n : ℕ) → xs ++ m ∷ [] ≡ ys ++ n ∷ [] → (xs ≡ ys) × (m ≡ n)
-front_same [] [] m n e = (refl, cc e)
-front_same [] (y ∷ ys) m n e = absurd (omega (arith, ap length e, length-append ys (n ∷ [])))
-front_same (a ∷ xs) [] m n e = absurd (omega (arith, ap length e, length-append xs (m ∷ [])))
-front_same (a ∷ xs) (y ∷ ys) m n e =
-    let head : a ≡ y = cc e in
-    let z = front_same xs ys m n (cc e) in
-    (ap (λ k. k ∷ xs) head ∙ ap (λ zs. y ∷ zs) z.0, z.1)
-
 one_below : (p : ℕ → Bool) (k l : ℕ) → filter p (below k) ≡ l ∷ [] → (last_below p l ≡ None) × (last_below p k ≡ Some l)
 one_below p zero l e = absurd (cc e)
 one_below p (suc k) l e = by (p k) (one_below p k l) (sym (filter-append p (below k) (k ∷ [])) ∙ e) where
   by : (b : Bool) → (filter p (below k) ≡ l ∷ [] → (last_below p l ≡ None) × (last_below p k ≡ Some l)) → filter p (below k) ++ cond b (k ∷ []) [] ≡ l ∷ [] → (last_below p l ≡ None) × (cond b (Some k) (last_below p k) ≡ Some l)
   by true more f =
-      let z = front_same (filter p (below k)) [] k l f in
+      let z = snoc_same (filter p (below k)) [] k l f in
       let P : ℕ → Type 0 = λ m. last_below p m ≡ None in
       (subst P z.1 (none_below p k z.0), ap Some z.1)
   by false more f = more (sym (append-nil (filter p (below k))) ∙ f)
@@ -60,7 +52,7 @@ two_below p zero l r e = absurd (cc e)
 two_below p (suc k) l r e = by (p k) (two_below p k l r) (sym (filter-append p (below k) (k ∷ [])) ∙ e) where
   by : (b : Bool) → (filter p (below k) ≡ l ∷ r ∷ [] → (last_below p l ≡ None) × (last_below p r ≡ Some l)) → filter p (below k) ++ cond b (k ∷ []) [] ≡ l ∷ r ∷ [] → (last_below p l ≡ None) × (last_below p r ≡ Some l)
   by true more f =
-      let z = front_same (filter p (below k)) (l ∷ []) k r f in
+      let z = snoc_same (filter p (below k)) (l ∷ []) k r f in
       let y = one_below p k l z.0 in
       let P : ℕ → Type 0 = λ m. last_below p m ≡ Some l in
       (y.0, subst P z.1 y.1)
@@ -179,12 +171,9 @@ module _ {A : Type 0} (s : Strands A) (t : List Node) (x : States A) where
 
     fork_child : (f l r c : ℕ) → children t f ≡ l ∷ r ∷ [] → (c ≡ l) ⊎ (c ≡ r) → IsChild t f c
     fork_child f l r c e w =
-        let all : All (IsChild t f) (l ∷ r ∷ []) = (let P : List ℕ → Type 0 = All (IsChild t f) in subst P e (children_are t f)) in
-        let P : ℕ → Type 0 = IsChild t f in
-        elim w [
-          | inl q ↦ subst P (sym q) (All-head (IsChild t f) l (r ∷ []) all)
-          | inr q ↦ subst P (sym q) (All-head (IsChild t f) r [] (All-tail (IsChild t f) l (r ∷ []) all))
-        ]
+        let i : In c (l ∷ r ∷ []) = elim w [ inl q ↦ inl q | inr q ↦ inr (inl q) ] in
+        let P : List ℕ → Type 0 = In c in
+        child_is t f c (subst P (sym e) i)
 
     ended : (k n : ℕ) → length t ≤ n + k → n < length t → is_strand t n ≡ true → shut n ≡ true → Ended n
     ended zero n le there strand e = absurd (omega arith)
@@ -272,7 +261,7 @@ module _ {A : Type 0} (s : Strands A) (t : List Node) (x : States A) where
       pub all_follow : ((f : ℕ) → f < length t → (is_fork t f && (has_later t f || is_committed t (parent_of t f))) ≡ true → shut f ≡ true) → Follows s t x.before x.after reached
       all_follow went_on = record {
         start = h.start;
-        series = λ n there e. series_below tree.rooted h n (false_from_ne_true (is_fork t n) (λ f. absurd (cc (e, fork_alone t n f)))) (length t) (omega arith);
+        series = λ n there e. series_below tree.rooted h n (no_fork t n e) (length t) (omega arith);
         fits = λ n y e. wanted n y.kind y.state (slice_get_within t n y e) (λ k. ap (passes (λ z. is_fork_kind z.kind)) e ∙ k) (h.does n y e);
         joined = λ f there e. fork_joined f there (and_parts (is_fork t f) (has_later t f || is_committed t (parent_of t f)) e).0 (went_on f there e);
       }

@@ -11,11 +11,12 @@ use Rattle.cw_tree.specs.declared.node.Kind.{Kind}
 use Rattle.cw_tree.specs.declared.node.Kind.TheVariants.{Strand, Fork, Block}
 use Rattle.cw_tree.specs.declared.node.BlockState.{BlockState}
 use Rattle.cw_tree.specs.declared.node.BlockState.TheVariants.{Committed}
-use Rattle.cw_tree.specs.Nodes.{passes, parent_of, is_fork, is_block, is_committed, is_strand_kind, is_fork_kind, is_block_kind, is_committed_state, first_state, fresh_node, closed}
+use Rattle.cw_tree.specs.Nodes.{passes, parent_of, is_block, is_committed, is_strand_kind, is_fork_kind, is_block_kind, is_committed_state, first_state, fresh_node, closed}
 use Rattle.cw_tree.specs.Walks.{IsRooted, is_ancestor}
 use Rattle.cw_tree.proofs.Ancestors.{ancestor_self, ancestor_step, ancestor_up}
 use Rattle.cw_tree.proofs.Closing.{shut, length_closed, node_closed, number_closed, closed_here, closed_other, rooted_closed, ancestor_closed}
 use Rattle.cw_tree.proofs.Growing.{length_more, node_new, rooted_more}
+use Rattle.cw_tree.proofs.NextTrees.{no_fork}
 use Rattle.cw_serial.specs.Room.Strands.{StrandState, state_of}
 use Rattle.cw_serial.specs.declared.standing.Standing.{Standing as Written}
 use Rattle.cw_record.specs.declared.worker.Branch.{Branch}
@@ -24,7 +25,7 @@ use Rattle.cw_record.specs.Drawn.{added, forked}
 use Rattle.cw_record.proofs.AddedStates.{with_node, state_other, state_same, none_in_new, reached_new, starts_in, starts_left, knows_leaf, knows_down}
 use Rattle.cw_record.proofs.Building.{IsBuilt}
 use Rattle.cw_record.proofs.KnownStates.{Known, Knows}
-use Rattle.cw_record.proofs.NodeKinds.{strand_alone, fork_alone, block_some, fork_no_block, pending_no_member}
+use Rattle.cw_record.proofs.NodeKinds.{strand_alone, block_some, fork_no_block, pending_no_member}
 use Rattle.cw_record.proofs.ReachedStates.{SameNodesBut, with_after, reached_here, knows_up, joins_up}
 use Rattle.cw_record.proofs.States.{States, reached, DoesAs, Does}
 use Rattle.cw_record.specs.Items.{is_act}
@@ -45,22 +46,19 @@ module _ (t : List Node) (p clock : ℕ) (b : IsBuilt t p clock) where
       let some = or_right (is_act t n) (is_committed t n) e in
       absurd (cc (none, some)))
 
-  pub no_fork : is_fork t p ≡ false
-  no_fork = false_from_ne_true (is_fork t p) (λ f. absurd (let no = fork_alone t p f in let yes = b.place in cc (no, yes)))
-
 module _ (s : Strands StrandState) where
   module _ (t : List Node) (p clock : ℕ) (b : IsBuilt t p clock) (xs : List Branch) (a : StrandState) (x : States StrandState) (k : Knows s t p xs a x) where
     -- ## An access, an output, or the begin of a block
 
     pub states_leaf : (kind : Kind) (st : ℕ) (c : StrandState) → (is_strand_kind kind || is_fork_kind kind) ≡ false → ((d : StrandState) → DoesAs s a c d kind (first_state kind)) → Known s (added t p kind st) p xs c
     states_leaf kind st c plain does =
-        (with_node s t b.rooted x p b.there kind st a c, knows_leaf s t b.rooted x p b.there kind st a c k.states (undone_way t p clock b p (ancestor_self t p)) (starts_in s t b.rooted x p b.there kind st a c (no_fork t p clock b) (sym k.here)) (does _) xs k plain)
+        (with_node s t b.rooted x p b.there kind st a c, knows_leaf s t b.rooted x p b.there kind st a c k.states (undone_way t p clock b p (ancestor_self t p)) (starts_in s t b.rooted x p b.there kind st a c (no_fork t p b.place) (sym k.here)) (does _) xs k plain)
 
     pub states_begin : (st : ℕ) → s.want a ≡ want.Begin → Known s (added t p Block st) (length t) xs (s.answer a Nothing)
     states_begin st is =
         let y = with_node s t b.rooted x p b.there Block st a a in
         let down =
-        knows_down s t b.rooted x p b.there Block st a a k.states (undone_way t p clock b p (ancestor_self t p)) (starts_in s t b.rooted x p b.there Block st a a (no_fork t p clock b) (sym k.here)) (is, refl) xs p (λ n l e. e) k.waits k.over k.joins in
+        knows_down s t b.rooted x p b.there Block st a a k.states (undone_way t p clock b p (ancestor_self t p)) (starts_in s t b.rooted x p b.there Block st a a (no_fork t p b.place) (sym k.here)) (is, refl) xs p (λ n l e. e) k.waits k.over k.joins in
         let P : StrandState → Type 0 = λ c. Knows s (added t p Block st) (length t) xs c y in
         (y, subst P (reached_new s t b.rooted x p b.there Block st a a) down)
 
@@ -75,7 +73,7 @@ module _ (s : Strands StrandState) where
 
       at_fork : Knows s u (length t) xs (reached s u y (length t)) y
       at_fork =
-          knows_down s t b.rooted x p b.there Fork st a a k.states (undone_way t p clock b p (ancestor_self t p)) (starts_in s t b.rooted x p b.there Fork st a a (no_fork t p clock b) (sym k.here)) is xs p (λ n l e. e) k.waits k.over k.joins
+          knows_down s t b.rooted x p b.there Fork st a a k.states (undone_way t p clock b p (ancestor_self t p)) (starts_in s t b.rooted x p b.there Fork st a a (no_fork t p b.place) (sym k.here)) is xs p (λ n l e. e) k.waits k.over k.joins
 
       r : IsRooted (added t p Fork st)
       r = rooted_more t (fresh_node p Fork st) b.rooted b.there

@@ -1,34 +1,20 @@
--- All listed nodes are nodes of the tree, and all children.
-use Rattle.std.proofs.Common.{◌≡◌, ℕ, zero, suc, ◌<◌, List, [], ◌∷◌, length, get_or, arith, nat_lt, nat_eq}
+-- All listed nodes are nodes of the tree.
+use Rattle.std.proofs.Common.{ℕ, ◌<◌, List, [], ◌∷◌, length, arith}
 use Rattle.std.specs.Prelude.{All}
 use Rattle.std.specs.List.{filter}
-use Rattle.std.proofs.lemmas.Bool.{and_parts, eqb-true, ltb-true}
-use Rattle.std.proofs.lemmas.List.Elements.{All-nil, All-cons, All-same, All-append, All-push, All-weaker, All-filter, filter_passes}
+use Rattle.std.proofs.lemmas.List.Elements.{All-nil, All-cons, All-same, All-append, All-filter}
 use Rattle.cw_tree.specs.declared.node.Node.{Node}
 use Rattle.cw_tree.specs.Nodes.{parent_of, is_pending, below, all_nodes}
 use Rattle.cw_tree.specs.Walks.{IsRooted, path}
-use Rattle.cw_tree.specs.Series.{children}
 use Rattle.cw_tree.proofs.Climbs.{path_step, by_parent}
+use Rattle.cw_tree.proofs.Members.{in_below}
+use Rattle.cw_tree.proofs.Chains.{there_from}
 use Rattle.cw_record.specs.Items.{key}
 use Rattle.cw_record.specs.Levels.{is_member, sorted_members, listed}
-use Rattle.cw_record.specs.Walked.{is_child}
 use Rattle.cw_record.proofs.Sorts.{all_by_key}
 
 pub all_below : (k : ℕ) → All (λ n. n < k) (below k)
-all_below zero = All-nil (λ n. n < zero)
-all_below (suc k) = All-push (λ n. n < suc k) (below k) k (All-weaker (λ n. n < k) (λ n. n < suc k) (λ n h. omega arith) (below k) (all_below k)) (omega arith)
-
--- m is a child of n
-pub record IsChild (t : List Node) (n m : ℕ) : Type 0 where
-  pub some : 0 < m
-  pub there : m < length t
-  pub parent : parent_of t m ≡ n
-
-pub children_are : (t : List Node) (n : ℕ) → All (IsChild t n) (children t n)
-children_are t n k d l =
-    let m = get_or (children t n) k d in
-    let z = and_parts (nat_lt 0 m) (nat_eq (parent_of t m) n) (filter_passes (is_child t n) (all_nodes t) k d l) in
-    record { some = ltb-true 0 m z.0; there = All-filter (is_child t n) (λ x. x < length t) (all_nodes t) (all_below (length t)) k d l; parent = eqb-true (parent_of t m) n z.1 }
+all_below k = there_from k (below k) (λ n i. in_below n k i)
 
 module _ (t : List Node) (r : IsRooted t) where
   abbrev is_there : ℕ → Type 0

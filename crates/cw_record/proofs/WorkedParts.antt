@@ -8,10 +8,10 @@ use Rattle.cw_tree.specs.Nodes.{parent_of, is_strand, is_fork, is_block, is_comm
 use Rattle.cw_tree.specs.Series.{children, has_later}
 use Rattle.cw_tree.specs.Accesses.{live_accesses}
 use Rattle.cw_tree.specs.Journals.{AllEndedBetween, JournalsEnded}
+use Rattle.cw_tree.specs.Links.{last_child}
 use Rattle.cw_tree.proofs.Lists.{at_or_before}
 use Rattle.cw_tree.proofs.Checks.{all_below, each_below, implies, implied}
 use Rattle.cw_record.specs.Coherent.{InSeries, entered, IsWanted, Follows, HasNoOpenFork}
-use Rattle.cw_record.specs.Walked.{last_child}
 
 -- the state in a list
 abbrev pub state_in : {A : Type 0} → A → List A → ℕ → A

@@ -22,13 +22,13 @@ use Rattle.cw_tree.specs.Shape.{NonePending}
 use Rattle.cw_tree.specs.Accesses.{is_live, live_accesses, written, cell_value}
 use Rattle.cw_tree.specs.Refusals.{MayFault, MaySpend}
 use Rattle.cw_tree.specs.Histories.{IsHistory}
+use Rattle.cw_tree.specs.Links.{last_child}
 use Rattle.cw_record.specs.declared.record_end.RecordEnd.{RecordEnd}
 use Rattle.cw_record.specs.declared.record_end.RecordEnd.TheVariants.{Finished, Fault, Budget, Moves}
 use Rattle.cw_record.specs.declared.items.OrderItem.{OrderItem}
 use Rattle.cw_record.specs.Items.{items}
 use Rattle.cw_record.specs.Order.{node_of}
 use Rattle.cw_record.specs.Replay.{IsAccessOf}
-use Rattle.cw_record.specs.Walked.{last_child}
 
 -- ## The strands
 

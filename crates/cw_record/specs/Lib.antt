@@ -7,6 +7,7 @@ pub mod Walked
 pub mod Replay
 pub mod Worked
 pub mod Coherent
+pub mod ClosedRun
 pub mod Records
 pub mod WorkedRecord
 pub mod Scripts

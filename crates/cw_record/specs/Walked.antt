@@ -1,24 +1,13 @@
--- What the passes over a tree find: the last child of a node, the child before one, and the first node with a name.
-use Rattle.std.specs.Prelude.{◌≡◌, ℕ, suc, ◌<◌, ◌==◌, ◌&&◌, Bool, nat_lt, List, [], ◌∷◌, length, map, Option, Some, None, option_map, if◌then◌else◌, slice_index_or, All, IsTrue}
+-- What the passes over a tree find: the first node with a name, and where a name stands first.
+use Rattle.std.specs.Prelude.{◌≡◌, ℕ, suc, ◌<◌, Bool, List, [], ◌∷◌, length, map, Option, Some, None, option_map, if◌then◌else◌, slice_index_or, All, IsTrue}
 use Rattle.std.specs.declared.cmp.Ordering.{Ordering}
 use Rattle.std.specs.Ordering.{ordering_then, nat_cmp, bool_cmp}
 use Rattle.cw_tree.specs.declared.node.Node.{Node}
 use Rattle.cw_tree.specs.declared.picks.Turn.{Turn}
-use Rattle.cw_tree.specs.Nodes.{parent_of, last_below, all_nodes, is_strand}
+use Rattle.cw_tree.specs.Nodes.{all_nodes, is_strand}
 use Rattle.cw_tree.specs.Names.{name_of}
 use Rattle.cw_serial.specs.Machine.{same_name}
 use Rattle.cw_record.specs.Listed.{index_of, names}
-
--- m is a child of n
-abbrev pub is_child : List Node → ℕ → ℕ → Bool
-is_child t n m = nat_lt 0 m && (parent_of t m == n)
-
-abbrev pub last_child : List Node → ℕ → Option ℕ
-last_child t n = last_below (is_child t n) (length t)
-
--- the last child of c's parent before c
-abbrev pub child_before : List Node → ℕ → Option ℕ
-child_before t c = last_below (is_child t (parent_of t c)) c
 
 -- the first node with the name of n
 abbrev pub first_named : List Node → ℕ → ℕ

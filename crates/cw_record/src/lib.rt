@@ -8,6 +8,8 @@
 //! `specs/Drawn.antt` (what each step makes of the tree and the journals) and `specs/Worked.antt` (what one worker holds).
 #![tactic(auto)]
 
+ghost use Rattle.cw_serial.specs.Room.Strands.{StrandState};
+ghost use Rattle.cw_record.specs.ClosedRun.{ClosedAreCoherent};
 ghost use Rattle.cw_record.specs.WorkedEnds.{Ends};
 ghost use Rattle.cw_record.specs.WorkedRecord.{Coherent};
 
@@ -39,4 +41,9 @@ pub fn worked_record()
 /// Small records that came to each end that is not main's own are coherent, and are not where one thing is changed.
 pub fn worked_ends()
     ensures { Ends }
+{}
+
+/// The tree of a closed run in depth-first order, with its journals and conflicts, is coherent, whatever its end.
+pub fn closed_runs()
+    ensures { ClosedAreCoherent StrandState }
 {}

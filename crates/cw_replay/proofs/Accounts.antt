@@ -10,8 +10,8 @@ use Rattle.cw_tree.specs.Nodes.{parent_of, is_strand, is_fork, is_block, is_pend
 use Rattle.cw_tree.specs.Walks.{is_ancestor}
 use Rattle.cw_tree.specs.Series.{children}
 use Rattle.cw_tree.specs.Shape.{IsTree, PendingLast}
+use Rattle.cw_tree.proofs.DepthFirst.{IsChild}
 use Rattle.cw_record.specs.Coherent.{InSeries, Follows, IsJoined}
-use Rattle.cw_record.proofs.There.{IsChild}
 use Rattle.cw_replay.proofs.Lists.{In, Rising}
 use Rattle.cw_replay.proofs.Sorts.{strand_sort}
 

@@ -13,13 +13,13 @@ use Rattle.cw_tree.specs.Walks.{is_ancestor, IsRooted}
 use Rattle.cw_tree.specs.Series.{strand_of, place}
 use Rattle.cw_tree.specs.Accesses.{is_live}
 use Rattle.cw_tree.specs.Histories.{IsHistory}
+use Rattle.cw_tree.specs.Links.{is_child}
 use Rattle.cw_tree.proofs.There.{node_there}
 use Rattle.cw_tree.proofs.Ancestors.{ancestor_self}
 use Rattle.cw_tree.proofs.Strands.{strand_of_root, strand_of_strand, strand_of_other}
+use Rattle.cw_tree.proofs.DepthFirst.{IsChild}
+use Rattle.cw_tree.proofs.Children.{last_passes}
 use Rattle.cw_record.specs.Coherent.{Follows, HasNoOpenFork}
-use Rattle.cw_record.specs.Walked.{is_child}
-use Rattle.cw_record.proofs.There.{IsChild}
-use Rattle.cw_record.proofs.Children.{last_passes}
 use Rattle.cw_replay.proofs.Lists.{filter_in, below_in}
 use Rattle.cw_replay.proofs.Sorts.{strand_sort, pending_sort}
 use Rattle.cw_replay.proofs.Kin.{child_in, parent_low, live_over}

@@ -13,16 +13,16 @@ use Rattle.cw_tree.proofs.Ancestors.{ancestor_self}
 use Rattle.cw_tree.proofs.Kin.{children_apart}
 use Rattle.cw_tree.proofs.Strands.{strand_of_strand, strand_of_other, strand_of_root}
 use Rattle.cw_tree.proofs.Naming.{name_step}
+use Rattle.cw_tree.proofs.DepthFirst.{IsChild}
 use Rattle.cw_serial.specs.Spots.{turn_to}
 use Rattle.cw_record.specs.declared.items.OrderItem.TheVariants.{Ends}
 use Rattle.cw_record.specs.Coherent.{InSeries}
-use Rattle.cw_record.proofs.There.{IsChild}
 use Rattle.cw_replay.proofs.Work as task
 use Rattle.cw_replay.proofs.Work.{Work, nil, act, More}
 use Rattle.cw_replay.proofs.Acts.{Act, item, stop}
 use Rattle.cw_replay.proofs.Lists.{In, Rising}
 use Rattle.cw_replay.proofs.Sorts as sorts
-use Rattle.cw_replay.proofs.Sorts.{strand_sort, pending_sort}
+use Rattle.cw_replay.proofs.Sorts.{strand_sort}
 use Rattle.cw_replay.proofs.Kin.{child_in, children_rise, left_child, right_child, left_is_left, right_is_right, parent_low, over_child}
 use Rattle.cw_replay.proofs.ForkNumbers.{forks_before_node, forks_behind, forks_reached, forks_in_series, none_first, one_more, none_more, none_kept, all_kept}
 use Rattle.cw_replay.proofs.Accounts.{Account, block_series, strand_series}

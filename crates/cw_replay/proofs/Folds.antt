@@ -6,9 +6,9 @@ use Rattle.cw_strand.specs.Strands.{Strands, is_over}
 use Rattle.cw_tree.specs.declared.node.Node.{Node}
 use Rattle.cw_tree.specs.Nodes.{is_strand, is_fork, is_committed}
 use Rattle.cw_tree.specs.Series.{children}
+use Rattle.cw_tree.proofs.DepthFirst.{IsChild}
 use Rattle.cw_record.specs.declared.items.OrderItem.TheVariants.{Ends}
 use Rattle.cw_record.specs.Coherent.{InSeries}
-use Rattle.cw_record.proofs.There.{IsChild}
 use Rattle.cw_replay.proofs.Work as task
 use Rattle.cw_replay.proofs.Work.{Work, nil, act}
 use Rattle.cw_replay.proofs.Acts.{Act, item, stop}

@@ -11,14 +11,14 @@ use Rattle.cw_tree.specs.Series.{children}
 use Rattle.cw_tree.specs.Names.{counts}
 use Rattle.cw_tree.specs.ForkCounts.{lets_out, one_if}
 use Rattle.cw_tree.specs.Shape.{IsTree}
+use Rattle.cw_tree.specs.Links.{is_child}
 use Rattle.cw_tree.proofs.Ancestors.{ancestor_le}
 use Rattle.cw_tree.proofs.Counting.{count, count_none}
 use Rattle.cw_tree.proofs.Forks.{comes_to, comes, forks_to, forks_same, forks_stopped, forks_inside, child_from, child_to, is_same, same_truth}
 use Rattle.cw_tree.proofs.Numbers.{none_at_root, none_at_strand, forks_before}
 use Rattle.cw_tree.proofs.Passes.{to_none, to_more, to_same}
+use Rattle.cw_tree.proofs.DepthFirst.{IsChild}
 use Rattle.cw_record.specs.Coherent.{InSeries}
-use Rattle.cw_record.specs.Walked.{is_child}
-use Rattle.cw_record.proofs.There.{IsChild}
 use Rattle.cw_replay.proofs.Kin.{fork_child}
 use Rattle.cw_replay.proofs.Sorts.{IsSort, Sort, fork, committed, aborted, of_strand, of_fork, of_block, of_aborted}
 

@@ -1,10 +1,16 @@
 -- Nodes by rising keys: the same nodes, each once, those with smaller keys earlier.
-use Rattle.std.proofs.Common.{◌≡◌, ℕ, ◌<◌, ◌≤◌, List, [], ◌∷◌, refl, ap, sym, arith, Bool, true, false, cond, inl, inr, nat_le}
-use Rattle.std.specs.Prelude.{◌⊎◌}
-use Rattle.std.proofs.lemmas.Bool.{leb-true, leb-false}
+use Rattle.std.proofs.Common.{◌≡◌, ℕ, ◌<◌, ◌≤◌, List, [], ◌∷◌, ap, sym, arith, Bool, true, false, cond, inl, inr, subst, nat_le}
+use Rattle.std.specs.Prelude.{◌⊎◌, All}
+use Rattle.std.proofs.lemmas.List.Elements.{All-head, All-tail}
 use Rattle.cw_tree.specs.Accesses.{put_by, by_key}
 use Rattle.cw_tree.proofs.Keys as keys
+use Rattle.cw_record.proofs.Sorts.{Rises, rises_by_key}
 use Rattle.cw_replay.proofs.Lists.{In, to_number, of_number, Rising, Earlier, Distinct}
+
+all_at : (P : ℕ → Type 0) (xs : List ℕ) → All P xs → (v : ℕ) → In v xs → P v
+all_at P [] h v i = absurd i
+all_at P (x ∷ xs) h v (inl e) = subst P (sym e) (All-head P x xs h)
+all_at P (x ∷ xs) h v (inr i) = all_at P xs (All-tail P x xs h) v i
 
 module _ (key : ℕ → ℕ) where
   abbrev pub Sorted : List ℕ → Type 0
@@ -32,16 +38,9 @@ module _ (key : ℕ → ℕ) where
     by more false (inr (inl e)) = inl e
     by more false (inr (inr g)) = inr (more (inr g))
 
-  sorted_put : (n : ℕ) (ms : List ℕ) → Sorted ms → Sorted (put_by key n ms)
-  sorted_put n [] d = ((λ y h. absurd h), tt)
-  sorted_put n (m ∷ ms) d = by (sorted_put n ms d.1) (nat_le (key n) (key m)) refl where
-    by : Sorted (put_by key n ms) → (b : Bool) → nat_le (key n) (key m) ≡ b → Sorted (cond b (n ∷ m ∷ ms) (m ∷ put_by key n ms))
-    by more true e =
-        let le : key n ≤ key m = leb-true (key n) (key m) e in
-        ((λ y h. elim h [ inl q ↦ omega (arith, le, ap key q) | inr g ↦ (let z : key m ≤ key y = d.0 y g in omega arith) ]), d)
-    by more false e =
-        let le : key m < key n = leb-false (key n) (key m) e in
-        ((λ y h. elim (put_in n y ms h) [ inl q ↦ omega (arith, le, ap key q) | inr g ↦ d.0 y g ]), more)
+  of_rises : (xs : List ℕ) → Rises key xs → Sorted xs
+  of_rises [] r = tt
+  of_rises (x ∷ xs) r = (all_at (λ y. key x ≤ key y) xs r.0, of_rises xs r.1)
 
   distinct_put : (n : ℕ) (ms : List ℕ) → (In n ms → ⊥) → Distinct ms → Distinct (put_by key n ms)
   distinct_put n [] h d = ((λ g. g), tt)
@@ -59,8 +58,7 @@ module _ (key : ℕ → ℕ) where
   in_by_key v (m ∷ ms) (inr h) = in_put m v (by_key key ms) (inr (in_by_key v ms h))
 
   pub sorted_by_key : (ms : List ℕ) → Sorted (by_key key ms)
-  sorted_by_key [] = tt
-  sorted_by_key (m ∷ ms) = sorted_put m (by_key key ms) (sorted_by_key ms)
+  sorted_by_key ms = of_rises (by_key key ms) (rises_by_key key ms)
 
   pub distinct_by_key : (ms : List ℕ) → Rising ms → Distinct (by_key key ms)
   distinct_by_key [] r = tt

@@ -9,18 +9,15 @@ use Rattle.cw_tree.specs.Accesses.{is_live}
 use Rattle.cw_tree.specs.Series.{children}
 use Rattle.cw_tree.specs.Names.{is_right}
 use Rattle.cw_tree.specs.Shape.{IsTree}
+use Rattle.cw_tree.specs.Links.{is_child}
 use Rattle.cw_tree.proofs.Lists.{any_in, any_from, all_in}
 use Rattle.cw_tree.proofs.Ancestors.{ancestor_above, ancestor_self, ancestor_up, ancestor_le, ancestor_trans}
 use Rattle.cw_tree.proofs.Kin.{above_in, AreOrdered, ancestor_linear, children_apart}
-use Rattle.cw_record.specs.Walked.{is_child}
-use Rattle.cw_record.proofs.There.{IsChild}
-use Rattle.cw_replay.proofs.Lists.{In, Rising, in_filter, filter_in, in_below, below_in, to_number, of_number, rising_filter, rising_below}
+use Rattle.cw_tree.proofs.DepthFirst.{IsChild, child_is}
+use Rattle.cw_replay.proofs.Lists.{In, Rising, filter_in, in_below, below_in, to_number, of_number, rising_filter, rising_below}
 
 pub child_in : (t : List Node) (q c : ℕ) → In c (children t q) → IsChild t q c
-child_in t q c h =
-    let z = in_filter (is_child t q) c (all_nodes t) h in
-    let y = and_parts (nat_lt 0 c) (nat_eq (parent_of t c) q) z.1 in
-    record { some = ltb-true 0 c y.0; there = in_below c (length t) z.0; parent = eqb-true (parent_of t c) q y.1 }
+child_in t q c h = child_is t q c (to_number c (children t q) h)
 
 pub in_child : (t : List Node) (q c : ℕ) → IsChild t q c → In c (children t q)
 in_child t q c k =

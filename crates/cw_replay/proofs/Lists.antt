@@ -5,6 +5,7 @@ use Rattle.std.specs.List.{filter, flat_map}
 use Rattle.cw_tree.specs.Nodes.{below}
 use Rattle.cw_tree.proofs.Lists as numbers
 use Rattle.cw_tree.proofs.Members as numbers_in
+use Rattle.cw_tree.proofs.Visits as numbers_met
 
 abbrev pub In : {X : Type 0} → X → List X → Type 0
 In v [] = ⊥
@@ -25,15 +26,8 @@ of_number v (x ∷ xs) (inr h) = inr (of_number v xs h)
 pub in_filter : (p : ℕ → Bool) (v : ℕ) (xs : List ℕ) → In v (filter p xs) → In v xs × (p v ≡ true)
 in_filter p v xs h = let z = numbers_in.in_filter p v xs (to_number v (filter p xs) h) in (of_number v xs z.0, z.1)
 
-into : (p : ℕ → Bool) (v x : ℕ) (xs fs : List ℕ) → p v ≡ true → (In v xs → In v fs) → (b : Bool) → p x ≡ b → In v (x ∷ xs) → In v (cond b (x ∷ fs) fs)
-into p v x xs fs e more true f (inl q) = inl q
-into p v x xs fs e more true f (inr g) = inr (more g)
-into p v x xs fs e more false f (inl q) = absurd (cc (f, e, ap p q))
-into p v x xs fs e more false f (inr g) = more g
-
 pub filter_in : (p : ℕ → Bool) (v : ℕ) (xs : List ℕ) → In v xs → p v ≡ true → In v (filter p xs)
-filter_in p v [] h e = absurd h
-filter_in p v (x ∷ xs) h e = into p v x xs (filter p xs) e (λ g. filter_in p v xs g e) (p x) refl h
+filter_in p v xs h e = of_number v (filter p xs) (numbers_met.filter_in p v xs (to_number v xs h) e)
 
 pub in_below : (v n : ℕ) → In v (below n) → v < n
 in_below v n h = numbers_in.in_below v n (to_number v (below n) h)

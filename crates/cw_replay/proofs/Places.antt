@@ -9,9 +9,9 @@ use Rattle.cw_tree.specs.Walks.{is_ancestor}
 use Rattle.cw_tree.specs.Series.{children}
 use Rattle.cw_tree.proofs.Ancestors.{ancestor_self, ancestor_step, ancestor_le}
 use Rattle.cw_tree.proofs.Kin.{AreOrdered}
+use Rattle.cw_tree.proofs.DepthFirst.{IsChild}
 use Rattle.cw_record.specs.declared.items.OrderItem.TheVariants.{Begins, Does, Ends}
 use Rattle.cw_record.specs.Items.{is_act}
-use Rattle.cw_record.proofs.There.{IsChild}
 use Rattle.cw_replay.proofs.Work.{Work, nil, act, Has}
 use Rattle.cw_replay.proofs.Acts.{Act, item, stop, place}
 use Rattle.cw_replay.proofs.Lists.{In}

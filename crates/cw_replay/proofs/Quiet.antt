@@ -12,15 +12,15 @@ use Rattle.cw_tree.specs.declared.node.BlockState.TheVariants.{Pending, Committe
 use Rattle.cw_tree.specs.Nodes.{parent_of, is_strand, is_fork, is_block, is_pending, is_committed, is_aborted, tries, passes, all_nodes, is_block_kind, is_pending_state, is_committed_state, tries_kind}
 use Rattle.cw_tree.specs.Walks.{is_ancestor}
 use Rattle.cw_tree.specs.Series.{children, has_later}
+use Rattle.cw_tree.specs.Links.{is_child}
 use Rattle.cw_tree.proofs.There.{node_there}
 use Rattle.cw_tree.proofs.Lists.{any_from}
 use Rattle.cw_tree.proofs.Ancestors.{ancestor_self, ancestor_up, above_parent, beneath}
 use Rattle.cw_tree.proofs.Kin.{before_of}
+use Rattle.cw_tree.proofs.DepthFirst.{IsChild}
 use Rattle.cw_serial.proofs.Numbers.{get_some}
 use Rattle.cw_record.specs.Coherent.{IsWanted, StrandEnded, alone, joined, IsJoined}
 use Rattle.cw_record.specs.Replay.{IsAccessOf}
-use Rattle.cw_record.specs.Walked.{is_child}
-use Rattle.cw_record.proofs.There.{IsChild}
 use Rattle.cw_replay.proofs.Lists.{In, to_number, filter_in, below_in}
 use Rattle.cw_replay.proofs.Sorts.{strand_sort, committed_sort, kept_block}
 use Rattle.cw_replay.proofs.Kin.{child_in, in_child, children_rise, left_or_right, fork_child}

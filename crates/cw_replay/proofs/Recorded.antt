@@ -1,13 +1,13 @@
 -- Each attempt before the one that spent a budget is recorded, too.
-use Rattle.std.proofs.Common.{◌≡◌, ℕ, zero, suc, ◌+◌, ◌<◌, ◌≤◌, ◌-◌, Bool, true, false, ◌&&◌, ◌||◌, not, List, [], ◌∷◌, length, refl, ap, sym, ◌∙◌, subst, arith, inl, inr, Option, None, Some, nat_lt, nat_eq, ℤ, cond, is_some, IsTrue, unwrap_or, ◌⊎◌}
+use Rattle.std.proofs.Common.{◌≡◌, ℕ, zero, suc, ◌+◌, ◌<◌, ◌≤◌, ◌-◌, Bool, true, false, ◌&&◌, ◌||◌, not, List, length, refl, ap, sym, ◌∙◌, subst, arith, inl, inr, Option, None, Some, nat_lt, nat_eq, ℤ, is_some, IsTrue, unwrap_or, ◌⊎◌}
 use Rattle.std.specs.Prelude.{slice_get}
-use Rattle.std.specs.List.{Contains, list_any, filter, suffix_len}
+use Rattle.std.specs.List.{Contains, list_any, suffix_len}
 use Rattle.std.specs.Option.{option_map, option_map_or}
 use Rattle.std.proofs.lemmas.Bool.{and_parts, and_from, eqb-true, eq-eqb, lt-ltb, ltb-true, false_from_ne_true}
 use Rattle.std.proofs.lemmas.List.Elements.{All-contains}
 use Rattle.cw_tree.specs.declared.node.Node.{Node}
 use Rattle.cw_tree.specs.declared.node.Kind.{Kind}
-use Rattle.cw_tree.specs.declared.node.Kind.TheVariants.{Strand, Fork, Block, Read, Write, Out, Tried}
+use Rattle.cw_tree.specs.declared.node.Kind.TheVariants.{Block, Tried}
 use Rattle.cw_tree.specs.declared.access.Entry.{Entry}
 use Rattle.cw_tree.specs.declared.conflict.Conflict.{Conflict}
 use Rattle.cw_tree.specs.Nodes.{passes, parent_of, stamp_of, below, is_block, is_aborted, is_aborted_state, is_pending, is_fork, is_tried, is_strand_kind, is_block_kind, is_tried_kind, tries_kind, block_with_stamp}
@@ -17,30 +17,23 @@ use Rattle.cw_tree.specs.Attempts.{elders, tried_cell, tried_cell_in, same_cell,
 use Rattle.cw_tree.specs.Accesses.{is_live}
 use Rattle.cw_tree.specs.Histories.{IsHistory}
 use Rattle.cw_tree.specs.Refusals.{IsRecorded, Spent, is_victim, is_refused_in, leads_back, may_be_last, refused, telling, tells, outermost_apart, victim_of}
+use Rattle.cw_tree.specs.Links.{is_child}
 use Rattle.cw_tree.proofs.Lists.{In, any_from, at_or_before}
-use Rattle.cw_tree.proofs.Members.{below_in, below_none, filter_same, in_below}
+use Rattle.cw_tree.proofs.Members.{below_none, filter_same, in_below}
 use Rattle.cw_tree.proofs.There.{node_there}
+use Rattle.cw_tree.proofs.Visits.{filter_in, child_in}
+use Rattle.cw_record.proofs.Lists.{filter_filter}
 use Rattle.cw_replay.specs.Attempts.{IsAttemptOf, IsRefusalOf, HasAttempts, RecordsAttempts, of_block, of_access}
 use Rattle.cw_replay.proofs.Elders.{elder, members, run_before}
+use Rattle.cw_replay.proofs.Sorts.{tried_sort}
 use Rattle.cw_replay.proofs.Found.{any_contains, find_contains, find_one, map_contains, none_contained, outermost_passes}
-
-filter_both : (p q : ℕ → Bool) (xs : List ℕ) → filter p (filter q xs) ≡ filter (λ x. q x && p x) xs
-filter_both p q [] = refl
-filter_both p q (x ∷ xs) = by_test (q x) (filter_both p q xs) where
-  by_test : (b : Bool) → filter p (filter q xs) ≡ filter (λ x. q x && p x) xs → filter p (cond b (x ∷ filter q xs) (filter q xs)) ≡ cond (b && p x) (x ∷ filter (λ x. q x && p x) xs) (filter (λ x. q x && p x) xs)
-  by_test true e = ap (λ ys. cond (p x) (x ∷ ys) ys) e
-  by_test false e = e
-
--- what is a child of p
-abbrev is_child : List Node → ℕ → ℕ → Bool
-is_child t p m = nat_lt 0 m && nat_eq (parent_of t m) p
 
 -- the elders of a node are those children of its parent that are below it
 elders_below : (t : List Node) (n : ℕ) → n < length t → elders t n ≡ members (is_child t (parent_of t n)) n
 elders_below t n h =
     let q = is_child t (parent_of t n) in
     let r : ℕ → Bool = λ m. q m && nat_lt m n in
-    filter_both (λ m. nat_lt m n) q (below (length t))
+    filter_filter q (λ m. nat_lt m n) (below (length t))
     ∙ below_none r n (length t) (omega (arith, h)) (λ m low high. not_both (q m) (nat_lt m n) (past m n low))
     ∙ filter_same r q (below n) (λ m i. both_true (q m) (nat_lt m n) (lt-ltb m n (in_below m n i)))
   where
@@ -55,51 +48,20 @@ elders_below t n h =
     past : (m n : ℕ) → n ≤ m → nat_lt m n ≡ false
     past m n l = false_from_ne_true (nat_lt m n) (λ e. let less = ltb-true m n e in absurd (omega arith))
 
-in_filter_too : (p : ℕ → Bool) (v : ℕ) (xs : List ℕ) → In v xs → p v ≡ true → In v (filter p xs)
-in_filter_too p v [] h e = h
-in_filter_too p v (x ∷ xs) (inl same) e = let P : Bool → Type 0 = λ b. In v (cond b (x ∷ filter p xs) (filter p xs)) in subst P (sym (sym (ap p same) ∙ e)) (inl same)
-in_filter_too p v (x ∷ xs) (inr h) e = by_test (p x) (in_filter_too p v xs h e) where
-  by_test : (b : Bool) → In v (filter p xs) → In v (cond b (x ∷ filter p xs) (filter p xs))
-  by_test true i = inr i
-  by_test false i = i
-
 -- a block is no strand and no refused access
 block_kind : (o : Option Node) → passes (λ x. is_block_kind x.kind) o ≡ true → (passes (λ x. is_strand_kind x.kind) o ≡ false) × (passes (λ x. is_tried_kind x.kind) o ≡ false)
 block_kind None e = absurd (cc e)
 block_kind (Some x) e = by_kind x.kind e where
   by_kind : (k : Kind) → is_block_kind k ≡ true → (is_strand_kind k ≡ false) × (is_tried_kind k ≡ false)
   by_kind Block e = (refl, refl)
-  by_kind Strand e = absurd (cc e)
-  by_kind Fork e = absurd (cc e)
-  by_kind (Read c v) e = absurd (cc e)
-  by_kind (Write c v) e = absurd (cc e)
-  by_kind (Out v) e = absurd (cc e)
-  by_kind (Tried c) e = absurd (cc e)
-
--- a refused access, of whatever cell, is no strand
-tried_kind : (o : Option Node) → passes (λ x. is_tried_kind x.kind) o ≡ true → passes (λ x. is_strand_kind x.kind) o ≡ false
-tried_kind None e = absurd (cc e)
-tried_kind (Some x) e = by_kind x.kind e where
-  by_kind : (k : Kind) → is_tried_kind k ≡ true → is_strand_kind k ≡ false
-  by_kind (Tried c) e = refl
-  by_kind Strand e = absurd (cc e)
-  by_kind Fork e = absurd (cc e)
-  by_kind Block e = absurd (cc e)
-  by_kind (Read c v) e = absurd (cc e)
-  by_kind (Write c v) e = absurd (cc e)
-  by_kind (Out v) e = absurd (cc e)
+  by_kind _ e = absurd (cc e)
 
 tries_one : (c : ℕ) (o : Option Node) → passes (λ x. tries_kind c x.kind) o ≡ true → passes (λ x. is_tried_kind x.kind) o ≡ true
 tries_one c None e = absurd (cc e)
 tries_one c (Some x) e = by_kind x.kind e where
   by_kind : (k : Kind) → tries_kind c k ≡ true → is_tried_kind k ≡ true
   by_kind (Tried d) e = refl
-  by_kind Strand e = absurd (cc e)
-  by_kind Fork e = absurd (cc e)
-  by_kind Block e = absurd (cc e)
-  by_kind (Read d v) e = absurd (cc e)
-  by_kind (Write d v) e = absurd (cc e)
-  by_kind (Out v) e = absurd (cc e)
+  by_kind _ e = absurd (cc e)
 
 module _ (t : List Node) (first : List ℤ) (kept : List (List Entry)) (cs : List Conflict) (h : IsHistory t first kept cs) where
   stamped : (b : ℕ) → is_block t b ≡ true → 0 < stamp_of t b
@@ -121,12 +83,12 @@ module _ (t : List Node) (first : List ℤ) (kept : List (List Entry)) (cs : Lis
   not_root (suc b) low e = omega arith
 
   tried_not_root : (n : ℕ) → is_tried t n ≡ true → 0 < n
-  tried_not_root zero e = absurd (cc (h.tree.root, tried_kind (slice_get t 0) e))
+  tried_not_root zero e = absurd (cc (h.tree.root, (tried_sort t 0 e).strand))
   tried_not_root (suc n) e = omega arith
 
   -- a node other than the root is a child of its parent
   among : (n : ℕ) → 0 < n → n < length t → In n (children t (parent_of t n))
-  among n s l = in_filter_too (is_child t (parent_of t n)) n (below (length t)) (below_in n (length t) l) (and_from (nat_lt 0 n) (nat_eq (parent_of t n) (parent_of t n)) (lt-ltb 0 n s) (eq-eqb (parent_of t n) (parent_of t n) refl))
+  among n s l = child_in t h.tree.rooted (parent_of t n) n (record { some = s; there = l; parent = refl })
 
   -- one that stands before another in its place has a later one
   has_one_later : (m n : ℕ) → m < n → n < length t → parent_of t m ≡ parent_of t n → has_later t m ≡ true
@@ -244,12 +206,7 @@ module _ (t : List Node) (first : List ℤ) (kept : List (List Entry)) (cs : Lis
   cell_tried (Some x) c e = by_kind x.kind e where
     by_kind : (k : Kind) → tried_cell_in k ≡ Some c → is_tried_kind k ≡ true
     by_kind (Tried d) e = refl
-    by_kind Strand e = absurd (cc e)
-    by_kind Fork e = absurd (cc e)
-    by_kind Block e = absurd (cc e)
-    by_kind (Read d v) e = absurd (cc e)
-    by_kind (Write d v) e = absurd (cc e)
-    by_kind (Out v) e = absurd (cc e)
+    by_kind _ e = absurd (cc e)
 
   module _ (walked : (n : ℕ) → n < length t → In n (depth_first t)) where
     -- a refused access with a later node in its place has a conflict without a victim
@@ -257,7 +214,7 @@ module _ (t : List Node) (first : List ℤ) (kept : List (List Entry)) (cs : Lis
     is_told_alone m tried later =
         let low = node_there (λ x. is_tried_kind x.kind) t m tried in
         let P : List ℕ → Type 0 = In m in
-        let (c, has, same) = map_contains (λ c. c.asker) cs m (subst P (sym h.refusals.each) (in_filter_too (is_tried t) m (depth_first t) (walked m low) tried)) in
+        let (c, has, same) = map_contains (λ c. c.asker) cs m (subst P (sym h.refusals.each) (filter_in (is_tried t) m (depth_first t) (walked m low) tried)) in
         let stays = false_from_ne_true (leads_back cs m) (λ e. absurd (cc (later, h.rolls_back.tried m low e))) in
         let apart = none_contained (λ c. nat_eq c.asker m && is_some (victim_of c)) cs stays c has in
         (c, has, same, told_alone (victim_of c) (sym (ap (λ b. b && is_some (victim_of c)) (eq-eqb c.asker m same)) ∙ apart))

@@ -4,10 +4,9 @@ use Rattle.std.specs.Prelude.{slice_get, unwrap_or, pos}
 use Rattle.cw_strand.specs.Strands.{Strands, IsDeep, is_fork}
 use Rattle.cw_tree.specs.declared.node.Node.{Node}
 use Rattle.cw_tree.specs.declared.node.Kind.{Kind}
-use Rattle.cw_tree.specs.declared.node.Kind.TheVariants.{Block, Out}
+use Rattle.cw_tree.specs.declared.node.Kind.TheVariants.{Out}
 use Rattle.cw_tree.specs.declared.access.Entry.{Entry}
 use Rattle.cw_tree.specs.declared.conflict.Conflict.{Conflict}
-use Rattle.cw_tree.specs.Nodes.{is_block_kind, passes}
 use Rattle.cw_tree.specs.Accesses.{live_accesses, cell_value, written}
 use Rattle.cw_tree.specs.Histories.{IsHistory}
 use Rattle.cw_serial.specs.StrandTree.{at}
@@ -19,6 +18,7 @@ use Rattle.cw_record.specs.declared.items.OrderItem.TheVariants.{Begins, Does, E
 use Rattle.cw_record.specs.Order.{node_of}
 use Rattle.cw_record.specs.Coherent.{shown, shown_node, shown_kind}
 use Rattle.cw_record.specs.Replay.{DoesAll}
+use Rattle.cw_record.proofs.ShownItems.{block_shows}
 use Rattle.cw_replay.proofs.Orders.{SeenAfter, way_after}
 use Rattle.cw_replay.proofs.Ways.{threads}
 use Rattle.cw_replay.proofs.Acts.{stop, act_name, Remembers, machine_after, does_all, threads_after, memory_of, outputs_of, here_at, memory_all, outputs_all, wanted_kind, wanted_node, wanted_item}
@@ -34,13 +34,6 @@ use Rattle.cw_replay.proofs.Respecting.{order_plays, start, stop_next, Items, se
 -- ## Outputs
 
 module _ (t : List Node) where
-  block_shows : (o : Option Node) → passes (λ x. is_block_kind x.kind) o ≡ true → shown_node o ≡ []
-  block_shows None e = refl
-  block_shows (Some x) e = by x.kind e where
-    by : (k : Kind) → is_block_kind k ≡ true → shown_kind k ≡ []
-    by Block e = refl
-    by _ e = absurd (cc e)
-
   kind_shows : (outputs : List ℤ) (k : Kind) → outputs_after (wanted_kind k) outputs ≡ outputs ++ shown_kind k
   kind_shows outputs (Out v) = refl
   kind_shows outputs _ = sym (append-nil outputs)

@@ -10,11 +10,11 @@ use Rattle.cw_tree.specs.Series.{is_before}
 use Rattle.cw_tree.specs.Shape.{has_stamp}
 use Rattle.cw_tree.proofs.Ancestors.{ancestor_self, ancestor_step, ancestor_up, ancestor_le, ancestor_trans, ancestor_above}
 use Rattle.cw_tree.proofs.Kin.{before_of, branch}
+use Rattle.cw_tree.proofs.DepthFirst.{IsChild}
 use Rattle.cw_record.specs.declared.items.OrderItem.{OrderItem}
 use Rattle.cw_record.specs.declared.items.OrderItem.TheVariants.{Begins, Does, Ends}
 use Rattle.cw_record.specs.Items.{is_act, key}
 use Rattle.cw_record.specs.Order.{node_of}
-use Rattle.cw_record.proofs.There.{IsChild}
 use Rattle.cw_replay.proofs.Acts.{Act, item, stop, place}
 use Rattle.cw_replay.proofs.Sorts.{act_sort, committed_sort, pending_sort}
 use Rattle.cw_replay.proofs.Kin.{either_over, both_over, ordered_apart}

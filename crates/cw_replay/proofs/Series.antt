@@ -7,8 +7,8 @@ use Rattle.cw_tree.specs.Nodes.{is_strand, is_fork}
 use Rattle.cw_tree.specs.Walks.{is_ancestor}
 use Rattle.cw_tree.specs.Series.{children}
 use Rattle.cw_tree.proofs.Ancestors.{ancestor_self}
+use Rattle.cw_tree.proofs.DepthFirst.{IsChild}
 use Rattle.cw_record.specs.declared.items.OrderItem.TheVariants.{Begins, Does, Ends}
-use Rattle.cw_record.proofs.There.{IsChild}
 use Rattle.cw_replay.proofs.Work.{Work, nil, act, Has, Before}
 use Rattle.cw_replay.proofs.Acts.{Act, item, stop, place}
 use Rattle.cw_replay.proofs.Lists.{In, Rising}

@@ -9,13 +9,13 @@ use Rattle.cw_tree.specs.Series.{children}
 use Rattle.cw_tree.proofs.Climbs.{by_parent}
 use Rattle.cw_tree.proofs.Ancestors.{ancestor_self, ancestor_up, ancestor_le}
 use Rattle.cw_tree.proofs.Kin.{children_apart}
+use Rattle.cw_tree.proofs.DepthFirst.{IsChild}
 use Rattle.cw_record.specs.declared.items.OrderItem.TheVariants.{Begins, Does, Ends}
-use Rattle.cw_record.proofs.There.{IsChild}
 use Rattle.cw_replay.proofs.Work.{Work, nil, act, Has, Once}
 use Rattle.cw_replay.proofs.Acts.{Act, item, stop, place}
 use Rattle.cw_replay.proofs.Lists.{In, Rising}
 use Rattle.cw_replay.proofs.Sorts as sorts
-use Rattle.cw_replay.proofs.Sorts.{strand_sort, act_sort, committed_sort}
+use Rattle.cw_replay.proofs.Sorts.{strand_sort}
 use Rattle.cw_replay.proofs.Kin.{child_in, in_child, children_rise, left_child, right_child, left_less, left_or_right, parent_low, over_parent}
 use Rattle.cw_replay.proofs.Accounts.{Account}
 use Rattle.cw_replay.proofs.Tasks.{works, stopping, work, inside, whole, rolled_back, refused, left_out, View, strand, acts, skipped, opens, block, fork, view}

@@ -12,7 +12,7 @@ use Rattle.cw_tree.specs.declared.node.Kind.{Kind}
 use Rattle.cw_tree.specs.declared.node.Kind.TheVariants.{Tried}
 use Rattle.cw_tree.specs.declared.access.Entry.{Entry}
 use Rattle.cw_tree.specs.declared.conflict.Conflict.{Conflict}
-use Rattle.cw_tree.specs.Nodes.{parent_of, stamp_of, is_strand, is_block, is_pending, is_aborted, is_tried, tries, last_below, all_nodes, block_with_stamp}
+use Rattle.cw_tree.specs.Nodes.{parent_of, stamp_of, is_strand, is_block, is_pending, is_aborted, is_tried, tries, all_nodes, block_with_stamp}
 use Rattle.cw_tree.specs.Nodes as nodes
 use Rattle.cw_tree.specs.Walks.{is_ancestor}
 use Rattle.cw_tree.specs.Series.{children, strand_of, last_of}
@@ -22,12 +22,12 @@ use Rattle.cw_tree.specs.Histories.{IsHistory}
 use Rattle.cw_tree.proofs.There.{node_there}
 use Rattle.cw_tree.proofs.Ancestors.{ancestor_self, ancestor_up, ancestor_le}
 use Rattle.cw_tree.proofs.Strands.{strand_of_other}
+use Rattle.cw_tree.proofs.DepthFirst.{IsChild}
 use Rattle.cw_serial.specs.declared.ends.SerialEnd.TheVariants as last
 use Rattle.cw_serial.specs.Machine.{stands_at}
 use Rattle.cw_record.specs.Coherent.{Follows, InSeries}
 use Rattle.cw_record.specs.Items.{place_of_refused}
 use Rattle.cw_record.specs.Replay.{IsAccessOf, IsRefusedBy, IsRefused}
-use Rattle.cw_record.proofs.There.{IsChild}
 use Rattle.cw_record.proofs.NodeKinds.{other_some}
 use Rattle.cw_record.proofs.Lists.{find_passes}
 use Rattle.cw_replay.proofs.Found.{find_contains}

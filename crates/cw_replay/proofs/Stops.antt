@@ -14,8 +14,8 @@ use Rattle.cw_tree.specs.Series.{strand_of}
 use Rattle.cw_tree.specs.Histories.{IsHistory}
 use Rattle.cw_tree.proofs.Ancestors.{ancestor_above, ancestor_le}
 use Rattle.cw_tree.proofs.Kin.{branch}
+use Rattle.cw_tree.proofs.DepthFirst.{IsChild}
 use Rattle.cw_record.specs.Coherent.{Follows}
-use Rattle.cw_record.proofs.There.{IsChild}
 use Rattle.cw_replay.proofs.Sorts.{aborted_sort, pending_sort}
 use Rattle.cw_replay.proofs.Accounts.{Account, Stop, IsStop, InLeftOut}
 use Rattle.cw_replay.proofs.Folds.{plain_child}

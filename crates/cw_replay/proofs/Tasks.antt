@@ -19,7 +19,7 @@ use Rattle.cw_replay.proofs.Work.{Work, nil, act, split, Doing}
 use Rattle.cw_replay.proofs.Acts.{Act, item, stop, wanted_kind, wanted_node, wanted_item, given_kind, given_node, given_item, doing}
 use Rattle.cw_replay.proofs.Accounts.{Account, Stop}
 use Rattle.cw_replay.proofs.Sorts as sorts
-use Rattle.cw_replay.proofs.Sorts.{IsSort, Sort, sort_of, sort_at}
+use Rattle.cw_replay.proofs.Sorts.{IsSort, sort_of, sort_at}
 
 -- ## The work
 

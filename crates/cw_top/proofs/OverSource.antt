@@ -4,6 +4,7 @@ use Rattle.std.specs.Prelude.{IfSome}
 use Rattle.cw_code.specs.declared.Limits.{Limits}
 use Rattle.cw_strand.specs.Names.{cells_of, first_memory}
 use Rattle.cw_strand.specs.Meaning.{MainTakes, strands_of}
+use Rattle.cw_serial.proofs.Room.Lawful.{source_takes}
 use Rattle.cw_record.specs.declared.record.Record.{Record}
 use Rattle.cw_record.specs.Replay.{Replays}
 use Rattle.cw_replay.proofs.OverSource.{over_source}
@@ -11,7 +12,6 @@ use Rattle.cw_top.specs.declared.command.Command.{Command}
 use Rattle.cw_top.specs.declared.command.Command.TheVariants.{Run}
 use Rattle.cw_top.specs.Outcome.{IsRunBy, IsRunOf}
 use Rattle.cw_top.specs.OverSource.{IsRunOfSource, IsRunOfSyntax}
-use Rattle.cw_top.proofs.Parameters.{source_takes}
 
 of_syntax : (words : List ℤ) (limits : Limits) (bytes : List ℕ) (r : Record) → IsRunBy (Run words limits) (Some bytes) r → IsRunOfSyntax words limits bytes r
 of_syntax words limits bytes r run =

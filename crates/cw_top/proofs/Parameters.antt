@@ -1,18 +1,17 @@
 -- How many parameters main has: in the source as in the code that it is compiled to.
 use Rattle.std.proofs.Common.{◌≡◌, ◌∙◌, ℕ, ℤ, List, length, Option, Some, None, IfSome, IsSomeAnd, ap, subst, sym}
-use Rattle.std.specs.Prelude.{slice_get}
 use Rattle.std.specs.Result.{result_ok}
 use Rattle.std.proofs.lemmas.Option.{same_Some}
 use Rattle.cw_text.specs.Syntax.{Declaration}
 use Rattle.cw_code.specs.declared.instruction.Code.{Code}
-use Rattle.cw_code.specs.declared.instruction.Func.{Func}
 use Rattle.cw_code.specs.declared.program.Program.{Program}
 use Rattle.cw_strand.specs.Coded as coded
-use Rattle.cw_strand.specs.Compilation.{code_of, main_function}
+use Rattle.cw_strand.specs.Compilation.{code_of}
 use Rattle.cw_strand.specs.Meaning.{MainTakes, params_in}
 use Rattle.cw_strand.specs.Programs.{IsProgramOf}
 use Rattle.cw_strand.proofs.MainCode.{main_code}
 use Rattle.cw_serial.specs.Jobs.{Takes}
+use Rattle.cw_serial.proofs.Room.Lawful.{source_takes}
 use Rattle.cw_top.specs.Refusals.{AsksFor, IsMisfit, Spells, named, of_reading}
 
 module _ (ds : List Declaration) (p : Program) (is : IsProgramOf ds p) (n : ℕ) where
@@ -24,13 +23,6 @@ module _ (ds : List Declaration) (p : Program) (is : IsProgramOf ds p) (n : ℕ)
       subst (λ (c : Code). coded.MainTakes c p.main n) (sym is.code)
       (subst (λ (k : ℕ). coded.MainTakes (code_of ds) k n) (sym is.main) (m.func, m.numbered, same)) in
       takes
-
-  pub source_takes : Takes p n → MainTakes ds n
-  source_takes (f, there, params) =
-      let m = main_code ds is.named in
-      let at : slice_get (code_of ds).funcs (main_function ds) ≡ Some f = sym (ap (λ (c : Code). slice_get c.funcs p.main) is.code ∙ ap (slice_get (code_of ds).funcs) is.main) ∙ there in
-      let same : m.func ≡ f = same_Some m.func f (sym m.numbered ∙ at) in
-      ap params_in m.found ∙ (sym m.params ∙ (ap (λ (g : Func). g.params) same ∙ params))
 
 module _ (n : ℕ) (bytes : List ℕ) (p : Program) (spells : Spells bytes p) where
   pub takes : AsksFor bytes n → Takes p n

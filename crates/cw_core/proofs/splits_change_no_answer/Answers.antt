@@ -1,5 +1,6 @@
-use Rattle.cw_core.proofs.Splits.{splits, answers}
+use Rattle.cw_core.proofs.Alike.{alike_after}
+use Rattle.cw_core.proofs.Splits.{splits, answers, lists}
 use Rattle.cw_core.proofs.splits_change_no_answer.Goals as goal
 
 pub returns : goal.returns
-returns c = record { splits = splits; answers = answers }
+returns c = record { splits = splits; answers = answers; stay = alike_after; lists = lists }

@@ -1,6 +1,6 @@
 ghost use Rattle.std.specs.Prelude.{◌≡◌, IfOk, OnOk, OnErr, IsOk, IsTrue};
 ghost use Rattle.cw_open.specs.Runs.{IsRun, at_once};
-ghost use Rattle.cw_core.specs.Laws.{IsCore};
+ghost use Rattle.cw_core.specs.Laws.{HasChains, IsCore};
 ghost use Rattle.cw_core.specs.Events.{fits, after, reply_to, steps_of, takes_none};
 
 use crate::cores::Core;
@@ -18,6 +18,7 @@ impl Core {
         // the open machine makes a run of just the steps that the event stands for, and the core stands for what they lead to
         ensures run { IsRun at_once self.old.machine (steps_of self.old event) }
         ensures stands { IsCore self.new.machine.first self.new }
+        ensures chains { HasChains self.new }
     {
         self.hint();
         match event {

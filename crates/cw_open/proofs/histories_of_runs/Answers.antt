@@ -1,6 +1,7 @@
 use Rattle.cw_open.proofs.Leaving.{histories_left}
+use Rattle.cw_open.proofs.RenamedHistory.{histories_in_order}
 use Rattle.cw_open.proofs.Unstopped.{told_any_time}
 use Rattle.cw_open.proofs.histories_of_runs.Goals as goal
 
 pub returns : goal.returns
-returns c = record { left = histories_left; any_time = told_any_time }
+returns c = record { left = histories_left; in_order = histories_in_order; any_time = told_any_time }

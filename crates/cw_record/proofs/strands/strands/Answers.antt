@@ -1,23 +1,36 @@
-use Rattle.std.proofs.Common.{sym}
-use Rattle.cw_record.proofs.DepthFirst.{walk_strand, walk_other, walk_smaller}
+use Rattle.std.proofs.Common.{◌≡◌, ◌<◌, ◌++◌, [], ◌∷◌, ◌∙◌, ℕ, List, Bool, length, get_or, take, cond, arith, ap, sym, subst, append-nil}
+use Rattle.std.specs.List.{filter}
+use Rattle.std.proofs.lemmas.List.{take_all}
+use Rattle.std.proofs.lemmas.List.Elements.{filter_more}
+use Rattle.cw_tree.specs.Nodes.{is_strand}
+use Rattle.cw_tree.specs.Series.{depth_first}
+use Rattle.cw_tree.proofs.Visits.{as_many}
+use Rattle.cw_tree.proofs.Renumbered.{some_node, visited_there}
 use Rattle.cw_record.proofs.strands.strands.Goals as goal
+use Rattle.cw_record.proofs.strands.strands.Goals.{then-is_strand+in_ok-push, else-is_strand}
 
-pub loop-n-preserved-in-Continue-branch-4 : goal.loop-n-preserved-in-Continue-branch-4
-loop-n-preserved-in-Continue-branch-4 c =
-    walk_strand c.args.tree.now c.nodes.ensures.numbered.rooted c.loop-n.found.items c.loop-n.stack.items c.pop.new.self.items c.push_children.new.stack.items c.in-Some.n c.loop-n.invariant
-    c.in-Some.ensures.items c.in_ok-push_children.ensures c.push-then-is_strand.new.self.items (sym c.if-is_strand.ensures) c.in_ok-push-2.ensures.items
-
-pub loop-n-smaller-in-Continue-branch-4 : goal.loop-n-smaller-in-Continue-branch-4
-loop-n-smaller-in-Continue-branch-4 c =
-    walk_smaller c.args.tree.now c.nodes.ensures.numbered.rooted c.loop-n.found.items c.loop-n.stack.items c.pop.new.self.items c.push_children.new.stack.items c.in-Some.n c.loop-n.invariant
-    c.in-Some.ensures.items c.in_ok-push_children.ensures
+pub is_strand-requires : goal.is_strand-requires
+is_strand-requires c =
+    let t = c.args.tree.now in
+    let w = c.nodes.ensures.numbered in
+    let i = c.loop-n.n-index in
+    let e : c.deref-n-items.result.now ≡ depth_first t = c.deref-n-items.ensures.value ∙ c.in_ok-order.ensures in
+    let P : List ℕ → Type 0 = λ xs. get_or xs i 0 < length t in
+    subst P (sym e) (visited_there t w i (omega (arith, c.loop-n-test.true, ap length e, as_many t w.rooted (some_node t w))))
 
 pub loop-n-preserved : goal.loop-n-preserved
 loop-n-preserved c =
-    walk_other c.args.tree.now c.nodes.ensures.numbered.rooted c.loop-n.found.items c.loop-n.stack.items c.pop.new.self.items c.push_children.new.stack.items c.in-Some.n c.loop-n.invariant
-    c.in-Some.ensures.items c.in_ok-push_children.ensures (sym c.if-is_strand.ensures)
+    let t = c.args.tree.now in
+    let xs = c.deref-n-items.result.now in
+    let i = c.loop-n.n-index in
+    let n = get_or xs i 0 in
+    let so_far = filter (is_strand t) (take i xs) in
+    let more = λ (b : Bool) (e : is_strand t n ≡ b). filter_more (is_strand t) xs i 0 c.loop-n-test.true ∙ ap (λ b. so_far ++ cond b (n ∷ []) []) e in
+    elim c.if-is_strand.branch [
+      | then-is_strand+in_ok-push w ↦ ap (λ v. v.items) w.found-is ∙ w.in_ok-push.ensures.items ∙ ap (λ ns. ns ++ n ∷ []) c.loop-n.invariant ∙ sym (more _ (sym c.is_strand.ensures ∙ w.if-is_strand.true))
+      | else-is_strand w ↦ ap (λ v. v.items) w.found-is ∙ c.loop-n.invariant ∙ sym (more _ (sym c.is_strand.ensures ∙ w.if-is_strand.false) ∙ append-nil so_far)
+    ]
 
-pub loop-n-smaller : goal.loop-n-smaller
-loop-n-smaller c =
-    walk_smaller c.args.tree.now c.nodes.ensures.numbered.rooted c.loop-n.found.items c.loop-n.stack.items c.pop.new.self.items c.push_children.new.stack.items c.in-Some.n c.loop-n.invariant
-    c.in-Some.ensures.items c.in_ok-push_children.ensures
+pub returns : goal.returns
+returns c =
+    c.loop-n.invariant ∙ ap (filter (is_strand c.args.tree.now)) (take_all c.loop-n.n-index c.deref-n-items.result.now c.loop-n-test.false ∙ c.deref-n-items.ensures.value ∙ c.in_ok-order.ensures)

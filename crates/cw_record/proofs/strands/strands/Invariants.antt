@@ -1,9 +1,7 @@
-use Rattle.std.proofs.Common.{length}
-use Rattle.cw_record.proofs.DepthFirst.{Walking, ahead}
+use Rattle.std.proofs.Common.{◌≡◌, take}
+use Rattle.std.specs.List.{filter}
+use Rattle.cw_tree.specs.Nodes.{is_strand}
 use Rattle.cw_record.proofs.strands.strands.Given as goal
 
 abbrev pub invariant-loop-n : goal.invariant-loop-n
-invariant-loop-n l = Walking l.tree l.found.items l.stack.items
-
-abbrev pub decreases-loop-n : goal.decreases-loop-n
-decreases-loop-n l = length (ahead l.tree l.stack.items)
+invariant-loop-n l = l.found.items ≡ filter (is_strand l.tree) (take l.n-index l.n-items)

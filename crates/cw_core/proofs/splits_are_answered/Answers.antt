@@ -1,0 +1,5 @@
+use Rattle.cw_core.proofs.EarlySplits.{answered}
+use Rattle.cw_core.proofs.splits_are_answered.Goals as goal
+
+pub returns : goal.returns
+returns c = record { early = answered }

@@ -1,5 +1,0 @@
-use Rattle.cw_record.proofs.Children.{Met}
-use Rattle.cw_record.proofs.strands.Family.of_tree.Given as goal
-
-abbrev pub invariant-loop-n : goal.invariant-loop-n
-invariant-loop-n l = Met l.tree l.n l.last.items l.before.items

@@ -1,0 +1,47 @@
+-- Forks that are not split, as the tier says it.
+use Rattle.std.proofs.Common.{◌≡◌, ◌≢◌, ℕ, ◌+◌, ◌<◌, List, length, refl, ap, sym, ◌∙◌, subst, arith, Bool, true, false, inl, inr}
+use Rattle.std.specs.Prelude.{◌&&◌, ℤ}
+use Rattle.std.proofs.lemmas.Bool.{cases_lt, true_from_ne_false}
+use Rattle.cw_tree.specs.declared.node.Node.{Node}
+use Rattle.cw_tree.specs.Nodes.{is_fork, parent_of}
+use Rattle.cw_tree.specs.Walks.{has, is_ancestor}
+use Rattle.cw_tree.specs.Shape.{IsTree}
+use Rattle.cw_trace.specs.Columns.{used}
+use Rattle.cw_trace.specs.Running.{IsUnsplit}
+use Rattle.cw_trace.specs.Stands.{fork_column}
+use Rattle.cw_open.specs.Machine.{has_finished}
+use Rattle.cw_open.specs.Open.{is_open}
+use Rattle.cw_core.specs.State.{State, has_columns, is_split}
+use Rattle.cw_core.proofs.Going.{well}
+use Rattle.cw_core.proofs.Ordering.{used_columns}
+use Rattle.cw_sim.specs.Workers.{left_of, right_of}
+use Rattle.cw_sim.specs.Kept.{GoesOn}
+use Rattle.cw_sim.proofs.Halves.{left_child, right_child, left_strand, strand_open}
+
+module _ (first : List ℤ) (k : State) (on : GoesOn first k) (f : ℕ) (fork : is_fork k.machine.tree f ≡ true) (off : is_split k f ≡ false) where
+  abbrev t : List Node
+  t = k.machine.tree
+
+  tree : IsTree t
+  tree = (well first k on.core).sound.tree
+
+  unsplit : (g : ℕ) → g ≡ f → IsUnsplit k.tier t k.splits g
+  unsplit g e = let P : ℕ → Type 0 = λ g. IsUnsplit k.tier t k.splits g in subst P (sym e) (by_columns (has_columns k f) refl) where
+    by_columns : (b : Bool) → has_columns k f ≡ b → IsUnsplit k.tier t k.splits f
+    by_columns true q = inr (sym (ap (λ b. b && has k.splits (fork_column t f)) q) ∙ off)
+    by_columns false q = inl (elim (cases_lt (used k.tier) (fork_column t f + 2)) [
+      | inl less ↦ less
+      | inr le ↦ absurd (let c = used_columns k (well first k on.core) on.core.joined on.core.left_first on.core.stands f fork (omega arith) in cc (c, q))
+    ])
+
+  -- once something was made in its right strand, the left one is open no more
+  pub left_shut : (n : ℕ) → n < length t → is_ancestor t (right_of f) n ≡ true → n ≢ right_of f → is_open k.machine (left_of f) ≡ false
+  left_shut n h over ne =
+      let lc = left_child t tree on.forks f fork in
+      let rc = right_child t tree on.forks f fork in
+      let P : ℕ → Type 0 = λ g. is_fork t g ≡ true in
+      on.core.left_first (left_of f) (right_of f) n lc.some (omega arith) rc.there (lc.up ∙ sym rc.up) (subst P (sym rc.up) fork) (unsplit (parent_of t (right_of f)) rc.up) h over ne
+
+  -- and has finished
+  pub left_ended : (n : ℕ) → n < length t → is_ancestor t (right_of f) n ≡ true → n ≢ right_of f → has_finished k.machine (left_of f) ≡ true
+  left_ended n h over ne = true_from_ne_false (has_finished k.machine (left_of f)) (λ e. absurd (let a = left_shut n h over ne in let b = strand_open k.machine (left_of f) (left_strand t tree on.forks f fork) e in cc (a, b)))

@@ -1,0 +1,145 @@
+-- The moves of a simulation, rule by rule, over any law of strands; and its run.
+use Rattle.std.specs.Prelude.{ℕ, ℤ, zero, suc, ◌+◌, ◌-◌, ◌%◌, ◌==◌, ◌&&◌, ◌||◌, Bool, true, false, not, List, [], ◌∷◌, map, filter, length, Option, Some, None, is_some, if◌then◌else◌}
+use Rattle.std.specs.Option.{option_map_or}
+use Rattle.cw_tree.specs.declared.closed.Halt.TheVariants as halt
+use Rattle.cw_tree.specs.Nodes.{parent_of, below}
+use Rattle.cw_tree.specs.Series.{strand_of, place}
+use Rattle.cw_strand.specs.declared.want.Want.{Want}
+use Rattle.cw_strand.specs.declared.want.Want.TheVariants as want
+use Rattle.cw_strand.specs.declared.want.Given.{Given}
+use Rattle.cw_strand.specs.declared.want.Given.TheVariants.{Nothing, Value}
+use Rattle.cw_strand.specs.Strands.{Strands}
+use Rattle.cw_open.specs.Machine.{has_finished, is_dying, in_block}
+use Rattle.cw_core.specs.declared.event.Event.{Event}
+use Rattle.cw_core.specs.declared.event.Event.TheVariants as event
+use Rattle.cw_core.specs.declared.event.Reply.{Reply}
+use Rattle.cw_core.specs.declared.event.Reply.TheVariants as reply
+use Rattle.cw_core.specs.State.{is_split, spent}
+use Rattle.cw_core.specs.Events.{after, reply_to, may_fork}
+use Rattle.cw_sim.specs.Workers.{Simulation, left_of, right_of, changed, with_fork, tree, worker, with_strand, with_worker, with_run}
+
+-- a read is given the value, a write nothing
+abbrev pub given_for : Option ℤ → ℤ → Given
+given_for None v = Value v
+given_for (Some written) v = Nothing
+
+module _ {A : Type 0} where
+  -- an event of the core
+  abbrev pub does : Event → Simulation A → Simulation A
+  does e m = record m { core = after m.core e }
+
+  -- a halt, or the end of main
+  abbrev pub is_over : Simulation A → Bool
+  is_over m = is_some m.core.halt || has_finished m.core.machine 0
+
+  -- ## An idle worker takes the oldest fork of the next worker that has one
+
+  -- the workers after w, round and round, and not w
+  abbrev pub others : Simulation A → ℕ → List ℕ
+  others m w = map (λ i. (w + suc i) % length m.workers) (below (length m.workers - 1))
+
+  -- Worker w takes fork f from worker v: it is split, and its right strand is w's.
+  abbrev pub takes : (w v f : ℕ) → List ℕ → Simulation A → Simulation A
+  takes w v f rest m = with_run w (Some (right_of f)) (with_worker v (record (worker m v) { deque = rest }) (does (event.Split f) m))
+
+  -- the first of these workers whose deque is not empty gives its oldest fork; where there is none, nothing happens
+  abbrev pub steals : ℕ → List ℕ → Simulation A → Simulation A
+  steals w [] m = m
+  steals w (v ∷ vs) m = elim (worker m v).deque [ [] ↦ steals w vs m | f ∷ fs ↦ takes w v f fs m ]
+
+  -- ## What follows a finished strand, in the same move
+
+  -- the fork f no more waits in worker w
+  abbrev pub takes_back : (w f : ℕ) → Simulation A → Simulation A
+  takes_back w f m =
+      let without = filter (λ g. not (g == f)) in
+      with_worker w (record (worker m w) { deque = without (worker m w).deque; inline = without (worker m w).inline }) m
+
+  module _ (s : Strands A) where
+    -- both strands of fork f have finished: they join, and worker w goes on with the strand that forked
+    abbrev pub joins : (w f : ℕ) → Simulation A → Simulation A
+    joins w f m =
+        let p = strand_of (tree m) f in
+        with_run w (Some p) (with_strand p (s.joined (m.at (right_of f)) (m.at (left_of f))) (does (event.Join f) m))
+
+    -- The left strand of fork f has finished, and its right one waits in worker w. After a live one w goes on with the right one; after a
+    -- dead one the right one finishes dead too, and they join.
+    abbrev pub turns : (w f : ℕ) → (dead : Bool) → Simulation A → Simulation A
+    turns w f false m = with_run w (Some (right_of f)) (takes_back w f m)
+    turns w f true m = joins w f (does (event.Finish (right_of f) true) (takes_back w f m))
+
+    -- one of the strands of fork f has finished: they join where the other one has too, and else worker w is idle
+    abbrev pub meets : (w f : ℕ) → (both : Bool) → Simulation A → Simulation A
+    meets w f false m = with_run w None m
+    meets w f true m = joins w f m
+
+    -- after main, nothing; after the left strand of a fork that was not split, its right one; else the strand that forked
+    abbrev pub follows : (w x : ℕ) → (dead : Bool) → Simulation A → Simulation A
+    follows w zero dead m = with_run w None m
+    follows w (suc x) dead m =
+        let f = parent_of (tree m) (suc x) in
+        if (suc x == left_of f) && not (is_split m.core f)
+        then turns w f dead m
+        else meets w f (has_finished m.core.machine (left_of f) && has_finished m.core.machine (right_of f)) m
+
+    abbrev pub finishes : (w x : ℕ) → (dead : Bool) → Simulation A → Simulation A
+    finishes w x dead m = follows w x dead (does (event.Finish x dead) m)
+
+    -- ## A strand that is dying
+
+    -- it rolls back the innermost pending block begun in it, and stands at its begin again; if there is none, it finishes dead
+    abbrev pub dies : (w x : ℕ) → Simulation A → Simulation A
+    dies w x m =
+        if in_block m.core.machine x
+        then with_strand x (m.saved (place (tree m) x)) (does (event.Roll x) m)
+        else finishes w x true m
+
+    -- ## Any other strand does what it wants
+
+    abbrev pub answers : ℕ → Given → Simulation A → Simulation A
+    answers x given m = with_strand x (s.answer (m.at x) given) m
+
+    -- where a block or an access was refused as often as it may be, the run stops
+    abbrev pub stops_if_spent : Simulation A → Simulation A
+    stops_if_spent m = option_map_or (λ x. does (event.Stop (halt.Budget x)) m) (spent m.core) m
+
+    -- an access is answered; a strand whose access is refused stands where it stood
+    abbrev pub meets_cell : ℕ → Option ℤ → Reply → Simulation A → Simulation A
+    meets_cell x write (reply.Value v) m = answers x (given_for write v) m
+    meets_cell x write refused m = stops_if_spent m
+
+    abbrev pub accesses : (x c : ℕ) → Option ℤ → Simulation A → Simulation A
+    accesses x c write m = meets_cell x write (reply_to m.core (event.Access x c write)) (does (event.Access x c write) m)
+
+    -- the block is the next node
+    abbrev pub begins : ℕ → Simulation A → Simulation A
+    begins x m = answers x Nothing (record (does (event.Begin x) m) { saved = changed (length (tree m)) (m.at x) m.saved })
+
+    -- the fork is the next node; worker w goes on with its left strand
+    abbrev pub forks : (w x : ℕ) → Simulation A → Simulation A
+    forks w x m =
+        let f = length (tree m) in
+        let n = with_strand (left_of f) (s.left (m.at x)) (with_strand (right_of f) (s.right (m.at x)) (does (event.Fork x) m)) in
+        with_worker w (record (with_fork (may_fork m.core) f (worker m w)) { runs = Some (left_of f) }) n
+
+    abbrev pub acts : (w x : ℕ) → Want → Simulation A → Simulation A
+    acts w x (want.Load c) m = accesses x c None m
+    acts w x (want.Store c v) m = accesses x c (Some v) m
+    acts w x (want.Out v) m = answers x Nothing (does (event.Out x v) m)
+    acts w x want.Begin m = begins x m
+    acts w x want.End m = answers x Nothing (does (event.Commit x) m)
+    acts w x want.Fork m = forks w x m
+    acts w x want.Sync m = finishes w x false m
+    acts w x want.Done m = finishes w x false m
+    acts w x (want.Fault kind) m = does (event.Stop (halt.Fault x kind)) m
+
+    -- ## The run
+
+    -- a move of worker w
+    abbrev pub move : ℕ → Simulation A → Simulation A
+    move w m = elim (worker m w).runs [ None ↦ steals w (others m w) m | Some x ↦ if is_dying m.core.machine x then dies w x m else acts w x (s.want (m.at x)) m ]
+
+    -- at most k moves from the n-th on: none is made once the run is over
+    abbrev pub after_moves : (turn : ℕ → ℕ) → (k n : ℕ) → Simulation A → Simulation A
+    after_moves turn zero n m = m
+    after_moves turn (suc k) n m = elim (is_over m) [ true ↦ m | false ↦ after_moves turn k (suc n) (move (turn n) m) ]

@@ -1,0 +1,27 @@
+//! The moves of a simulation: several virtual workers run the strands of a program over one core, each when its turn comes. There is no
+//! code here that runs.
+//! Stands on `cw_io`, `cw_strand`, `cw_core` and `cw_record`.
+//! Contracts cite `specs/Workers.antt` (the state of a simulation), `specs/Turns.antt` (who makes which move), `specs/Moves.antt` (what
+//! each move does, and runs), `specs/Kept.antt` (what is true between moves) and `specs/Laws.antt` (what holds of them); `specs/Rows.antt`
+//! tries them on small sources.
+#![tactic(auto)]
+
+ghost use Rattle.cw_sim.specs.Laws.{ForksAreThere, NoneIsEarly, OpensWell};
+ghost use Rattle.cw_sim.specs.Rows.{Rows};
+ghost use Rattle.cw_strand.specs.Strands.{Strands};
+
+/// Before the first move all is kept.
+pub fn opens_well<S>()
+    ensures { (s : Strands S) → OpensWell s }
+{}
+
+/// The oldest fork of a deque is never split too early, and what is taken back is the newest that waits.
+pub fn deques_are_in_order<S>()
+    ensures oldest { (s : Strands S) → NoneIsEarly s }
+    ensures newest { (s : Strands S) → ForksAreThere s }
+{}
+
+/// What the definitions say of runs of small sources.
+pub fn worked_moves()
+    ensures { Rows }
+{}
