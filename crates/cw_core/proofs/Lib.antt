@@ -62,6 +62,3 @@ mod Rolled
 mod RollVictims
 mod RolledLists
 mod Rolls
-pub mod NewNumbers
-pub mod NewJournals
-pub mod NewRefusals

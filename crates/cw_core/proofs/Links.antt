@@ -13,7 +13,8 @@ use Rattle.cw_tree.proofs.Growing.{get_append, get_next, length_more, number_new
 use Rattle.cw_tree.proofs.Closing.{get_set_same, get_set_other}
 use Rattle.cw_tree.proofs.NextTrees.{is_child}
 use Rattle.cw_core.specs.declared.linked.Link.{Link}
-use Rattle.cw_core.specs.Links.{last_child, elder, IsLink, AreLinks, put_link}
+use Rattle.cw_tree.specs.Links.{last_child, child_before}
+use Rattle.cw_core.specs.Links.{IsLink, AreLinks, put_link}
 use Rattle.cw_core.proofs.Places.{last_same}
 
 none_below : (p : ℕ → Bool) (k : ℕ) → ((m : ℕ) → m < k → p m ≡ false) → last_below p k ≡ None
@@ -41,11 +42,11 @@ module _ (t : List Node) (x : Node) (some : 0 < length t) (r : IsRooted t) (ther
       ∙ ap (λ b. cond b (Some (length t)) (last_below (is_child u q) (length t))) (new_child q)
       ∙ ap (λ o. cond (nat_eq p q) (Some (length t)) o) (last_same (is_child u q) (is_child t q) (length t) (same_child q))
 
-  elder_grown : (n : ℕ) → n < length t → elder u n ≡ elder t n
+  elder_grown : (n : ℕ) → n < length t → child_before u n ≡ child_before t n
   elder_grown n h =
       ap (λ q. last_below (is_child u q) n) (number_grown t (x ∷ []) (λ y. y.parent) n h) ∙ last_same (is_child u (parent_of t n)) (is_child t (parent_of t n)) n (λ m l. same_child (parent_of t n) m (omega arith))
 
-  elder_new : elder u (length t) ≡ last_child t p
+  elder_new : child_before u (length t) ≡ last_child t p
   elder_new = ap (λ q. last_below (is_child u q) (length t)) (number_new t x (λ y. y.parent)) ∙ last_same (is_child u p) (is_child t p) (length t) (same_child p)
 
   last_new : last_child u (length t) ≡ None
@@ -74,7 +75,7 @@ module _ (t : List Node) (x : Node) (some : 0 < length t) (r : IsRooted t) (ther
                 let P : Link → Type 0 = λ z. IsLink u n z in
                 subst P is (record {
                   last = last_grown n ∙ ap (λ b. cond b (Some (length t)) (last_child t n)) (eq-eqb p n (sym q));
-                  elder = elder_grown n h ∙ ap (elder t) q ∙ was.elder;
+                  elder = elder_grown n h ∙ ap (child_before t) q ∙ was.elder;
                 }))
             | inr ne ↦
                 (let was = w.each n z (sym (get_set_other links p n (record y { last = Some (length t) }) ne) ∙ e) in
@@ -104,7 +105,7 @@ module _ (t : List Node) (x : Node) (some : 0 < length t) (r : IsRooted t) (ther
                       let is : new ≡ z = cc (a, b, at) in
                       let here : n ≡ length t = q ∙ size in
                       let Q : Link → Type 0 = λ z. IsLink u n z in
-                      subst Q is (record { last = ap (last_child u) here ∙ last_new; elder = ap (elder u) here ∙ elder_new ∙ (w.each p y e).last }))
+                      subst Q is (record { last = ap (last_child u) here ∙ last_new; elder = ap (child_before u) here ∙ elder_new ∙ (w.each p y e).last }))
                 ]);
           })
 

@@ -15,7 +15,8 @@ use Rattle.cw_tree.proofs.NextTrees.{is_child}
 use Rattle.cw_tree.specs.Accesses.{is_live}
 use Rattle.cw_open.proofs.Named.{live_tells, live_from}
 use Rattle.cw_open.proofs.Standing.{last_is, none_is}
-use Rattle.cw_core.specs.Links.{last_child, elder, next_in_walk}
+use Rattle.cw_tree.specs.Links.{last_child, child_before}
+use Rattle.cw_core.specs.Links.{next_in_walk}
 
 -- node x stands in an elder sibling of a node in which n stands
 pub record IsLeft (t : List Node) (n x : ℕ) : Type 0 where
@@ -73,7 +74,7 @@ module _ (t : List Node) (r : IsRooted t) where
 
   -- ## Up
 
-  up_elder : (n e x : ℕ) → n < length t → elder t n ≡ Some e → IsLeft t n x → ToCome t e true x
+  up_elder : (n e x : ℕ) → n < length t → child_before t n ≡ Some e → IsLeft t n x → ToCome t e true x
   up_elder n e x h at w =
       let z = last_is (is_child t (parent_of t n)) n e at in
       let y = child (parent_of t n) e z.passes in
@@ -95,7 +96,7 @@ module _ (t : List Node) (r : IsRooted t) where
             inr (record { own = w.own; other = w.other; some = w.some; less = w.less; same = w.same; over_own = over_e; over = w.over }))
       ]
 
-  up_none : (n x : ℕ) → 0 < n → n < length t → elder t n ≡ None → IsLeft t n x → IsLeft t (parent_of t n) x
+  up_none : (n x : ℕ) → 0 < n → n < length t → child_before t n ≡ None → IsLeft t n x → IsLeft t (parent_of t n) x
   up_none n x some h at w =
       elim (cases_eq w.own n) [
         | inl q ↦
@@ -296,7 +297,7 @@ module _ (t : List Node) (r : IsRooted t) (b : ℕ) where
             record { own = w.own; other = w.other; some = w.some; less = w.less; same = w.same; over_own = ancestor_up t r w.own n (omega arith) h over; over = w.over })
       ]
 
-  goes_past : (n e : ℕ) → n < length t → is_ancestor t b n ≡ true → n ≢ b → elder t n ≡ Some e → IsStep n false e true
+  goes_past : (n e : ℕ) → n < length t → is_ancestor t b n ≡ true → n ≢ b → child_before t n ≡ Some e → IsStep n false e true
   goes_past n e h within ne at =
       let w = last_is (is_child t (parent_of t n)) n e at in
       let low = w.low in
@@ -310,7 +311,7 @@ module _ (t : List Node) (r : IsRooted t) (b : ℕ) where
         comes = λ x g ne off v. up_elder t r n e x h at v;
       }
 
-  goes_up : (n : ℕ) → n < length t → is_ancestor t b n ≡ true → n ≢ b → elder t n ≡ None → IsStep n false (parent_of t n) false
+  goes_up : (n : ℕ) → n < length t → is_ancestor t b n ≡ true → n ≢ b → child_before t n ≡ None → IsStep n false (parent_of t n) false
   goes_up n h within ne at =
       let le : b ≤ n = ancestor_le t r b n h within in
       let some : 0 < n = omega arith in
@@ -345,13 +346,13 @@ module _ (t : List Node) (r : IsRooted t) (b : ℕ) where
         by : (o : Option ℕ) → last_child t n ≡ o → is_aborted t n ≡ false → Steps n true (next_in_walk t n true)
         by None f e = subst (Steps n true) (sym (none e f)) (stays n h within (λ x g other off over. down_none t r n x f g other over))
         by (Some c) f e = subst (Steps n true) (sym (some c e f)) (goes_down n c h within e f)
-  step_of n false h within ne = by (elder t n) refl where
-    none : elder t n ≡ None → next_in_walk t n false ≡ (parent_of t n, false)
+  step_of n false h within ne = by (child_before t n) refl where
+    none : child_before t n ≡ None → next_in_walk t n false ≡ (parent_of t n, false)
     none f = rw f refl
 
-    some : (c : ℕ) → elder t n ≡ Some c → next_in_walk t n false ≡ (c, true)
+    some : (c : ℕ) → child_before t n ≡ Some c → next_in_walk t n false ≡ (c, true)
     some c f = rw f refl
 
-    by : (o : Option ℕ) → elder t n ≡ o → Steps n false (next_in_walk t n false)
+    by : (o : Option ℕ) → child_before t n ≡ o → Steps n false (next_in_walk t n false)
     by None f = subst (Steps n false) (sym (none f)) (goes_up n h within (ne refl) f)
     by (Some c) f = subst (Steps n false) (sym (some c f)) (goes_past n c h within (ne refl) f)

@@ -7,4 +7,3 @@ pub mod Held
 pub mod Links
 pub mod Undone
 pub mod Closing
-pub mod ClosedLaws

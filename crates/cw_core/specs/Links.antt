@@ -1,20 +1,13 @@
 -- The links of a tree: its nodes' children from the last on, and a walk by them.
-use Rattle.std.specs.Prelude.{◌≡◌, ℕ, ◌==◌, ◌&&◌, Bool, true, false, nat_lt, List, [], ◌∷◌, ◌++◌, length, slice_get, slice_set, Option, Some, None, if◌then◌else◌}
+use Rattle.std.specs.Prelude.{◌≡◌, ℕ, Bool, true, false, List, [], ◌∷◌, ◌++◌, length, slice_get, slice_set, Option, Some, None, if◌then◌else◌}
 use Rattle.cw_tree.specs.declared.node.Node.{Node}
-use Rattle.cw_tree.specs.Nodes.{parent_of, is_aborted, last_below}
+use Rattle.cw_tree.specs.Nodes.{parent_of, is_aborted}
+use Rattle.cw_tree.specs.Links.{last_child, child_before}
 use Rattle.cw_core.specs.declared.linked.Link.{Link}
-
--- the last child of node n
-abbrev pub last_child : List Node → ℕ → Option ℕ
-last_child t n = last_below (λ m. nat_lt 0 m && (parent_of t m == n)) (length t)
-
--- the child of its parent before node n
-abbrev pub elder : List Node → ℕ → Option ℕ
-elder t n = last_below (λ m. nat_lt 0 m && (parent_of t m == parent_of t n)) n
 
 pub record IsLink (t : List Node) (n : ℕ) (r : Link) : Type 0 where
   pub last : last_child t n ≡ r.last
-  pub elder : elder t n ≡ r.elder
+  pub elder : child_before t n ≡ r.elder
 
 -- a link for each node
 pub record AreLinks (t : List Node) (links : List Link) : Type 0 where
@@ -37,7 +30,7 @@ next_in_walk t n true = if is_aborted t n then (n, false) else into (last_child 
   into None = (n, false)
   into (Some c) = (c, true)
 next_in_walk t n false =
-    past (elder t n) where
+    past (child_before t n) where
       past : Option ℕ → ℕ × Bool
       past None = (parent_of t n, false)
       past (Some e) = (e, true)

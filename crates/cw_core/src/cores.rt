@@ -14,6 +14,7 @@ ghost use Rattle.cw_core.specs.declared.event.Event.TheVariants as event;
 
 mod closing;
 mod fits;
+mod reads;
 mod steps;
 
 use crate::held::{Barrier, Refused, access_kind, conflict_with, put_entry, reserve_entry};

@@ -3,10 +3,9 @@
 //! Stands on `cw_tree`, `cw_trace`, `cw_xconf`, `cw_stack` and `cw_open`.
 //! Contracts cite `specs/State.antt` (what is seen of a core), `specs/Events.antt` (which events fit, the steps that each stands for, and
 //! how it is answered), `specs/Laws.antt` (what is true of a core between events) and `specs/Closing.antt` (what it leaves);
-//! `specs/ClosedLaws.antt` has laws of that, `specs/Rows.antt` tries them.
+//! `specs/Rows.antt` tries them.
 #![tactic(auto)]
 
-ghost use Rattle.cw_core.specs.ClosedLaws.{CellsStay, EndsStay, FaultsStay, JournalsStay, RefusalsStay, RollsBackStays};
 ghost use Rattle.cw_core.specs.Laws.{AlikeAnswer, AlikeStay, CellsAreChains, EventsAreRuns, ListsAreRuns, SplitsAreAnswered, SplitsChangeNoAnswer, SplitsChangeNothing, StartsAreCores, StrandsGoOn};
 ghost use Rattle.cw_core.specs.Rows.{Budgets, Joins, Rolls, Splits};
 
@@ -47,16 +46,6 @@ pub fn splits_change_no_answer()
     ensures answers { AlikeAnswer }
     ensures stay { AlikeStay }
     ensures lists { SplitsChangeNoAnswer }
-{}
-
-/// What is true of the tree, the journals and the conflicts that a run leaves is true of them in depth-first order.
-pub fn closed_in_order()
-    ensures cells { CellsStay }
-    ensures journals { JournalsStay }
-    ensures ends { EndsStay }
-    ensures refusals { RefusalsStay }
-    ensures rolls_back { RollsBackStays }
-    ensures faults { FaultsStay }
 {}
 
 /// What the definitions say of lists of events.

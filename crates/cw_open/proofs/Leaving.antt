@@ -73,9 +73,11 @@ histories_left first m kept reached none k =
             entries_of t sound.stamps c v (live_accesses t c) es (live_touched t c) (subst P (all c) (k.each c v es at f)) (subst Q (same c) (reads_met first m any c v e)));
       };
       ended = λ c h. (let P : List ℕ → Type 0 = λ ns. AllEndedBetween t ns in subst P (same c) (ended first m any c));
-      each = askers_tried asked first m any;
-      recorded = conflicts_recorded asked first m reached;
-      aborted = aborted_victims asked first m any;
-      committed = committed_safe asked first m any;
+      refusals = record {
+        each = askers_tried asked first m any;
+        recorded = conflicts_recorded asked first m reached;
+        aborted = aborted_victims asked first m any;
+        committed = committed_safe asked first m any;
+      };
       rolls_back = dying_back asked first m any;
     }

@@ -1,20 +1,21 @@
 -- What a run leaves, in depth-first order.
-use Rattle.std.proofs.Common.{◌≡◌, ℕ, ◌<◌, List, [], ◌∷◌, length, map, refl, ap, sym, ◌∙◌, subst, arith, Bool, true, false, inl, inr, nat_eq}
+use Rattle.std.proofs.Common.{◌≡◌, ℕ, ◌<◌, List, [], ◌∷◌, length, map, refl, ap, sym, ◌∙◌, subst, arith, Bool, Some, None, true, false, inl, inr, nat_eq}
 use Rattle.std.specs.Prelude.{◌&&◌, not, is_some, ℤ, All, filter, unwrap_or}
 use Rattle.std.specs.List.{list_any}
-use Rattle.std.proofs.lemmas.Bool.{and_parts, eqb-true, or_cases}
+use Rattle.std.proofs.lemmas.Bool.{and_parts, and_from, eqb-true, or_cases}
 use Rattle.std.proofs.lemmas.List.Elements.{All-weaker, All-head, All-tail}
 use Rattle.cw_tree.specs.declared.node.Node.{Node}
 use Rattle.cw_tree.specs.declared.access.Entry.{Entry}
 use Rattle.cw_tree.specs.declared.conflict.Conflict.{Conflict}
-use Rattle.cw_tree.specs.Nodes.{touches_kind, tries_kind, stamp_of, end_of, is_node, is_block, is_aborted, is_committed, touches, all_nodes}
+use Rattle.cw_tree.specs.Nodes.{touches_kind, tries_kind, is_strand_kind, stamp_of, end_of, is_node, is_block, is_strand, is_aborted, is_committed, touches, all_nodes}
 use Rattle.cw_tree.specs.Walks.{IsNumbered, path, is_above}
 use Rattle.cw_tree.specs.Series.{has_later}
 use Rattle.cw_tree.specs.Shape.{AreStamps}
+use Rattle.cw_tree.specs.NextNodes.{IsSound}
+use Rattle.cw_tree.specs.declared.closed.Halt.TheVariants.{Fault, Budget, Memory}
 use Rattle.cw_tree.specs.Accesses.{is_live, live_accesses, written}
-use Rattle.cw_tree.specs.Journals.{AreEntries, EndedBetween, AllEndedBetween, fits_cells}
-use Rattle.cw_tree.specs.Refusals.{victim_of, is_victim, leads_back, IsRecorded}
-use Rattle.cw_tree.specs.Histories.{IsHistory}
+use Rattle.cw_tree.specs.Journals.{AreEntries, AreJournals, EndedBetween, AllEndedBetween, JournalsEnded, fits_cells}
+use Rattle.cw_tree.specs.Refusals.{victim_of, is_victim, leads_back, IsRecorded, AreRefusals, RollsBack}
 use Rattle.cw_tree.specs.InOrder.{renamed, in_order, conflicts_in_order}
 use Rattle.cw_tree.proofs.Lists.{In}
 use Rattle.cw_tree.proofs.Members.{in_filter, in_below, below_in}
@@ -24,7 +25,8 @@ use Rattle.cw_tree.proofs.Kin.{in_ancestor}
 use Rattle.cw_tree.proofs.Ancestors.{ancestor_le}
 use Rattle.cw_tree.proofs.Renaming.{above_stays}
 use Rattle.cw_tree.proofs.InOrderSound.{sound_stays}
-use Rattle.cw_open.specs.Left.{IsHistoryAsMade, HistoriesAreInOrder}
+use Rattle.cw_open.specs.Left.{AreMade, HistoriesAreInOrder}
+use Rattle.cw_open.specs.Reordered.{CellsStay, JournalsStay, EndsStay, RefusalsStay, RollsBackStays, FaultsStay}
 use Rattle.cw_open.proofs.Filtered.{filter_in}
 use Rattle.cw_open.proofs.Rising.{Rises, rises_same, rises_filter}
 use Rattle.cw_open.proofs.KeysRise.{map_in, in_map, below_rises, in_by_key, by_key_rises}
@@ -32,7 +34,7 @@ use Rattle.cw_open.proofs.Named.{access_stamped}
 use Rattle.cw_open.proofs.Backing.{aborted_block, block_some}
 use Rattle.cw_open.proofs.Falling.{AreAskers}
 use Rattle.cw_open.proofs.Leaving.{histories_left}
-use Rattle.cw_open.proofs.Renamed.{each_number, low, node_kept, stamp_kept, end_kept, block_kept, aborted_kept, committed_kept, live_renamed, written_kept, read_kept, path_renamed, later_renamed, any_map, any_agrees}
+use Rattle.cw_open.proofs.Renamed.{each_number, low, node_kept, stamp_kept, end_kept, block_kept, aborted_kept, committed_kept, live_renamed, strand_kept, written_kept, read_kept, path_renamed, later_renamed, any_map, any_agrees}
 use Rattle.cw_open.proofs.RenamedConflicts.{tried_some, each_renamed, recorded_all, victim_renamed, leads_renamed}
 
 -- what a function makes equal, of members on which it is one to one
@@ -45,18 +47,15 @@ map_back g (x ∷ xs) (y ∷ ys) e one =
     let tail : map g xs ≡ map g ys = cc e in
     ap (λ n. n ∷ xs) (one x y (inl refl) (inl refl) head) ∙ ap (λ ns. y ∷ ns) (map_back g xs ys tail (λ a b i j. one a b (inr i) (inr j)))
 
-module _ (t : List Node) (w : IsNumbered t) (first : List ℤ) (kept : List (List Entry)) (cs : List Conflict) (h : IsHistoryAsMade t first kept cs) where
+module _ (t : List Node) (w : IsNumbered t) (sound : IsSound t) where
   abbrev new : List Node
   new = in_order t
 
   abbrev f : ℕ → ℕ
   f = renamed t
 
-  abbrev ds : List Conflict
-  ds = conflicts_in_order t cs
-
   stamps_new : AreStamps new
-  stamps_new = (sound_stays t w h.sound).stamps
+  stamps_new = (sound_stays t w sound).stamps
 
   -- ## Live accesses
 
@@ -106,7 +105,7 @@ module _ (t : List Node) (w : IsNumbered t) (first : List ℤ) (kept : List (Lis
         let P : List ℕ → Type 0 = λ ss. Rises ss in
         let moved = stamps_moved (live_accesses t c) (λ n i. (live_there t n i).0) in
         map_back (stamp_of new) (live_accesses new c) M
-        (rises_same (map (stamp_of new) (live_accesses new c)) (map (stamp_of new) M) (live_rises new stamps_new) (subst P (sym moved) (live_rises t h.sound.stamps))
+        (rises_same (map (stamp_of new) (live_accesses new c)) (map (stamp_of new) M) (live_rises new stamps_new) (subst P (sym moved) (live_rises t sound.stamps))
         (λ s i. let z = in_map (stamp_of new) s (live_accesses new c) i in let Q : ℕ → Type 0 = λ s. In s (map (stamp_of new) M) in subst Q (sym z.2) (map_in (stamp_of new) z.0 M (new_in z.0 z.1)))
         (λ s i. let z = in_map (stamp_of new) s M i in let Q : ℕ → Type 0 = λ s. In s (map (stamp_of new) (live_accesses new c)) in subst Q (sym z.2) (map_in (stamp_of new) z.0 (live_accesses new c) (old_in z.0 z.1))))
         (λ x y i j e.
@@ -153,14 +152,33 @@ module _ (t : List Node) (w : IsNumbered t) (first : List ℤ) (kept : List (Lis
   live_low : (c u : ℕ) → In u (live_accesses t c) → u < length t
   live_low c u i = (live_there c t u i).0
 
-  -- ## Refusals
+  pub journals_renamed : (first : List ℤ) (kept : List (List Entry)) → AreJournals t first kept → AreJournals new first kept
+  journals_renamed first kept js = record {
+    len = js.len;
+    each = λ c v es e g. (let P : List ℕ → Type 0 = λ us. AreEntries new v us es in subst P (sym (accesses_renamed c)) (entries_renamed v (live_accesses t c) es (live_low c) (js.each c v es e g)));
+  }
+
+  pub ends_renamed : (k : ℕ) → JournalsEnded t k → JournalsEnded new k
+  ends_renamed k ends c l = let P : List ℕ → Type 0 = λ us. AllEndedBetween new us in subst P (sym (accesses_renamed c)) (all_between (live_accesses t c) (live_low c) (ends c l))
+
+-- ## Refusals
+
+module _ (t : List Node) (w : IsNumbered t) (cs : List Conflict) (made : AreMade t cs) where
+  abbrev moved : List Node
+  moved = in_order t
+
+  abbrev g : ℕ → ℕ
+  g = renamed t
+
+  abbrev ds : List Conflict
+  ds = conflicts_in_order t cs
 
   askers_low : AreAskers t cs
-  askers_low = All-weaker (IsRecorded t) (λ c. c.asker < length t) (λ c (x, b, q). node_there (λ y. tries_kind c.cell y.kind) t c.asker q.asker) cs h.recorded
+  askers_low = All-weaker (IsRecorded t) (λ c. c.asker < length t) (λ c (x, b, q). node_there (λ y. tries_kind c.cell y.kind) t c.asker q.asker) cs made.recorded
 
   -- who tells that it leads back is a refused access
   leads_some : (n : ℕ) → n < length t → leads_back cs n ≡ true → 0 < n
-  leads_some n l e = by cs h.recorded e where
+  leads_some n l e = by cs made.recorded e where
     by : (xs : List Conflict) → All (IsRecorded t) xs → leads_back xs n ≡ true → 0 < n
     by [] a e = absurd (cc e)
     by (c ∷ xs) a e =
@@ -176,47 +194,75 @@ module _ (t : List Node) (w : IsNumbered t) (first : List ℤ) (kept : List (Lis
   path_low : (b n : ℕ) → b < length t → In n (path t b) → n < length t
   path_low b n l i = let le = ancestor_le t w.rooted n b l (in_ancestor t n b i) in omega arith
 
-  pub history_renamed : IsHistory new first kept ds
-  history_renamed =
-      let sound = sound_stays t w h.sound in
-      record {
-        tree = sound.tree;
-        stamps = sound.stamps;
-        pending_last = sound.pending_last;
-        cells = each_number t w (λ n. is_node (λ x. fits_cells (length first) x.kind) new n ≡ true) (λ n l. node_kept t w (λ x. fits_cells (length first) x.kind) (λ x. refl) n l ∙ h.cells n l);
-        journals = record {
-          len = h.journals.len;
-          each = λ c v es e g. (let P : List ℕ → Type 0 = λ us. AreEntries new v us es in subst P (sym (accesses_renamed c)) (entries_renamed v (live_accesses t c) es (live_low c) (h.journals.each c v es e g)));
-        };
-        ended = λ c l. (let P : List ℕ → Type 0 = λ us. AllEndedBetween new us in subst P (sym (accesses_renamed c)) (all_between (live_accesses t c) (live_low c) (h.ended c l)));
-        refusals = record {
-          each = each_renamed t w cs askers_low h.each;
-          recorded = recorded_all t w cs askers_low h.each h.recorded;
-          aborted =
-              each_number t w (λ b. is_aborted new b ≡ true → list_any (is_victim new ds) (path new b) ≡ true)
-              (λ b l e.
-              ap (list_any (is_victim new ds)) (path_renamed t w b l)
-              ∙ any_map (is_victim new ds) f (path t b)
-              ∙ any_agrees (λ n. is_victim new ds (f n)) (is_victim t cs) (path t b) (λ n i. victim_renamed t w cs askers_low h.each n (path_low b n l i))
-              ∙ h.aborted b (sym (aborted_kept t w b l) ∙ e));
-          committed =
-              each_number t w (λ b. is_committed new b ≡ true → is_victim new ds b ≡ false)
-              (λ b l e. victim_renamed t w cs askers_low h.each b l ∙ h.committed b (sym (committed_kept t w b l) ∙ e));
-        };
-        rolls_back = record {
-          tried =
-              each_number t w (λ n. leads_back ds n ≡ true → has_later new n ≡ false)
-              (λ n l e.
-              let was = sym (leads_renamed t w cs askers_low h.each n l) ∙ e in
-              later_renamed t w n (leads_some n l was) l ∙ h.rolls_back.tried n l was);
-          aborted =
-              each_number t w (λ n. (is_aborted new n && not (is_victim new ds n)) ≡ true → has_later new n ≡ false)
-              (λ n l e.
-              let was : (is_aborted t n && not (is_victim t cs n)) ≡ true =
-              sym (ap (λ b. b && not (is_victim new ds (f n))) (aborted_kept t w n l) ∙ ap (λ b. is_aborted t n && not b) (victim_renamed t w cs askers_low h.each n l)) ∙ e in
-              later_renamed t w n (block_some t w.root n (aborted_block t n (and_parts (is_aborted t n) (not (is_victim t cs n)) was).0)) l ∙ h.rolls_back.aborted n l was);
-        };
-      }
+  pub refusals_renamed : AreRefusals moved ds
+  refusals_renamed = record {
+    each = each_renamed t w cs askers_low made.each;
+    recorded = recorded_all t w cs askers_low made.each made.recorded;
+    aborted =
+        each_number t w (λ b. is_aborted moved b ≡ true → list_any (is_victim moved ds) (path moved b) ≡ true)
+        (λ b l e.
+        ap (list_any (is_victim moved ds)) (path_renamed t w b l)
+        ∙ any_map (is_victim moved ds) g (path t b)
+        ∙ any_agrees (λ n. is_victim moved ds (g n)) (is_victim t cs) (path t b) (λ n i. victim_renamed t w cs askers_low made.each n (path_low b n l i))
+        ∙ made.aborted b (sym (aborted_kept t w b l) ∙ e));
+    committed =
+        each_number t w (λ b. is_committed moved b ≡ true → is_victim moved ds b ≡ false)
+        (λ b l e. victim_renamed t w cs askers_low made.each b l ∙ made.committed b (sym (committed_kept t w b l) ∙ e));
+  }
+
+  pub backs_renamed : RollsBack t cs → RollsBack moved ds
+  backs_renamed back = record {
+    tried =
+        each_number t w (λ n. leads_back ds n ≡ true → has_later moved n ≡ false)
+        (λ n l e.
+        let was = sym (leads_renamed t w cs askers_low made.each n l) ∙ e in
+        later_renamed t w n (leads_some n l was) l ∙ back.tried n l was);
+    aborted =
+        each_number t w (λ n. (is_aborted moved n && not (is_victim moved ds n)) ≡ true → has_later moved n ≡ false)
+        (λ n l e.
+        let was : (is_aborted t n && not (is_victim t cs n)) ≡ true =
+        sym (ap (λ b. b && not (is_victim moved ds (g n))) (aborted_kept t w n l) ∙ ap (λ b. is_aborted t n && not b) (victim_renamed t w cs askers_low made.each n l)) ∙ e in
+        later_renamed t w n (block_some t w.root n (aborted_block t n (and_parts (is_aborted t n) (not (is_victim t cs n)) was).0)) l ∙ back.aborted n l was);
+  }
+
+-- ## The laws
+
+pub cells_stay : CellsStay
+cells_stay t k w fits = each_number t w (λ n. is_node (λ x. fits_cells k x.kind) (in_order t) n ≡ true) (λ n l. node_kept t w (λ x. fits_cells k x.kind) (λ x. refl) n l ∙ fits n l)
+
+pub journals_stay : JournalsStay
+journals_stay t first kept w sound js = journals_renamed t w sound first kept js
+
+pub ends_stay : EndsStay
+ends_stay t k w sound ends = ends_renamed t w sound k ends
+
+pub refusals_stay : RefusalsStay
+refusals_stay t cs w made = refusals_renamed t w cs made
+
+pub rolls_back_stays : RollsBackStays
+rolls_back_stays t cs w made back = backs_renamed t w cs made back
+
+pub faults_stay : FaultsStay
+faults_stay t None w e = tt
+faults_stay t (Some (Fault s kind)) w e =
+    let z = and_parts (is_strand t s) (is_live t s) e in
+    let h = node_there (λ x. is_strand_kind x.kind) t s z.0 in
+    and_from (is_strand (in_order t) (renamed t s)) (is_live (in_order t) (renamed t s)) (strand_kept t w s h ∙ z.0) (live_renamed t w s h ∙ z.1)
+faults_stay t (Some (Budget s)) w e = tt
+faults_stay t (Some Memory) w e = tt
 
 pub histories_in_order : HistoriesAreInOrder
-histories_in_order first m kept reached none k w = history_renamed m.tree w first kept m.conflicts (histories_left first m kept reached none k)
+histories_in_order first m kept reached none k w =
+    let t = m.tree in
+    let h = histories_left first m kept reached none k in
+    let sound = sound_stays t w h.sound in
+    record {
+      tree = sound.tree;
+      stamps = sound.stamps;
+      pending_last = sound.pending_last;
+      cells = cells_stay t (length first) w h.cells;
+      journals = journals_renamed t w h.sound first kept h.journals;
+      ended = ends_renamed t w h.sound (length first) h.ended;
+      refusals = refusals_renamed t w m.conflicts h.refusals;
+      rolls_back = backs_renamed t w m.conflicts h.refusals h.rolls_back;
+    }

@@ -1,5 +1,4 @@
--- What a run leaves in its tree, journals and conflicts, where an access may conflict with the newest one alone. The conflicts stand as they
--- were made, so in the order of their askers' numbers.
+-- What a run leaves in its tree, journals and conflicts, where an access may conflict with the newest one alone.
 use Rattle.std.specs.Prelude.{◌≡◌, ℕ, ℤ, false, IsTrue, is_some, All, List, [], ◌∷◌, length, map, filter, slice_get, Some, unwrap_or}
 use Rattle.std.specs.List.{list_any}
 use Rattle.cw_tree.specs.declared.node.Node.{Node}
@@ -39,16 +38,21 @@ pub record AreKept (m : Machine) (kept : List (List Entry)) : Type 0 where
   pub len : length kept ≡ length m.first
   pub each : (c : ℕ) (v : ℤ) (es : List Entry) → slice_get m.first c ≡ Some v → slice_get kept c ≡ Some es → AreEntriesAt m.tree v (live m c) es
 
--- the history of a run, whose conflicts stand in the order of their askers' numbers
+-- Conflicts as a run makes them: each refused access has one, and they come as their askers are numbered. The rest is as where they come
+-- in depth-first order.
+pub record AreMade (t : List Node) (cs : List Conflict) : Type 0 where
+  pub each : map (λ c. c.asker) cs ≡ filter (is_tried t) (all_nodes t)
+  pub recorded : All (IsRecorded t) cs
+  pub aborted : (b : ℕ) → IsTrue (is_aborted t b) → IsTrue (list_any (is_victim t cs) (path t b))
+  pub committed : (b : ℕ) → IsTrue (is_committed t b) → is_victim t cs b ≡ false
+
+-- the history of a run, as it was made
 pub record IsHistoryAsMade (t : List Node) (first : List ℤ) (kept : List (List Entry)) (cs : List Conflict) : Type 0 where
   pub sound : IsSound t
   pub cells : FitsCells t (length first)
   pub journals : AreJournals t first kept
   pub ended : JournalsEnded t (length first)
-  pub each : map (λ c. c.asker) cs ≡ filter (is_tried t) (all_nodes t)
-  pub recorded : All (IsRecorded t) cs
-  pub aborted : (b : ℕ) → IsTrue (is_aborted t b) → IsTrue (list_any (is_victim t cs) (path t b))
-  pub committed : (b : ℕ) → IsTrue (is_committed t b) → is_victim t cs b ≡ false
+  pub refusals : AreMade t cs
   pub rolls_back : RollsBack t cs
 
 -- where no undo is under way, this is what a run leaves

@@ -7,5 +7,6 @@ pub mod Times
 pub mod Told
 pub mod Reads
 pub mod Left
+pub mod Reordered
 pub mod Spent
 pub mod Rows

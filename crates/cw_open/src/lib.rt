@@ -3,13 +3,15 @@
 //! Stands on `cw_tree`.
 //! Contracts cite `specs/Machine.antt` (the state, and where its strands stand), `specs/Steps.antt` (the steps, and what each does),
 //! `specs/Runs.antt` (what each step needs, and runs), `specs/Open.antt` (nodes that are still open), `specs/Laws.antt` (what is true of
-//! every state that a run leads to), `specs/Reads.antt` (what live reads met), `specs/Times.antt` (when stamps are drawn)
-//! and `specs/Told.antt` (what is true of refused accesses); `specs/Rows.antt` tries them.
+//! every state that a run leads to), `specs/Reads.antt` (what live reads met), `specs/Times.antt` (when stamps are drawn),
+//! `specs/Told.antt` (what is true of refused accesses), `specs/Left.antt` (what a run leaves) and `specs/Reordered.antt` (that it is true
+//! in depth-first order); `specs/Rows.antt` tries them.
 #![tactic(auto)]
 
 ghost use Rattle.cw_open.specs.Laws.{AtOnceIsAtAnyTime, BlocksHaveEnded, CellsFit, ClocksAreLatest, DyingRollBack, FreeAreSafe, ListsAreChains, ListsAreLive, ListsHaveAll, ListsRise, OpenAreNested, RefusalsAreTold, StrandsStandAtPlaces, TreesAreSound, VictimsAreAbove};
 ghost use Rattle.cw_open.specs.Left.{HistoriesAreInOrder, HistoriesAreLeft};
 ghost use Rattle.cw_open.specs.Reads.{ReadsAreMet};
+ghost use Rattle.cw_open.specs.Reordered.{CellsStay, EndsStay, FaultsStay, JournalsStay, RefusalsStay, RollsBackStays};
 ghost use Rattle.cw_open.specs.Told.{AbortedAreVictims, AheadIsTimely, AskersAreTried, AtOnceIsTold, CommittedAreSafe, ConflictsAreRecorded, DeadGoBack, DyingGoBack, StopsAreLeftOut, ToldIsAtAnyTime};
 ghost use Rattle.cw_open.specs.Spent.{SpentAreInOrder};
 ghost use Rattle.cw_open.specs.Rows.{Beneath, Inside, InnerCommitted, Outer, Twice};
@@ -86,6 +88,16 @@ pub fn histories_of_runs()
     ensures left { HistoriesAreLeft }
     ensures in_order { HistoriesAreInOrder }
     ensures any_time { ToldIsAtAnyTime }
+{}
+
+/// What is true of the tree, the journals and the conflicts that a run leaves is true of them in depth-first order, each for itself.
+pub fn closed_in_order()
+    ensures cells { CellsStay }
+    ensures journals { JournalsStay }
+    ensures ends { EndsStay }
+    ensures refusals { RefusalsStay }
+    ensures rolls_back { RollsBackStays }
+    ensures faults { FaultsStay }
 {}
 
 /// A run without its stops is a run: a strand that stopped stands where it ran.

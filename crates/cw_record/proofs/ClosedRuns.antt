@@ -1,16 +1,15 @@
 -- A closed run in depth-first order is coherent.
 use Rattle.std.proofs.Common.{◌≡◌, ℕ, ◌<◌, List, [], ◌∷◌, length, map, refl, ap, sym, ◌∙◌, subst, arith, Bool, true, false, Option, Some, None, inl, inr}
 use Rattle.std.specs.Prelude.{◌&&◌, not, ℤ, option_map}
-use Rattle.std.proofs.lemmas.Bool.{and_parts, and_from, not-true, not_from_false}
-use Rattle.cw_strand.specs.declared.want.Want.TheVariants as want
+use Rattle.std.proofs.lemmas.Bool.{and_parts, and_from, not-true}
 use Rattle.cw_strand.specs.Strands.{Strands}
 use Rattle.cw_tree.specs.declared.node.Node.{Node}
 use Rattle.cw_tree.specs.declared.access.Entry.{Entry}
 use Rattle.cw_tree.specs.declared.conflict.Conflict.{Conflict}
 use Rattle.cw_tree.specs.declared.closed.Halt.{Halt}
 use Rattle.cw_tree.specs.declared.closed.Halt.TheVariants as halt
-use Rattle.cw_tree.specs.Nodes.{touches_kind, is_fork_kind, is_strand, is_fork, is_pending}
-use Rattle.cw_tree.specs.Walks.{IsNumbered, is_ancestor, is_above}
+use Rattle.cw_tree.specs.Nodes.{touches_kind, is_strand, is_fork, is_pending}
+use Rattle.cw_tree.specs.Walks.{IsNumbered, is_ancestor}
 use Rattle.cw_tree.specs.Series.{place, strand_of}
 use Rattle.cw_tree.specs.Shape.{NonePending}
 use Rattle.cw_tree.specs.Accesses.{is_live, live_accesses, written, cell_value}
@@ -36,11 +35,9 @@ use Rattle.cw_open.proofs.Renamed.{each_number, strand_kept, fork_kept, pending_
 use Rattle.cw_open.proofs.RenamedHistory.{accesses_renamed, histories_in_order}
 use Rattle.cw_open.proofs.Spending.{spent_in_order}
 use Rattle.cw_open.proofs.RenamedPlaces.{place_renamed}
-use Rattle.cw_record.specs.declared.record_end.RecordEnd.{RecordEnd}
-use Rattle.cw_record.specs.declared.record_end.RecordEnd.TheVariants.{Finished, Fault, Budget, Moves}
 use Rattle.cw_tree.specs.Links.{last_child}
 use Rattle.cw_record.specs.Coherent.{IsMemory, StrandEnded, IsJoined, HasNoOpenFork, IsCoherent}
-use Rattle.cw_record.specs.ClosedRun.{AreStates, IsClosedRun, end_after}
+use Rattle.cw_record.specs.ClosedRun.{IsClosedRun, end_after}
 use Rattle.cw_record.proofs.ClosedStrands.{follows, none_pending, live_ended, no_open_fork}
 use Rattle.cw_record.proofs.RenamedStrands.{moved, moved_at, last_renamed, last_is_child, follows_at, ended_at, joined_at}
 
@@ -80,7 +77,7 @@ module _ {A : Type 0} (s : Strands A) (first : List ℤ) (budget : ℕ) (m : Mac
       each = λ k v e.
           mem.each k v e
           ∙ ap (λ ws. Some (cell_value v ws))
-          (sym (ap (map (written new)) (accesses_renamed t w first kept m.conflicts made k) ∙ writes_moved (live_accesses t k) (λ u i. node_there (λ y. touches_kind k y.kind) t u (live_touched t k u i))));
+          (sym (ap (map (written new)) (accesses_renamed t w made.sound k) ∙ writes_moved (live_accesses t k) (λ u i. node_there (λ y. touches_kind k y.kind) t u (live_touched t k u i))));
     }
 
   -- a strand that may go on, in depth-first order

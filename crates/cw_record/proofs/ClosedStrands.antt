@@ -1,16 +1,15 @@
 -- What the strands of a closed run did is what a coherent record says of them.
-use Rattle.std.proofs.Common.{◌≡◌, ◌≢◌, ℕ, zero, suc, ◌+◌, ◌<◌, ◌≤◌, List, [], ◌∷◌, length, refl, ap, sym, ◌∙◌, subst, arith, Bool, true, false, Option, Some, None, inl, inr, nat_eq, nat_lt}
-use Rattle.std.specs.Prelude.{◌⊎◌, ◌&&◌, ◌||◌, not, ℤ, IsTrue}
+use Rattle.std.proofs.Common.{◌≡◌, ℕ, zero, suc, ◌+◌, ◌<◌, ◌≤◌, List, [], ◌∷◌, length, refl, ap, sym, ◌∙◌, subst, arith, true, false, Option, Some, None, inl, inr, nat_eq, nat_lt}
+use Rattle.std.specs.Prelude.{◌&&◌, ◌||◌, not, ℤ}
 use Rattle.std.proofs.lemmas.Bool.{and_parts, and_from, or_cases, or_left, or_right, not-true, not_from_false, cases_Bool, cases_eq, eqb-true, ltb-true, false_from_ne_true, true_from_ne_false}
 use Rattle.cw_strand.specs.Strands.{Strands, is_over}
 use Rattle.cw_tree.specs.declared.node.Node.{Node}
-use Rattle.cw_tree.specs.Nodes.{is_fork_kind, is_strand_kind, is_block_kind, parent_of, is_strand, is_fork, is_block, is_pending, is_committed, is_aborted}
-use Rattle.cw_tree.specs.Walks.{has, path, is_above, is_ancestor}
+use Rattle.cw_tree.specs.Nodes.{is_fork_kind, is_strand_kind, is_block_kind, parent_of, is_strand, is_fork, is_block, is_pending, is_committed}
+use Rattle.cw_tree.specs.Walks.{has, path, is_above}
 use Rattle.cw_tree.specs.Series.{children, strand_of, has_later, place}
 use Rattle.cw_tree.specs.Shape.{NonePending}
 use Rattle.cw_tree.specs.Accesses.{is_live}
 use Rattle.cw_tree.specs.Refusals.{is_victim}
-use Rattle.cw_tree.specs.Newest.{newest}
 use Rattle.cw_tree.proofs.Lists.{In, any_in}
 use Rattle.cw_tree.proofs.There.{node_there}
 use Rattle.cw_tree.proofs.DepthFirst.{IsChild, child_is}

@@ -83,3 +83,6 @@ pub mod ShownItems
 pub mod ClosedStrands
 pub mod RenamedStrands
 pub mod ClosedRuns
+pub mod LeftMemory
+pub mod NumberedTrees
+pub mod LeftRuns

@@ -13,7 +13,7 @@ use Rattle.cw_record.proofs.Building.{IsBuilt}
 use Rattle.cw_record.proofs.GrowingJournals.{same_added, live_elsewhere, has_read, has_written}
 
 -- what is there in one list is there in another one as long
-there_too : {X Y : Type 0} (xs : List X) (ys : List Y) (c : ℕ) (x : X) → length xs ≡ length ys → slice_get xs c ≡ Some x → (y : Y) × (slice_get ys c ≡ Some y)
+pub there_too : {X Y : Type 0} (xs : List X) (ys : List Y) (c : ℕ) (x : X) → length xs ≡ length ys → slice_get xs c ≡ Some x → (y : Y) × (slice_get ys c ≡ Some y)
 there_too [] ys c x len h = absurd (cc h)
 there_too (z ∷ xs) [] c x len h = absurd (omega (arith, len))
 there_too (z ∷ xs) (y ∷ ys) zero x len h = (y, refl)

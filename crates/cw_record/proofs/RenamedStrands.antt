@@ -1,9 +1,8 @@
 -- What strands did, said of the tree in depth-first order.
 use Rattle.std.proofs.Common.{◌≡◌, ℕ, zero, suc, ◌<◌, List, [], ◌∷◌, ◌++◌, length, map, refl, ap, sym, ◌∙◌, subst, arith, Bool, true, false, cond, Option, Some, None, inl, inr, append-nil}
-use Rattle.std.specs.Prelude.{◌⊎◌, ◌&&◌, ◌||◌, not, ℤ, IsTrue, filter, slice_get, option_map}
-use Rattle.std.proofs.lemmas.Bool.{and_parts, and_from, or_left, or_right, not-true, not_from_false, eqb-true, ltb-true}
+use Rattle.std.specs.Prelude.{◌&&◌, ◌||◌, not, filter, slice_get, option_map}
+use Rattle.std.proofs.lemmas.Bool.{and_parts, and_from, not-true, not_from_false}
 use Rattle.std.proofs.lemmas.List.Elements.{filter-append}
-use Rattle.cw_strand.specs.declared.want.Want.TheVariants as want
 use Rattle.cw_strand.specs.declared.want.Given.TheVariants.{Nothing, Value}
 use Rattle.cw_strand.specs.Strands.{Strands, is_over}
 use Rattle.cw_tree.specs.declared.node.Node.{Node}
@@ -11,15 +10,15 @@ use Rattle.cw_tree.specs.declared.node.Kind.{Kind}
 use Rattle.cw_tree.specs.declared.node.Kind.TheVariants.{Strand, Fork, Block, Read, Write, Out, Tried}
 use Rattle.cw_tree.specs.declared.node.BlockState.{BlockState}
 use Rattle.cw_tree.specs.declared.node.BlockState.TheVariants.{Pending, Committed, Aborted}
-use Rattle.cw_tree.specs.Nodes.{passes, is_fork_kind, is_strand_kind, parent_of, is_strand, is_fork, is_block, is_committed, all_nodes, below, last_below}
+use Rattle.cw_tree.specs.Nodes.{passes, parent_of, is_strand, is_fork, is_block, is_committed, below, last_below}
 use Rattle.cw_tree.specs.Walks.{IsNumbered}
 use Rattle.cw_tree.specs.Series.{children, has_later}
 use Rattle.cw_tree.specs.InOrder.{renamed, with_parent_renamed, in_order}
 use Rattle.cw_tree.proofs.Lists.{In}
 use Rattle.cw_tree.proofs.There.{node_there}
-use Rattle.cw_tree.proofs.DepthFirst.{IsChild, child_is}
+use Rattle.cw_tree.proofs.DepthFirst.{child_is}
 use Rattle.cw_tree.proofs.Children.{last_passes}
-use Rattle.cw_tree.proofs.Renumbered.{visited, some_node, new_length}
+use Rattle.cw_tree.proofs.Renumbered.{visited, some_node}
 use Rattle.cw_tree.proofs.Renaming.{number_of, node_stays, root_stays, parent_stays}
 use Rattle.cw_tree.proofs.Siblings.{siblings}
 use Rattle.cw_open.proofs.NodeKinds.{fork_no_strand}

@@ -8,6 +8,7 @@ pub mod Replay
 pub mod Worked
 pub mod Coherent
 pub mod ClosedRun
+pub mod Built
 pub mod Records
 pub mod WorkedRecord
 pub mod Scripts

@@ -1,9 +1,10 @@
-//! What a run keeps: its tree, its journals, its order and its end; and the run of one worker.
-//! Stands on `cw_base`, `cw_code`, `cw_strand`, `cw_tree` and `cw_serial`, with `cw_text` in proofs alone.
+//! What a run keeps: its tree, its journals, its order and its end; the run of one worker; and the record of a run that was closed.
+//! Stands on `cw_base`, `cw_code`, `cw_strand`, `cw_tree`, `cw_open` and `cw_serial`, with `cw_text` in proofs alone.
 //! Contracts cite `specs/Order.antt` (the order of a record, from `specs/Items.antt` and `specs/Listed.antt`), `specs/Replay.antt` (that
-//! one memory does what a record says), `specs/Checking.antt` (what a check says), `specs/Records.antt` (the run of one worker), and
-//! `specs/Coherent.antt` (what a coherent record is), `specs/WorkedRecord.antt` and `specs/WorkedEnds.antt` (small records that are, the
-//! latter of strands of `specs/Scripts.antt`). Private ones cite `specs/Levels.antt` (how items are
+//! one memory does what a record says), `specs/Checking.antt` (what a check says), `specs/Records.antt` (the run of one worker),
+//! `specs/ClosedRun.antt` and `specs/Built.antt` (closed runs and their records), and `specs/Coherent.antt` (what a coherent record is),
+//! `specs/WorkedRecord.antt` and `specs/WorkedEnds.antt` (small records that are, the latter of strands of `specs/Scripts.antt`).
+//! Private ones cite `specs/Levels.antt` (how items are
 //! found), `specs/Walked.antt` (what the passes over a tree find), `specs/Replaying.antt` (what a check finds, step by step),
 //! `specs/Drawn.antt` (what each step makes of the tree and the journals) and `specs/Worked.antt` (what one worker holds).
 #![tactic(auto)]
@@ -16,6 +17,7 @@ ghost use Rattle.cw_record.specs.WorkedRecord.{Coherent};
 mod checking;
 mod drawing;
 mod items;
+mod left;
 mod levels;
 mod links;
 mod listed;
@@ -30,7 +32,7 @@ mod worker;
 pub use checking::{Checked, check};
 pub use items::OrderItem;
 pub use order::order_of;
-pub use record::{Record, depth_first};
+pub use record::{Record, build, depth_first};
 pub use record_end::RecordEnd;
 
 /// A small record is coherent, and is not where one thing is changed.

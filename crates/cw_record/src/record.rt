@@ -1,14 +1,23 @@
-ghost use Rattle.std.specs.Prelude.{◌≡◌, [], IfOk, length};
+ghost use Rattle.std.specs.Prelude.{◌≡◌, [], IfOk, length, List, Option};
 ghost use Rattle.cw_strand.specs.Programs.{IsCompiled};
+ghost use Rattle.cw_strand.specs.Names.{first_memory};
+ghost use Rattle.cw_tree.specs.declared.node.Node.{Node};
+ghost use Rattle.cw_tree.specs.declared.closed.Halt.{Halt};
+ghost use Rattle.cw_tree.specs.InOrder.{in_order};
+ghost use Rattle.cw_tree.specs.Walks.{IsNumbered};
+ghost use Rattle.cw_open.specs.Machine.{Machine};
 ghost use Rattle.cw_serial.specs.Jobs.{Takes};
+ghost use Rattle.cw_record.specs.Built.{HasRecord, IsLeftBy, end_left};
+ghost use Rattle.cw_record.specs.Order.{order_of};
 ghost use Rattle.cw_record.specs.Records.{BlocksEnded, HasEnded, HasItsOutputs, IsCoherentRun, IsReplayed, IsDepthFirst, IsNumberedDepthFirst};
 
+use crate::left::end_left;
 use crate::worker::Worker;
 use crate::{RecordEnd, order_of};
 use cw_base::{OutOfMemory, Seq};
 use cw_code::Limits;
 use cw_serial::Program;
-use cw_tree::{Conflict, Entry, Picks, Tree};
+use cw_tree::{Closed, Conflict, Entry, Picks, Tree};
 use std::alloc::Global;
 
 /// What a run keeps: what it ran, its tree, the live accesses of each element, its refused accesses, the order in which one memory
@@ -65,5 +74,58 @@ pub fn depth_first(
         conflicts,
         order,
         end: run.end,
+    })
+}
+
+/// The record of a run that was closed, of a job that it was a run of: what was run, what is left of it, and beside that its order
+/// and its end. `spent` says that the moves of the run were used up; where it was stopped it ended so all the same. A run that
+/// finished has the memory that its journals leave, and the outputs of its output nodes, in its order.
+///
+/// A run that was stopped for want of memory has no record, and a strand at which one was stopped has to be one of the tree. The
+/// only error is want of memory.
+pub fn build(
+    alloc: Global,
+    program: Program,
+    words: Seq<i64>,
+    limits: Limits,
+    closed: Closed,
+    spent: bool,
+) -> Result<Record, OutOfMemory>
+    requires { HasRecord closed.tree closed.halt }
+    ensures program { IfOk result (λ r. r.program ≡ program) }
+    ensures words { IfOk result (λ r. r.words ≡ words) }
+    ensures limits { IfOk result (λ r. r.limits ≡ limits) }
+    ensures tree { IfOk result (λ r. r.tree ≡ closed.tree) }
+    ensures journals { IfOk result (λ r. r.journals ≡ closed.journals) }
+    ensures conflicts { IfOk result (λ r. r.conflicts ≡ closed.conflicts) }
+    ensures order { IfOk result (λ r. r.order ≡ order_of r.tree r.conflicts r.limits.aborts r.end) }
+    ensures end { IfOk result (λ r. r.end ≡ end_left (first_memory program.cells) limits.aborts closed spent) }
+    ensures outputs { IfOk result (λ r. HasItsOutputs r) }
+
+    // what a closed run of the program's strands left in depth-first order is coherent, and so numbered
+    ensures coherent { IfOk result (λ r. (m : Machine) (h : Option Halt) →
+        IsLeftBy (record { program = program; words = words; limits = limits }) spent m h closed → IsCoherentRun r) }
+    ensures numbered { IfOk result (λ r. (t : List Node) →
+        IsNumbered t → closed.tree ≡ in_order t → IsNumberedDepthFirst r.tree) }
+{
+    // a hint to the prover: the root is a strand
+    let _ = closed.tree.nodes();
+    let end = end_left(alloc, &program, limits.aborts, &closed, spent)?;
+    let order = order_of(
+        alloc,
+        &closed.tree,
+        closed.conflicts.as_slice(),
+        limits.aborts,
+        &end,
+    )?;
+    Ok(Record {
+        program,
+        words,
+        limits,
+        tree: closed.tree,
+        journals: closed.journals,
+        conflicts: closed.conflicts,
+        order,
+        end,
     })
 }

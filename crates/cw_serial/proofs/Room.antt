@@ -2,3 +2,4 @@ pub mod Elements
 pub mod Lawful
 pub mod Nexts
 pub mod Wants
+pub mod Backs

@@ -22,6 +22,7 @@ mod table;
 mod words;
 
 pub use cw_code::{CellInfo, FaultKind, Limits, Program};
+pub use cw_strand::Saved;
 pub use cw_tree::{Name, Picks};
 pub use ends::SerialEnd;
 pub use machine::Machine;

@@ -5,7 +5,7 @@ ghost use Rattle.cw_strand.specs.declared.want.Want.TheVariants as Want;
 
 use cw_base::OutOfMemory;
 use cw_code::{Limits, Program};
-use cw_strand::{Given, Strand, Want};
+use cw_strand::{Given, Saved, Strand, Want};
 use std::alloc::Global;
 
 /// A strand at its want.
@@ -17,8 +17,10 @@ pub struct Standing {
 
 #[tactic(auto, unfolding(crate::specs::Room::Strands::strands_of, crate::specs::Room::Strands::state_of, crate::specs::Room::Strands::IsOf))]
 impl Standing {
+    ghost use Rattle.cw_code.specs.declared.program.Program.{Program};
     ghost use Rattle.cw_serial.specs.Jobs.{Job, Takes, bare};
-    ghost use Rattle.cw_serial.specs.Room.Strands.{IsOf, state_of, strands_of};
+    ghost use Rattle.cw_serial.specs.Room.Saves.{IsSavedOf, MayGoBack, StandsAs};
+    ghost use Rattle.cw_serial.specs.Room.Strands.{StrandState, IsOf, state_of, strands_of};
 
     /// The strand of main, at its first want.
     pub fn start(
@@ -83,5 +85,32 @@ impl Standing {
         self.strand.joined(left.strand);
         self.want = self.strand.next(program, Given::Nothing)?;
         Ok(())
+    }
+
+    /// As the right strand of a fork of which a strand was given up: it stands where it stood, as the strand that forked. Takes no memory.
+    pub fn join_given_up(&mut self, left: Standing)
+        ensures like { (there : StrandState) → StandsAs (state_of self.old) there → StandsAs (state_of self.new) there }
+        ensures stands { (program : Program) → IsOf program self.old → IsOf program self.new }
+    {
+        self.strand.joined(left.strand);
+    }
+
+    /// Keeps what it needs to stand here again, at the begin of a block that it wants.
+    pub fn save(&self) -> Result<Saved, OutOfMemory>
+        ensures { IfOk result (λ saved. (program : Program) → IsOf program self.now → (strands_of (bare program)).want (state_of self.now) ≡ Want.Begin →
+            IsSavedOf program saved (state_of self.now)) }
+    {
+        let saved = self.strand.save()?;
+        Ok(saved)
+    }
+
+    /// Goes back to the begin of a block inside which it stands, at its want: that is the begin of the block again. Takes no memory.
+    pub fn back(&mut self, saved: &Saved)
+        requires { MayGoBack saved.now (state_of self.old) }
+        ensures back { (m : MayGoBack saved.now (state_of self.old)) → state_of self.new ≡ m.begin }
+        ensures stands { (m : MayGoBack saved.now (state_of self.old)) → IsOf m.job.program self.new }
+    {
+        self.strand.back(saved);
+        self.want = Want::Begin;
     }
 }

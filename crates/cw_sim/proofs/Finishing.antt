@@ -1,9 +1,8 @@
 -- A strand finishes: what follows of the core, of the other workers, and of the right strand that is taken back.
-use Rattle.std.proofs.Common.{◌≡◌, ◌≢◌, ℕ, ◌+◌, ◌<◌, ◌≤◌, List, [], ◌∷◌, ◌++◌, length, refl, ap, sym, ◌∙◌, subst, arith, Bool, true, false, cond, Option, Some, None, inl, inr, nat_eq}
-use Rattle.std.specs.Prelude.{◌⊎◌, ◌&&◌, ◌||◌, not, ℤ, filter}
-use Rattle.std.specs.List.{list_any}
+use Rattle.std.proofs.Common.{◌≡◌, ◌≢◌, ℕ, ◌+◌, ◌<◌, List, [], ◌∷◌, ◌++◌, length, refl, ap, sym, ◌∙◌, subst, arith, Bool, true, false, cond, Option, Some, None, inl, inr, nat_eq}
+use Rattle.std.specs.Prelude.{◌&&◌, ◌||◌, not, ℤ, filter}
 use Rattle.std.proofs.lemmas.List.Elements.{filter-append}
-use Rattle.std.proofs.lemmas.Bool.{cases_eq, and_parts, and_from, and_left, or_cases, or_left, or_right, ne_eqb, eq-eqb, eqb-true, not_from_true, not_from_false, not-true, false_from_ne_true}
+use Rattle.std.proofs.lemmas.Bool.{and_parts, and_from, or_cases, or_left, or_right, ne_eqb, eq-eqb, eqb-true, not_from_false, false_from_ne_true}
 use Rattle.cw_tree.specs.declared.node.Node.{Node}
 use Rattle.cw_tree.specs.Nodes.{is_strand, is_fork, parent_of, all_nodes}
 use Rattle.cw_tree.specs.Walks.{has, is_ancestor}
@@ -12,11 +11,11 @@ use Rattle.cw_tree.specs.Shape.{IsTree}
 use Rattle.cw_tree.proofs.Ancestors.{ancestor_le}
 use Rattle.cw_tree.proofs.Lists.{any_in}
 use Rattle.cw_tree.proofs.Strands.{strand_over, strand_of_le}
-use Rattle.cw_trace.proofs.InRange.{fork_low, strand_low}
+use Rattle.cw_trace.proofs.InRange.{fork_low}
 use Rattle.cw_open.specs.Machine.{Machine, has_finished, is_running, waits}
 use Rattle.cw_open.specs.Open.{is_open}
 use Rattle.cw_open.proofs.NodeKinds.{fork_no_strand}
-use Rattle.cw_open.proofs.Standing.{runs, open_over}
+use Rattle.cw_open.proofs.Standing.{runs}
 use Rattle.cw_core.specs.declared.event.Event.TheVariants as event
 use Rattle.cw_core.specs.State.{State, is_split, waits_for_left}
 use Rattle.cw_core.specs.Events.{fits, after}
@@ -29,10 +28,10 @@ use Rattle.cw_sim.specs.Kept.{Runs, Fits, GoesOn, forks_around}
 use Rattle.cw_sim.proofs.Around.{Waits, waits_around}
 use Rattle.cw_sim.proofs.Deques.{newest}
 use Rattle.cw_sim.proofs.Going.{goes_on, still_runs}
-use Rattle.cw_sim.proofs.Halves.{strand_open, left_child, right_child, left_strand, right_strand}
+use Rattle.cw_sim.proofs.Halves.{strand_open, right_child, left_strand, right_strand}
 use Rattle.cw_sim.proofs.Ready.{right_ready, left_done}
 use Rattle.cw_sim.proofs.Same.{SameWays}
-use Rattle.cw_sim.proofs.Unsplit.{left_shut}
+use Rattle.cw_sim.proofs.Unsplit.{none_made, left_open}
 use Rattle.cw_sim.proofs.Ways.{around_right}
 use Rattle.cw_sim.proofs.Workers.{has_back, has_parts}
 
@@ -86,10 +85,7 @@ module _ (first : List ℤ) (k : State) (on : GoesOn first k) (x : ℕ) (dead : 
   -- the right strand of a fork that waits around a running strand is another one
   not_to_come : (y f : ℕ) (fs : List ℕ) → is_running m y ≡ true → Waits k y f fs → right_of f ≢ x
   not_to_come y f fs runs_y w q =
-      let nested = (well first k on.core).nested in
-      let here = runs m tree nested y runs_y in
-      let child = left_child t tree on.forks f w.fork in
-      let open_left : is_open m (left_of f) ≡ true = open_over m tree nested (left_of f) y (strand_low t y here.strand) w.over (strand_open m y here.strand here.unfinished) in
+      let open_left = left_open first k on y f fs runs_y w in
       let up = (right_child t tree on.forks f w.fork).up in
       let P : ℕ → Type 0 = λ n. parent_of t n ≡ f in
       let Q : ℕ → Type 0 = λ n. waits_for_left k n ≡ false in
@@ -108,13 +104,17 @@ module _ (first : List ℤ) (k : State) (on : GoesOn first k) (x : ℕ) (dead : 
   still_running y ne e =
       ap (λ b. is_strand t y && not (b || has_finished m y) && not (waits m y) && not (has m.stopped y)) (ne_eqb x y (λ q. ne (sym q))) ∙ e
 
+  -- the right strands of what waits in a worker are to come still
+  pub still_to_come : (w : Worker) (y : ℕ) → Runs k w y → (f : ℕ) → has (w.deque ++ w.inline) f ≡ true → has_finished z.machine (right_of f) ≡ false
+  still_to_come w y at f e = let a = around w y at f e in other (right_of f) (not_to_come y f a.0 at.running a.1) (at.to_come f e)
+
   -- each worker that runs another strand fits as before
   pub others : (w : Worker) (r : Option ℕ) → ((y : ℕ) → r ≡ Some y → y ≢ x) → Fits k w r → Fits z w r
   others w None ne idle = idle
   others w (Some y) ne at =
       still_runs first k z on core same goes.forks more (λ f h. refl) w y at (still_running y (ne y refl) at.running)
       (λ f e. let a = around w y at f e in fork_low t f a.1.fork)
-      (λ f e. let a = around w y at f e in other (right_of f) (not_to_come y f a.0 at.running a.1) (at.to_come f e))
+      (still_to_come w y at)
 
   -- ## The right strand of a fork that is not split, once its left one has finished
 
@@ -142,7 +142,7 @@ module _ (first : List ℤ) (k : State) (on : GoesOn first k) (x : ℕ) (dead : 
         let up = ancestor_le t tree.rooted (left_of f) s (omega arith) a.over in
         absurd (omega arith))
 
-    left_behind : without w.deque ++ without w.inline ≡ forks_around k (strand_of t f)
+    pub left_behind : without w.deque ++ without w.inline ≡ forks_around k (strand_of t f)
     left_behind =
         sym (filter-append (λ g. not (nat_eq g f)) w.deque w.inline)
         ∙ ap without waits_here
@@ -155,15 +155,8 @@ module _ (first : List ℤ) (k : State) (on : GoesOn first k) (x : ℕ) (dead : 
     right_low = (right_child t tree on.forks f fork).there
 
     -- nothing was made in it
-    none_beneath : (n : ℕ) → n < length t → is_ancestor t (right_of f) n ≡ true → n ≡ right_of f
-    none_beneath n h over = elim (cases_eq n (right_of f)) [
-      | inl e ↦ e
-      | inr ne ↦ (
-          let here = runs m tree (well first k on.core).nested x running in
-          let open_x : is_open m (left_of f) ≡ true = ap (is_open m) (sym left) ∙ strand_open m x here.strand here.unfinished in
-          let shut = left_shut first k on f fork off n h over ne in
-          absurd (cc (open_x, shut)))
-    ]
+    pub none_beneath : (n : ℕ) → n < length t → is_ancestor t (right_of f) n ≡ true → n ≡ right_of f
+    none_beneath = let here = runs m tree (well first k on.core).nested x running in none_made first k on f fork off (ap (is_open m) (sym left) ∙ strand_open m x here.strand here.unfinished)
 
     right_waits : waits m (right_of f) ≡ false
     right_waits = false_from_ne_true (waits m (right_of f)) (λ e.
@@ -193,5 +186,5 @@ module _ (first : List ℤ) (k : State) (on : GoesOn first k) (x : ℕ) (dead : 
           forks = left_behind ∙ sym (around_right k tree.rooted (right_of f) rc.some rc.there strand (ap (is_split k) rc.up ∙ off) (λ q. (let u = rc.up in omega (arith, q, u))) ∙ ap (λ g. forks_around k (strand_of t g)) rc.up);
           deque = λ g e. at.deque g (filter_has (λ g. not (nat_eq g f)) w.deque g e);
           inline = λ g e. at.inline g (filter_has (λ g. not (nat_eq g f)) w.inline g e);
-          to_come = λ g e. (let a = around w x at g (kept g e) in other (right_of g) (not_to_come x g a.0 running a.1) (at.to_come g (kept g e)));
+          to_come = λ g e. still_to_come w x at g (kept g e);
         }

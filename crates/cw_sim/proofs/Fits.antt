@@ -1,7 +1,7 @@
 -- The events of a running strand fit, and those of a fork.
 use Rattle.std.proofs.Common.{◌≡◌, ℕ, ◌<◌, List, length, refl, ap, sym, ◌∙◌, subst, Bool, true, false, cond, Option, Some, None, nat_lt, nat_eq}
 use Rattle.std.specs.Prelude.{◌&&◌, ◌||◌, not, ℤ, is_none}
-use Rattle.std.specs.List.{list_any, list_all}
+use Rattle.std.specs.List.{list_all}
 use Rattle.std.proofs.lemmas.Bool.{and_from, or_left, or_right, not_from_false, lt-ltb}
 use Rattle.cw_tree.specs.declared.closed.Halt.{Halt}
 use Rattle.cw_tree.specs.Nodes.{is_fork}
@@ -25,6 +25,10 @@ finish_test true true e x = refl
 finish_test false false e x = refl
 finish_test true false e x = absurd (cc e)
 finish_test false true e x = absurd (cc e)
+
+dead_test : (b x : Bool) → x ≡ true → cond b true (false || x) ≡ true
+dead_test true x e = refl
+dead_test false x e = e
 
 module _ (first : List ℤ) (k : State) (on : GoesOn first k) where
   abbrev m : Machine
@@ -70,18 +74,25 @@ module _ (first : List ℤ) (k : State) (on : GoesOn first k) where
         (and_from (is_free m x && not (waits_for_left k x) && in_block m x) (not (is_victim m.tree m.conflicts (place m.tree x)))
         (and_from (is_free m x && not (waits_for_left k x)) (in_block m x) (goes alive) within) (not_from_false (is_victim m.tree m.conflicts (place m.tree x)) safe))
 
+    pub rolls : is_dying m x ≡ true → in_block m x ≡ true → rolls_back m x ≡ true
+    rolls dying within = dying_roll_back (λ t us w. Rattle.cw_tree.specs.Newest.newest us) first m reached x (and_from (is_running m x && in_block m x) (is_dying m x) (and_from (is_running m x) (in_block m x) running within) dying)
+
     pub roll_fits : is_dying m x ≡ true → in_block m x ≡ true → fits k (event.Roll x) ≡ true
-    roll_fits dying within =
-        let rolls = dying_roll_back (λ t us w. Rattle.cw_tree.specs.Newest.newest us) first m reached x (and_from (is_running m x && in_block m x) (is_dying m x) (and_from (is_running m x) (in_block m x) running within) dying) in
-        fits_on (event.Roll x) (and_from (rolls_back m x) (not (waits_for_left k x)) rolls (not_from_false (waits_for_left k x) ready))
+    roll_fits dying within = fits_on (event.Roll x) (and_from (rolls_back m x) (not (waits_for_left k x)) (rolls dying within) (not_from_false (waits_for_left k x) ready))
+
+    finish_by : (dead : Bool) → in_block m x ≡ false → cond (is_dying m x) dead (not dead || left_died m x) ≡ true → fits k (event.Finish x dead) ≡ true
+    finish_by dead out test =
+        fits_on (event.Finish x dead)
+        (and_from (is_running m x && not (waits_for_left k x) && not (in_block m x)) (cond (is_dying m x) dead (not dead || left_died m x))
+        (and_from (is_running m x && not (waits_for_left k x)) (not (in_block m x)) (and_from (is_running m x) (not (waits_for_left k x)) running (not_from_false (waits_for_left k x) ready)) (not_from_false (in_block m x) out)) test)
 
     -- dead where it is dying, and else not
     pub finish_fits : (dead : Bool) → is_dying m x ≡ dead → in_block m x ≡ false → fits k (event.Finish x dead) ≡ true
-    finish_fits dead is out =
-        fits_on (event.Finish x dead)
-        (and_from (is_running m x && not (waits_for_left k x) && not (in_block m x)) (cond (is_dying m x) dead (not dead || left_died m x))
-        (and_from (is_running m x && not (waits_for_left k x)) (not (in_block m x)) (and_from (is_running m x) (not (waits_for_left k x)) running (not_from_false (waits_for_left k x) ready)) (not_from_false (in_block m x) out))
-        (finish_test (is_dying m x) dead is (left_died m x)))
+    finish_fits dead is out = finish_by dead out (finish_test (is_dying m x) dead is (left_died m x))
+
+    -- and dead too where it made no step and its left strand finished dead
+    pub finish_after_dead : in_block m x ≡ false → left_died m x ≡ true → fits k (event.Finish x true) ≡ true
+    finish_after_dead out died = finish_by true out (dead_test (is_dying m x) (left_died m x) died)
 
   -- ## A fork
 

@@ -1,7 +1,7 @@
 -- A strand forks: the core, the other workers, and the left strand.
 use Rattle.std.proofs.Common.{◌≡◌, ◌≢◌, ℕ, zero, suc, ◌+◌, ◌<◌, ◌≤◌, List, [], ◌∷◌, ◌++◌, length, refl, ap, sym, ◌∙◌, subst, arith, Bool, true, false, Option, Some, None, inl, inr, nat_eq, length-append, append_assoc, append-nil}
 use Rattle.std.specs.Prelude.{◌⊎◌, ◌&&◌, ◌%◌, not, ℤ, nat_le, is_none}
-use Rattle.std.proofs.lemmas.Bool.{cases_eq, cases_lt, and_from, and_left, and_right, and_parts, or_cases, or_left, ne_eqb, eq-eqb, eqb-true, leb-true, leb-false, le-leb, not-true, not_from_false, false_from_ne_true}
+use Rattle.std.proofs.lemmas.Bool.{cases_eq, cases_lt, and_from, and_left, and_right, and_parts, or_cases, or_left, ne_eqb, eq-eqb, eqb-true, leb-true, leb-false, le-leb, not_from_false, false_from_ne_true}
 use Rattle.cw_tree.specs.declared.node.Node.{Node}
 use Rattle.cw_tree.specs.declared.node.Kind.TheVariants.{Strand, Fork}
 use Rattle.cw_tree.specs.Nodes.{is_strand_kind, is_fork_kind, is_strand, is_fork, parent_of, all_nodes, fresh_node}
@@ -196,7 +196,7 @@ module _ (first : List ℤ) (k : State) (on : GoesOn first k) (x : ℕ) (running
       ∙ ap (λ b. is_strand t y && not (has_finished m y) && not b && not (has m.stopped y)) (waits_grown t xs tree.rooted m z.machine refl refl refl y (λ f le low. no_new y f ne le))
       ∙ e
 
-  low_waiting : (w : Worker) (y : ℕ) → Runs k w y → (f : ℕ) → has (waiting w) f ≡ true → f < n
+  pub low_waiting : (w : Worker) (y : ℕ) → Runs k w y → (f : ℕ) → has (waiting w) f ≡ true → f < n
   low_waiting w y at f e =
       let here = runs m tree (well first k on.core).nested y at.running in
       let q = has_parts (waiting w) f e in
@@ -232,7 +232,7 @@ module _ (first : List ℤ) (k : State) (on : GoesOn first k) (x : ℕ) (running
           let size = on.core.stands.all_forks room in
           absurd (let yes = le-leb (fork_column t g + 2) k.tier.room (omega (arith, less, room, size)) in cc (yes, off))
 
-    waits_now : (b : Bool) → may_fork k ≡ b → waiting (with_fork b n w) ≡ waiting w ++ n ∷ []
+    pub waits_now : (b : Bool) → may_fork k ≡ b → waiting (with_fork b n w) ≡ waiting w ++ n ∷ []
     waits_now true e = ap (λ is. (w.deque ++ n ∷ []) ++ is) (none_inline e) ∙ append-nil (w.deque ++ n ∷ []) ∙ sym (ap (λ ds. ds ++ n ∷ []) (ap (λ is. w.deque ++ is) (none_inline e) ∙ append-nil w.deque))
     waits_now false e = sym (append_assoc w.deque w.inline (n ∷ []))
 
@@ -240,7 +240,7 @@ module _ (first : List ℤ) (k : State) (on : GoesOn first k) (x : ℕ) (running
     x_low = strand_low t x (runs m tree (well first k on.core).nested x running).strand
 
     -- what waits in a list and one more
-    one_more : (ds : List ℕ) (g : ℕ) → has (ds ++ n ∷ []) g ≡ true → (has ds g ≡ true) ⊎ (g ≡ n)
+    pub one_more : (ds : List ℕ) (g : ℕ) → has (ds ++ n ∷ []) g ≡ true → (has ds g ≡ true) ⊎ (g ≡ n)
     one_more [] g e = elim (or_cases (nat_eq n g) false e) [ inl q ↦ inr (sym (eqb-true n g q)) | inr q ↦ absurd (cc q) ]
     one_more (d ∷ ds) g e = elim (or_cases (nat_eq d g) (has (ds ++ n ∷ []) g) e) [
       | inl q ↦ inl (or_left (nat_eq d g) (has ds g) q)

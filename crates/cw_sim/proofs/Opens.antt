@@ -1,15 +1,19 @@
 -- Before the first move all is kept.
-use Rattle.std.proofs.Common.{◌≡◌, ℕ, zero, suc, ◌-◌, ◌<◌, List, ◌∷◌, length, refl, ap, sym, subst, true, false, Some}
-use Rattle.std.specs.Prelude.{ℤ, replicate}
-use Rattle.cw_tree.specs.Nodes.{is_fork, is_pending}
-use Rattle.cw_strand.specs.declared.want.Want.TheVariants.{Fork}
-use Rattle.cw_strand.specs.Strands.{Strands, is_over, stays}
-use Rattle.cw_open.specs.Machine.{has_finished, waits}
+use Rattle.std.proofs.Common.{◌≡◌, ℕ, zero, suc, ◌-◌, ◌<◌, List, ◌∷◌, length, refl, ap, sym, subst, arith, true, false, Some}
+use Rattle.std.specs.Prelude.{◌&&◌, ◌||◌, not, ℤ, replicate, slice_get}
+use Rattle.std.proofs.lemmas.Option.{same_Some}
+use Rattle.cw_tree.specs.declared.node.Node.{Node}
+use Rattle.cw_tree.specs.declared.node.Kind.TheVariants.{Strand}
+use Rattle.cw_tree.specs.Nodes.{is_fork, is_strand, is_block, fresh_node}
+use Rattle.cw_tree.specs.Walks.{has}
+use Rattle.cw_tree.specs.Series.{children}
+use Rattle.cw_strand.specs.Strands.{Strands, is_over}
+use Rattle.cw_open.specs.Machine.{has_finished, finished_dead}
 use Rattle.cw_core.specs.State.{State, start}
 use Rattle.cw_core.proofs.Kept.{starts}
-use Rattle.cw_tree.specs.Walks.{has}
+use Rattle.cw_record.specs.Coherent.{InSeries, IsWanted, entered}
 use Rattle.cw_sim.specs.Workers.{Worker, idle, waiting, worker_in, Simulation, tree, opening}
-use Rattle.cw_sim.specs.Kept.{Fits, GoesOn, AreStates, CameTo, begun_below, is_told, is_current}
+use Rattle.cw_sim.specs.Kept.{Fits, GoesOn, HasStates}
 use Rattle.cw_sim.specs.Laws.{OpensWell}
 use Rattle.cw_sim.proofs.Ready.{main_ready}
 
@@ -26,10 +30,6 @@ module _ (first : List ℤ) (room budget : ℕ) where
   no_fork : (f : ℕ) → is_fork k.machine.tree f ≡ false
   no_fork zero = refl
   no_fork (suc f) = refl
-
-  no_block : (b : ℕ) → is_pending k.machine.tree b ≡ false
-  no_block zero = refl
-  no_block (suc b) = refl
 
   goes : 0 < room → GoesOn first k
   goes some = record {
@@ -61,25 +61,36 @@ module _ {A : Type 0} (s : Strands A) (first : List ℤ) (room budget workers : 
   abbrev m : Simulation A
   m = opening first room budget workers s.start
 
-  came : (x : ℕ) → is_told m.core x ≡ true → CameTo s m x (begun_below (tree m) (length (tree m)) x) (m.at x)
-  came zero e = stays
-  came (suc x) e = absurd (cc e)
+  abbrev all_start : ℕ → A
+  all_start n = s.start
 
-  at_fork : (x : ℕ) → is_current m.core x ≡ true → waits m.core.machine x ≡ true → s.want (m.at x) ≡ Fork
-  at_fork zero e w = absurd (cc w)
-  at_fork (suc x) e w = absurd (cc e)
+  series : (n : ℕ) → n < length (tree m) → (is_strand (tree m) n || is_block (tree m) n) ≡ true → InSeries all_start all_start (entered s (tree m) all_start all_start all_start n) (children (tree m) n) (all_start n)
+  series zero low e = refl
+  series (suc n) low e = absurd (omega arith)
 
-  ended : (x : ℕ) → is_told m.core x ≡ true → has_finished m.core.machine x ≡ true → is_over (s.want (m.at x)) ≡ true
-  ended x e f = absurd (cc f)
+  wanted : (n : ℕ) (x : Node) → slice_get (tree m) n ≡ Some x → IsWanted s (tree m) all_start all_start all_start n x.kind x.state
+  wanted zero x e =
+      let P : Node → Type 0 = λ y. IsWanted s (tree m) all_start all_start all_start 0 y.kind y.state in
+      subst P (same_Some (fresh_node 0 Strand 0) x e) tt
+  wanted (suc n) x e = absurd (cc e)
 
-  states : AreStates s m
-  states = record {
-    strands = came;
-    forks = at_fork;
-    ends = ended;
-    begins = λ b e. absurd (cc (e, no_block first room budget b));
-    saved = λ b e. absurd (cc (e, no_block first room budget b));
-  }
+  none_over : (x : ℕ) → (is_strand (tree m) x && has_finished m.core.machine x && not (finished_dead m.core.machine x)) ≡ true → is_over (s.want (all_start x)) ≡ true
+  none_over zero e = absurd (cc e)
+  none_over (suc x) e = absurd (cc e)
+
+  -- main stands at its start before, in and after all nodes
+  states : HasStates s m
+  states = (
+    all_start,
+    all_start,
+    all_start,
+    record {
+      states = record { start = refl; series = series; fits = wanted; joined = λ f l r e. absurd (cc e); over = none_over };
+      forks = λ f e. absurd (cc (e, no_fork first room budget f));
+      strands = λ x e w. refl;
+      saved = λ b e. refl;
+    },
+  )
 
 pub opens : {A : Type 0} (s : Strands A) → OpensWell s
 opens s first room budget workers some = record {

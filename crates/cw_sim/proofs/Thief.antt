@@ -1,7 +1,7 @@
 -- The workers after a fork was taken from the deque of one: that one, the others, and the thief.
 use Rattle.std.proofs.Common.{◌≡◌, ◌≢◌, ℕ, ◌<◌, List, [], ◌∷◌, ◌++◌, length, refl, ap, sym, ◌∙◌, subst, arith, true, false, Option, Some, None, inl, inr, nat_eq}
 use Rattle.std.specs.Prelude.{◌&&◌, not, ℤ}
-use Rattle.std.proofs.lemmas.Bool.{cases_eq, and_parts, and_from, or_left, or_right, eq-eqb, eqb-true, not-true, not_from_false, false_from_ne_true}
+use Rattle.std.proofs.lemmas.Bool.{cases_eq, and_parts, and_from, or_right, eqb-true, not_from_false, false_from_ne_true}
 use Rattle.cw_tree.specs.declared.node.Node.{Node}
 use Rattle.cw_tree.specs.Nodes.{is_strand, is_fork, parent_of, all_nodes}
 use Rattle.cw_tree.specs.Walks.{has, is_ancestor}
@@ -11,9 +11,8 @@ use Rattle.cw_tree.proofs.Lists.{any_in}
 use Rattle.cw_tree.proofs.Strands.{strand_over}
 use Rattle.cw_trace.proofs.InRange.{fork_low, strand_low}
 use Rattle.cw_open.specs.Machine.{Machine, has_finished, is_running, waits}
-use Rattle.cw_open.specs.Open.{is_open}
 use Rattle.cw_open.proofs.NodeKinds.{fork_no_strand}
-use Rattle.cw_open.proofs.Standing.{runs, open_over}
+use Rattle.cw_open.proofs.Standing.{runs}
 use Rattle.cw_core.specs.declared.event.Event.TheVariants as event
 use Rattle.cw_core.specs.State.{State, has_columns, is_split, waits_for_left}
 use Rattle.cw_core.specs.Events.{fits, after, is_early}
@@ -22,10 +21,10 @@ use Rattle.cw_core.proofs.Ordering.{closed_strand}
 use Rattle.cw_sim.specs.Workers.{Worker, waiting, left_of, right_of}
 use Rattle.cw_sim.specs.Kept.{Runs, Fits, GoesOn}
 use Rattle.cw_sim.proofs.Around.{Waits}
-use Rattle.cw_sim.proofs.Halves.{strand_open, left_strand, right_child, right_strand, which}
+use Rattle.cw_sim.proofs.Halves.{left_strand, right_child, right_strand, which}
 use Rattle.cw_sim.proofs.Ready.{main_ready, split_ready, left_ready, right_ready, left_done}
 use Rattle.cw_sim.proofs.Stealing.{now, more, goes, columns, robbed, kept}
-use Rattle.cw_sim.proofs.Unsplit.{left_shut}
+use Rattle.cw_sim.proofs.Unsplit.{left_open, none_beneath}
 use Rattle.cw_sim.proofs.Ways.{around_split}
 
 module _ (first : List ℤ) (k : State) (on : GoesOn first k) (f : ℕ) (room : has_columns k f ≡ true) (early : is_early k f ≡ None) (fit : fits k (event.Split f) ≡ true)
@@ -48,18 +47,8 @@ module _ (first : List ℤ) (k : State) (on : GoesOn first k) (f : ℕ) (room : 
   pub core_goes : GoesOn first z
   core_goes = goes first k on f fork room here.split here.outer early fit
 
-  left_open : is_open m (left_of f) ≡ true
-  left_open =
-      let nested = (well first k on.core).nested in
-      let run = runs m tree nested y y_runs in
-      open_over m tree nested (left_of f) y (strand_low t y run.strand) here.over (strand_open m y run.strand run.unfinished)
-
-  -- nothing was made in the right strand
-  none_beneath : (n : ℕ) → n < length t → is_ancestor t (right_of f) n ≡ true → n ≡ right_of f
-  none_beneath n h over = elim (cases_eq n (right_of f)) [
-    | inl e ↦ e
-    | inr ne ↦ absurd (let shut = left_shut first k on f fork here.split n h over ne in let o = left_open in cc (o, shut))
-  ]
+  none_made : (n : ℕ) → n < length t → is_ancestor t (right_of f) n ≡ true → n ≡ right_of f
+  none_made = none_beneath first k on y f [] y_runs here
 
   -- no strand that is ready is the right one
   pub not_right : (x : ℕ) → waits_for_left k x ≡ false → x ≢ right_of f
@@ -68,7 +57,7 @@ module _ (first : List ℤ) (k : State) (on : GoesOn first k) (f : ℕ) (room : 
       let P : ℕ → Type 0 = λ n. waits_for_left k n ≡ false in
       let done = left_done k on.forks (right_of f) f up fork refl (subst P q ready) here.split in
       let shut = closed_strand m (left_of f) (left_strand t tree on.forks f fork) done in
-      let o = left_open in
+      let o = left_open first k on y f [] y_runs here in
       absurd (cc (o, shut))
 
   -- a strand that waited for none waits for none
@@ -110,7 +99,7 @@ module _ (first : List ℤ) (k : State) (on : GoesOn first k) (f : ℕ) (room : 
   others w None off idle = idle
   others w (Some x) off at =
       let run = runs m tree (well first k on.core).nested x at.running in
-      let apart : is_ancestor t (right_of f) x ≡ false = false_from_ne_true (is_ancestor t (right_of f) x) (λ q. absurd (not_right x at.ready (none_beneath x (strand_low t x run.strand) q))) in
+      let apart : is_ancestor t (right_of f) x ≡ false = false_from_ne_true (is_ancestor t (right_of f) x) (λ q. absurd (not_right x at.ready (none_made x (strand_low t x run.strand) q))) in
       record {
         running = at.running;
         ready = ready_still x run.strand at.ready;
@@ -127,7 +116,7 @@ module _ (first : List ℤ) (k : State) (on : GoesOn first k) (f : ℕ) (room : 
       let c = and_parts (is_fork t a.0) (nat_eq (strand_of t a.0) (right_of f)) b.0 in
       let low = fork_low t a.0 c.0 in
       let P : ℕ → Type 0 = λ n. is_ancestor t n a.0 ≡ true in
-      let it = none_beneath a.0 low (subst P (eqb-true (strand_of t a.0) (right_of f) c.1) (strand_over t tree.rooted a.0 low)) in
+      let it = none_made a.0 low (subst P (eqb-true (strand_of t a.0) (right_of f) c.1) (strand_over t tree.rooted a.0 low)) in
       let strand = right_strand t tree on.forks f fork in
       absurd (cc (fork_no_strand t a.0 c.0, ap (is_strand t) it, strand)))
 

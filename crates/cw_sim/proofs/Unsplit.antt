@@ -1,7 +1,7 @@
--- Forks that are not split, as the tier says it.
+-- Forks that are not split, as the tier says it: nothing is made in the right strand before the left one has finished.
 use Rattle.std.proofs.Common.{◌≡◌, ◌≢◌, ℕ, ◌+◌, ◌<◌, List, length, refl, ap, sym, ◌∙◌, subst, arith, Bool, true, false, inl, inr}
 use Rattle.std.specs.Prelude.{◌&&◌, ℤ}
-use Rattle.std.proofs.lemmas.Bool.{cases_lt, true_from_ne_false}
+use Rattle.std.proofs.lemmas.Bool.{cases_lt, cases_eq, true_from_ne_false}
 use Rattle.cw_tree.specs.declared.node.Node.{Node}
 use Rattle.cw_tree.specs.Nodes.{is_fork, parent_of}
 use Rattle.cw_tree.specs.Walks.{has, is_ancestor}
@@ -9,13 +9,16 @@ use Rattle.cw_tree.specs.Shape.{IsTree}
 use Rattle.cw_trace.specs.Columns.{used}
 use Rattle.cw_trace.specs.Running.{IsUnsplit}
 use Rattle.cw_trace.specs.Stands.{fork_column}
-use Rattle.cw_open.specs.Machine.{has_finished}
+use Rattle.cw_trace.proofs.InRange.{strand_low}
+use Rattle.cw_open.specs.Machine.{Machine, has_finished, is_running}
 use Rattle.cw_open.specs.Open.{is_open}
+use Rattle.cw_open.proofs.Standing.{runs, open_over}
 use Rattle.cw_core.specs.State.{State, has_columns, is_split}
 use Rattle.cw_core.proofs.Going.{well}
 use Rattle.cw_core.proofs.Ordering.{used_columns}
 use Rattle.cw_sim.specs.Workers.{left_of, right_of}
 use Rattle.cw_sim.specs.Kept.{GoesOn}
+use Rattle.cw_sim.proofs.Around.{Waits}
 use Rattle.cw_sim.proofs.Halves.{left_child, right_child, left_strand, strand_open}
 
 module _ (first : List ℤ) (k : State) (on : GoesOn first k) (f : ℕ) (fork : is_fork k.machine.tree f ≡ true) (off : is_split k f ≡ false) where
@@ -45,3 +48,25 @@ module _ (first : List ℤ) (k : State) (on : GoesOn first k) (f : ℕ) (fork : 
   -- and has finished
   pub left_ended : (n : ℕ) → n < length t → is_ancestor t (right_of f) n ≡ true → n ≢ right_of f → has_finished k.machine (left_of f) ≡ true
   left_ended n h over ne = true_from_ne_false (has_finished k.machine (left_of f)) (λ e. absurd (let a = left_shut n h over ne in let b = strand_open k.machine (left_of f) (left_strand t tree on.forks f fork) e in cc (a, b)))
+
+  -- while the left one is open, nothing was made in the right one
+  pub none_made : is_open k.machine (left_of f) ≡ true → (n : ℕ) → n < length t → is_ancestor t (right_of f) n ≡ true → n ≡ right_of f
+  none_made going n h over = elim (cases_eq n (right_of f)) [ inl e ↦ e | inr ne ↦ absurd (let shut = left_shut n h over ne in cc (going, shut)) ]
+
+-- ## A fork that waits around a running strand
+
+module _ (first : List ℤ) (k : State) (on : GoesOn first k) (y f : ℕ) (fs : List ℕ) (y_runs : is_running k.machine y ≡ true) (here : Waits k y f fs) where
+  abbrev m : Machine
+  m = k.machine
+
+  -- its left strand is open
+  pub left_open : is_open m (left_of f) ≡ true
+  left_open =
+      let tree = (well first k on.core).sound.tree in
+      let nested = (well first k on.core).nested in
+      let run = runs m tree nested y y_runs in
+      open_over m tree nested (left_of f) y (strand_low m.tree y run.strand) here.over (strand_open m y run.strand run.unfinished)
+
+  -- and nothing was made in its right one
+  pub none_beneath : (n : ℕ) → n < length m.tree → is_ancestor m.tree (right_of f) n ≡ true → n ≡ right_of f
+  none_beneath = none_made first k on f here.fork here.split left_open

@@ -1,11 +1,11 @@
 -- Workers of whom one changes.
-use Rattle.std.proofs.Common.{◌≡◌, ◌≢◌, ℕ, zero, suc, ◌<◌, List, [], ◌∷◌, ◌++◌, length, refl, ap, sym, ◌∙◌, subst, arith, true, Some, inl, inr, nat_eq}
+use Rattle.std.proofs.Common.{◌≡◌, ◌≢◌, ℕ, zero, suc, ◌<◌, ◌≤◌, List, [], ◌∷◌, ◌++◌, length, refl, ap, sym, ◌∙◌, subst, arith, true, Option, Some, None, inl, inr, nat_eq}
 use Rattle.std.specs.Prelude.{slice_set}
 use Rattle.std.proofs.lemmas.Bool.{cases_eq, or_cases, or_left, or_right, eqb-true}
 use Rattle.cw_tree.specs.Walks.{has}
 use Rattle.cw_core.specs.State.{State}
-use Rattle.cw_sim.specs.Workers.{Worker, waiting, worker_in}
-use Rattle.cw_sim.specs.Kept.{Fits, AreWorkers}
+use Rattle.cw_sim.specs.Workers.{Worker, idle, waiting, worker_in}
+use Rattle.cw_sim.specs.Kept.{Runs, IsIdle, Fits, AreWorkers}
 
 -- another worker in a place, and the others as they were
 pub worker_here : (ws : List Worker) (w : ℕ) (x : Worker) → w < length ws → worker_in (slice_set ws w x) w ≡ x
@@ -19,6 +19,29 @@ worker_other (y ∷ ws) zero zero x ne = absurd (ne refl)
 worker_other (y ∷ ws) zero (suc v) x ne = refl
 worker_other (y ∷ ws) (suc w) zero x ne = refl
 worker_other (y ∷ ws) (suc w) (suc v) x ne = worker_other ws w v x (λ e. ne (ap suc e))
+
+-- past the last worker there is none
+pub worker_past : (ws : List Worker) (v : ℕ) → length ws ≤ v → worker_in ws v ≡ idle
+worker_past [] v h = refl
+worker_past (y ∷ ws) zero h = absurd (omega arith)
+worker_past (y ∷ ws) (suc v) h = worker_past ws v (omega arith)
+
+set_twice : (ws : List Worker) (w : ℕ) (x y : Worker) → slice_set (slice_set ws w x) w y ≡ slice_set ws w y
+set_twice [] w x y = refl
+set_twice (v ∷ ws) zero x y = refl
+set_twice (v ∷ ws) (suc w) x y = ap (λ us. v ∷ us) (set_twice ws w x y)
+
+-- a worker changes, and then what it runs
+pub set_run : (ws : List Worker) (w : ℕ) (x : Worker) (r : Option ℕ) → w < length ws → slice_set (slice_set ws w x) w (record (worker_in (slice_set ws w x) w) { runs = r }) ≡ slice_set ws w (record x { runs = r })
+set_run ws w x r h = ap (λ v. slice_set (slice_set ws w x) w (record v { runs = r })) (worker_here ws w x h) ∙ set_twice ws w x (record x { runs = r })
+
+-- a worker that runs a strand fits it
+pub runs_in : (k : State) (ws : List Worker) (w x : ℕ) → AreWorkers k ws → (worker_in ws w).runs ≡ Some x → Runs k (worker_in ws w) x
+runs_in k ws w x old e = let P : Option ℕ → Type 0 = λ r. Fits k (worker_in ws w) r in subst P e (old.fit w)
+
+-- and nothing waits in an idle one
+pub idle_in : (k : State) (ws : List Worker) (w : ℕ) → AreWorkers k ws → (worker_in ws w).runs ≡ None → IsIdle (worker_in ws w)
+idle_in k ws w old e = let P : Option ℕ → Type 0 = λ r. Fits k (worker_in ws w) r in subst P e (old.fit w)
 
 -- what waits in a list waits in it and one behind
 pub has_front : (xs ys : List ℕ) (f : ℕ) → has xs f ≡ true → has (xs ++ ys) f ≡ true

@@ -1,15 +1,14 @@
 -- What is true of a simulation between its moves, while it goes on.
-use Rattle.std.specs.Prelude.{◌≡◌, ℕ, zero, suc, ◌==◌, ◌&&◌, ◌||◌, Bool, true, false, not, List, [], ◌∷◌, ◌++◌, ℤ, length, count_by, Option, Some, None, if◌then◌else◌}
-use Rattle.cw_strand.specs.declared.want.Want.TheVariants.{Begin, Fork}
-use Rattle.cw_strand.specs.Strands.{Strands, GoesTo, is_over}
-use Rattle.cw_tree.specs.declared.node.Node.{Node}
-use Rattle.cw_tree.specs.Nodes.{parent_of, is_strand, is_fork, is_pending, below}
+use Rattle.std.specs.Prelude.{◌≡◌, ℕ, zero, suc, ◌==◌, ◌&&◌, Bool, true, false, not, List, [], ◌∷◌, ◌++◌, ℤ, Option, Some, None, if◌then◌else◌}
+use Rattle.cw_strand.specs.Strands.{Strands}
+use Rattle.cw_tree.specs.Nodes.{parent_of, is_strand, is_fork, is_pending}
 use Rattle.cw_tree.specs.Walks.{has}
-use Rattle.cw_tree.specs.Series.{strand_of, children}
+use Rattle.cw_tree.specs.Series.{strand_of, children, place}
 use Rattle.cw_tree.specs.Names.{strands_on}
-use Rattle.cw_open.specs.Machine.{has_finished, finished_dead, waits, is_running, is_dying}
+use Rattle.cw_open.specs.Machine.{has_finished, waits, is_running}
 use Rattle.cw_core.specs.State.{State, is_split, has_columns, waits_for_left, spent}
 use Rattle.cw_core.specs.Laws.{IsCore}
+use Rattle.cw_record.specs.ClosedRun.{AreStates}
 use Rattle.cw_sim.specs.Workers.{Worker, Simulation, waiting, left_of, right_of, tree, worker_in}
 
 -- ## Forks that wait
@@ -65,57 +64,28 @@ pub record GoesOn (first : List ℤ) (k : State) : Type 0 where
 
 -- ## Where strands stand
 
--- so many blocks are pending that were begun in strand x, of those with smaller numbers than n
-abbrev pub begun_below : List Node → (n x : ℕ) → ℕ
-begun_below t n x = count_by (λ b. is_pending t b && (strand_of t b == x)) (below n)
-
--- Of a strand and those on the way up from it, innermost first: how many blocks are begun and not ended in it; then, where it is the right
--- one of a fork, in the strand that forked; and so on.
-abbrev pub own_blocks : List Node → ℕ → List ℕ → List ℕ
-own_blocks t x [] = begun_below t (length t) x ∷ []
-own_blocks t x (y ∷ ys) =
-    begun_below t (length t) x ∷ (if x == left_of (parent_of t x) then [] else own_blocks t (strand_of t (parent_of t x)) ys)
-
--- those in the strand that forked, and so on, where x is the right strand of a fork
-abbrev pub outer_blocks : List Node → ℕ → List ℕ
-outer_blocks t zero = []
-outer_blocks t (suc x) =
-    let f = parent_of t (suc x) in
-    if suc x == left_of f then [] else own_blocks t (strand_of t f) (strands_on t (strand_of t f))
-
 -- the strand's own fork, if it has one, is not joined
 abbrev pub is_current : State → ℕ → Bool
 is_current k zero = true
 is_current k (suc x) = is_strand k.machine.tree (suc x) && not (has k.machine.joined (parent_of k.machine.tree (suc x)))
 
--- Where strand x stands is told: not of one that died, nor of one that runs and has to roll back, which may have been joined with such a one.
-abbrev pub is_told : State → ℕ → Bool
-is_told k x = is_current k x && not (finished_dead k.machine x) && (waits k.machine x || not (is_dying k.machine x))
-
 module _ {A : Type 0} (s : Strands A) where
-  -- where strand x stood at first
-  abbrev pub entry : Simulation A → ℕ → A
-  entry m zero = s.start
-  entry m (suc x) =
-      let f = parent_of (tree m) (suc x) in
-      if suc x == left_of f then s.left (m.at (strand_of (tree m) f)) else s.right (m.at (strand_of (tree m) f))
-
-  -- From there it came here, with so many blocks of its own that are begun and not ended.
-  abbrev pub CameTo : Simulation A → (x blocks : ℕ) → A → Type 0
-  CameTo m x blocks a = GoesTo s (0 ∷ outer_blocks (tree m) x) (entry m x) (blocks ∷ outer_blocks (tree m) x) a
-
-  pub record AreStates (m : Simulation A) : Type 0 where
-    pub strands : (x : ℕ) → is_told m.core x ≡ true → CameTo m x (begun_below (tree m) (length (tree m)) x) (m.at x)
-    -- a strand that waits stands at its fork, and one that finished at its end
-    pub forks : (x : ℕ) → is_current m.core x ≡ true → waits m.core.machine x ≡ true → s.want (m.at x) ≡ Fork
-    pub ends : (x : ℕ) → is_told m.core x ≡ true → has_finished m.core.machine x ≡ true → is_over (s.want (m.at x)) ≡ true
+  -- By these states before, after and in each node the tree is what the strands did, and they are where strands stand.
+  pub record AreStanding (m : Simulation A) (before after reached : ℕ → A) : Type 0 where
+    pub states : AreStates s m.core.machine before after reached
+    -- a strand that waits stands before its fork
+    pub forks : (f : ℕ) → is_fork (tree m) f ≡ true → has m.core.machine.joined f ≡ false → before f ≡ m.at (strand_of (tree m) f)
+    -- any other one stands at what was reached in it
+    pub strands : (x : ℕ) → is_current m.core x ≡ true → waits m.core.machine x ≡ false → reached (place (tree m) x) ≡ m.at x
     -- what is saved of a pending block is where its strand stood at its begin
-    pub begins : (b : ℕ) → is_pending (tree m) b ≡ true → s.want (m.saved b) ≡ Begin
-    pub saved : (b : ℕ) → is_pending (tree m) b ≡ true → CameTo m (strand_of (tree m) b) (begun_below (tree m) b (strand_of (tree m) b)) (m.saved b)
+    pub saved : (b : ℕ) → is_pending (tree m) b ≡ true → before b ≡ m.saved b
+
+  abbrev pub HasStates : Simulation A → Type 0
+  HasStates m = (before after reached : ℕ → A) × AreStanding m before after reached
 
   -- ## The whole
 
   pub record IsKept (first : List ℤ) (m : Simulation A) : Type 0 where
     pub core : GoesOn first m.core
     pub workers : AreWorkers m.core m.workers
-    pub states : AreStates m
+    pub states : HasStates m

@@ -4,3 +4,4 @@ pub mod Moves
 pub mod Rows
 pub mod Kept
 pub mod Laws
+pub mod Runs

@@ -2,12 +2,13 @@
 //! code here that runs.
 //! Stands on `cw_io`, `cw_strand`, `cw_core` and `cw_record`.
 //! Contracts cite `specs/Workers.antt` (the state of a simulation), `specs/Turns.antt` (who makes which move), `specs/Moves.antt` (what
-//! each move does, and runs), `specs/Kept.antt` (what is true between moves) and `specs/Laws.antt` (what holds of them); `specs/Rows.antt`
-//! tries them on small sources.
+//! each move does, and runs), `specs/Kept.antt` (what is true between moves), `specs/Laws.antt` (what holds of them) and `specs/Runs.antt` (the
+//! whole run, and its record); `specs/Rows.antt` tries them on small sources.
 #![tactic(auto)]
 
-ghost use Rattle.cw_sim.specs.Laws.{ForksAreThere, NoneIsEarly, OpensWell};
+ghost use Rattle.cw_sim.specs.Laws.{ForksAreThere, MovesFit, NoneIsEarly, OpensWell};
 ghost use Rattle.cw_sim.specs.Rows.{Rows};
+ghost use Rattle.cw_sim.specs.Runs.{JobsAreCoherent, RunsAreClosed};
 ghost use Rattle.cw_strand.specs.Strands.{Strands};
 
 /// Before the first move all is kept.
@@ -15,10 +16,25 @@ pub fn opens_well<S>()
     ensures { (s : Strands S) → OpensWell s }
 {}
 
+/// Every event that a move makes fits, and while the run is not over all is kept.
+pub fn moves_fit<S>()
+    ensures { (s : Strands S) → MovesFit s }
+{}
+
 /// The oldest fork of a deque is never split too early, and what is taken back is the newest that waits.
 pub fn deques_are_in_order<S>()
     ensures oldest { (s : Strands S) → NoneIsEarly s }
     ensures newest { (s : Strands S) → ForksAreThere s }
+{}
+
+/// What the moves of workers come to is a closed run, whoever makes which move.
+pub fn runs_are_closed<S>()
+    ensures { (s : Strands S) → RunsAreClosed s }
+{}
+
+/// What the moves of workers come to, of a compiled program, is coherent in depth-first order.
+pub fn jobs_are_coherent()
+    ensures { JobsAreCoherent }
 {}
 
 /// What the definitions say of runs of small sources.

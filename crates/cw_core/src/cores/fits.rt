@@ -1,7 +1,7 @@
 ghost use Rattle.std.specs.Prelude.{◌≡◌, ◌<◌, ◌==◌, ◌&&◌, not, nat_lt, [], length, IsTrue};
 ghost use Rattle.cw_tree.specs.Nodes.{is_strand, is_fork};
 ghost use Rattle.cw_tree.specs.Series.{children};
-ghost use Rattle.cw_open.specs.Machine.{has_finished, is_running, is_dying, is_free, in_block, rolls_back};
+ghost use Rattle.cw_open.specs.Machine.{has_finished, is_running, is_free, rolls_back};
 ghost use Rattle.cw_open.specs.Runs.{left_died};
 ghost use Rattle.cw_core.specs.State.{waits_for_left};
 ghost use Rattle.cw_core.specs.Laws.{IsCore};
@@ -79,13 +79,6 @@ impl Core {
         (node as usize) < self.rows.len() && self.tree.tree().is_fork(node)
     }
 
-    fn has_finished(&self, node: u32) -> bool
-        requires { node < length self.now.machine.tree }
-        ensures { result ≡ has_finished self.now.machine node }
-    {
-        self.row(node).now.finished
-    }
-
     /// Whether a strand runs, where nothing has stopped.
     fn is_running(&self, strand: u32) -> bool
         requires { self.now.machine.stopped ≡ [] }
@@ -96,21 +89,6 @@ impl Core {
         }
         let now = self.row(strand).now;
         !now.finished && !now.waits
-    }
-
-    fn is_dying(&self, strand: u32) -> bool
-        requires { IsTrue (is_running self.now.machine strand) }
-        ensures { result ≡ is_dying self.now.machine strand }
-    {
-        self.hint();
-        self.row(strand).now.victim.is_some()
-    }
-
-    fn in_block(&self, strand: u32) -> bool
-        requires { IsTrue (is_strand self.now.machine.tree strand) }
-        ensures { result ≡ in_block self.now.machine strand }
-    {
-        self.row(strand).now.place != strand
     }
 
     /// Whether a strand goes on with its own work.

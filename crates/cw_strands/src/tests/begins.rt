@@ -86,7 +86,8 @@ fn to_write(strand: &mut Strand, program: &Program) -> Result<(), Fail>
     Ok(())
 }
 
-// The last want of a strand that went through its block, went back to the begin and through the block again.
+// The last output or fault of a strand that went through its block, went back to the begin and through the block again. After an output it
+// is done.
 fn last_output(alloc: Global, limits: Limits) -> Result<Want, Fail> {
     let program = program(alloc, CHANGES)?;
     let mut strand = strand_of(alloc, &program, limits)?;
@@ -96,7 +97,11 @@ fn last_output(alloc: Global, limits: Limits) -> Result<Want, Fail> {
     strand.back(&saved);
     to_output(&mut strand, &program)?;
     wants(&mut strand, &program, Want::End)?;
-    Ok(strand.next(&program, Given::Nothing)?)
+    let last = strand.next(&program, Given::Nothing)?;
+    if last == Want::Out(2) {
+        wants(&mut strand, &program, Want::Done)?;
+    }
+    Ok(last)
 }
 
 #[test]

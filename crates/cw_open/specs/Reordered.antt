@@ -1,17 +1,16 @@
 -- What is true of the tree, the journals and the conflicts that a run leaves is true of them in depth-first order. That the tree is sound
 -- still is a law of `cw_tree`.
-use Rattle.std.specs.Prelude.{◌≡◌, ℕ, ℤ, ◌<◌, false, IsTrue, All, List, map, filter, length, Option}
-use Rattle.std.specs.List.{list_any}
+use Rattle.std.specs.Prelude.{ℕ, ℤ, List, Option}
 use Rattle.cw_tree.specs.declared.node.Node.{Node}
 use Rattle.cw_tree.specs.declared.access.Entry.{Entry}
 use Rattle.cw_tree.specs.declared.conflict.Conflict.{Conflict}
 use Rattle.cw_tree.specs.declared.closed.Halt.{Halt}
-use Rattle.cw_tree.specs.Nodes.{is_tried, is_committed, is_aborted, all_nodes}
-use Rattle.cw_tree.specs.Walks.{IsNumbered, path}
+use Rattle.cw_tree.specs.Walks.{IsNumbered}
 use Rattle.cw_tree.specs.NextNodes.{IsSound}
 use Rattle.cw_tree.specs.Journals.{FitsCells, AreJournals, JournalsEnded}
-use Rattle.cw_tree.specs.Refusals.{IsRecorded, AreRefusals, RollsBack, MayFault, is_victim}
+use Rattle.cw_tree.specs.Refusals.{AreRefusals, RollsBack, MayFault}
 use Rattle.cw_tree.specs.InOrder.{in_order, conflicts_in_order, halt_in_order}
+use Rattle.cw_open.specs.Left.{AreMade}
 
 -- every access is of a cell still
 abbrev pub CellsStay : Type 0
@@ -24,14 +23,6 @@ JournalsStay = (t : List Node) (first : List ℤ) (kept : List (List Entry)) →
 -- each block above an access and not above the next one of its cell is committed, and ended before it
 abbrev pub EndsStay : Type 0
 EndsStay = (t : List Node) (k : ℕ) → IsNumbered t → IsSound t → JournalsEnded t k → JournalsEnded (in_order t) k
-
--- Conflicts as a run makes them: each refused access has one, and they come as their askers are numbered. The rest is as where they come
--- in depth-first order.
-pub record AreMade (t : List Node) (cs : List Conflict) : Type 0 where
-  pub each : map (λ c. c.asker) cs ≡ filter (is_tried t) (all_nodes t)
-  pub recorded : All (IsRecorded t) cs
-  pub aborted : (b : ℕ) → b < length t → IsTrue (is_aborted t b) → IsTrue (list_any (is_victim t cs) (path t b))
-  pub committed : (b : ℕ) → b < length t → IsTrue (is_committed t b) → is_victim t cs b ≡ false
 
 -- in the new order they tell of the refused accesses of the new tree, in its depth-first order
 abbrev pub RefusalsStay : Type 0
