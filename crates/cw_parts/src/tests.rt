@@ -1,3 +1,4 @@
+mod builds;
 mod checks;
 mod grown;
 mod machines;

@@ -1,30 +1,34 @@
--- Every event that a move makes fits, and all is kept while the run is not over; so what moves come to is a closed run, and that of a compiled
--- job is coherent in depth-first order.
-use Rattle.std.proofs.Common.{ℕ, ◌<◌, ◌^◌, List, length, map}
+-- Every event that a move makes fits, and all is kept while the run is not over; so what moves come to is a closed run, and the record of
+-- that of a compiled program is coherent.
+use Rattle.std.proofs.Common.{ℕ, ◌<◌, ◌^◌, List, length, refl, sym, subst, Bool, true, false, Option, Some, None}
 use Rattle.std.specs.Prelude.{ℤ, not}
 use Rattle.cw_io.specs.declared.schedule.Schedule.{Schedule}
 use Rattle.cw_strand.specs.Names.{first_memory}
 use Rattle.cw_strand.specs.Programs.{IsCompiled}
 use Rattle.cw_strand.specs.Strands.{Strands}
-use Rattle.cw_tree.specs.InOrder.{in_order, conflicts_in_order, halt_in_order}
-use Rattle.cw_tree.specs.Nodes.{below}
-use Rattle.cw_tree.specs.Walks.{IsNumbered}
-use Rattle.cw_open.specs.Machine.{value_of}
+use Rattle.cw_tree.specs.declared.node.Node.{Node}
+use Rattle.cw_tree.specs.declared.access.Entry.{Entry}
+use Rattle.cw_tree.specs.declared.conflict.Conflict.{Conflict}
+use Rattle.cw_tree.specs.declared.closed.Halt.{Halt}
+use Rattle.cw_tree.specs.declared.closed.Halt.TheVariants.{Fault, Budget, Memory}
 use Rattle.cw_core.specs.Closing.{journals_of}
 use Rattle.cw_core.specs.Laws.{IsCore}
 use Rattle.cw_core.proofs.Going.{well}
 use Rattle.cw_serial.specs.Jobs.{Job, Takes}
 use Rattle.cw_serial.specs.Room.Strands.{StrandState, strands_of}
-use Rattle.cw_record.specs.ClosedRun.{IsClosedRun, end_after}
-use Rattle.cw_record.specs.Coherent.{IsCoherent}
-use Rattle.cw_record.proofs.ClosedRuns.{coherent_end}
+use Rattle.cw_record.specs.declared.record_end.RecordEnd.{RecordEnd}
+use Rattle.cw_record.specs.ClosedRun.{IsClosedRun}
+use Rattle.cw_record.specs.Built.{IsLeftBy, end_left}
+use Rattle.cw_record.specs.Coherent.{IsCoherent, HasOutputs}
+use Rattle.cw_record.specs.Records.{job_of, IsNumberedDepthFirst}
+use Rattle.cw_record.proofs.LeftRuns.{left_coherent}
+use Rattle.cw_record.proofs.NumberedTrees.{numbered_in_order}
 use Rattle.cw_sim.specs.Workers.{Simulation, tree}
 use Rattle.cw_sim.specs.Turns.{worker_at, ListsWorkers}
 use Rattle.cw_sim.specs.Moves.{is_over, move}
 use Rattle.cw_sim.specs.Kept.{HasStates, IsKept}
 use Rattle.cw_sim.specs.Laws.{AreStrands, MovesFit}
-use Rattle.cw_sim.specs.Runs.{RunsAreClosed, JobsAreCoherent, left_by}
-use Rattle.cw_sim.proofs.EndingMemory.{memory_is}
+use Rattle.cw_sim.specs.Runs.{RunsAreClosed, RecordsAreCoherent, closed_of, left_by}
 use Rattle.cw_sim.proofs.MoveKeeps.{moves_keep}
 use Rattle.cw_sim.proofs.MoveNumbers.{move_number}
 use Rattle.cw_sim.proofs.Opens.{opens}
@@ -70,13 +74,34 @@ module _ (job : Job) (workers : ℕ) (schedule : Schedule) (compiled : IsCompile
   pub job_core : IsCore first m.core
   job_core = core_left s (opens s) (moves_fit s) (states_kept s) (λ w m. move_number s w m) first job.limits.strands job.limits.aborts workers job.limits.moves (worker_at schedule workers) are room turns
 
-  -- what the cells hold is its memory, where it finished
-  pub job_coherent : length (tree m) < 2 ^ 32 → (outputs : List ℤ)
-      → IsCoherent s first job.limits.aborts (in_order (tree m)) (journals_of m.core) (conflicts_in_order (tree m) m.core.machine.conflicts) (end_after (halt_in_order (tree m) m.core.halt) (not (is_over m)) (map (value_of m.core.machine) (below (length first))) outputs)
-  job_coherent few outputs =
+  pub job_left : length (tree m) < 2 ^ 32 → IsLeftBy job (not (is_over m)) m.core.machine m.core.halt (closed_of m)
+  job_left few =
       let sound = (well first m.core job_core).sound.tree in
-      let numbered : IsNumbered (tree m) = record { root = sound.root; rooted = sound.rooted; few = few } in
-      coherent_end s first job.limits.aborts m.core.machine (journals_of m.core) (map (value_of m.core.machine) (below (length first))) outputs numbered (memory_is first m.core job_core) m.core.halt (not (is_over m)) job_closed
+      record { numbered = record { root = sound.root; rooted = sound.rooted; few = few }; tree = refl; conflicts = refl; halt = refl; run = job_closed }
 
-pub jobs_coherent : JobsAreCoherent
-jobs_coherent job workers schedule outputs compiled takes room some lists few = job_coherent job workers schedule compiled takes room some lists few outputs
+-- ## Its record
+
+-- what is told as left are its outputs
+has_outputs : (values : List ℤ) (budget : ℕ) (t : List Node) (kept : List (List Entry)) (cs : List Conflict) (h : Option Halt) (spent : Bool)
+    → HasOutputs t cs budget (end_left values budget (record { tree = t; journals = kept; conflicts = cs; halt = h }) spent)
+has_outputs values budget t kept cs (Some (Fault x kind)) spent = tt
+has_outputs values budget t kept cs (Some (Budget x)) spent = tt
+has_outputs values budget t kept cs (Some Memory) spent = tt
+has_outputs values budget t kept cs None true = tt
+has_outputs values budget t kept cs None false = refl
+
+pub records_coherent : RecordsAreCoherent
+records_coherent r workers schedule compiled takes room some lists few is =
+    let job = job_of r in
+    let first = first_memory r.program.cells in
+    let budget = r.limits.aborts in
+    let m = left_by job workers schedule in
+    let c = closed_of m in
+    let left = job_left job workers schedule compiled takes room some lists few in
+    let All : List Node → List (List Entry) → List Conflict → RecordEnd → Type 0 = λ t kept cs e. IsCoherent (strands_of job) first budget t kept cs e × (HasOutputs t cs budget e × IsNumberedDepthFirst t) in
+    let E : RecordEnd → Type 0 = λ e. All c.tree c.journals c.conflicts e in
+    let C : List Conflict → Type 0 = λ cs. All c.tree c.journals cs r.end in
+    let J : List (List Entry) → Type 0 = λ kept. All c.tree kept r.conflicts r.end in
+    let T : List Node → Type 0 = λ t. All t r.journals r.conflicts r.end in
+    subst T (sym is.tree) (subst J (sym is.journals) (subst C (sym is.conflicts) (subst E (sym is.end)
+    (left_coherent job (not (is_over m)) m.core.machine m.core.halt c left, (has_outputs first budget c.tree c.journals c.conflicts c.halt (not (is_over m)), numbered_in_order m.core.machine.tree left.numbered)))))

@@ -27,7 +27,8 @@ use Rattle.cw_open.proofs.Standing.{open_over, open_block, stands}
 use Rattle.cw_open.proofs.Staying.{Stays, above_stays}
 use Rattle.cw_open.proofs.Victims.{IsTold, IsToldState, victim_above}
 use Rattle.cw_sim.proofs.Inside.{Stands}
-use Rattle.cw_sim.proofs.InsideWaits.{fork_open, going, over_waits, stands_waits}
+use Rattle.cw_sim.proofs.PlacedRunning.{unjoined_open}
+use Rattle.cw_sim.proofs.InsideWaits.{going, over_waits, stands_waits}
 
 -- why strand y is dying: a conflict beneath it, and its victim
 pub record Dies (m : Machine) (y : ℕ) (c : Conflict) (v : ℕ) : Type 0 where
@@ -157,6 +158,6 @@ dead_dies first m w f y fork apart some up dead =
     let c = o.one in
     let v = of_fell t f f c o.passes in
     let block = names_block t c v.victim v.named in
-    let open_v = open_over m tree nested v.victim f low v.over (fork_open m f fork apart) in
+    let open_v = open_over m tree nested v.victim f low v.over (unjoined_open m f fork apart) in
     let over = above_down t r (strand_of t f) f c.asker o.holds.asker (sym (ancestor_above t (strand_of t f) f (λ e. absurd (let is = strand_is t tree.root f in cc (is, ap (is_strand t) e, fork_no_strand t f fork)))) ∙ strand_over t r f low) (above_ancestor t f c.asker v.asker) in
     o.among (dies_by m (strand_of t f)) (by_dies m (strand_of t f) c v.victim (record { over = over; pending = open_block m tree nested v.victim block open_v; victim = v.named }))

@@ -29,7 +29,8 @@ use Rattle.cw_sim.proofs.Inside.{Stands, IsRightOf, goes_back, LivesIn, GoesBack
 use Rattle.cw_sim.proofs.InsideDying.{dies_by, died_by, by_dies, dead_dies}
 use Rattle.cw_sim.proofs.InsideKept.{changed_here, changed_other}
 use Rattle.cw_sim.proofs.InsideQuiet.{lives_to, back_to}
-use Rattle.cw_sim.proofs.InsideWaits.{fork_open, finished_alone}
+use Rattle.cw_sim.proofs.PlacedRunning.{unjoined_open}
+use Rattle.cw_sim.proofs.InsideWaits.{finished_alone}
 
 module _ {A : Type 0} (s : Strands A) (first : List ℤ) (m : Machine) (w : IsBackedState first m) (made : AsMade m.tree) (f : ℕ) (fork : is_fork m.tree f ≡ true) (apart : has m.joined f ≡ false) (done : has_finished m (right_of f) ≡ true)
     (at saved there : ℕ → A) (old : AreInside s m at saved there) (here : A)
@@ -56,7 +57,7 @@ module _ {A : Type 0} (s : Strands A) (first : List ℤ) (m : Machine) (w : IsBa
   nested = w.told.state.well.nested
 
   p_open : is_open m p ≡ true
-  p_open = let low = fork_low t f fork in open_over m tree nested p f low (strand_over t tree.rooted f low) (fork_open m f fork apart)
+  p_open = let low = fork_low t f fork in open_over m tree nested p f low (strand_over t tree.rooted f low) (unjoined_open m f fork apart)
 
   unfinished : has_finished m p ≡ false
   unfinished = false_from_ne_true (has_finished m p) (λ e. absurd (let c = closed_strand m p (strand_is t tree.root f) e in let o = p_open in cc (c, o)))

@@ -1,7 +1,7 @@
 -- What is above a strand that stands waits.
 use Rattle.std.proofs.Common.{◌≡◌, ◌≢◌, ℕ, zero, suc, ◌<◌, ◌≤◌, List, length, refl, ap, sym, ◌∙◌, subst, arith, true, false, inl, inr, nat_eq}
-use Rattle.std.specs.Prelude.{◌⊎◌, ◌&&◌, ◌||◌, not}
-use Rattle.std.proofs.lemmas.Bool.{and_parts, and_from, cases_Bool, cases_eq, eqb-true, or_left, or_right, not-true, not_from_false, false_from_ne_true}
+use Rattle.std.specs.Prelude.{◌⊎◌, ◌&&◌, not}
+use Rattle.std.proofs.lemmas.Bool.{and_parts, cases_Bool, cases_eq, eqb-true, not-true, false_from_ne_true}
 use Rattle.cw_tree.specs.declared.node.Node.{Node}
 use Rattle.cw_tree.specs.Nodes.{parent_of, is_strand, is_fork, is_pending, all_nodes}
 use Rattle.cw_tree.specs.Walks.{IsRooted, has, is_ancestor, is_above}
@@ -21,12 +21,8 @@ use Rattle.cw_core.proofs.Ordering.{closed_strand}
 use Rattle.cw_core.proofs.Places.{waits_for}
 use Rattle.cw_sim.specs.Workers.{right_of}
 use Rattle.cw_sim.proofs.Halves.{AsMade, open_unjoined, strand_open, right_child}
+use Rattle.cw_sim.proofs.PlacedRunning.{unjoined_open}
 use Rattle.cw_sim.proofs.Inside.{Stands, IsRightOf}
-
-pub fork_open : (m : Machine) (f : ℕ) → is_fork m.tree f ≡ true → has m.joined f ≡ false → is_open m f ≡ true
-fork_open m f fork apart =
-    or_left (is_strand m.tree f && not (has_finished m f) || is_fork m.tree f && not (has m.joined f)) (is_pending m.tree f)
-    (or_right (is_strand m.tree f && not (has_finished m f)) (is_fork m.tree f && not (has m.joined f)) (and_from (is_fork m.tree f) (not (has m.joined f)) fork (not_from_false (has m.joined f) apart)))
 
 -- what a running strand is
 pub record IsGoing (m : Machine) (x : ℕ) : Type 0 where
@@ -102,7 +98,7 @@ module _ (m : Machine) (tree : IsTree m.tree) (nested : AreNested m.tree (is_ope
           let apart = stands.apart some in
           elim (cases_eq f z) [
             | inl at ↦ absurd (let o = ap (is_strand t) at in cc (is, o, fork_no_strand t f fork))
-            | inr other ↦ elim (open_waits f (omega arith) (fork_open m f fork apart) z is (sym (ancestor_above t z f other) ∙ up)) [
+            | inr other ↦ elim (open_waits f (omega arith) (unjoined_open m f fork apart) z is (sym (ancestor_above t z f other) ∙ up)) [
               | inr w ↦ w
               | inl own ↦ waits_for m z f (omega arith) fork (sym own) apart
             ]
@@ -187,5 +183,5 @@ module _ (m : Machine) (tree : IsTree m.tree) (nested : AreNested m.tree (is_ope
       let low = fork_low t a.0 c.0 in
       let P : ℕ → Type 0 = λ n. is_ancestor t n a.0 ≡ true in
       let over = subst P (eqb-true (strand_of t a.0) y c.1) (strand_over t r a.0 low) in
-      let open_y = open_over m tree nested y a.0 low over (fork_open m a.0 c.0 (not-true (has m.joined a.0) b.1)) in
+      let open_y = open_over m tree nested y a.0 low over (unjoined_open m a.0 c.0 (not-true (has m.joined a.0) b.1)) in
       absurd (cc (open_y, closed_strand m y is done)))

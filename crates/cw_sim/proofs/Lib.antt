@@ -55,7 +55,6 @@ mod EndingMain
 mod Ending
 mod Whole
 mod WholeStrands
-mod EndingMemory
 mod WholeTurns
 mod Closing
 pub mod Inside

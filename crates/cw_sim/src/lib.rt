@@ -1,6 +1,6 @@
 //! The moves of a simulation: several virtual workers run the strands of a program over one core, each when its turn comes. There is no
 //! code here that runs.
-//! Stands on `cw_io`, `cw_strand`, `cw_core` and `cw_record`.
+//! Stands on `cw_io`, `cw_strand`, `cw_core`, `cw_serial` and `cw_record`.
 //! Contracts cite `specs/Workers.antt` (the state of a simulation), `specs/Turns.antt` (who makes which move), `specs/Moves.antt` (what
 //! each move does, and runs), `specs/Kept.antt` (what is true between moves), `specs/Laws.antt` (what holds of them) and `specs/Runs.antt` (the
 //! whole run, and its record); `specs/Rows.antt` tries them on small sources.
@@ -8,7 +8,7 @@
 
 ghost use Rattle.cw_sim.specs.Laws.{ForksAreThere, MovesFit, NoneIsEarly, OpensWell};
 ghost use Rattle.cw_sim.specs.Rows.{Rows};
-ghost use Rattle.cw_sim.specs.Runs.{JobsAreCoherent, RunsAreClosed};
+ghost use Rattle.cw_sim.specs.Runs.{RecordsAreCoherent, RunsAreClosed};
 ghost use Rattle.cw_strand.specs.Strands.{Strands};
 
 /// Before the first move all is kept.
@@ -32,9 +32,9 @@ pub fn runs_are_closed<S>()
     ensures { (s : Strands S) → RunsAreClosed s }
 {}
 
-/// What the moves of workers come to, of a compiled program, is coherent in depth-first order.
-pub fn jobs_are_coherent()
-    ensures { JobsAreCoherent }
+/// The record of the moves of any workers, of a compiled program, is coherent and has its outputs.
+pub fn records_are_coherent()
+    ensures { RecordsAreCoherent }
 {}
 
 /// What the definitions say of runs of small sources.

@@ -1,0 +1,82 @@
+use super::grown::grown;
+use super::machines::program;
+use cw_base::Seq;
+use cw_code::Limits;
+use cw_record::{Record, RecordEnd, build};
+use cw_tree::{Closed, Entry, Kind, Mark, Tree};
+use std::alloc::Global;
+use std::test::Fail;
+
+const SHOWS: &str = "cell c; fn main() { spawn { out 1; } out 2; c = 5; }";
+
+// The right strand showed 2 before the left one showed 1.
+fn shown(alloc: Global) -> Result<Tree, Fail> {
+    let nodes = vec![in alloc;
+        (0, Kind::Fork, 1),
+        (1, Kind::Strand, 0),
+        (2, Kind::Out { value: 1 }, 3),
+        (1, Kind::Strand, 0),
+        (4, Kind::Out { value: 2 }, 2),
+        (4, Kind::Write { cell: 0, value: 5 }, 4),
+    ]?;
+    grown(alloc, nodes, &[])
+}
+
+fn journals(alloc: Global) -> Result<Seq<Seq<Entry>>, Fail> {
+    let mut entries = Seq::new(alloc);
+    entries.push(Entry {
+        mark: Mark {
+            strand: 2,
+            stamp: 4,
+        },
+        wrote: true,
+        value: 5,
+        old: 0,
+    })?;
+    let mut journals = Seq::new(alloc);
+    journals.push(entries)?;
+    Ok(journals)
+}
+
+fn built(alloc: Global, spent: bool) -> Result<Record, Fail> {
+    let limits = Limits {
+        fuel: 9,
+        size: 9,
+        aborts: 1,
+        strands: 2,
+        moves: 9,
+    };
+    let closed = Closed {
+        tree: shown(alloc)?,
+        journals: journals(alloc)?,
+        conflicts: Seq::new(alloc),
+        halt: None,
+    };
+    let words = Seq::new(alloc);
+    Ok(build(alloc, program(alloc, SHOWS)?, words, limits, closed, spent)?)
+}
+
+// The memory and the outputs of the run that finished.
+fn left(alloc: Global) -> Result<(i64, i64, i64), Fail> {
+    let record = built(alloc, false)?;
+    match &record.end {
+        RecordEnd::Finished { memory, outputs } => match (memory.as_slice(), outputs.as_slice()) {
+            ([cell], [first, second]) => Ok((*cell, *first, *second)),
+            _ => Err("another number of values".into()),
+        },
+        _ => Err("not finished".into()),
+    }
+}
+
+fn has_spent_moves(alloc: Global) -> Result<bool, Fail> {
+    let record = built(alloc, true)?;
+    Ok(matches!(&record.end, RecordEnd::Moves))
+}
+
+#[test]
+fn a_closed_run_has_its_record(rt: HostRuntime) -> Result<(), Fail> {
+    let alloc = rt.alloc();
+    assert_eq!(rt; left(alloc)?, (5, 2, 1));
+    assert!(rt; has_spent_moves(alloc)?);
+    Ok(())
+}
