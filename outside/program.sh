@@ -150,6 +150,59 @@ try '10,000 functions and blocks in each other' 6 $'fault Depth in 0\n' '' run
 printf 'fn f() { spawn { f(); } } fn main() { f(); }' > source
 try 'a strand of 333,333 forks' 6 "fault Fuel in 0$(printf '.1l%.0s' $(seq 333333))"$'\n' '' run
 
+# ## Simulations
+
+printf 'cell c; fn main() { atomic { spawn { c = c + 1; } c = c + 1; } }' > source
+try 'two strands of a block' 0 $'c = 1\nend\n' '' sim --workers 2 --schedule 0,0,1,0,1,0,1
+printf 'cell c; fn main() { spawn { atomic { c = 1; } } atomic { atomic { c = 2; } } }' > source
+try 'a block that is refused once' 0 $'c = 2\nend\n' '' sim --workers 2 --schedule 0,1,0,0,1,1,1
+try 'a block that may be refused once' 7 $'budget spent in 0.1r\n' '' sim --workers 2 --schedule 0,1,0,0,1,1,1 --aborts 1
+try 'a block that may be refused twice' 0 $'c = 2\nend\n' '' sim --workers 2 --schedule 0,1,0,0,1,1,1 --aborts 2
+printf 'cell c; cell d; fn main() { spawn { spawn { d = 5; } c = 1; sync; atomic { d = 1; d = 2; } } c = 2; }' > source
+try 'accesses that are in no block' 0 $'c = 2\nd = 2\nend\n' '' sim --workers 3 --schedule 0,1,0,2,2,0,2,0,0,0,1
+printf 'cell c; cell d; fn main() { spawn { atomic { spawn { d = 5; } c = 1; sync; d = 1; } } c = 2; }' > source
+try 'an access that is refused twice' 0 $'c = 2\nd = 1\nend\n' '' sim --workers 3 --schedule 0,1,0,0,2,2,0,2,0,1
+try 'an access that may be refused twice' 7 $'budget spent in 0.1r\n' '' sim --workers 3 --schedule 0,1,0,0,2,2,0,2,0,1 --aborts 2
+try 'an access that may be refused three times' 0 $'c = 2\nd = 1\nend\n' '' sim --workers 3 --schedule 0,1,0,0,2,2,0,2,0,1 --aborts 3
+printf 'cell c; fn main() { atomic { spawn { atomic { c = 1; } } c = 2; } }' > source
+try 'a block in a strand of a block' 0 $'c = 2\nend\n' '' sim --workers 2 --schedule 0,0,1,0,0,1
+try 'the same where nothing may be refused twice' 7 $'budget spent in 0.1r\n' '' sim --workers 2 --schedule 0,0,1,0,0,1 --aborts 1
+printf 'cell c; fn main() { spawn { atomic { c = 1; } } atomic { spawn { c = 2; } } }' > source
+try 'a strand of a block that spends its budget' 7 $'budget spent in 0.1r\n' '' sim --workers 2 --schedule 0,1,0,0,1,1,1 --aborts 1
+printf 'cell a = 7; cell b = 8; cell c; fn main() { spawn { atomic { c = 1; } } atomic { atomic { a = a + 1; } b = b + 1; c = 2; } }' > source
+try 'a block that was done is undone' 0 $'a = 8\nb = 9\nc = 2\nend\n' '' sim --workers 2 --schedule 0,1,0,0,1,1,1,1,1,1,1,1,1
+printf 'cell c; cell d; fn main() { spawn { atomic { c = 1; c = 2; } } atomic { spawn { c = 3; } d = 1 / d; } }' > source
+try 'a fault beside a strand that waits' 6 $'fault Zero in 0.1r.1r\n' '' sim --workers 3 --schedule 0,1,0,0,1,1,2,1,2,2
+printf 'cell c; fn main() { spawn { atomic { out 1; c = 1; } } out 2; }' > source
+try 'outputs in the order of the run' 0 $'out 2\nout 1\nc = 1\nend\n' '' sim --workers 2 --schedule 0,1,0,0,1
+
+printf 'cell c; fn main() { c = c + 1; out c; }' > source
+try 'too few moves' 9 $'moves spent\n' '' sim --workers 1 --moves 2
+try 'one move too few' 9 $'moves spent\n' '' sim --workers 1 --moves 4
+try 'as many moves as it needs' 0 $'out 1\nc = 1\nend\n' '' sim --workers 1 --moves 5
+printf 'fn f() { spawn { f(); } f(); } fn main() { f(); }' > source
+try 'forks without an end' 9 $'moves spent\n' '' sim --moves 10
+try 'the same depth first' 6 "fault Fuel in 0$(printf '.1l%.0s' $(seq 333333))"$'\n' '' run
+printf 'cell c; fn main() { spawn { atomic { c = c + 1; } } spawn { atomic { c = c + 1; } } spawn { atomic { c = c + 1; } } }' > source
+for strands in 1 2 3; do
+  try "$strands strands have columns" 0 $'c = 3\nend\n' '' sim --strands "$strands"
+done
+try 'a seed' 0 $'c = 3\nend\n' '' sim --seed 1
+printf 'fn main() { spawn { out 1; } spawn { out 2; } spawn { out 3; } out 4; }' > source
+try 'all in turn' 0 $'out 1\nout 2\nout 3\nout 4\nend\n' '' sim
+try 'turns of one seed' 0 $'out 3\nout 1\nout 2\nout 4\nend\n' '' sim --seed 4
+try 'turns of another' 0 $'out 2\nout 1\nout 4\nout 3\nend\n' '' sim --seed 5
+printf 'fn main() {}' > source
+zeros=$(printf ',0%.0s' $(seq 20000))
+try 'as many listed as may be' 0 $'end\n' '' sim --schedule "${zeros:1}"
+try 'one listed too many' 2 '' "$usage" sim --schedule "0$zeros"
+for words in '--workers 0' '--workers 65' '--moves 0' '--strands 1000001' '--schedule 4' '--schedule 0,2 --workers 2' '--schedule=' '--schedule 0,' '--schedule +1' \
+  '--seed 18446744073709551616' '--seed 1 --schedule 0' '--schedule 0 --schedule 0' '--report 1' 'x'; do
+  # the words stand apart by blanks
+  # shellcheck disable=SC2086
+  try "sim $words" 2 '' "$usage" sim $words
+done
+
 # ## Reading and writing that fail
 
 printf 'cell c; fn main() { c = c + 1; out c; }' > source

@@ -31,11 +31,14 @@ mod Stops
 mod Faulting
 mod Spending
 mod Theorem
-mod Kept
+pub mod Kept
 mod Worked
 mod Elders
-mod Found
-mod Recorded
+pub mod Found
+pub mod Recorded
 mod OnePast
 mod SameMachines
 pub mod OverSource
+mod ForkCode
+mod NeverForking
+pub mod ForksSpawned

@@ -23,7 +23,7 @@ use Rattle.cw_tree.proofs.Members.{below_none, filter_same, in_below}
 use Rattle.cw_tree.proofs.There.{node_there}
 use Rattle.cw_tree.proofs.Visits.{filter_in, child_in}
 use Rattle.cw_record.proofs.Lists.{filter_filter}
-use Rattle.cw_replay.specs.Attempts.{IsAttemptOf, IsRefusalOf, HasAttempts, RecordsAttempts, of_block, of_access}
+use Rattle.cw_replay.specs.Attempts.{IsAttemptOf, IsRefusalOf, HasAttempts, AreRecorded, RecordsAttempts, of_block, of_access}
 use Rattle.cw_replay.proofs.Elders.{elder, members, run_before}
 use Rattle.cw_replay.proofs.Sorts.{tried_sort}
 use Rattle.cw_replay.proofs.Found.{any_contains, find_contains, find_one, map_contains, none_contained, outermost_passes}
@@ -261,12 +261,12 @@ module _ (t : List Node) (first : List ℤ) (kept : List (List Entry)) (cs : Lis
 
     -- ## A spent budget
 
-    budget_block : (budget s : ℕ) (c : Conflict) → Contains cs c → c.attempt ≡ budget → (v : ℕ) → victim_of c ≡ Some v → is_refused_in t s c.asker (Some v) ≡ true → may_be_last t c ≡ true → RecordsAttempts t cs budget s
+    budget_block : (budget s : ℕ) (c : Conflict) → Contains cs c → c.attempt ≡ budget → (v : ℕ) → victim_of c ≡ Some v → is_refused_in t s c.asker (Some v) ≡ true → may_be_last t c ≡ true → AreRecorded t cs budget s c
     budget_block budget s c has number v told stands last =
         let (u, stood, r) = is_recorded c has in
         by_apart u (outermost_apart t u c.asker) refl (sym told ∙ r.victim)
       where
-        by_apart : (u : ℕ) (o : Option ℕ) → outermost_apart t u c.asker ≡ o → Some v ≡ option_map (stamp_of t) (outermost_apart t u c.asker) → RecordsAttempts t cs budget s
+        by_apart : (u : ℕ) (o : Option ℕ) → outermost_apart t u c.asker ≡ o → Some v ≡ option_map (stamp_of t) (outermost_apart t u c.asker) → AreRecorded t cs budget s c
         by_apart u None f same = absurd (cc (same ∙ ap (option_map (stamp_of t)) f))
         by_apart u (Some b) f same =
             let (block, apart) = and_parts (is_block t b) (not (is_above t b u)) (outermost_passes (λ m. is_block t m && not (is_above t m u)) (above t c.asker) b f) in
@@ -277,18 +277,18 @@ module _ (t : List Node) (first : List ℤ) (kept : List (List Entry)) (cs : Lis
             let pending : is_pending t b ≡ true = ap (λ x. x || is_pending t b) (sym (block_kind (slice_get t b) block).1) ∙ (ap (λ n. is_tried t n || is_pending t n) (sym fell) ∙ ends) in
             let own : strand_of t b ≡ s = eqb-true (strand_of t b) s (sym (ap (λ o. option_map_or (λ n. nat_eq (strand_of t n) s) o false) begun) ∙ stands) in
             let P : ℕ → Type 0 = λ n. HasAttempts n cs (λ d. (m : ℕ) × IsAttemptOf t b m × (victim_of d ≡ Some (stamp_of t m))) in
-            of_block b pending own (sym (victim_attempt c has b block (told ∙ ap Some is)) ∙ number) (subst P number (block_attempts c has b block (told ∙ ap Some is)))
+            of_block b fell pending own (sym (victim_attempt c has b block (told ∙ ap Some is)) ∙ number) (subst P number (block_attempts c has b block (told ∙ ap Some is)))
 
-    budget_access : (budget s : ℕ) (c : Conflict) → Contains cs c → c.attempt ≡ budget → victim_of c ≡ None → is_refused_in t s c.asker None ≡ true → RecordsAttempts t cs budget s
+    budget_access : (budget s : ℕ) (c : Conflict) → Contains cs c → c.attempt ≡ budget → victim_of c ≡ None → is_refused_in t s c.asker None ≡ true → AreRecorded t cs budget s c
     budget_access budget s c has number alone stands =
         let (u, stood, r) = is_recorded c has in
         let tried : is_tried t c.asker ≡ true = tries_one c.cell (slice_get t c.asker) r.asker in
         let P : ℕ → Type 0 = λ n. HasAttempts n cs (λ d. (victim_of d ≡ None) × IsRefusalOf t c.asker d.asker) in
-        of_access c.asker tried (eqb-true (last_of t s) c.asker stands) (sym (alone_attempt c has alone) ∙ number) (subst P number (access_attempts c has tried alone))
+        of_access c.asker (ap (λ o. option_map_or (λ x. unwrap_or (block_with_stamp t x) 0) o c.asker) alone) tried (eqb-true (last_of t s) c.asker stands) (sym (alone_attempt c has alone) ∙ number) (subst P number (access_attempts c has tried alone))
 
     pub records_attempts : (budget s : ℕ) → Spent t cs budget s → RecordsAttempts t cs budget s
     records_attempts budget s spent = by_telling (telling t cs budget s) refl where
-      by_victim : (c : Conflict) (o : Option ℕ) → victim_of c ≡ o → Contains cs c → c.attempt ≡ budget → is_refused_in t s c.asker (victim_of c) ≡ true → may_be_last t c ≡ true → RecordsAttempts t cs budget s
+      by_victim : (c : Conflict) (o : Option ℕ) → victim_of c ≡ o → Contains cs c → c.attempt ≡ budget → is_refused_in t s c.asker (victim_of c) ≡ true → may_be_last t c ≡ true → AreRecorded t cs budget s c
       by_victim c None e has number stands last = budget_access budget s c has number e (sym (ap (is_refused_in t s c.asker) e) ∙ stands)
       by_victim c (Some v) e has number stands last = budget_block budget s c has number v e (sym (ap (is_refused_in t s c.asker) e) ∙ stands) last
 
@@ -297,4 +297,4 @@ module _ (t : List Node) (first : List ℤ) (kept : List (List Entry)) (cs : Lis
       by_telling (Some c) e =
           let (has, tells_it) = find_contains (tells t budget s) cs c e in
           let (number, stands) = and_parts (nat_eq c.attempt budget) (is_refused_in t s c.asker (victim_of c)) tells_it in
-          by_victim c (victim_of c) refl has (eqb-true c.attempt budget number) stands (sym (ap (λ o. option_map_or (may_be_last t) o false) e) ∙ spent.told)
+          (c, e, by_victim c (victim_of c) refl has (eqb-true c.attempt budget number) stands (sym (ap (λ o. option_map_or (may_be_last t) o false) e) ∙ spent.told))

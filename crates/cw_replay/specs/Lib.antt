@@ -2,4 +2,5 @@ pub mod Replays
 pub mod WorkedReplays
 pub mod Attempts
 pub mod SameMachines
+pub mod Spawning
 pub mod OverSource

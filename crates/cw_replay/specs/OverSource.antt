@@ -1,12 +1,14 @@
 -- Records of compiled programs, over the syntax of their sources.
-use Rattle.std.specs.Prelude.{◌↔◌, List, length}
+use Rattle.std.specs.Prelude.{◌↔◌, ℕ, IsTrue, List, length}
 use Rattle.cw_text.specs.Syntax.{Declaration}
 use Rattle.cw_strand.specs.Names.{cells_of, first_memory}
 use Rattle.cw_strand.specs.Meaning.{MainTakes, strands_of}
 use Rattle.cw_strand.specs.Programs.{IsProgramOf}
+use Rattle.cw_tree.specs.Nodes.{is_fork}
 use Rattle.cw_record.specs.declared.record.Record.{Record}
 use Rattle.cw_record.specs.Replay.{Replays}
-use Rattle.cw_record.specs.Records.{IsReplayed}
+use Rattle.cw_record.specs.Records.{IsCoherentRun, IsReplayed}
+use Rattle.cw_replay.specs.Spawning.{any_spawns}
 
 -- One memory that runs the strands of this tree, in the order of the record, does what the record says, and comes to its end.
 abbrev pub IsReplayedOver : List Declaration → Record → Type 0
@@ -16,3 +18,7 @@ IsReplayedOver ds r = Replays (strands_of ds r.words r.limits) (first_memory (ce
 -- exactly where it replays over the tree.
 abbrev pub RecordsReplayOverSource : Type 0
 RecordsReplayOverSource = (ds : List Declaration) (r : Record) → IsProgramOf ds r.program → MainTakes ds (length r.words) → IsReplayed r ↔ IsReplayedOver ds r
+
+-- What a coherent record of a compiled program keeps has a fork only where the source has a `spawn`.
+abbrev pub ForksNeedSpawns : Type 0
+ForksNeedSpawns = (ds : List Declaration) (r : Record) → IsProgramOf ds r.program → IsCoherentRun r → (f : ℕ) → IsTrue (is_fork r.tree f) → IsTrue (any_spawns ds)

@@ -2,11 +2,12 @@
 //! is no code here that runs. Stands on `cw_text`, `cw_strand`, `cw_tree`, `cw_serial` and `cw_record`.
 //! Contracts cite `specs/Replays.antt` (the law behind every run that is not one worker's), `specs/WorkedReplays.antt` (small records to
 //! which it applies), `specs/SameMachines.antt` (two laws of strands that want the same, and the machine over each), `specs/OverSource.antt`
-//! (records of compiled programs over their sources) and `specs/Attempts.antt` (attempts that are recorded one by one).
+//! (records of compiled programs over their sources), `specs/Spawning.antt` (sources that spawn) and `specs/Attempts.antt` (attempts that are
+//! recorded one by one).
 #![tactic(auto)]
 
 ghost use Rattle.cw_replay.specs.Attempts.{AttemptsAreRecorded, ConflictsNeedForks};
-ghost use Rattle.cw_replay.specs.OverSource.{RecordsReplayOverSource};
+ghost use Rattle.cw_replay.specs.OverSource.{ForksNeedSpawns, RecordsReplayOverSource};
 ghost use Rattle.cw_replay.specs.Replays.{KeptRecordsReplay, PicksLeadThere, RecordsReplay};
 ghost use Rattle.cw_replay.specs.SameMachines.{SameEnds, SameMachines, SameReplays};
 ghost use Rattle.cw_replay.specs.WorkedReplays.{WorkedReplays};
@@ -58,4 +59,9 @@ pub fn same_wants_replay<A, B>()
 /// A record of a compiled program replays over its code exactly where it replays over the syntax tree of its source.
 pub fn records_replay_over_source()
     ensures { RecordsReplayOverSource }
+{}
+
+/// A record of a compiled program has a fork only where its source has a `spawn`.
+pub fn forks_need_spawns()
+    ensures { ForksNeedSpawns }
 {}

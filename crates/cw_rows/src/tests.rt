@@ -8,6 +8,7 @@ use std::test::Fail;
 use std::thread::Threads;
 
 mod checking;
+mod simulating;
 
 const COUNTS: &[u8] = b"cell c; fn main() { c = c + 1; out c; }";
 

@@ -128,11 +128,12 @@ module _ (first : List ℤ) (k : State) (on : GoesOn first k) (x : ℕ) (dead : 
     at_left : Runs k w (left_of f)
     at_left = let P : ℕ → Type 0 = λ n. Runs k w n in subst P left at
 
-    waits_here : w.deque ++ w.inline ≡ forks_around k (strand_of t f) ++ f ∷ []
+    -- it waits last in the worker
+    pub waits_here : w.deque ++ w.inline ≡ forks_around k (strand_of t f) ++ f ∷ []
     waits_here = newest first k on w f fork at_left off
 
     -- f does not wait around the strand that forked
-    not_around : has (forks_around k (strand_of t f)) f ≡ false
+    pub not_around : has (forks_around k (strand_of t f)) f ≡ false
     not_around = false_from_ne_true (has (forks_around k (strand_of t f)) f) (λ e.
         let p = has_parts (forks_around k (strand_of t f)) f e in
         let s = strand_of t f in

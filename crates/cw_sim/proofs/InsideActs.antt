@@ -21,7 +21,7 @@ use Rattle.cw_core.specs.State.{State}
 use Rattle.cw_core.specs.Laws.{IsCore}
 use Rattle.cw_sim.specs.Workers.{changed}
 use Rattle.cw_sim.specs.Kept.{GoesOn}
-use Rattle.cw_sim.proofs.Inside.{Stands, IsRightOf, goes_back, GoesBackIn, AreInside}
+use Rattle.cw_sim.specs.Inside.{Stands, IsRightOf, goes_back, GoesBackIn, AreInside}
 use Rattle.cw_sim.proofs.InsideKept.{changed_here, changed_other}
 use Rattle.cw_sim.proofs.InsideLaw.{stays_other, goes_on}
 use Rattle.cw_sim.proofs.InsideQuiet.{IsLeft, WasPending, IsBegun, Pends, steps, inside_to}

@@ -26,7 +26,7 @@ use Rattle.cw_open.proofs.NodeKinds.{fork_no_strand}
 use Rattle.cw_open.proofs.Standing.{open_over, open_block, stands}
 use Rattle.cw_open.proofs.Staying.{Stays, above_stays}
 use Rattle.cw_open.proofs.Victims.{IsTold, IsToldState, victim_above}
-use Rattle.cw_sim.proofs.Inside.{Stands}
+use Rattle.cw_sim.specs.Inside.{Stands}
 use Rattle.cw_sim.proofs.PlacedRunning.{unjoined_open}
 use Rattle.cw_sim.proofs.InsideWaits.{going, over_waits, stands_waits}
 

@@ -9,7 +9,7 @@ use Rattle.cw_tree.specs.Series.{strand_of}
 use Rattle.cw_tree.specs.Shape.{IsTree}
 use Rattle.cw_open.specs.Machine.{Machine, has_finished, finished_dead, is_running, is_dying}
 use Rattle.cw_open.specs.Open.{is_open, AreNested}
-use Rattle.cw_sim.proofs.Inside.{Stands, IsRightOf, goes_back, LivesIn, GoesBackIn, AreInside}
+use Rattle.cw_sim.specs.Inside.{Stands, IsRightOf, goes_back, LivesIn, GoesBackIn, AreInside}
 use Rattle.cw_sim.proofs.InsideLaw.{stays_other}
 
 module _ {A : Type 0} (s : Strands A) (m : Machine) (tree : IsTree m.tree) (nested : AreNested m.tree (is_open m)) (x : ℕ) (dead : Bool) (running : is_running m x ≡ true)

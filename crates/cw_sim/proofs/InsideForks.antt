@@ -36,7 +36,7 @@ use Rattle.cw_core.proofs.Places.{waits_grown, waits_for}
 use Rattle.cw_sim.specs.Workers.{left_of, right_of, changed}
 use Rattle.cw_sim.specs.Kept.{GoesOn}
 use Rattle.cw_sim.proofs.Halves.{left_child}
-use Rattle.cw_sim.proofs.Inside.{Stands, IsRightOf, goes_back, LivesIn, GoesBackIn, AreInside}
+use Rattle.cw_sim.specs.Inside.{Stands, IsRightOf, goes_back, LivesIn, GoesBackIn, AreInside}
 use Rattle.cw_sim.proofs.InsideDying.{dies_by, died_by}
 use Rattle.cw_sim.proofs.InsideKept.{changed_here, changed_other, dying_same}
 use Rattle.cw_sim.proofs.InsideQuiet.{right_was, lives_to, back_to}
@@ -108,7 +108,7 @@ module _ {A : Type 0} (s : Strands A) (first : List ℤ) (k : State) (on : GoesO
       ap (λ w. is_fork w f) apart ∙ none_new (λ y. is_fork_kind y.kind) v (fresh_node n Strand 0 ∷ fresh_node n Strand 0 ∷ []) f refl (omega (arith, ne, l))
 
   -- no block comes
-  pending_old : (b : ℕ) → is_pending u b ≡ true → (b < n) × (is_pending t b ≡ true)
+  pub pending_old : (b : ℕ) → is_pending u b ≡ true → (b < n) × (is_pending t b ≡ true)
   pending_old b e = elim (cases_lt b n) [
     | inl low ↦ (low, sym (node_grown t xs (λ y. is_block_kind y.kind && is_pending_state y.state) b low) ∙ e)
     | inr le ↦ absurd (cc (e, none_new (λ y. is_block_kind y.kind && is_pending_state y.state) t xs b refl le))
@@ -139,7 +139,7 @@ module _ {A : Type 0} (s : Strands A) (first : List ℤ) (k : State) (on : GoesO
   x_waits = waits_for z x n (omega (arith, len)) fork_here fork_strand (false_from_ne_true (has m.joined n) (λ e. absurd (let h = told.state.well.joined n e in omega arith)))
 
   -- which strands stand
-  which : (y : ℕ) → Stands z y → ((y < n) × (y ≢ x)) ⊎ ((y ≡ left_of n) ⊎ (y ≡ right_of n))
+  pub which : (y : ℕ) → Stands z y → ((y < n) × (y ≢ x)) ⊎ ((y ≡ left_of n) ⊎ (y ≡ right_of n))
   which y st = elim (cases_lt y n) [
     | inl low ↦ inl (low, λ e. (let alone = st.alone in let w = x_waits in cc (alone, w, ap (waits z) e)))
     | inr le ↦
@@ -148,7 +148,7 @@ module _ {A : Type 0} (s : Strands A) (first : List ℤ) (k : State) (on : GoesO
         elim (cases_eq y (left_of n)) [ inl e ↦ inr (inl e) | inr ne ↦ inr (inr (omega (arith, len, other, ne))) ])
   ]
 
-  was : (y : ℕ) → y < n → y ≢ x → Stands z y → Stands m y
+  pub was : (y : ℕ) → y < n → y ≢ x → Stands z y → Stands m y
   was y low ne st = record {
     strand = sym (stays.strands y low) ∙ st.strand;
     apart = λ some. ap (has m.joined) (sym (stays.parents y low)) ∙ st.apart some;
@@ -158,7 +158,7 @@ module _ {A : Type 0} (s : Strands A) (first : List ℤ) (k : State) (on : GoesO
     ])) ∙ st.alone;
   }
 
-  back_old : (y : ℕ) → goes_back z y ≡ goes_back m y
+  pub back_old : (y : ℕ) → goes_back z y ≡ goes_back m y
   back_old y = ap (λ b. b || finished_dead m y) (dying_old y)
 
   own_as : (b : ℕ) → is_pending u b ≡ true → strand_of u b ≡ strand_of t b
@@ -197,13 +197,13 @@ module _ {A : Type 0} (s : Strands A) (first : List ℤ) (k : State) (on : GoesO
   abbrev set : (ℕ → A) → ℕ → A
   set f = changed (left_of n) l (changed (right_of n) r f)
 
-  set_old : (f : ℕ → A) (y : ℕ) → y < n → set f y ≡ f y
+  pub set_old : (f : ℕ → A) (y : ℕ) → y < n → set f y ≡ f y
   set_old f y low = changed_other (left_of n) l (changed (right_of n) r f) y (λ e. omega (arith, e, low)) ∙ changed_other (right_of n) r f y (λ e. omega (arith, e, low))
 
-  set_left : (f : ℕ → A) → set f (left_of n) ≡ l
+  pub set_left : (f : ℕ → A) → set f (left_of n) ≡ l
   set_left f = changed_here (left_of n) l (changed (right_of n) r f)
 
-  set_right : (f : ℕ → A) → set f (right_of n) ≡ r
+  pub set_right : (f : ℕ → A) → set f (right_of n) ≡ r
   set_right f = changed_other (left_of n) l (changed (right_of n) r f) (right_of n) (λ e. omega (arith, e)) ∙ changed_here (right_of n) r f
 
   same : (y : ℕ) → Stands z y → goes_back z y ≡ false → set there y ≡ set at y

@@ -25,7 +25,7 @@ use Rattle.cw_open.proofs.Victims.{IsTold}
 use Rattle.cw_core.proofs.Ordering.{closed_strand}
 use Rattle.cw_sim.specs.Workers.{left_of, right_of, changed}
 use Rattle.cw_sim.proofs.Halves.{AsMade, right_child, right_strand}
-use Rattle.cw_sim.proofs.Inside.{Stands, IsRightOf, goes_back, LivesIn, GoesBackIn, AreInside}
+use Rattle.cw_sim.specs.Inside.{Stands, IsRightOf, goes_back, LivesIn, GoesBackIn, AreInside}
 use Rattle.cw_sim.proofs.InsideDying.{dies_by, died_by, by_dies, dead_dies}
 use Rattle.cw_sim.proofs.InsideKept.{changed_here, changed_other}
 use Rattle.cw_sim.proofs.InsideQuiet.{lives_to, back_to}

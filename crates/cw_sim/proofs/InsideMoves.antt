@@ -41,7 +41,7 @@ use Rattle.cw_sim.specs.Workers.{Simulation, left_of, right_of, changed, with_st
 use Rattle.cw_sim.specs.Moves.{does, answers, begins}
 use Rattle.cw_sim.specs.Kept.{GoesOn}
 use Rattle.cw_sim.proofs.After.{conflicts_after}
-use Rattle.cw_sim.proofs.Inside.{IsRightOf, GoesBackIn, AreInside, HasInside}
+use Rattle.cw_sim.specs.Inside.{IsRightOf, GoesBackIn, AreInside, HasInside}
 use Rattle.cw_sim.proofs.InsideActs as acts
 use Rattle.cw_sim.proofs.InsideDying.{Dies, died_by, not_its_block}
 use Rattle.cw_sim.proofs.InsideEnds.{finished}

@@ -5,7 +5,7 @@ use Rattle.cw_strand.specs.Strands.{Strands}
 use Rattle.cw_tree.specs.Nodes.{is_pending}
 use Rattle.cw_open.specs.Steps.{opening as opening_machine}
 use Rattle.cw_sim.specs.Workers.{opening}
-use Rattle.cw_sim.proofs.Inside.{HasInside}
+use Rattle.cw_sim.specs.Inside.{HasInside}
 
 none_pending : (first : List ℤ) (n : ℕ) → is_pending (opening_machine first).tree n ≡ false
 none_pending first zero = refl

@@ -17,7 +17,7 @@ use Rattle.cw_open.specs.Machine.{Machine, has_finished, finished_dead, waits, i
 use Rattle.cw_open.specs.Open.{is_open, AreNested}
 use Rattle.cw_open.proofs.Staying.{Stays, strand_stays}
 use Rattle.cw_sim.proofs.Halves.{AsMade}
-use Rattle.cw_sim.proofs.Inside.{Stands, IsRightOf, goes_back, LivesIn, GoesBackIn, AreInside}
+use Rattle.cw_sim.specs.Inside.{Stands, IsRightOf, goes_back, LivesIn, GoesBackIn, AreInside}
 use Rattle.cw_sim.proofs.InsideWaits.{going, none_right, pending_waits}
 
 -- all strands and forks of machine m are left in machine z, with others waiting, joined and finished as before

@@ -22,7 +22,7 @@ use Rattle.cw_core.proofs.Places.{waits_for}
 use Rattle.cw_sim.specs.Workers.{right_of}
 use Rattle.cw_sim.proofs.Halves.{AsMade, open_unjoined, strand_open, right_child}
 use Rattle.cw_sim.proofs.PlacedRunning.{unjoined_open}
-use Rattle.cw_sim.proofs.Inside.{Stands, IsRightOf}
+use Rattle.cw_sim.specs.Inside.{Stands, IsRightOf}
 
 -- what a running strand is
 pub record IsGoing (m : Machine) (x : ℕ) : Type 0 where

@@ -1,4 +1,5 @@
-mod HasWants
+mod HeldThings
+mod HeldWorkers
 mod Ways
 mod Halves
 mod Early
@@ -35,6 +36,7 @@ mod MoveSteals
 mod MoveActs
 mod MoveKeeps
 mod MoveNumbers
+pub mod Unstopped
 mod StatesKept
 mod PlacedKept
 mod PlacedAlike
@@ -57,7 +59,6 @@ mod Whole
 mod WholeStrands
 mod WholeTurns
 mod Closing
-pub mod Inside
 mod InsideLaw
 mod InsideWaits
 mod InsideDying
@@ -67,5 +68,28 @@ mod InsideActs
 mod InsideEnds
 mod InsideJoins
 mod InsideForks
-pub mod InsideMoves
-pub mod InsideOpens
+mod InsideMoves
+mod InsideOpens
+mod HeldStill
+mod HeldOpens
+mod HeldTakes
+mod HeldRecords
+mod HeldRuns
+mod HeldSides
+mod PutThings
+mod HeldJoins
+mod HeldForks
+mod HeldFinished
+mod HeldFinishes
+mod HeldWorking
+mod HeldMeets
+mod HeldTurned
+mod HeldFollows
+mod HeldMoves
+mod HeldAnswers
+mod HeldLeft
+mod HeldActs
+mod HeldEnds
+mod HeldRolls
+mod HeldBegins
+mod HeldAccesses

@@ -19,7 +19,7 @@ use Rattle.cw_sim.specs.Kept.{Runs, AreWorkers, GoesOn}
 use Rattle.cw_sim.specs.Laws.{NamesCell}
 use Rattle.cw_sim.proofs.EventsFit.{strand_here, is_free_here, fork_fits_here, begin_fits_here, out_fits_here, access_fits_here, commit_fits_here, rolls_here, roll_fits_here, finish_fits_here}
 use Rattle.cw_sim.proofs.Fits.{stop_fits, spent_stop}
-use Rattle.cw_sim.proofs.HasWants.{HasWants}
+use Rattle.cw_sim.specs.HasWants.{HasWants}
 use Rattle.cw_sim.proofs.MoveFinishes.{finishes_to}
 use Rattle.cw_sim.proofs.MoveForks.{forks_goes, forks_workers}
 use Rattle.cw_sim.proofs.Moving.{GoesTo, goes_on_there, halted, by_event}

@@ -7,7 +7,7 @@ use Rattle.cw_sim.specs.Workers.{Simulation, worker}
 use Rattle.cw_sim.specs.Moves.{is_over, others, steals, dies, acts, move}
 use Rattle.cw_sim.specs.Kept.{AreWorkers, GoesOn}
 use Rattle.cw_sim.specs.Laws.{AreStrands, ComesByEvents}
-use Rattle.cw_sim.proofs.HasWants.{HasWants}
+use Rattle.cw_sim.specs.HasWants.{HasWants}
 use Rattle.cw_sim.proofs.MoveActs.{dies_to, acts_to}
 use Rattle.cw_sim.proofs.MoveSteals.{steals_to}
 use Rattle.cw_sim.proofs.Moving.{GoesTo}

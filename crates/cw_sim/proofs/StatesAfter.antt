@@ -12,7 +12,7 @@ use Rattle.cw_sim.specs.Workers.{Simulation, tree, worker, worker_in, with_stran
 use Rattle.cw_sim.specs.Moves.{does, others, steals, dies, acts, finishes, move}
 use Rattle.cw_sim.specs.Kept.{Runs, Fits, HasStates, IsKept}
 use Rattle.cw_sim.proofs.Fits.{free}
-use Rattle.cw_sim.proofs.HasWants.{HasWants}
+use Rattle.cw_sim.specs.HasWants.{HasWants}
 use Rattle.cw_sim.proofs.StatesFollows.{finish_states}
 use Rattle.cw_sim.proofs.StatesMoves.{stop_states, steal_states, out_states, begin_states, load_states, store_states, fork_states, commit_states, roll_states}
 

@@ -26,7 +26,7 @@ use Rattle.cw_sim.specs.Workers.{Simulation}
 use Rattle.cw_sim.specs.Kept.{GoesOn, is_current, AreStanding, HasStates, IsKept}
 use Rattle.cw_sim.specs.Laws.{AreStrands}
 use Rattle.cw_sim.proofs.Halves.{open_unjoined, strand_open}
-use Rattle.cw_sim.proofs.HasWants.{HasWants}
+use Rattle.cw_sim.specs.HasWants.{HasWants}
 use Rattle.cw_sim.proofs.Levels.{levels, strand_levels, block_levels}
 use Rattle.cw_sim.proofs.Reaching.{before_reached, end_reached}
 

@@ -58,7 +58,7 @@ module _ {A : Type 0} (s : Strands A) where
     pub ends : GoesOrEnds s z
 
   -- once it is over nothing moves
-  stays_over : (turn : ℕ → ℕ) (k n : ℕ) (z : Simulation A) → is_over z ≡ true → after_moves s turn k n z ≡ z
+  pub stays_over : (turn : ℕ → ℕ) (k n : ℕ) (z : Simulation A) → is_over z ≡ true → after_moves s turn k n z ≡ z
   stays_over turn zero n z e = refl
   stays_over turn (suc k) n z e = by (is_over z) e where
     by : (b : Bool) → b ≡ true → elim b [ true ↦ z | false ↦ after_moves s turn k (suc n) (move s (turn n) z) ] ≡ z

@@ -5,3 +5,9 @@ pub mod Rows
 pub mod Kept
 pub mod Laws
 pub mod Runs
+pub mod HasWants
+pub mod Inside
+pub mod HeldThings
+pub mod HeldWorkers
+pub mod HeldTurns
+pub mod Held

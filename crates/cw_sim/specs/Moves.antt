@@ -99,7 +99,7 @@ module _ {A : Type 0} where
     abbrev pub answers : ℕ → Given → Simulation A → Simulation A
     answers x given m = with_strand x (s.answer (m.at x) given) m
 
-    -- where a block or an access was refused as often as it may be, the run stops
+    -- where the last attempt that a block or an access may have was refused, the run stops
     abbrev pub stops_if_spent : Simulation A → Simulation A
     stops_if_spent m = option_map_or (λ x. does (event.Stop (halt.Budget x)) m) (spent m.core) m
 

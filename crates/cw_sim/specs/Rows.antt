@@ -28,7 +28,7 @@ use Rattle.cw_sim.specs.Moves.{is_over, after_moves}
 abbrev pub limits : (aborts strands moves : ℕ) → Limits
 limits aborts strands moves = record { fuel = 1000; size = 1000; aborts = aborts; strands = strands; moves = moves }
 
--- so many refusals, columns and moves that none of these limits is met
+-- so many attempts, columns and moves that none of these limits is met
 abbrev pub wide : Limits
 wide = limits 1000 100 1000
 

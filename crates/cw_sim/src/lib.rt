@@ -1,6 +1,5 @@
-//! The moves of a simulation: several virtual workers run the strands of a program over one core, each when its turn comes. There is no
-//! code here that runs.
-//! Stands on `cw_io`, `cw_strand`, `cw_core`, `cw_serial` and `cw_record`.
+//! The simulation: several virtual workers run the strands of a program over one core, each when its turn comes.
+//! Stands on `cw_io`, `cw_strand`, `cw_core`, `cw_serial` and `cw_record`, with the kit's `slab`.
 //! Contracts cite `specs/Workers.antt` (the state of a simulation), `specs/Turns.antt` (who makes which move), `specs/Moves.antt` (what
 //! each move does, and runs), `specs/Kept.antt` (what is true between moves), `specs/Laws.antt` (what holds of them) and `specs/Runs.antt` (the
 //! whole run, and its record); `specs/Rows.antt` tries them on small sources.
@@ -10,6 +9,14 @@ ghost use Rattle.cw_sim.specs.Laws.{ForksAreThere, MovesFit, NoneIsEarly, OpensW
 ghost use Rattle.cw_sim.specs.Rows.{Rows};
 ghost use Rattle.cw_sim.specs.Runs.{RecordsAreCoherent, RunsAreClosed};
 ghost use Rattle.cw_strand.specs.Strands.{Strands};
+
+mod by_node;
+mod moves;
+mod simulating;
+mod turns;
+mod worker;
+
+pub use simulating::simulate;
 
 /// Before the first move all is kept.
 pub fn opens_well<S>()

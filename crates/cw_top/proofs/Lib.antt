@@ -1,7 +1,14 @@
-mod Asked
-mod Given
+mod FirstOption
 mod Numbers
-mod OverSource
+mod Parts
+mod Passes
+mod Commands
+mod Ready
+mod SpentMoves
+mod Budgets
+mod Spawned
 mod Parameters
+mod CommandRuns
+mod OverSource
 pub mod Pieces
 pub mod Statuses

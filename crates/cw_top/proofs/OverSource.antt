@@ -9,13 +9,13 @@ use Rattle.cw_record.specs.declared.record.Record.{Record}
 use Rattle.cw_record.specs.Replay.{Replays}
 use Rattle.cw_replay.proofs.OverSource.{over_source}
 use Rattle.cw_top.specs.declared.command.Command.{Command}
-use Rattle.cw_top.specs.declared.command.Command.TheVariants.{Run}
 use Rattle.cw_top.specs.Outcome.{IsRunBy, IsRunOf}
 use Rattle.cw_top.specs.OverSource.{IsRunOfSource, IsRunOfSyntax}
+use Rattle.cw_top.specs.Words.{limits_of, words_of}
 
-of_syntax : (words : List ℤ) (limits : Limits) (bytes : List ℕ) (r : Record) → IsRunBy (Run words limits) (Some bytes) r → IsRunOfSyntax words limits bytes r
-of_syntax words limits bytes r run =
-    let (ds, (spelled, is)) = run.runs in
+of_syntax : (co : Command) (bytes : List ℕ) (r : Record) → IsRunBy co (Some bytes) r → IsRunOfSyntax (words_of co) (limits_of co) bytes r
+of_syntax co bytes r run =
+    let (ds, (spelled, is)) = run.spelled in
     let takes : MainTakes ds (length r.words) = source_takes ds r.program is (length r.words) run.coherent.words in
     let replays = (over_source ds r is takes).0 run.replays in
     let P : List ℤ → Limits → Type 0 = λ ws ls. Replays (strands_of ds ws ls) (first_memory (cells_of ds)) ls.aborts r.tree r.conflicts r.order r.end in
@@ -25,11 +25,11 @@ of_syntax words limits bytes r run =
       named = is.named;
       takes = subst (λ (ws : List ℤ). MainTakes ds (length ws)) run.words takes;
       cells = is.cells;
-      replays = subst (P words) run.limits (subst (λ ws. P ws r.limits) run.words replays);
+      replays = subst (P (words_of co)) run.limits (subst (λ ws. P ws r.limits) run.words replays);
     }
 
 pub of_source : (command : Option Command) (left : Option (List ℕ)) (kept : Option Record) → IfSome kept (IsRunOf command left) → IfSome kept (IsRunOfSource command left)
 of_source command left None run = tt
 of_source None left (Some r) run = run
-of_source (Some (Run words limits)) None (Some r) run = tt
-of_source (Some (Run words limits)) (Some bytes) (Some r) run = of_syntax words limits bytes r run
+of_source (Some co) None (Some r) run = tt
+of_source (Some co) (Some bytes) (Some r) run = of_syntax co bytes r run

@@ -2,7 +2,6 @@
 use Rattle.std.proofs.Common.{◌≡◌, ◌≢◌, ◌⊎◌, inl, inr, List, length, ℕ, ℤ, Option, Some, None, IsSomeAnd, IfSome, sym, ◌∙◌, subst}
 use Rattle.cw_io.specs.Outside.{Appends}
 use Rattle.cw_code.specs.declared.CellInfo.{CellInfo}
-use Rattle.cw_code.specs.declared.Limits.{Limits}
 use Rattle.cw_tree.specs.declared.node.Node.{Node}
 use Rattle.cw_tree.specs.declared.picks.Picks.{Picks}
 use Rattle.cw_tree.specs.Shape.{IsTree}
@@ -16,13 +15,14 @@ use Rattle.cw_record.specs.Records.{HasEnded, IsReplayed}
 use Rattle.cw_record.specs.Replay.{SameEnd}
 use Rattle.cw_record.proofs.OneRun.{same_end}
 use Rattle.cw_top.specs.declared.command.Command.{Command}
-use Rattle.cw_top.specs.declared.command.Command.TheVariants.{Run}
+use Rattle.cw_top.specs.declared.command.Command.TheVariants.{Run, Sim}
 use Rattle.cw_top.specs.declared.outcome.Note.{Note}
 use Rattle.cw_top.specs.declared.outcome.Note.TheVariants as note
 use Rattle.cw_top.specs.Refusals.{AsksFor, IsMisfit, refusal}
 use Rattle.cw_top.proofs.Parameters.{fits}
 use Rattle.cw_top.specs.Texts.{end_text, finished_text}
-use Rattle.cw_top.specs.Outcome.{Accepts, MayBeMisusedWith, MayEndWith, HasCause, IsMisused, IsRefusedFor, IsRunBy, IsRunOf, IsStatus, IsSurelyMisused, Writes, WritesEndOfOneMemory, end_of_one_memory, status_of_end}
+use Rattle.cw_top.specs.Outcome.{Accepts, MayBeMisusedWith, MayEndWith, HasCause, IsDoneAs, IsDoneBy, IsMisused, IsRefusedFor, IsRunBy, IsRunOf, IsStatus, IsSurelyMisused, Writes, WritesEndOfOneMemory, end_of_one_memory, status_of_end}
+use Rattle.cw_top.specs.Words.{words_of}
 
 -- words that are no command come to status 2
 of_none : (kept : Option Record) (status : ℕ) (n : Note) → n ≡ note.Usage → IsStatus kept status n → status ≡ 2
@@ -41,50 +41,64 @@ no_fault (Some r) status h = no_end r.end status h
 
 pub usage : (command : Option Command) (kept : Option Record) (status : ℕ) (n : Note) (left : Option (List ℕ)) (r w : Type 0) → IsStatus kept status n → HasCause command n left r w → status ≡ 2 → IsMisused command left
 usage None kept status n left r w is cause h = tt
-usage (Some (Run ws ls)) kept status note.Nothing left r w is cause h = absurd ((no_fault kept status is).0 h)
-usage (Some (Run ws ls)) kept status note.Usage left r w is cause h = cause
-usage (Some (Run ws ls)) kept status note.Memory left r w (none, is) cause h = cc
-usage (Some (Run ws ls)) kept status note.Read left r w (none, is) cause h = cc
-usage (Some (Run ws ls)) kept status note.Write left r w (some, is) cause h = cc
-usage (Some (Run ws ls)) kept status (note.Text f) left r w (none, is) cause h = cc
-usage (Some (Run ws ls)) kept status (note.Name f) left r w (none, is) cause h = cc
+usage (Some co) kept status note.Nothing left r w is cause h = absurd ((no_fault kept status is).0 h)
+usage (Some co) kept status note.Usage left r w is cause h = cause
+usage (Some co) kept status note.Memory left r w (none, is) cause h = cc
+usage (Some co) kept status note.Read left r w (none, is) cause h = cc
+usage (Some co) kept status note.Write left r w (some, is) cause h = cc
+usage (Some co) kept status (note.Text f) left r w (none, is) cause h = cc
+usage (Some co) kept status (note.Name f) left r w (none, is) cause h = cc
 
 pub read_fault : (command : Option Command) (kept : Option Record) (status : ℕ) (n : Note) (left : Option (List ℕ)) (r w : Type 0) → IsStatus kept status n → HasCause command n left r w → status ≡ 3 → r
 read_fault None kept status n left r w is cause h = let two = of_none kept status n cause is in cc
-read_fault (Some (Run ws ls)) kept status note.Nothing left r w is cause h = absurd ((no_fault kept status is).1 h)
-read_fault (Some (Run ws ls)) kept status note.Usage left r w (none, is) cause h = cc
-read_fault (Some (Run ws ls)) kept status note.Memory left r w (none, is) cause h = cc
-read_fault (Some (Run ws ls)) kept status note.Read left r w is cause h = cause
-read_fault (Some (Run ws ls)) kept status note.Write left r w (some, is) cause h = cc
-read_fault (Some (Run ws ls)) kept status (note.Text f) left r w (none, is) cause h = cc
-read_fault (Some (Run ws ls)) kept status (note.Name f) left r w (none, is) cause h = cc
+read_fault (Some co) kept status note.Nothing left r w is cause h = absurd ((no_fault kept status is).1 h)
+read_fault (Some co) kept status note.Usage left r w (none, is) cause h = cc
+read_fault (Some co) kept status note.Memory left r w (none, is) cause h = cc
+read_fault (Some co) kept status note.Read left r w is cause h = cause
+read_fault (Some co) kept status note.Write left r w (some, is) cause h = cc
+read_fault (Some co) kept status (note.Text f) left r w (none, is) cause h = cc
+read_fault (Some co) kept status (note.Name f) left r w (none, is) cause h = cc
 
 pub write_fault : (command : Option Command) (kept : Option Record) (status : ℕ) (n : Note) (left : Option (List ℕ)) (r w : Type 0) → IsStatus kept status n → HasCause command n left r w → status ≡ 4 → w
 write_fault None kept status n left r w is cause h = let two = of_none kept status n cause is in cc
-write_fault (Some (Run ws ls)) kept status note.Nothing left r w is cause h = absurd ((no_fault kept status is).2 h)
-write_fault (Some (Run ws ls)) kept status note.Usage left r w (none, is) cause h = cc
-write_fault (Some (Run ws ls)) kept status note.Memory left r w (none, is) cause h = cc
-write_fault (Some (Run ws ls)) kept status note.Read left r w (none, is) cause h = cc
-write_fault (Some (Run ws ls)) kept status note.Write left r w is cause h = cause
-write_fault (Some (Run ws ls)) kept status (note.Text f) left r w (none, is) cause h = cc
-write_fault (Some (Run ws ls)) kept status (note.Name f) left r w (none, is) cause h = cc
+write_fault (Some co) kept status note.Nothing left r w is cause h = absurd ((no_fault kept status is).2 h)
+write_fault (Some co) kept status note.Usage left r w (none, is) cause h = cc
+write_fault (Some co) kept status note.Memory left r w (none, is) cause h = cc
+write_fault (Some co) kept status note.Read left r w (none, is) cause h = cc
+write_fault (Some co) kept status note.Write left r w is cause h = cause
+write_fault (Some co) kept status (note.Text f) left r w (none, is) cause h = cc
+write_fault (Some co) kept status (note.Name f) left r w (none, is) cause h = cc
 
 pub refused : (command : Option Command) (kept : Option Record) (status : ℕ) (n : Note) (left : Option (List ℕ)) (r w : Type 0) → IsStatus kept status n → HasCause command n left r w → status ≡ 5 → IsRefusedFor n left
 refused None kept status n left r w is cause h = let two = of_none kept status n cause is in cc
-refused (Some (Run ws ls)) kept status note.Nothing left r w is cause h = absurd ((no_fault kept status is).3 h)
-refused (Some (Run ws ls)) kept status note.Usage left r w (none, is) cause h = cc
-refused (Some (Run ws ls)) kept status note.Memory left r w (none, is) cause h = cc
-refused (Some (Run ws ls)) kept status note.Read left r w (none, is) cause h = cc
-refused (Some (Run ws ls)) kept status note.Write left r w (some, is) cause h = cc
-refused (Some (Run ws ls)) kept status (note.Text f) left r w is cause h = cause
-refused (Some (Run ws ls)) kept status (note.Name f) left r w is cause h = cause
+refused (Some co) kept status note.Nothing left r w is cause h = absurd ((no_fault kept status is).3 h)
+refused (Some co) kept status note.Usage left r w (none, is) cause h = cc
+refused (Some co) kept status note.Memory left r w (none, is) cause h = cc
+refused (Some co) kept status note.Read left r w (none, is) cause h = cc
+refused (Some co) kept status note.Write left r w (some, is) cause h = cc
+refused (Some co) kept status (note.Text f) left r w is cause h = cause
+refused (Some co) kept status (note.Name f) left r w is cause h = cause
 
--- a run that has ended finished or met a fault
+-- a run of one worker has ended: it finished or met a fault; one of several comes to any end
 ended : (e : RecordEnd) (status : ℕ) → HasEnded e → status ≡ status_of_end e → (status ≡ 0) ⊎ (status ≡ 6) ⊎ (status ≡ 1)
 ended (Finished m o) status h is = inl is
 ended (Fault x k) status h is = inr (inl is)
 ended (Budget x) status h is = absurd h
 ended Moves status h is = absurd h
+
+came : (e : RecordEnd) (status : ℕ) → status ≡ status_of_end e → (status ≡ 0) ⊎ (status ≡ 6) ⊎ (status ≡ 7) ⊎ (status ≡ 9) ⊎ (status ≡ 1)
+came (Finished m o) status is = inl is
+came (Fault x k) status is = inr (inl is)
+came (Budget x) status is = inr (inr (inl is))
+came Moves status is = inr (inr (inr (inl is)))
+
+may_end : (co : Command) (x : Record) (status : ℕ) → IsDoneBy co x → status ≡ status_of_end x.end → MayEndWith (Some co) status
+may_end (Run ws ls) x status done is = ended x.end status done.ended is
+may_end (Sim ws ls w s) x status done is = came x.end status is
+
+may_want : (co : Command) (status : ℕ) → status ≡ 1 → MayEndWith (Some co) status
+may_want (Run ws ls) status is = inr (inr is)
+may_want (Sim ws ls w s) status is = inr (inr (inr (inr is)))
 
 -- bytes that are not refused are refused for no reason
 not_refused : (left : Option (List ℕ)) (P : List ℕ → Type 0) (n : Note) → IsSomeAnd left (λ bytes. (refusal bytes ≡ None) × P bytes) → IsRefusedFor n left → ⊥
@@ -97,31 +111,31 @@ fitting None words h misfit = h
 fitting (Some bytes) words h misfit = misfit.1 h.1
 
 -- where there is a run the words fit
-run_fits : (ws : List ℤ) (ls : Limits) (left : Option (List ℕ)) (x : Record) → IsRunBy (Run ws ls) left x → IsSomeAnd left (IsMisfit ws) → ⊥
-run_fits ws ls left x run = fits left ws x.program run.runs (subst (λ (vs : List ℤ). Takes x.program (length vs)) run.words run.coherent.words)
+run_fits : (co : Command) (left : Option (List ℕ)) (x : Record) → IsRunBy co left x → IsSomeAnd left (IsMisfit (words_of co)) → ⊥
+run_fits co left x run = fits left (words_of co) x.program run.spelled (subst (λ (vs : List ℤ). Takes x.program (length vs)) run.words run.coherent.words)
 
 pub misused : (command : Option Command) (kept : Option Record) (status : ℕ) (n : Note) (left : Option (List ℕ)) (r w : Type 0) → IsStatus kept status n → HasCause command n left r w → IfSome kept (IsRunOf command left) → IsSurelyMisused command left → (r → ⊥) → MayBeMisusedWith command status
 misused None kept status n left r w is cause run misfit no_r = of_none kept status n cause is
-misused (Some (Run ws ls)) None status note.Nothing left r w is cause run misfit no_r = absurd is
-misused (Some (Run ws ls)) (Some x) status note.Nothing left r w is cause run misfit no_r = absurd (run_fits ws ls left x run misfit)
-misused (Some (Run ws ls)) kept status note.Usage left r w (none, is) cause run misfit no_r = inl is
-misused (Some (Run ws ls)) kept status note.Memory left r w (none, is) cause run misfit no_r = inr is
-misused (Some (Run ws ls)) kept status note.Read left r w is cause run misfit no_r = absurd (no_r cause)
-misused (Some (Run ws ls)) None status note.Write left r w (some, is) cause run misfit no_r = cc
-misused (Some (Run ws ls)) (Some x) status note.Write left r w is cause run misfit no_r = absurd (run_fits ws ls left x run misfit)
-misused (Some (Run ws ls)) kept status (note.Text f) left r w is cause run misfit no_r = absurd (not_refused left (λ bytes. AsksFor bytes (length ws) → ⊥) (note.Text f) misfit cause)
-misused (Some (Run ws ls)) kept status (note.Name f) left r w is cause run misfit no_r = absurd (not_refused left (λ bytes. AsksFor bytes (length ws) → ⊥) (note.Name f) misfit cause)
+misused (Some co) None status note.Nothing left r w is cause run misfit no_r = absurd is
+misused (Some co) (Some x) status note.Nothing left r w is cause run misfit no_r = absurd (run_fits co left x run misfit)
+misused (Some co) kept status note.Usage left r w (none, is) cause run misfit no_r = inl is
+misused (Some co) kept status note.Memory left r w (none, is) cause run misfit no_r = inr is
+misused (Some co) kept status note.Read left r w is cause run misfit no_r = absurd (no_r cause)
+misused (Some co) None status note.Write left r w (some, is) cause run misfit no_r = cc
+misused (Some co) (Some x) status note.Write left r w is cause run misfit no_r = absurd (run_fits co left x run misfit)
+misused (Some co) kept status (note.Text f) left r w is cause run misfit no_r = absurd (not_refused left (λ bytes. AsksFor bytes (length (words_of co)) → ⊥) (note.Text f) misfit cause)
+misused (Some co) kept status (note.Name f) left r w is cause run misfit no_r = absurd (not_refused left (λ bytes. AsksFor bytes (length (words_of co)) → ⊥) (note.Name f) misfit cause)
 
-pub complete : (command : Option Command) (kept : Option Record) (status : ℕ) (n : Note) (left : Option (List ℕ)) (r w : Type 0) → IsStatus kept status n → HasCause command n left r w → IfSome kept (IsRunOf command left) → Accepts command left → (r → ⊥) → (w → ⊥) → MayEndWith command status
-complete None kept status n left r w is cause run accepted no_r no_w = of_none kept status n cause is
-complete (Some (Run ws ls)) None status note.Nothing left r w is cause run accepted no_r no_w = absurd is
-complete (Some (Run ws ls)) (Some x) status note.Nothing left r w is cause run accepted no_r no_w = ended x.end status run.done.ended is
-complete (Some (Run ws ls)) kept status note.Usage left r w is cause run accepted no_r no_w = absurd (fitting left ws accepted cause)
-complete (Some (Run ws ls)) kept status note.Memory left r w (none, is) cause run accepted no_r no_w = inr (inr is)
-complete (Some (Run ws ls)) kept status note.Read left r w is cause run accepted no_r no_w = absurd (no_r cause)
-complete (Some (Run ws ls)) kept status note.Write left r w is cause run accepted no_r no_w = absurd (no_w cause)
-complete (Some (Run ws ls)) kept status (note.Text f) left r w is cause run accepted no_r no_w = absurd (not_refused left (λ bytes. AsksFor bytes (length ws)) (note.Text f) accepted cause)
-complete (Some (Run ws ls)) kept status (note.Name f) left r w is cause run accepted no_r no_w = absurd (not_refused left (λ bytes. AsksFor bytes (length ws)) (note.Name f) accepted cause)
+pub complete : (command : Option Command) (kept : Option Record) (status : ℕ) (n : Note) (left : Option (List ℕ)) (r w : Type 0) → IsStatus kept status n → HasCause command n left r w → IfSome kept (IsDoneAs command) → Accepts command left → (r → ⊥) → (w → ⊥) → MayEndWith command status
+complete None kept status n left r w is cause done accepted no_r no_w = of_none kept status n cause is
+complete (Some co) None status note.Nothing left r w is cause done accepted no_r no_w = absurd is
+complete (Some co) (Some x) status note.Nothing left r w is cause done accepted no_r no_w = may_end co x status done is
+complete (Some co) kept status note.Usage left r w is cause done accepted no_r no_w = absurd (fitting left (words_of co) accepted cause)
+complete (Some co) kept status note.Memory left r w (none, is) cause done accepted no_r no_w = may_want co status is
+complete (Some co) kept status note.Read left r w is cause done accepted no_r no_w = absurd (no_r cause)
+complete (Some co) kept status note.Write left r w is cause done accepted no_r no_w = absurd (no_w cause)
+complete (Some co) kept status (note.Text f) left r w is cause done accepted no_r no_w = absurd (not_refused left (λ bytes. AsksFor bytes (length (words_of co))) (note.Text f) accepted cause)
+complete (Some co) kept status (note.Name f) left r w is cause done accepted no_r no_w = absurd (not_refused left (λ bytes. AsksFor bytes (length (words_of co))) (note.Name f) accepted cause)
 
 -- where a run's status is 0 the machine finished, with the memory and the outputs that were written
 at_zero : (cells : List CellInfo) (t : List Node) (e : RecordEnd) (picks : Picks) (s : SerialEnd) (old new : Option (List ℕ)) → 0 ≡ status_of_end e → SameEnd e picks s → Appends old new (end_text cells t e) → (memory outputs : List ℤ) × (s ≡ last.Finished memory outputs) × Appends old new (finished_text cells memory outputs)
@@ -130,15 +144,15 @@ at_zero cells t (Fault x k) picks s old new is same written = cc
 at_zero cells t (Budget x) picks s old new is same written = cc
 at_zero cells t Moves picks s old new is same written = cc
 
-of_replay : (ws : List ℤ) (ls : Limits) (r : Record) (old new : Option (List ℕ)) → 0 ≡ status_of_end r.end → IsTree r.tree → IsReplayed r → Writes (Some (Run ws ls)) (Some r) note.Nothing old new → WritesEndOfOneMemory (Some (Run ws ls)) r old new
-of_replay ws ls r old new is tree replays written =
+of_replay : (co : Command) (r : Record) (old new : Option (List ℕ)) → 0 ≡ status_of_end r.end → IsTree r.tree → IsReplayed r → Writes (Some co) (Some r) note.Nothing old new → WritesEndOfOneMemory (Some co) r old new
+of_replay co r old new is tree replays written =
     let (memory, outputs, finishes, told) = at_zero r.program.cells r.tree r.end r.order (end_of_one_memory r) old new is (same_end r tree.rooted tree.root replays) written in
     record { memory = memory; outputs = outputs; finishes = finishes; written = told }
 
 pub finished : (command : Option Command) (kept : Option Record) (status : ℕ) (n : Note) (left old new : Option (List ℕ)) → IsStatus kept status n → IfSome kept (IsRunOf command left) → Writes command kept n old new → status ≡ 0 → IsSomeAnd kept (λ r. WritesEndOfOneMemory command r old new)
 finished command None status note.Nothing left old new is run written zero = absurd is
 finished None (Some r) status note.Nothing left old new is run written zero = absurd run
-finished (Some (Run ws ls)) (Some r) status note.Nothing left old new is run written zero = of_replay ws ls r old new (sym zero ∙ is) run.coherent.coherent.history.tree run.replays written
+finished (Some co) (Some r) status note.Nothing left old new is run written zero = of_replay co r old new (sym zero ∙ is) run.coherent.coherent.history.tree run.replays written
 finished command kept status note.Usage left old new (none, is) run written zero = cc
 finished command kept status note.Memory left old new (none, is) run written zero = cc
 finished command kept status note.Read left old new (none, is) run written zero = cc

@@ -1,5 +1,7 @@
 pub mod Options
 pub mod Words
+pub mod Given
+pub mod Reading
 pub mod Refusals
 pub mod Reasons
 pub mod Texts

@@ -1,6 +1,6 @@
 -- How the words behind a command are read: as the options that they give, each with its value, and the words that belong to
--- no option. And the numbers that options and words spell.
-use Rattle.std.specs.Prelude.{ℕ, ℤ, pos, neg_ℤ, ◌-◌, ◌^◌, ◌==◌, ◌&&◌, Bool, not, List, [], ◌∷◌, drop, Option, Some, None, if◌then◌else◌, codes, nat_eq, nat_le, option_and_then, option_map}
+-- no option. And the numbers, and the lists of numbers, that options and words spell.
+use Rattle.std.specs.Prelude.{ℕ, ℤ, pos, neg_ℤ, ◌-◌, ◌^◌, ◌==◌, ◌&&◌, Bool, not, List, [], ◌∷◌, length, drop, Option, Some, None, if◌then◌else◌, codes, nat_eq, nat_le, option_and_then, option_map}
 use Rattle.std.specs.List.{after_first, before_first, list_all, list_any, starts_with}
 use Rattle.std.specs.Str.{all_ascii_digits, bytes_eq, byte}
 use Rattle.std.specs.Str.Parse.{digits_value}
@@ -75,28 +75,61 @@ abbrev pub integers_of : List (List ℕ) → Option (List ℤ)
 integers_of [] = Some []
 integers_of (w ∷ ws) = option_and_then (λ n. option_map (λ ns. n ∷ ns) (integers_of ws)) (integer_of w)
 
--- ## The number of an option
+-- ## Lists of numbers
 
--- an option whose value is a number: its name, the least number that it may be, and the greatest
-pub record NumberOption : Type 0 where
-  pub name : List ℕ
-  pub least : ℕ
-  pub most : ℕ
+abbrev pub is_comma : ℕ → Bool
+is_comma c = c == byte ","
+
+-- a byte in front of the first part
+abbrev pub in_front : ℕ → List (List ℕ) → List (List ℕ)
+in_front c [] = (c ∷ []) ∷ []
+in_front c (p ∷ ps) = (c ∷ p) ∷ ps
+
+-- the parts of a text that its commas keep apart: one part more than it has commas
+abbrev pub parts_of : List ℕ → List (List ℕ)
+parts_of [] = [] ∷ []
+parts_of (c ∷ cs) = if is_comma c then [] ∷ parts_of cs else in_front c (parts_of cs)
+
+-- the numbers below this one that texts spell, if each of them spells one
+abbrev pub numbers_below : (limit : ℕ) → List (List ℕ) → Option (List ℕ)
+numbers_below limit [] = Some []
+numbers_below limit (v ∷ vs) = option_and_then (λ n. option_map (λ ns. n ∷ ns) (numbers_below limit vs)) (number_within 0 (limit - 1) v)
+
+-- The list that a text spells: numbers below this one, with commas between them, at most so many.
+abbrev pub list_below : (limit most : ℕ) → List ℕ → Option (List ℕ)
+list_below limit most v = if nat_le (length (parts_of v)) most then numbers_below limit (parts_of v) else None
+
+-- ## The value of an option
 
 -- the values that an option of this name is given
 abbrev pub values_of : (name : List ℕ) → List GivenOption → List (List ℕ)
 values_of name [] = []
 values_of name (o ∷ os) = if bytes_eq o.0 name then o.1 ∷ values_of name os else values_of name os
 
--- An option has one value at most. Where it has none, another number stands for it.
-abbrev pub number_in : NumberOption → (default : ℕ) → (values : List (List ℕ)) → Option ℕ
-number_in o default [] = Some default
-number_in o default (v ∷ []) = number_within o.least o.most v
-number_in o default (v ∷ w ∷ vs) = None
+-- An option has one value at most.
+abbrev pub one_of : List (List ℕ) → Option (Option (List ℕ))
+one_of [] = Some None
+one_of (v ∷ []) = Some (Some v)
+one_of (v ∷ w ∷ vs) = None
 
-abbrev pub number_of : NumberOption → (default : ℕ) → List GivenOption → Option ℕ
-number_of o default os = number_in o default (values_of o.name os)
+abbrev pub value_of : (name : List ℕ) → List GivenOption → Option (Option (List ℕ))
+value_of name os = one_of (values_of name os)
 
--- Each option that is given is one of these.
-abbrev pub are_known : List NumberOption → List GivenOption → Bool
-are_known known os = list_all (λ o. list_any (λ k. bytes_eq o.0 k.name) known) os
+-- an option whose value is a number: its name, the least number that it may be, the greatest, and the one that stands for it where it is
+-- not given
+pub record NumberOption : Type 0 where
+  pub name : List ℕ
+  pub least : ℕ
+  pub most : ℕ
+  pub default : ℕ
+
+abbrev pub number_in : NumberOption → (value : Option (List ℕ)) → Option ℕ
+number_in o None = Some o.default
+number_in o (Some v) = number_within o.least o.most v
+
+abbrev pub number_of : NumberOption → List GivenOption → Option ℕ
+number_of o os = option_and_then (number_in o) (value_of o.name os)
+
+-- Each option that is given has one of these names.
+abbrev pub are_known : (names : List (List ℕ)) → List GivenOption → Bool
+are_known names os = list_all (λ o. list_any (λ name. bytes_eq name o.0) names) os

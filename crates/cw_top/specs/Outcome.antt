@@ -1,18 +1,27 @@
--- What a status says: a part for each thing that the top call promises. What depends on the command is a function of it, with
--- a case for each command and one for words that are none, so that a further command adds its cases and changes no clause.
-use Rattle.std.specs.Prelude.{◌≡◌, ◌≤◌, ◌⊎◌, ℕ, ◌+◌, ℤ, List, [], ◌++◌, length, Option, Some, None, IfSome, IsSome, IsSomeAnd}
+-- What a status says: a part for each thing that the top call promises. What depends on the command is a function of it, with a case for
+-- words that are none; so a further command adds its cases and changes no clause.
+use Rattle.std.specs.Prelude.{◌≡◌, ◌≤◌, ◌⊎◌, ℕ, ◌+◌, ℤ, List, [], ◌++◌, false, length, Option, Some, None, IfSome, IsSome, IsSomeAnd, IsTrue}
 use Rattle.cw_io.specs.Outside.{Takes, Appends, AppendsFront, RunsDry}
 use Rattle.cw_code.specs.declared.CellInfo.{CellInfo}
+use Rattle.cw_tree.specs.Names.{name_of}
+use Rattle.cw_tree.specs.Nodes.{is_fork}
+use Rattle.cw_tree.specs.Refusals.{telling}
+use Rattle.cw_serial.specs.declared.ends.SerialEnd.{SerialEnd}
+use Rattle.cw_serial.specs.declared.ends.SerialEnd.TheVariants as last
+use Rattle.cw_serial.specs.Machine.{Machine}
+use Rattle.cw_serial.specs.MachineOf.{end_under, machine_of}
+use Rattle.cw_serial.specs.Room.Strands.{StrandState, strands_of}
 use Rattle.cw_record.specs.declared.record.Record.{Record}
 use Rattle.cw_record.specs.declared.record_end.RecordEnd.{RecordEnd}
 use Rattle.cw_record.specs.declared.record_end.RecordEnd.TheVariants.{Finished, Fault, Budget, Moves}
-use Rattle.cw_serial.specs.declared.ends.SerialEnd.{SerialEnd}
-use Rattle.cw_serial.specs.declared.ends.SerialEnd.TheVariants as last
-use Rattle.cw_code.specs.declared.program.Program.{Program}
-use Rattle.cw_serial.specs.MachineOf.{end_under}
+use Rattle.cw_record.specs.Items.{items}
+use Rattle.cw_record.specs.Replay.{DoesAll, StandsRefused}
 use Rattle.cw_record.specs.Records.{job_of, BlocksEnded, HasEnded, HasItsOutputs, IsCoherentRecord, IsReplayed, IsDepthFirst, IsNumberedDepthFirst}
+use Rattle.cw_replay.specs.Attempts.{RecordsAttempts}
+use Rattle.cw_sim.specs.Moves.{is_over}
+use Rattle.cw_sim.specs.Runs.{IsRecordOf, left_by}
 use Rattle.cw_top.specs.declared.command.Command.{Command}
-use Rattle.cw_top.specs.declared.command.Command.TheVariants.{Run}
+use Rattle.cw_top.specs.declared.command.Command.TheVariants.{Run, Sim}
 use Rattle.cw_top.specs.declared.outcome.Note.{Note}
 use Rattle.cw_top.specs.declared.outcome.Note.TheVariants as note
 use Rattle.cw_top.specs.Refusals.{AsksFor, IsMisfit, refusal, Spells}
@@ -46,12 +55,12 @@ most_bytes = 1048577
 -- the most bytes that a command takes
 abbrev pub most_read : Option Command → ℕ
 most_read None = 0
-most_read (Some (Run words limits)) = most_bytes
+most_read (Some c) = most_bytes
 
 -- so many reads of a command give no byte at most: one, after which it reads no more
 abbrev pub most_ends : Option Command → ℕ
 most_ends None = 0
-most_ends (Some (Run words limits)) = 1
+most_ends (Some c) = 1
 
 -- A count rose by so much at most, and did not fall.
 abbrev pub RisesAtMost : ℕ → (before after : ℕ) → Type 0
@@ -68,7 +77,7 @@ GivesOn left_old left_new old new count = (bytes : List ℕ) × (length bytes �
 -- what a command has read where it ran: the whole source
 abbrev pub ReadsWhole : Option Command → (old new : Option (List ℕ)) → Type 0
 ReadsWhole None old new = ⊥
-ReadsWhole (Some (Run words limits)) old new = RunsDry old new
+ReadsWhole (Some c) old new = RunsDry old new
 
 -- A source is refused for this reason, where its bytes are told.
 abbrev pub IsRefusedFor : Note → Option (List ℕ) → Type 0
@@ -77,13 +86,24 @@ IsRefusedFor n left = IfSome left (λ bytes. refusal bytes ≡ Some n)
 -- a source, with its bytes told, that a command accepts: it is not refused, and asks for as many words as the command has
 abbrev pub Accepts : Option Command → Option (List ℕ) → Type 0
 Accepts None left = Unit {0}
-Accepts (Some (Run words limits)) left = IsSomeAnd left (λ bytes. (refusal bytes ≡ None) × AsksFor bytes (length words))
+Accepts (Some c) left = IsSomeAnd left (λ bytes. (refusal bytes ≡ None) × AsksFor bytes (length (words_of c)))
 
 -- ## The run
 
--- what a command runs: the compilation of what the whole source spells
-abbrev pub Runs : Command → (left : Option (List ℕ)) → Program → Type 0
-Runs (Run words limits) left p = IfSome left (λ bytes. Spells bytes p)
+-- A run of this command: of the program that the whole source spells, with the command's words and limits. What is kept of it is coherent,
+-- has its outputs, and is numbered depth first; and one memory does the same in its order.
+pub record IsRunBy (c : Command) (left : Option (List ℕ)) (r : Record) : Type 0 where
+  pub spelled : IfSome left (λ bytes. Spells bytes r.program)
+  pub words : r.words ≡ words_of c
+  pub limits : r.limits ≡ limits_of c
+  pub coherent : IsCoherentRecord r
+  pub outputs : HasItsOutputs r
+  pub replays : IsReplayed r
+  pub numbered : IsNumberedDepthFirst r.tree
+
+-- Only a command leaves a run, and it is its own.
+abbrev pub IsRunOf : Option Command → (left : Option (List ℕ)) → Record → Type 0
+IsRunOf command left r = IsSomeAnd command (λ c. IsRunBy c left r)
 
 -- One worker did it: nothing was refused, the strands went depth first, and the run ended by itself or at the fault of one of
 -- its strands.
@@ -91,39 +111,27 @@ pub record IsOfOneWorker (r : Record) : Type 0 where
   pub conflicts : r.conflicts ≡ []
   pub order : IsDepthFirst r
   pub ended : HasEnded r.end
-  pub numbered : IsNumberedDepthFirst r.tree
   pub blocks : BlocksEnded r.tree r.end
 
--- how a command's run is done
-abbrev pub IsDoneAs : Command → Record → Type 0
-IsDoneAs (Run words limits) r = IsOfOneWorker r
+-- How a command's run is done: by one worker; or by the moves of so many workers in the turns of a schedule, of which it is the record.
+abbrev pub IsDoneBy : Command → Record → Type 0
+IsDoneBy (Run words limits) r = IsOfOneWorker r
+IsDoneBy (Sim words limits workers schedule) r = IsRecordOf (left_by (job_of r) workers schedule) r
 
--- A run of this command: of its program, with its words and limits. Its record is coherent and has its outputs, and one memory does the
--- same in its order.
-pub record IsRunBy (c : Command) (left : Option (List ℕ)) (r : Record) : Type 0 where
-  pub runs : Runs c left r.program
-  pub words : r.words ≡ words_of c
-  pub limits : r.limits ≡ limits_of c
-  pub done : IsDoneAs c r
-  pub coherent : IsCoherentRecord r
-  pub outputs : HasItsOutputs r
-  pub replays : IsReplayed r
-
--- Only a command leaves a run, and it is its own.
-abbrev pub IsRunOf : Option Command → (left : Option (List ℕ)) → Record → Type 0
-IsRunOf command left r = IsSomeAnd command (λ c. IsRunBy c left r)
+abbrev pub IsDoneAs : Option Command → Record → Type 0
+IsDoneAs command r = IsSomeAnd command (λ c. IsDoneBy c r)
 
 -- ## What was written
 
 -- the text that a command writes for its run
 abbrev pub text_of : Option Command → Record → List ℕ
 text_of None r = []
-text_of (Some (Run words limits)) r = run_text r
+text_of (Some c) r = run_text r
 
 -- the same of a run that finished, from what one memory comes to
 abbrev pub text_of_end : Option Command → List CellInfo → (memory outputs : List ℤ) → List ℕ
 text_of_end None cells memory outputs = []
-text_of_end (Some (Run words limits)) cells memory outputs = finished_text cells memory outputs
+text_of_end (Some c) cells memory outputs = finished_text cells memory outputs
 
 -- With a run its whole text, or a front of it where the write failed; with a refusal nothing.
 abbrev pub Writes : Option Command → Option Record → Note → (old new : Option (List ℕ)) → Type 0
@@ -142,6 +150,30 @@ pub record WritesEndOfOneMemory (command : Option Command) (r : Record) (old new
   pub finishes : end_of_one_memory r ≡ last.Finished memory outputs
   pub written : Appends old new (text_of_end command r.program.cells memory outputs)
 
+-- ## Budgets and moves that were spent
+
+-- In the order that is kept one memory comes to where strand x stands, at what its last attempt was refused: at the begin of a
+-- block, or at an access.
+pub record StandsAtRefusal (r : Record) (x : ℕ) : Type 0 where
+  pub machine : Machine StrandState
+  pub acts : DoesAll (strands_of (job_of r)) r.tree (machine_of (job_of r)) (items r.tree r.conflicts r.limits.aborts r.end) machine
+  pub stands : StandsRefused (strands_of (job_of r)) (telling r.tree r.conflicts r.limits.aborts x) machine (name_of r.tree x)
+
+-- The run ended because one of its strands spent its budget. One memory stands at that strand, and each attempt at that one block, or each
+-- refusal of that one access, is a conflict that is kept, with the numbers from 1 to the limit. So strands ran at the same time.
+pub record SpentItsBudget (r : Record) : Type 0 where
+  pub strand : ℕ
+  pub end : r.end ≡ Budget strand
+  pub at_strand : end_of_one_memory r ≡ last.At r.order.last
+  pub at_refusal : StandsAtRefusal r strand
+  pub attempts : RecordsAttempts r.tree r.conflicts r.limits.aborts strand
+  pub forks : (f : ℕ) × IsTrue (is_fork r.tree f)
+
+-- All moves of a command were made, as many as its limit, and the run had not come to its end.
+abbrev pub HasSpentMoves : Option Command → Record → Type 0
+HasSpentMoves (Some (Sim words limits workers schedule)) r = is_over (left_by (job_of r) workers schedule) ≡ false
+HasSpentMoves command r = ⊥
+
 -- ## The statuses that come, and their causes
 
 -- why a run of these words comes to this note: want of memory is free, each fault has its cause
@@ -157,25 +189,26 @@ IsCauseOfRun words (note.Name f) left read_failed write_failed = IsRefusedFor (n
 -- why a command comes to this note
 abbrev pub HasCause : Option Command → Note → (left : Option (List ℕ)) (read_failed write_failed : Type 0) → Type 0
 HasCause None n left read_failed write_failed = n ≡ note.Usage
-HasCause (Some (Run words limits)) n left read_failed write_failed = IsCauseOfRun words n left read_failed write_failed
+HasCause (Some c) n left read_failed write_failed = IsCauseOfRun (words_of c) n left read_failed write_failed
 
 -- where the words are of no use: they are no command, whatever the source is, or the source is not refused and asks for another
 -- number of them
 abbrev pub IsMisused : Option Command → (left : Option (List ℕ)) → Type 0
 IsMisused None left = Unit {0}
-IsMisused (Some (Run words limits)) left = IfSome left (IsMisfit words)
+IsMisused (Some c) left = IfSome left (IsMisfit (words_of c))
 
 -- The source's bytes are told, and the command is of no use for them.
 abbrev pub IsSurelyMisused : Option Command → (left : Option (List ℕ)) → Type 0
 IsSurelyMisused None left = Unit {0}
-IsSurelyMisused (Some (Run words limits)) left = IsSomeAnd left (IsMisfit words)
+IsSurelyMisused (Some c) left = IsSomeAnd left (IsMisfit (words_of c))
 
 -- the statuses that words of no use come to, where no read fails
 abbrev pub MayBeMisusedWith : Option Command → ℕ → Type 0
 MayBeMisusedWith None status = status ≡ 2
-MayBeMisusedWith (Some (Run words limits)) status = (status ≡ 2) ⊎ (status ≡ 1)
+MayBeMisusedWith (Some c) status = (status ≡ 2) ⊎ (status ≡ 1)
 
 -- the statuses that a command comes to, where it accepts the source and neither a read nor a write fails
 abbrev pub MayEndWith : Option Command → ℕ → Type 0
 MayEndWith None status = status ≡ 2
 MayEndWith (Some (Run words limits)) status = (status ≡ 0) ⊎ (status ≡ 6) ⊎ (status ≡ 1)
+MayEndWith (Some (Sim words limits workers schedule)) status = (status ≡ 0) ⊎ (status ≡ 6) ⊎ (status ≡ 7) ⊎ (status ≡ 9) ⊎ (status ≡ 1)

@@ -1,6 +1,6 @@
 -- The run of a source, over its syntax. What this file cites is the grammar, the names, the meaning over the syntax, the machine with one
 -- memory, and the order of a run: no instructions, no rules of code, no compilation.
-use Rattle.std.specs.Prelude.{◌≡◌, ℕ, ℤ, List, length, Option, None, Ok, IfSome, IsSomeAnd}
+use Rattle.std.specs.Prelude.{◌≡◌, ℕ, ℤ, List, length, Option, None, Ok, IfSome, IsSomeAnd, IsTrue}
 use Rattle.cw_text.specs.Syntax.{Declaration}
 use Rattle.cw_text.specs.Text.{program}
 use Rattle.cw_code.specs.declared.Limits.{Limits}
@@ -8,8 +8,9 @@ use Rattle.cw_strand.specs.Names.{naming_fault, cells_of, first_memory}
 use Rattle.cw_strand.specs.Meaning.{MainTakes, strands_of}
 use Rattle.cw_record.specs.declared.record.Record.{Record}
 use Rattle.cw_record.specs.Replay.{Replays}
+use Rattle.cw_replay.specs.Spawning.{any_spawns}
 use Rattle.cw_top.specs.declared.command.Command.{Command}
-use Rattle.cw_top.specs.declared.command.Command.TheVariants.{Run}
+use Rattle.cw_top.specs.Words.{words_of, limits_of}
 
 -- A run of the syntax tree that these bytes spell, with these words and limits: one memory that runs the strands of the tree, in the order
 -- that is kept, does at each step what the run's tree has there, each atomic block without a break, and comes to the end of the run.
@@ -23,10 +24,10 @@ pub record IsRunOfSyntax (words : List ℤ) (limits : Limits) (bytes : List ℕ)
   pub cells : r.program.cells ≡ cells_of source
   pub replays : Replays (strands_of source words limits) (first_memory (cells_of source)) limits.aborts r.tree r.conflicts r.order r.end
 
--- what a command's run is over the source, where its bytes are told
-abbrev pub IsRunOverSource : Command → (left : Option (List ℕ)) → Record → Type 0
-IsRunOverSource (Run words limits) left r = IfSome left (λ bytes. IsRunOfSyntax words limits bytes r)
-
--- Only a command leaves a run, and it is its own over the source too.
+-- Only a command leaves a run, and where the source's bytes are told it is its own over the source too.
 abbrev pub IsRunOfSource : Option Command → (left : Option (List ℕ)) → Record → Type 0
-IsRunOfSource command left r = IsSomeAnd command (λ c. IsRunOverSource c left r)
+IsRunOfSource command left r = IsSomeAnd command (λ c. IfSome left (λ bytes. IsRunOfSyntax (words_of c) (limits_of c) bytes r))
+
+-- The tree that these bytes spell has a `spawn` somewhere in a function.
+abbrev pub Spawns : List ℕ → Type 0
+Spawns bytes = (source : List Declaration) × (program bytes ≡ Ok source) × IsTrue (any_spawns source)

@@ -1,8 +1,17 @@
 -- Worked words.
-use Rattle.std.specs.Prelude.{◌≡◌, ℕ, ℤ, pos, neg_ℤ, List, [], ◌∷◌, Option, Some, None, codes}
+use Rattle.std.specs.Prelude.{◌≡◌, ℕ, ℤ, pos, neg_ℤ, List, [], ◌∷◌, ◌++◌, Option, Some, None, codes, replicate}
+use Rattle.std.specs.List.{flat_map}
+use Rattle.cw_code.specs.declared.Limits.{Limits}
+use Rattle.cw_io.specs.declared.schedule.Schedule.{Schedule}
+use Rattle.cw_io.specs.declared.schedule.Schedule.TheVariants.{List as Listed, Seeded}
 use Rattle.cw_top.specs.declared.command.Command.{Command}
-use Rattle.cw_top.specs.declared.command.Command.TheVariants.{Run}
-use Rattle.cw_top.specs.Words.{command_of, default_limits}
+use Rattle.cw_top.specs.declared.command.Command.TheVariants.{Run, Sim}
+use Rattle.cw_top.specs.Options.{list_below}
+use Rattle.cw_top.specs.Words.{command_of}
+
+-- the limits of a command that gives none
+abbrev pub default_limits : Limits
+default_limits = record { fuel = 1000000; size = 1000000; aborts = 100000; strands = 262144; moves = 10000000 }
 
 -- a run of these limits; the others are those that no option has changed
 abbrev pub run_of : (fuel size : ℕ) → Option Command
@@ -11,6 +20,14 @@ run_of fuel size = Some (Run [] (record default_limits { fuel = fuel; size = siz
 -- a run of these words
 abbrev pub run_on : List ℤ → Option Command
 run_on words = Some (Run words default_limits)
+
+-- a simulation of these limits, without words, by so many workers in the turns of a schedule
+abbrev pub sim_of : Limits → (workers : ℕ) → Schedule → Option Command
+sim_of limits workers schedule = Some (Sim [] limits workers schedule)
+
+-- so many workers of number 0, by commas, behind one more
+abbrev pub zeros : ℕ → List ℕ
+zeros n = codes "0" ++ flat_map {X = ℕ} (λ x. codes ",0") (replicate n 0)
 
 pub record Commands : Type 0 where
   pub plain : command_of (codes "run" ∷ []) ≡ Some (Run [] default_limits)
@@ -75,3 +92,57 @@ pub record Commands : Type 0 where
   pub blank : command_of (codes "run" ∷ codes " 5" ∷ []) ≡ None
   pub hexadecimal : command_of (codes "run" ∷ codes "0x5" ∷ []) ≡ None
   pub bad_behind : command_of (codes "run" ∷ codes "7" ∷ codes "--" ∷ codes "5a" ∷ []) ≡ None
+
+pub record Simulations : Type 0 where
+  pub plain : command_of (codes "sim" ∷ []) ≡ sim_of default_limits 4 (Listed [])
+  pub capital : command_of (codes "SIM" ∷ []) ≡ None
+  -- all options, both ways to give them, and words between them
+  pub all : command_of (codes "sim" ∷ codes "--workers" ∷ codes "2" ∷ codes "--fuel=3" ∷ codes "--size" ∷ codes "4" ∷ codes "7" ∷ codes "--aborts=5" ∷ codes "--strands" ∷ codes "6" ∷ codes "--moves=8" ∷ codes "--schedule" ∷ codes "0,1,0" ∷ codes "--" ∷ codes "-9" ∷ [])
+      ≡ Some (Sim (pos 7 ∷ neg_ℤ (pos 9) ∷ []) (record { fuel = 3; size = 4; aborts = 5; strands = 6; moves = 8 }) 2 (Listed (0 ∷ 1 ∷ 0 ∷ [])))
+  pub most : command_of (codes "sim" ∷ codes "--workers=64" ∷ codes "--fuel=1000000000" ∷ codes "--size=10000000" ∷ codes "--aborts=1000000000" ∷ codes "--strands=1000000" ∷ codes "--moves=1000000000" ∷ codes "--schedule=63" ∷ [])
+      ≡ sim_of (record { fuel = 1000000000; size = 10000000; aborts = 1000000000; strands = 1000000; moves = 1000000000 }) 64 (Listed (63 ∷ []))
+  pub least : command_of (codes "sim" ∷ codes "--workers=1" ∷ codes "--fuel=1" ∷ codes "--size=1" ∷ codes "--aborts=1" ∷ codes "--strands=1" ∷ codes "--moves=1" ∷ codes "--schedule=0" ∷ [])
+      ≡ sim_of (record { fuel = 1; size = 1; aborts = 1; strands = 1; moves = 1 }) 1 (Listed (0 ∷ []))
+  -- numbers out of range
+  pub no_workers : command_of (codes "sim" ∷ codes "--workers=0" ∷ []) ≡ None
+  pub many_workers : command_of (codes "sim" ∷ codes "--workers=65" ∷ []) ≡ None
+  pub no_aborts : command_of (codes "sim" ∷ codes "--aborts=0" ∷ []) ≡ None
+  pub many_aborts : command_of (codes "sim" ∷ codes "--aborts=1000000001" ∷ []) ≡ None
+  pub no_strands : command_of (codes "sim" ∷ codes "--strands=0" ∷ []) ≡ None
+  pub many_strands : command_of (codes "sim" ∷ codes "--strands=1000001" ∷ []) ≡ None
+  pub no_moves : command_of (codes "sim" ∷ codes "--moves=0" ∷ []) ≡ None
+  pub many_moves : command_of (codes "sim" ∷ codes "--moves=1000000001" ∷ []) ≡ None
+  -- lists: of workers that are there, wherever their number is given
+  pub workers_before : command_of (codes "sim" ∷ codes "--workers=2" ∷ codes "--schedule=1" ∷ []) ≡ sim_of default_limits 2 (Listed (1 ∷ []))
+  pub workers_behind : command_of (codes "sim" ∷ codes "--schedule=1" ∷ codes "--workers=2" ∷ []) ≡ sim_of default_limits 2 (Listed (1 ∷ []))
+  pub workers_are_four : command_of (codes "sim" ∷ codes "--schedule=3,0" ∷ []) ≡ sim_of default_limits 4 (Listed (3 ∷ 0 ∷ []))
+  pub fifth : command_of (codes "sim" ∷ codes "--schedule=4" ∷ []) ≡ None
+  pub third_before : command_of (codes "sim" ∷ codes "--workers=2" ∷ codes "--schedule=0,2" ∷ []) ≡ None
+  pub third_behind : command_of (codes "sim" ∷ codes "--schedule=0,2" ∷ codes "--workers=2" ∷ []) ≡ None
+  pub list_zeros : command_of (codes "sim" ∷ codes "--schedule=00,01" ∷ []) ≡ sim_of default_limits 4 (Listed (0 ∷ 1 ∷ []))
+  pub no_list : command_of (codes "sim" ∷ codes "--schedule=" ∷ []) ≡ None
+  pub first_comma : command_of (codes "sim" ∷ codes "--schedule=,1" ∷ []) ≡ None
+  pub last_comma : command_of (codes "sim" ∷ codes "--schedule=1," ∷ []) ≡ None
+  pub two_commas : command_of (codes "sim" ∷ codes "--schedule=1,,1" ∷ []) ≡ None
+  pub signed : command_of (codes "sim" ∷ codes "--schedule=+1" ∷ []) ≡ None
+  pub minus : command_of (codes "sim" ∷ codes "--schedule=0,-1" ∷ []) ≡ None
+  pub spaced : command_of (codes "sim" ∷ codes "--schedule=0, 1" ∷ []) ≡ None
+  pub list_twice : command_of (codes "sim" ∷ codes "--schedule=0" ∷ codes "--schedule" ∷ codes "0" ∷ []) ≡ None
+  pub as_many : list_below 4 3 (zeros 2) ≡ Some (0 ∷ 0 ∷ 0 ∷ [])
+  pub too_many : list_below 4 3 (zeros 3) ≡ None
+  -- seeds
+  pub seed : command_of (codes "sim" ∷ codes "--seed" ∷ codes "0" ∷ []) ≡ sim_of default_limits 4 (Seeded 0)
+  pub greatest_seed : command_of (codes "sim" ∷ codes "--seed=18446744073709551615" ∷ []) ≡ sim_of default_limits 4 (Seeded 18446744073709551615)
+  pub great_seed : command_of (codes "sim" ∷ codes "--seed=18446744073709551616" ∷ []) ≡ None
+  pub both : command_of (codes "sim" ∷ codes "--seed=1" ∷ codes "--schedule=0" ∷ []) ≡ None
+  pub both_other : command_of (codes "sim" ∷ codes "--schedule" ∷ codes "0" ∷ codes "--seed" ∷ codes "1" ∷ []) ≡ None
+  -- options of no command, and those of a simulation alone
+  pub report : command_of (codes "sim" ∷ codes "--report" ∷ codes "1" ∷ []) ≡ None
+  pub run_workers : command_of (codes "run" ∷ codes "--workers=1" ∷ []) ≡ None
+  pub run_aborts : command_of (codes "run" ∷ codes "--aborts=1" ∷ []) ≡ None
+  pub run_strands : command_of (codes "run" ∷ codes "--strands=1" ∷ []) ≡ None
+  pub run_moves : command_of (codes "run" ∷ codes "--moves=1" ∷ []) ≡ None
+  pub run_schedule : command_of (codes "run" ∷ codes "--schedule=0" ∷ []) ≡ None
+  pub run_seed : command_of (codes "run" ∷ codes "--seed=1" ∷ []) ≡ None
+  pub run_report : command_of (codes "run" ∷ codes "--report=1" ∷ []) ≡ None
+  pub bad_word : command_of (codes "sim" ∷ codes "--seed=1" ∷ codes "x" ∷ []) ≡ None

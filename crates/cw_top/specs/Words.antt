@@ -1,53 +1,106 @@
--- Which words are a command, and what they say. So far there is one, `run`, with two options and the words of main.
-use Rattle.std.specs.Prelude.{◌^◌, List, [], ◌∷◌, ℕ, ℤ, Option, None, codes, if◌then◌else◌, map, option_and_then, option_map, string_bytes, String}
+-- Which words are a command, and what they say. There are two: `run` has two options, `sim` has eight, and both have the words of main.
+use Rattle.std.specs.Prelude.{◌<◌, ◌-◌, ◌^◌, List, [], ◌∷◌, ℕ, ℤ, Option, Some, None, codes, if◌then◌else◌, map, option_and_then, option_map, string_bytes, String}
 use Rattle.std.specs.declared.alloc.Global.{Global}
 use Rattle.std.specs.Str.{bytes_eq}
 use Rattle.cw_code.specs.declared.Limits.{Limits}
+use Rattle.cw_io.specs.declared.schedule.Schedule.{Schedule}
+use Rattle.cw_io.specs.declared.schedule.Schedule.TheVariants.{List as Listed, Seeded}
+use Rattle.cw_sim.specs.Turns.{ListsWorkers}
 use Rattle.cw_top.specs.declared.command.Command.{Command}
-use Rattle.cw_top.specs.declared.command.Command.TheVariants.{Run}
-use Rattle.cw_top.specs.Options.{Given, GivenOption, NumberOption, are_known, given, integers_of, number_of}
+use Rattle.cw_top.specs.declared.command.Command.TheVariants.{Run, Sim}
+use Rattle.cw_top.specs.Options.{Given, GivenOption, NumberOption, are_known, given, integers_of, list_below, number_of, number_within, value_of}
 
--- the limits of a run whose command gives none
-abbrev pub default_limits : Limits
-default_limits = record { fuel = 1000000; size = 1000000; aborts = 100000; strands = 262144; moves = 10000000 }
+-- ## Options
 
--- the options of a run
 abbrev pub fuel_option : NumberOption
-fuel_option = record { name = codes "fuel"; least = 1; most = 10 ^ 9 }
+fuel_option = record { name = codes "fuel"; least = 1; most = 10 ^ 9; default = 10 ^ 6 }
 
 abbrev pub size_option : NumberOption
-size_option = record { name = codes "size"; least = 1; most = 10 ^ 7 }
+size_option = record { name = codes "size"; least = 1; most = 10 ^ 7; default = 10 ^ 6 }
 
-abbrev pub run_options : List NumberOption
-run_options = fuel_option ∷ size_option ∷ []
+-- how many attempts a block or an access may have
+abbrev pub aborts_option : NumberOption
+aborts_option = record { name = codes "aborts"; least = 1; most = 10 ^ 9; default = 100000 }
 
--- the limits that options give
+-- how many strands may have columns
+abbrev pub strands_option : NumberOption
+strands_option = record { name = codes "strands"; least = 1; most = 10 ^ 6; default = 262144 }
+
+abbrev pub moves_option : NumberOption
+moves_option = record { name = codes "moves"; least = 1; most = 10 ^ 9; default = 10 ^ 7 }
+
+abbrev pub workers_option : NumberOption
+workers_option = record { name = codes "workers"; least = 1; most = 64; default = 4 }
+
+-- the names of the options of each command
+abbrev pub run_options : List (List ℕ)
+run_options = codes "fuel" ∷ codes "size" ∷ []
+
+abbrev pub sim_options : List (List ℕ)
+sim_options = codes "fuel" ∷ codes "size" ∷ codes "aborts" ∷ codes "strands" ∷ codes "moves" ∷ codes "workers" ∷ codes "schedule" ∷ codes "seed" ∷ []
+
+-- The limits that options give. One that is not given, or that is no option of the command, has its default.
 abbrev pub limits_given : List GivenOption → Option Limits
 limits_given os =
-    option_and_then (λ f. option_map (λ n. record default_limits { fuel = f; size = n }) (number_of size_option default_limits.size os))
-    (number_of fuel_option default_limits.fuel os)
+    option_and_then (λ f. option_and_then (λ n. option_and_then (λ b. option_and_then (λ m. option_map (λ c.
+    record { fuel = f; size = n; aborts = b; strands = m; moves = c })
+    (number_of moves_option os)) (number_of strands_option os)) (number_of aborts_option os)) (number_of size_option os)) (number_of fuel_option os)
+
+-- ## Schedules
+
+-- so many workers may be listed
+abbrev pub most_listed : ℕ
+most_listed = 20000
+
+-- The schedule of so many workers by the values of its two options: a list of their numbers, or a seed, and not both; with neither the list
+-- is empty.
+abbrev pub schedule_in : (workers : ℕ) → (list seed : Option (List ℕ)) → Option Schedule
+schedule_in workers None None = Some (Listed [])
+schedule_in workers (Some v) None = option_map Listed (list_below workers most_listed v)
+schedule_in workers None (Some v) = option_map Seeded (number_within 0 (2 ^ 64 - 1) v)
+schedule_in workers (Some v) (Some w) = None
+
+abbrev pub schedule_given : (workers : ℕ) → List GivenOption → Option Schedule
+schedule_given workers os =
+    option_and_then (λ list. option_and_then (λ seed. schedule_in workers list seed) (value_of (codes "seed") os)) (value_of (codes "schedule") os)
+
+-- ## Commands
 
 -- the run that options and words ask for
 abbrev pub run_given : Given → Option Command
 run_given g =
-    if are_known run_options g.options then option_and_then (λ ns. option_map (Run ns) (limits_given g.options)) (integers_of g.words)
+    if are_known run_options g.options then option_and_then (λ limits. option_map (λ ns. Run ns limits) (integers_of g.words)) (limits_given g.options)
     else None
 
--- the run that the words behind `run` ask for
-abbrev pub run_with : List (List ℕ) → Option Command
-run_with words = option_and_then run_given (given words)
+-- the simulation that options and words ask for
+abbrev pub sim_given : Given → Option Command
+sim_given g =
+    if are_known sim_options g.options then
+    option_and_then (λ limits. option_and_then (λ workers. option_and_then (λ schedule. option_map (λ ns. Sim ns limits workers schedule)
+    (integers_of g.words)) (schedule_given workers g.options)) (number_of workers_option g.options)) (limits_given g.options)
+    else None
 
 -- The first word says which command it is.
 abbrev pub command_of : List (List ℕ) → Option Command
 command_of [] = None
-command_of (name ∷ words) = if bytes_eq name (codes "run") then run_with words else None
+command_of (name ∷ words) =
+    if bytes_eq name (codes "run") then option_and_then run_given (given words)
+    else if bytes_eq name (codes "sim") then option_and_then sim_given (given words)
+    else None
 
 abbrev pub words_of : Command → List ℤ
 words_of (Run words limits) = words
+words_of (Sim words limits workers schedule) = words
 
 abbrev pub limits_of : Command → Limits
 limits_of (Run words limits) = limits
+limits_of (Sim words limits workers schedule) = limits
 
 -- the command that these words are, which come behind the program's name, if they are one
 abbrev pub command_in : List (String Global) → Option Command
 command_in words = command_of (map string_bytes words)
+
+-- A simulation has workers, each worker that is listed is one of them, and there is a column for the first strand.
+abbrev pub IsReady : Command → Type 0
+IsReady (Run words limits) = Unit {0}
+IsReady (Sim words limits workers schedule) = (0 < workers) × ListsWorkers schedule workers × (0 < limits.strands)

@@ -3,10 +3,13 @@
 //! Stands on all crates below.
 //! Contracts cite `specs/Words.antt` (which words are which command, from `specs/Options.antt`, how words give options),
 //! `specs/Refusals.antt` (why a source is refused), `specs/Reasons.antt` (why there is no run), `specs/Texts.antt` (what is written),
-//! `specs/Outcome.antt` (what a status says) and `specs/OverSource.antt` (what a run is over the syntax of its source).
+//! `specs/Outcome.antt` (what a status says) and `specs/OverSource.antt` (what a run is over the syntax of its source). Private ones cite
+//! `specs/Given.antt` (how words are read one after another) and `specs/Reading.antt` (in passes).
 #![tactic(auto)]
 
+mod asked;
 mod command;
+mod given;
 mod options;
 mod outcome;
 mod reading;
@@ -14,7 +17,7 @@ mod reasons;
 mod text;
 mod top;
 
-ghost use Rattle.cw_top.specs.Rows.{Commands};
+ghost use Rattle.cw_top.specs.Rows.{Commands, Simulations};
 
 pub use command::{Command, command_of};
 pub use outcome::{Note, Reply};
@@ -23,5 +26,6 @@ pub use top::cwstm;
 
 /// Worked words.
 pub fn worked_words()
-    ensures { Commands }
+    ensures runs { Commands }
+    ensures simulations { Simulations }
 {}

@@ -2,7 +2,7 @@ use cw_record::Record;
 use cw_strand::NameFault;
 use cw_text::TextFault;
 
-/// Why the status is not 0 or 6.
+/// Why there is no run, or why its text was not written.
 #[derive(Clone, Copy, PartialEq, Eq, Debug)]
 pub enum Note {
     Nothing,
@@ -31,6 +31,8 @@ pub enum Note {
 /// | 4 | a write failed; a front of the text was written |
 /// | 5 | the source was refused; nothing was written |
 /// | 6 | the run ended at a fault, and its text was written |
+/// | 7 | a strand spent its budget: the last attempt that a block or an access may have was refused, and the text was written |
+/// | 9 | all moves of a simulation were made without an end, and the text was written |
 #[derive(Drop)]
 pub struct Reply {
     pub status: u8,

@@ -1,27 +1,30 @@
-ghost use Rattle.std.specs.Prelude.{◌≡◌, ◌≤◌, None, Some, IfOk, IfErr, IfSome, IsErrOf, IsSomeAnd, IsTrue, OnOk, OnSome, []};
+ghost use Rattle.std.specs.Prelude.{◌≡◌, ◌≤◌, ◌↔◌, None, Some, length, IfOk, IfErr, IfSome, IsErrOf, IsSomeAnd, IsTrue, OnOk, OnSome, []};
 ghost use Rattle.cw_io.specs.Outside.{Appends, AppendsFront, Keeps, Rose, RunsDry, TellsOn};
 ghost use Rattle.cw_tree.specs.Nodes.{is_strand};
+ghost use Rattle.cw_strand.specs.Programs.{IsCompiled};
+ghost use Rattle.cw_serial.specs.Jobs.{Takes};
 ghost use Rattle.cw_record.specs.Order.{ending_strand};
-ghost use Rattle.cw_top.specs.declared.command.Command.TheVariants.{Run};
+ghost use Rattle.cw_record.specs.Records.{HasItsOutputs, IsCoherentRun, IsNumberedDepthFirst, IsReplayed};
+ghost use Rattle.cw_top.specs.declared.outcome.Note.TheVariants.{Nothing};
 ghost use Rattle.cw_top.specs.declared.reasons.NoRun.TheVariants.{Misfit, Stopped};
 ghost use Rattle.cw_top.specs.declared.reasons.Stop.TheVariants.{ReadFault};
 ghost use Rattle.cw_top.specs.declared.reasons.NotWritten.TheVariants.{OutOfMemory, WriteFault};
-ghost use Rattle.cw_top.specs.Outcome.{Accepts, MayBeMisusedWith, MayEndWith, HasCause, IsMisused, IsRefusedFor, IsRunOf, IsSurelyMisused, IsStatus, ReadsWhole, RisesAtMost, TakesAtMost, Writes, WritesEndOfOneMemory, most_bytes, most_ends, most_read, status_of_end};
-ghost use Rattle.cw_top.specs.OverSource.{IsRunOfSource};
+ghost use Rattle.cw_top.specs.Outcome.{Accepts, HasCause, HasSpentMoves, IsDoneAs, IsDoneBy, IsMisused, IsRefusedFor, IsRunOf, IsSurelyMisused, IsStatus, MayBeMisusedWith, MayEndWith, ReadsWhole, RisesAtMost, SpentItsBudget, TakesAtMost, Writes, WritesEndOfOneMemory, most_bytes, most_ends, most_read, status_of_end};
+ghost use Rattle.cw_top.specs.OverSource.{IsRunOfSource, Spawns};
 ghost use Rattle.cw_top.specs.Reasons.{WhyNoRun, note_of};
 ghost use Rattle.cw_top.specs.Refusals.{IsMisfit};
 ghost use Rattle.cw_top.specs.Texts.{run_text};
-ghost use Rattle.cw_top.specs.Words.{command_in};
+ghost use Rattle.cw_top.specs.Words.{IsReady, command_in, limits_of, words_of};
 
 use crate::command::{Command, command_of};
 use crate::reading::program_from;
 use crate::reasons::{NoRun, NotWritten, Refusal, Stop};
 use crate::{Note, Reply, result_text};
-use cw_base::Seq;
-use cw_code::Limits;
+use cw_code::Program;
 use cw_io::{Gate, Sink, Source, write_all};
 use cw_record::{Record, RecordEnd, depth_first};
 use cw_serial::takes_words;
+use cw_sim::simulate;
 use std::alloc::Global;
 use std::sync::Wait;
 use std::thread::Threads;
@@ -37,27 +40,49 @@ fn status_of_end(end: &RecordEnd) -> u8
     }
 }
 
-// Reads a program from the source and runs it with one worker.
-fn run_of<S: Source>(
-    alloc: Global,
-    words: Seq<i64>,
-    limits: Limits,
-    source: &mut S,
-) -> Result<Record, NoRun>
+// Runs a program as a command says: depth first, or by the moves of several virtual workers.
+fn done(alloc: Global, command: Command, program: Program) -> Result<Record, cw_base::OutOfMemory>
+    requires compiled { IsCompiled program }
+    requires takes { Takes program (length (words_of command)) }
+    requires ready { IsReady command }
+    ensures program { IfOk result (λ r. r.program ≡ program) }
+    ensures words { IfOk result (λ r. r.words ≡ words_of command) }
+    ensures limits { IfOk result (λ r. r.limits ≡ limits_of command) }
+    ensures coherent { IfOk result (λ r. IsCoherentRun r) }
+    ensures outputs { IfOk result (λ r. HasItsOutputs r) }
+    ensures replays { IfOk result (λ r. IsReplayed r) }
+    ensures numbered { IfOk result (λ r. IsNumberedDepthFirst r.tree) }
+    ensures done { IfOk result (IsDoneBy command) }
+{
+    match command {
+        Command::Run { words, limits } => depth_first(alloc, program, words, limits),
+        Command::Sim {
+            words,
+            limits,
+            workers,
+            schedule,
+        } => simulate(alloc, program, words, workers, &schedule, limits),
+    }
+}
+
+// Reads a program from the source and runs it.
+fn run_of<S: Source>(alloc: Global, command: Command, source: &mut S) -> Result<Record, NoRun>
+    requires { IsReady command }
     ensures later { S.faults source.old ≤ S.faults source.new }
     ensures kept { (IsErrOf result (Stopped ReadFault) → ⊥) → S.faults source.new ≡ S.faults source.old }
-    ensures why { IfErr result (λ n. WhyNoRun n (Rose (S.faults source.old) (S.faults source.new)) (IfSome (S.left source.old) (IsMisfit words)) (S.left source.old)) }
+    ensures why { IfErr result (λ n. WhyNoRun n (Rose (S.faults source.old) (S.faults source.new)) (IfSome (S.left source.old) (IsMisfit (words_of command))) (S.left source.old)) }
     ensures taken { TakesAtMost most_bytes (S.left source.old) (S.left source.new) }
     ensures whole { OnOk result (RunsDry (S.left source.old) (S.left source.new)) }
     ensures misfit { IsErrOf result Misfit → RunsDry (S.left source.old) (S.left source.new) }
     ensures once { RisesAtMost 1 (S.ends source.old) (S.ends source.new) }
-    ensures run { IfOk result (IsRunOf (Some (Run words limits)) (S.left source.old)) }
+    ensures run { IfOk result (IsRunOf (Some command) (S.left source.old)) }
+    ensures done { IfOk result (IsDoneBy command) }
 {
     let program = program_from(alloc, source)?;
-    if !takes_words(&program, words.len()) {
+    if !takes_words(&program, command.words().len()) {
         return Err(NoRun::Misfit);
     }
-    Ok(depth_first(alloc, program, words, limits)?)
+    Ok(done(alloc, command, program)?)
 }
 
 // Writes the text of a run.
@@ -95,29 +120,25 @@ fn without_run(why: NoRun) -> Reply
     }
 }
 
-// What comes of `run`.
-fn ran<S: Source, K: Sink>(
-    alloc: Global,
-    words: Seq<i64>,
-    limits: Limits,
-    source: &mut S,
-    sink: &mut K,
-) -> Reply
+// What comes of a command.
+fn ran<S: Source, K: Sink>(alloc: Global, command: Command, source: &mut S, sink: &mut K) -> Reply
+    requires { IsReady command }
     ensures read_later { S.faults source.old ≤ S.faults source.new }
     ensures write_later { K.faults sink.old ≤ K.faults sink.new }
     ensures read_kept { (result.status ≡ 3 → ⊥) → S.faults source.new ≡ S.faults source.old }
     ensures write_kept { (result.status ≡ 4 → ⊥) → K.faults sink.new ≡ K.faults sink.old }
     ensures status { IsStatus result.kept result.status result.note }
-    ensures cause { HasCause (Some (Run words limits)) result.note (S.left source.old) (Rose (S.faults source.old) (S.faults source.new)) (Rose (K.faults sink.old) (K.faults sink.new)) }
+    ensures cause { HasCause (Some command) result.note (S.left source.old) (Rose (S.faults source.old) (S.faults source.new)) (Rose (K.faults sink.old) (K.faults sink.new)) }
     ensures taken { TakesAtMost most_bytes (S.left source.old) (S.left source.new) }
     ensures whole { OnSome result.kept (RunsDry (S.left source.old) (S.left source.new)) }
     ensures judged { result.status ≡ 2 → RunsDry (S.left source.old) (S.left source.new) }
     ensures once { RisesAtMost 1 (S.ends source.old) (S.ends source.new) }
-    ensures run { IfSome result.kept (IsRunOf (Some (Run words limits)) (S.left source.old)) }
-    ensures written { Writes (Some (Run words limits)) result.kept result.note (K.written sink.old) (K.written sink.new) }
+    ensures run { IfSome result.kept (IsRunOf (Some command) (S.left source.old)) }
+    ensures done { IfSome result.kept (IsDoneBy command) }
+    ensures written { Writes (Some command) result.kept result.note (K.written sink.old) (K.written sink.new) }
     ensures tells { (result.status ≡ 4 → ⊥) → TellsOn (K.written sink.old) (K.written sink.new) }
 {
-    let run = match run_of(alloc, words, limits, source) {
+    let run = match run_of(alloc, command, source) {
         Ok(run) => run,
         Err(why) => return without_run(why),
     };
@@ -143,6 +164,7 @@ fn answer<S: Source, K: Sink>(
     source: &mut S,
     sink: &mut K,
 ) -> Reply
+    requires { IfSome command IsReady }
     ensures read_later { S.faults source.old ≤ S.faults source.new }
     ensures write_later { K.faults sink.old ≤ K.faults sink.new }
     ensures read_kept { (result.status ≡ 3 → ⊥) → S.faults source.new ≡ S.faults source.old }
@@ -154,6 +176,7 @@ fn answer<S: Source, K: Sink>(
     ensures judged { result.status ≡ 2 → OnSome command (ReadsWhole command (S.left source.old) (S.left source.new)) }
     ensures once { RisesAtMost (most_ends command) (S.ends source.old) (S.ends source.new) }
     ensures run { IfSome result.kept (IsRunOf command (S.left source.old)) }
+    ensures done { IfSome result.kept (IsDoneAs command) }
     ensures written { Writes command result.kept result.note (K.written sink.old) (K.written sink.new) }
     ensures tells { (result.status ≡ 4 → ⊥) → TellsOn (K.written sink.old) (K.written sink.new) }
 {
@@ -163,13 +186,14 @@ fn answer<S: Source, K: Sink>(
             note: Note::Usage,
             kept: None,
         },
-        Some(Command::Run { words, limits }) => ran(alloc, words, limits, source, sink),
+        Some(command) => ran(alloc, command, source, sink),
     }
 }
 
-/// Does all that the program does. `words` are the command's words without the program's name; so far the only command is
-/// `run`, with the options `--fuel` and `--size` and the words of main. It reads a program from the source, runs it with those
-/// words, and writes its text (`result_text`) to the sink.
+/// Does all that the program does. `words` are the command's words without the program's name. Each command reads a program from
+/// the source, runs it with the words of main, and writes its text (`result_text`) to the sink: `run` depth first, with the options
+/// `--fuel` and `--size`; `sim` by the moves of several virtual workers, with these and `--workers`, `--aborts`, `--strands`,
+/// `--moves`, and `--schedule` or `--seed`.
 ///
 /// The statuses are those of `Reply`. At most 1,048,577 bytes are read, one more than a text may have, and never more are asked
 /// for. Refusals are looked for in this order: words, read, text, names, number of words, run, write; want of memory may stand at
@@ -202,8 +226,10 @@ pub fn cwstm<R: Threads + Wait + Sync, S: Source, K: Sink, G: Gate>(
         → (Rose (S.faults source.old) (S.faults source.new) → ⊥) → (Rose (K.faults sink.old) (K.faults sink.new) → ⊥)
         → MayEndWith (command_in words.now) result.status }
 
-    // What is kept is a run of the command, and one memory does the same.
+    // What is kept is a run of the command: it is coherent, and one memory does the same. Of `run` it is the depth-first one, in which
+    // nothing is refused; of `sim` it is the record of the moves of the command's workers, in the turns of its schedule.
     ensures run { IfSome result.kept (IsRunOf (command_in words.now) (S.left source.old)) }
+    ensures done { IfSome result.kept (IsDoneAs (command_in words.now)) }
     ensures whole { OnSome result.kept (ReadsWhole (command_in words.now) (S.left source.old) (S.left source.new)) }
 
     // One memory does the same over the syntax tree that the source spells.
@@ -211,6 +237,15 @@ pub fn cwstm<R: Threads + Wait + Sync, S: Source, K: Sink, G: Gate>(
 
     // With status 0 the text of what one memory comes to was written.
     ensures finished { result.status ≡ 0 → IsSomeAnd result.kept (λ r. WritesEndOfOneMemory (command_in words.now) r (K.written sink.old) (K.written sink.new)) }
+
+    // With status 7 a strand spent its budget, on attempts that are kept one by one.
+    ensures spent { result.status ≡ 7 → IsSomeAnd result.kept SpentItsBudget }
+
+    // It comes only of a source with a `spawn`.
+    ensures spawns { result.status ≡ 7 → IfSome (S.left source.old) Spawns }
+
+    // Status 9 comes exactly where all moves of a simulation were made without an end, and the text was written.
+    ensures moves { result.status ≡ 9 ↔ ((result.note ≡ Nothing) × IsSomeAnd result.kept (HasSpentMoves (command_in words.now))) }
 
     ensures unread { most_read (command_in words.now) ≡ 0 → Keeps (S.left source.old) (S.left source.new) }
     ensures taken { TakesAtMost (most_read (command_in words.now)) (S.left source.old) (S.left source.new) }

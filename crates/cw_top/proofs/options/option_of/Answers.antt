@@ -1,7 +1,7 @@
 use Rattle.std.proofs.Common.{◌∷◌, [], map, arith, ap, sym, ◌∙◌, string_bytes}
 use Rattle.std.proofs.lemmas.List.{length-map}
 use Rattle.std.proofs.lemmas.Str.Pattern.{starts_text}
-use Rattle.cw_top.proofs.Given.{no_equals, some_text, if_none, none_behind, no_value, with_value}
+use Rattle.cw_top.proofs.FirstOption.{no_equals, some_text, if_none, none_behind, no_value, with_value}
 use Rattle.cw_top.proofs.options.option_of.Goals as goal
 
 pub returns-in_err-next-clause-none : goal.returns-in_err-next-clause-none

@@ -1,7 +1,17 @@
+use Rattle.std.proofs.Common.{map, string_bytes, subst, sym}
+use Rattle.std.specs.Prelude.{IfSome}
+use Rattle.cw_top.specs.Words.{IsReady}
+use Rattle.cw_top.proofs.Budgets.{spends}
 use Rattle.cw_top.proofs.OverSource.{of_source}
 use Rattle.cw_top.proofs.Pieces as pieces
+use Rattle.cw_top.proofs.Ready.{ready}
+use Rattle.cw_top.proofs.Spawned.{spawned}
+use Rattle.cw_top.proofs.SpentMoves.{moves}
 use Rattle.cw_top.proofs.Statuses as statuses
 use Rattle.cw_top.proofs.top.cwstm.Goals as goal
+
+pub answer-requires : goal.answer-requires
+answer-requires g c = subst (λ command. IfSome command IsReady) (sym c.in-Ok.ensures.exact) (ready (map string_bytes c.args.words.now))
 
 pub returns-clause-usage : goal.returns-clause-usage
 returns-clause-usage g c = let cause = rw c.in-Ok.ensures.exact at c.answer.ensures.cause in statuses.usage _ _ _ _ _ _ _ c.answer.ensures.status cause
@@ -24,8 +34,8 @@ returns-clause-refused g c = statuses.refused _ _ _ _ _ _ _ c.answer.ensures.sta
 pub returns-clause-complete : goal.returns-clause-complete
 returns-clause-complete g c =
     let cause = rw c.in-Ok.ensures.exact at c.answer.ensures.cause in
-    let run = rw c.in-Ok.ensures.exact at c.answer.ensures.run in
-    statuses.complete _ _ _ _ _ _ _ c.answer.ensures.status cause run
+    let done = rw c.in-Ok.ensures.exact at c.answer.ensures.done in
+    statuses.complete _ _ _ _ _ _ _ c.answer.ensures.status cause done
 
 pub returns-clause-source : goal.returns-clause-source
 returns-clause-source g c =
@@ -37,6 +47,17 @@ returns-clause-finished g c =
     let run = rw c.in-Ok.ensures.exact at c.answer.ensures.run in
     let written = rw c.in-Ok.ensures.exact at c.answer.ensures.written in
     statuses.finished _ _ _ _ _ _ _ c.answer.ensures.status run written
+
+pub returns-clause-spent : goal.returns-clause-spent
+returns-clause-spent g c = spends _ _ _ _ _ c.answer.ensures.status c.answer.ensures.run
+
+pub returns-clause-spawns : goal.returns-clause-spawns
+returns-clause-spawns g c = spawned _ _ _ _ _ c.answer.ensures.status c.answer.ensures.run
+
+pub returns-clause-moves : goal.returns-clause-moves
+returns-clause-moves g c =
+    let done = rw c.in-Ok.ensures.exact at c.answer.ensures.done in
+    moves _ _ _ _ c.answer.ensures.status done
 
 pub returns-clause-unread : goal.returns-clause-unread
 returns-clause-unread g c = let taken = rw c.in-Ok.ensures.exact at c.answer.ensures.taken in pieces.TakesAtMost-none _ _ _ taken

@@ -1,0 +1,5 @@
+use Rattle.cw_replay.proofs.ForksSpawned.{forks_need_spawns}
+use Rattle.cw_replay.proofs.forks_need_spawns.Goals as goal
+
+pub returns : goal.returns
+returns c = forks_need_spawns

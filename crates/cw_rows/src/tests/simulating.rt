@@ -1,0 +1,37 @@
+use super::answer;
+use cw_io::{SureSink, SureSource};
+use cw_record::Record;
+use std::sync::Wait;
+use std::test::Fail;
+use std::thread::Threads;
+
+// A block of the right strand, within another one, meets what a block of the left strand wrote.
+const REFUSED: &[u8] =
+    b"cell c; fn main() { spawn { atomic { c = 1; } } atomic { atomic { c = 2; } } }";
+
+// Two workers, who move in these turns, with one option more.
+fn simulated<R: AllocGlobal + Threads + Wait + Sync>(
+    rt: &R,
+    text: &[u8],
+    turns: &str,
+    option: &str,
+) -> Result<(u8, Record), Fail> {
+    let words = ["sim", "--workers", "2", "--schedule", turns, option];
+    let mut source = SureSource::new(text.to_vec(rt.alloc())?, 100);
+    let mut sink = SureSink::with_room(rt.alloc(), 100)?;
+    let reply = answer(rt, &words, &mut source, &mut sink)?;
+    Ok((reply.status, reply.kept.ok_or("no run is kept")?))
+}
+
+#[test]
+fn a_refused_access_is_kept(rt: HostRuntime) -> Result<(), Fail> {
+    for (option, status) in [("--aborts=1", 7), ("--aborts=2", 0)] {
+        let (said, run) = simulated(&rt, REFUSED, "0,1,0,0,1,1,1", option)?;
+        assert_eq!(rt; said, status);
+        assert_eq!(rt; run.conflicts.len(), 1);
+        let refused = run.conflicts.as_slice().first().ok_or("none is kept")?;
+        assert_eq!(rt; (refused.last, refused.block), (3, 2));
+        assert_eq!(rt; (refused.victim, refused.attempt), (4, 1));
+    }
+    Ok(())
+}

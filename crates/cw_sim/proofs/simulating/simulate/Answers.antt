@@ -1,0 +1,33 @@
+-- What is left is that of a closed run of the job.
+use Rattle.cw_serial.specs.Jobs.{Job}
+use Rattle.cw_sim.proofs.HeldRecords.{moved_same, closed_has_record, built_coherent, built_numbered, built_replays}
+use Rattle.cw_sim.proofs.simulating.simulate.Goals as goal
+
+pub build-requires : goal.build-requires
+build-requires c =
+    let job : Job = record { program = c.args.program; words = c.args.words; limits = c.args.limits } in
+    let to = c.in_ok-closed in
+    let is = moved_same c.args.program c.args.limits c.as_slice.result.now c.args.words c.args.workers c.args.schedule.now to.closed to.spent c.as_slice.ensures (record { closed = to.ensures.closed; spends = to.ensures.spent; few = to.ensures.few }) in
+    closed_has_record job c.args.workers c.args.schedule.now c.requires.compiled c.requires.words c.requires.strands c.requires.workers c.requires.listed to.closed to.spent is
+
+pub returns-clause-coherent : goal.returns-clause-coherent
+returns-clause-coherent c =
+    let job : Job = record { program = c.args.program; words = c.args.words; limits = c.args.limits } in
+    let to = c.in_ok-closed in
+    let is = moved_same c.args.program c.args.limits c.as_slice.result.now c.args.words c.args.workers c.args.schedule.now to.closed to.spent c.as_slice.ensures (record { closed = to.ensures.closed; spends = to.ensures.spent; few = to.ensures.few }) in
+    built_coherent job c.args.workers c.args.schedule.now c.requires.compiled c.requires.words c.requires.strands c.requires.workers c.requires.listed to.closed to.spent is c.build.result c.build.ensures.coherent
+
+pub returns-clause-numbered : goal.returns-clause-numbered
+returns-clause-numbered c =
+    let job : Job = record { program = c.args.program; words = c.args.words; limits = c.args.limits } in
+    let to = c.in_ok-closed in
+    let is = moved_same c.args.program c.args.limits c.as_slice.result.now c.args.words c.args.workers c.args.schedule.now to.closed to.spent c.as_slice.ensures (record { closed = to.ensures.closed; spends = to.ensures.spent; few = to.ensures.few }) in
+    built_numbered job c.args.workers c.args.schedule.now c.requires.compiled c.requires.words c.requires.strands c.requires.workers c.requires.listed to.closed to.spent is c.build.result c.build.ensures.numbered
+
+pub returns-clause-replays : goal.returns-clause-replays
+returns-clause-replays c =
+    let job : Job = record { program = c.args.program; words = c.args.words; limits = c.args.limits } in
+    let to = c.in_ok-closed in
+    let is = moved_same c.args.program c.args.limits c.as_slice.result.now c.args.words c.args.workers c.args.schedule.now to.closed to.spent c.as_slice.ensures (record { closed = to.ensures.closed; spends = to.ensures.spent; few = to.ensures.few }) in
+    let coherent = built_coherent job c.args.workers c.args.schedule.now c.requires.compiled c.requires.words c.requires.strands c.requires.workers c.requires.listed to.closed to.spent is c.build.result c.build.ensures.coherent in
+    built_replays c.args.program c.args.words c.requires.compiled c.requires.words c.build.result c.build.ensures.program c.build.ensures.words coherent c.build.ensures.outputs c.build.ensures.order

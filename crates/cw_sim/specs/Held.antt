@@ -1,0 +1,201 @@
+-- What a simulation in memory stands for, and what its rules ask.
+use Rattle.std.specs.Prelude.{◌≡◌, ℕ, ℤ, ◌<◌, ◌&&◌, Bool, true, false, not, length, Option, Some, None}
+use Rattle.cw_io.specs.declared.schedule.Schedule.{Schedule}
+use Rattle.cw_tree.specs.Nodes.{parent_of, is_pending, is_fork, is_strand}
+use Rattle.cw_tree.specs.Walks.{has}
+use Rattle.cw_strand.specs.Names.{first_memory}
+use Rattle.cw_strand.specs.declared.want.Given.{Given}
+use Rattle.cw_strand.specs.declared.want.Want.{Want}
+use Rattle.cw_strand.specs.declared.want.Want.TheVariants.{Load, Store, End, Fork}
+use Rattle.cw_strand.specs.Strands.{Strands}
+use Rattle.cw_strand.specs.Saving.{Kept}
+use Rattle.cw_open.specs.Machine.{has_finished, waits, is_running, is_dying, in_block}
+use Rattle.cw_core.specs.declared.event.Event.TheVariants as event
+use Rattle.cw_core.specs.Events.{fits}
+use Rattle.cw_core.specs.Laws.{IsCore}
+use Rattle.cw_core.specs.State.{State, is_split, waits_for_left}
+use Rattle.cw_serial.specs.declared.standing.Standing.{Standing}
+use Rattle.cw_serial.specs.Jobs.{Job}
+use Rattle.cw_serial.specs.Room.Strands.{StrandState, strands_of, state_of, IsOf}
+use Rattle.cw_serial.specs.Room.Saves.{IsSavedOf, StandsAs}
+use Rattle.cw_sim.specs.Workers.{Simulation, left_of, right_of, tree, worker, changed, opening}
+use Rattle.cw_sim.specs.Moves.{answers}
+use Rattle.cw_sim.specs.Runs.{left_by}
+use Rattle.cw_sim.specs.Kept.{is_current, AreWorkers, GoesOn}
+use Rattle.cw_sim.specs.HasWants.{HasWants}
+use Rattle.cw_sim.specs.Inside.{HasInside, goes_back}
+use Rattle.cw_sim.specs.HeldThings.{thing_at}
+use Rattle.cw_sim.specs.HeldWorkers.{workers_of, IsLast}
+use Rattle.cw_sim.specs.declared.moves.Task.{Task}
+use Rattle.cw_sim.specs.declared.moves.Simulation.{Simulation as InMemory}
+
+-- ## What it stands for
+
+-- what a task runs
+abbrev pub job_of : Task → Job
+job_of t = record { program = t.program.now; words = t.words.now; limits = t.limits }
+
+-- A simulation of the strands of a job. A strand on its way back goes on nowhere: its body stands where it was refused.
+pub record Seen : Type 0 where
+  pub job : Job
+  pub m : Simulation StrandState
+  -- where the body of each strand stands
+  pub there : ℕ → StrandState
+
+abbrev pub law_of : Seen → Strands StrandState
+law_of z = strands_of z.job
+
+-- a strand has a body while its own fork is not joined, but while it waits for one that it made
+abbrev pub has_body : State → ℕ → Bool
+has_body k x = is_current k x && not (waits k.machine x)
+
+-- This is the body of strand x: it stands there, whatever it spent and counted, and where it does not go back it is the strand itself.
+pub record IsBody (z : Seen) (x : ℕ) (body : Standing) : Type 0 where
+  pub program : IsOf z.job.program body
+  pub at : goes_back z.m.core.machine x ≡ false → state_of body ≡ z.m.at x
+  pub like : StandsAs (state_of body) (z.there x)
+
+pub record Stands (c : InMemory) (z : Seen) : Type 0 where
+  pub job : job_of c.task ≡ z.job
+  pub core : c.core ≡ z.m.core
+  pub is_core : IsCore z.m.core.machine.first z.m.core
+  pub workers : workers_of c.workers.items ≡ z.m.workers
+  pub bodies : (x : ℕ) → has_body z.m.core x ≡ true → (body : Standing) × (thing_at c.bodies x ≡ Some body) × IsBody z x body
+  -- of each pending block what its strand needs to go back to the begin is kept
+  pub saved : (b : ℕ) → is_pending (tree z.m) b ≡ true → (kept : Kept) × (thing_at c.saved b ≡ Some kept) × IsSavedOf z.job.program kept (z.m.saved b)
+
+-- it stands for this simulation of the same job now, in which bodies stand somewhere inside their blocks
+abbrev pub Comes : InMemory → Seen → Simulation StrandState → Type 0
+Comes c z m = (there : ℕ → StrandState) × (Stands c (record z { m = m; there = there }) × HasInside (law_of z) m there)
+
+-- ## What the rules ask
+
+-- between any two events of a move
+pub record IsSteady (c : InMemory) (z : Seen) : Type 0 where
+  pub stands : Stands c z
+  pub core : GoesOn z.m.core.machine.first z.m.core
+  pub inside : HasInside (law_of z) z.m z.there
+
+-- between two moves, and worker w is there
+pub record MayMove (c : InMemory) (w : ℕ) (z : Seen) : Type 0 where
+  pub steady : IsSteady c z
+  pub there : w < length z.m.workers
+  pub workers : AreWorkers z.m.core z.m.workers
+  pub wants : HasWants (law_of z) (length z.m.core.machine.first) z.m
+
+-- worker w may take the oldest fork of worker v, which has one
+pub record MayTake (c : InMemory) (w v : ℕ) (z : Seen) : Type 0 where
+  pub may : MayMove c w z
+  pub there : v < length z.m.workers
+  pub some : 0 < length (worker z.m v).deque
+
+-- ## A strand that runs
+
+-- strand x stands at this want
+abbrev pub Wants : Seen → ℕ → Want → Type 0
+Wants z x want = (law_of z).want (z.m.at x) ≡ want
+
+-- that of an access
+abbrev pub access_of : ℕ → Option ℤ → Want
+access_of cell None = Load cell
+access_of cell (Some value) = Store cell value
+
+-- strand x may make a step
+pub record MayStep (c : InMemory) (x : ℕ) (z : Seen) : Type 0 where
+  pub steady : IsSteady c z
+  pub wants : HasWants (law_of z) (length z.m.core.machine.first) z.m
+  pub running : is_running z.m.core.machine x ≡ true
+  pub ready : waits_for_left z.m.core x ≡ false
+
+-- it may do what it wants
+pub record MayDo (c : InMemory) (x : ℕ) (want : Want) (z : Seen) : Type 0 where
+  pub step : MayStep c x z
+  pub alive : is_dying z.m.core.machine x ≡ false
+  pub wanted : Wants z x want
+
+-- it has to roll its innermost block back
+pub record MayRoll (c : InMemory) (x : ℕ) (z : Seen) : Type 0 where
+  pub step : MayStep c x z
+  pub dying : is_dying z.m.core.machine x ≡ true
+  pub within : in_block z.m.core.machine x ≡ true
+
+-- its want was met, and its body is to be told
+pub record MayAnswer (c : InMemory) (x : ℕ) (z : Seen) : Type 0 where
+  pub stands : Stands c z
+  pub body : has_body z.m.core x ≡ true
+  pub alive : goes_back z.m.core.machine x ≡ false
+
+abbrev pub answered : ℕ → Given → Seen → Seen
+answered x given z = record z { m = answers (law_of z) x given z.m; there = changed x ((law_of z).answer (z.m.at x) given) z.there }
+
+-- worker w runs strand x, which may fork
+pub record MayFork (c : InMemory) (w x : ℕ) (z : Seen) : Type 0 where
+  pub fork : MayDo c x Fork z
+  pub there : w < length z.m.workers
+
+-- worker w runs strand x, which stands at this want
+pub record MayAct (c : InMemory) (w x : ℕ) (want : Want) (z : Seen) : Type 0 where
+  pub may : MayMove c w z
+  pub runs : (worker z.m w).runs ≡ Some x
+  pub alive : is_dying z.m.core.machine x ≡ false
+  pub wanted : Wants z x want
+
+-- worker w runs strand x, which is dying
+pub record MayDie (c : InMemory) (w x : ℕ) (z : Seen) : Type 0 where
+  pub may : MayMove c w z
+  pub runs : (worker z.m w).runs ≡ Some x
+  pub dying : is_dying z.m.core.machine x ≡ true
+
+-- worker w runs strand x, which has no block to end and comes to its end, dead or not
+pub record MayFinish (c : InMemory) (w x : ℕ) (dead : Bool) (z : Seen) : Type 0 where
+  pub may : MayMove c w z
+  pub runs : (worker z.m w).runs ≡ Some x
+  pub dies : is_dying z.m.core.machine x ≡ dead
+  pub over : in_block z.m.core.machine x ≡ false
+
+-- ## A strand that has finished
+
+-- worker w had a strand of fork f, which was not joined yet
+pub record MayMeet (c : InMemory) (w f : ℕ) (z : Seen) : Type 0 where
+  pub steady : IsSteady c z
+  pub there : w < length z.m.workers
+  pub fork : is_fork (tree z.m) f ≡ true
+  pub joined : has z.m.core.machine.joined f ≡ false
+
+-- both strands of the fork have finished
+pub record MayJoin (c : InMemory) (w f : ℕ) (z : Seen) : Type 0 where
+  pub meet : MayMeet c w f z
+  pub left : has_finished z.m.core.machine (left_of f) ≡ true
+  pub right : has_finished z.m.core.machine (right_of f) ≡ true
+
+-- the left strand has finished dead: so may the right one, which stands before its first step
+pub record IsDead (z : Seen) (f : ℕ) : Type 0 where
+  pub left : has_finished z.m.core.machine (left_of f) ≡ true
+  pub fits : fits z.m.core (event.Finish (right_of f) true) ≡ true
+  pub stays : Wants z (right_of f) End → ⊥
+
+-- the left strand has finished, dead or not, and the right one is still to be started by worker w
+pub record MayTurn (c : InMemory) (w f : ℕ) (dead : Bool) (z : Seen) : Type 0 where
+  pub meet : MayMeet c w f z
+  pub last : IsLast (worker z.m w) f
+  pub died : dead ≡ true → IsDead z f
+
+-- strand x of worker w has finished, dead or not
+pub record HasFinished (c : InMemory) (w x : ℕ) (dead : Bool) (z : Seen) : Type 0 where
+  pub steady : IsSteady c z
+  pub there : w < length z.m.workers
+  pub strand : is_strand (tree z.m) x ≡ true
+  pub meet : 0 < x → MayMeet c w (parent_of (tree z.m) x) z
+  pub turn : 0 < x → x ≡ left_of (parent_of (tree z.m) x) → is_split z.m.core (parent_of (tree z.m) x) ≡ false → MayTurn c w (parent_of (tree z.m) x) dead z
+
+-- ## The run
+
+-- before the first move
+abbrev pub opened : Job → ℕ → Seen
+opened job workers =
+    let start = (strands_of job).start in
+    record { job = job; m = opening (first_memory job.program.cells) job.limits.strands job.limits.aborts workers start; there = λ x. start }
+
+-- it stands for what the moves of so many workers come to
+abbrev pub Ends : InMemory → Job → (workers : ℕ) → Schedule → Type 0
+Ends c job workers schedule = (there : ℕ → StrandState) × Stands c (record { job = job; m = left_by job workers schedule; there = there })

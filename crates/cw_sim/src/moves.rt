@@ -1,0 +1,408 @@
+ghost use Rattle.std.specs.Prelude.{◌≡◌, ◌<◌, ◌^◌, ◌∷◌, ℕ, List, ◌&&◌, true, not, None, IfOk, OnOk, length};
+ghost use Rattle.cw_strand.specs.declared.want.Want.TheVariants as Want;
+ghost use Rattle.cw_strand.specs.declared.want.Given.TheVariants as given;
+ghost use Rattle.cw_strand.specs.Programs.{IsCompiled};
+ghost use Rattle.cw_serial.specs.Jobs.{Takes};
+ghost use Rattle.cw_sim.specs.Workers.{left_of, right_of, tree, with_strand, worker};
+ghost use Rattle.cw_sim.specs.Moves.{accesses, acts, answers, begins, dies, does, finishes, follows, forks, given_for, is_over, joins, meets, move, others, steals, stops_if_spent, takes, turns};
+ghost use Rattle.cw_sim.specs.Runs.{closed_of, left_by};
+ghost use Rattle.cw_sim.specs.Turns.{ListsWorkers};
+ghost use Rattle.cw_open.specs.Machine.{has_finished};
+ghost use Rattle.cw_tree.specs.Series.{place};
+ghost use Rattle.cw_core.specs.declared.event.Event.TheVariants as event;
+ghost use Rattle.cw_core.specs.Events.{fits};
+
+use crate::by_node::ByNode;
+use crate::turns::Turns;
+use crate::worker::{Worker, opening, robbed, take_newest, take_oldest, with_fork, with_run};
+use cw_base::OutOfMemory;
+use cw_core::{Core, Event, Reply};
+use cw_io::Schedule;
+use cw_serial::{Limits, Program, Saved, Standing, first_memory};
+use cw_strand::{Given, Want};
+use cw_tree::{Closed, Halt};
+use std::alloc::Global;
+
+/// What is run: a program, with the words of its command and its limits.
+#[derive(Drop)]
+pub(crate) struct Task<'a> {
+    pub(crate) program: &'a Program,
+    pub(crate) words: &'a [i64],
+    pub(crate) limits: Limits,
+}
+
+/// The workers, the core that they share, and the strands of a program where they stand.
+#[derive(Drop)]
+pub(crate) struct Simulation<'a> {
+    pub(crate) task: Task<'a>,
+    pub(crate) core: Core,
+    /// The strands that stand somewhere: those that run, those that are still to be started, and those that have finished beside one that
+    /// has not. One that waits for its fork goes on in the right strand.
+    pub(crate) bodies: ByNode<Standing>,
+    /// The begins of pending blocks.
+    pub(crate) saved: ByNode<Saved>,
+    pub(crate) workers: Vec<Worker>,
+}
+
+/// A read is given the value, a write nothing.
+fn given_for(write: Option<i64>, value: i64) -> Given
+    ensures { result ≡ given_for write value }
+{
+    match write {
+        None => Given::Value(value),
+        Some(_) => Given::Nothing,
+    }
+}
+
+// Each rule is the definition of its name.
+impl<'a> Simulation<'a> {
+    ghost use Rattle.cw_sim.specs.HeldTurns.{AreAt};
+    ghost use Rattle.cw_sim.specs.Held.{Comes, Ends, HasFinished, MayAct, MayAnswer, MayDie, MayDo, MayFinish, MayFork, MayJoin, MayMeet, MayMove, MayRoll, MayTake, MayTurn, Seen, Stands, access_of, answered, job_of, law_of, opened};
+
+    /// Before the first move: worker 0 runs main, and the others are idle.
+    fn opening(alloc: Global, task: Task<'a>, workers: u32) -> Result<Simulation<'a>, OutOfMemory>
+        requires words { Takes task.program.now (length task.words.now) }
+        requires strands { 0 < task.limits.strands }
+        requires workers { 0 < workers }
+        ensures { IfOk result (λ z. Stands z (opened (job_of task.entry) workers)) }
+    {
+        let memory = first_memory(alloc, task.program.cells.as_slice())?;
+        let core = Core::new(alloc, memory.as_slice(), task.limits)?;
+        let main = Standing::start(alloc, task.program, task.words, task.limits)?;
+        let mut bodies = ByNode::new(alloc);
+        bodies.put(0, main)?;
+        Ok(Simulation {
+            task,
+            core,
+            bodies,
+            saved: ByNode::new(alloc),
+            workers: opening(alloc, workers)?,
+        })
+    }
+
+    /// The number of the next node.
+    fn next_node(&self) -> u32
+        ensures { result ≡ length self.now.core.machine.tree }
+    {
+        self.core.tree().nodes().len() as u32
+    }
+
+    /// A hint to the prover, without effect: each node has a number.
+    fn hint(&self)
+        ensures { length self.now.core.machine.tree < 2 ^ 32 }
+    {
+        let _next = self.next_node();
+    }
+
+    /// A halt, or the end of main.
+    fn is_over(&self) -> bool
+        requires { (z : Seen) × Stands self.now z }
+        ensures { (z : Seen) → Stands self.now z → result ≡ is_over z.m }
+    {
+        // nothing has stopped where the core may still stop
+        let goes_on = self.core.fits(&Event::Stop { halt: Halt::Memory });
+        !goes_on || self.core.has_finished(0)
+    }
+
+    /// Worker w, which is idle, takes the oldest fork of worker v: it is split, and its right strand is w's.
+    fn takes(&mut self, w: u32, v: usize) -> Result<(), OutOfMemory>
+        requires { (z : Seen) × MayTake self.old w v z }
+        ensures { OnOk result ((z : Seen) → MayTake self.old w v z → (f : ℕ) (fs : List ℕ) → (worker z.m v).deque ≡ f ∷ fs → Comes self.new z (takes w v f fs z.m)) }
+    {
+        let Some(fork) = take_oldest(&mut self.workers, v) else {
+            unreachable!()
+        };
+        self.core.step(Event::Split { fork })?;
+        self.hint();
+        with_run(&mut self.workers, w, Some(fork + 2));
+        Ok(())
+    }
+
+    /// Worker w, which is idle, takes a fork of the next worker that has one.
+    fn steals(&mut self, w: u32) -> Result<(), OutOfMemory>
+        requires { (z : Seen) × MayMove self.old w z }
+        ensures { OnOk result ((z : Seen) → MayMove self.old w z → Comes self.new z (steals w (others z.m w) z.m)) }
+    {
+        match robbed(self.workers.as_slice(), w) {
+            Some(v) => self.takes(w, v),
+            None => Ok(()),
+        }
+    }
+
+    /// Both strands of a fork have finished: they join, and worker w goes on with the strand that forked. Where that is dying, so were they,
+    /// and its body is the right one's as it stands.
+    fn joins(&mut self, w: u32, fork: u32) -> Result<(), OutOfMemory>
+        requires { (z : Seen) × MayJoin self.old w fork z }
+        ensures { OnOk result ((z : Seen) → MayJoin self.old w fork z → Comes self.new z (joins (law_of z) w fork z.m)) }
+    {
+        let parent = self.core.strand_of(fork);
+        self.hint();
+        let left = self.bodies.take(fork + 1);
+        let mut right = self.bodies.take(fork + 2);
+        self.core.step(Event::Join { fork })?;
+        if self.core.is_dying(parent) {
+            right.join_given_up(left);
+        } else {
+            right.join(left, self.task.program)?;
+        }
+        self.bodies.put(parent, right)?;
+        with_run(&mut self.workers, w, Some(parent));
+        Ok(())
+    }
+
+    /// The left strand of a fork has finished, and its right one waits in worker w: after a live one w goes on with it, after a dead one
+    /// it finishes dead, too, and they join.
+    fn turns(&mut self, w: u32, fork: u32, dead: bool) -> Result<(), OutOfMemory>
+        requires { (z : Seen) × MayTurn self.old w fork dead z }
+        ensures { OnOk result ((z : Seen) → MayTurn self.old w fork dead z → Comes self.new z (turns (law_of z) w fork dead z.m)) }
+    {
+        take_newest(&mut self.workers, w, fork);
+        self.hint();
+        let strand = fork + 2;
+        if dead {
+            self.core.step(Event::Finish { strand, dead })?;
+            return self.joins(w, fork);
+        }
+        with_run(&mut self.workers, w, Some(strand));
+        Ok(())
+    }
+
+    /// One of the strands of a fork has finished: they join where the other one has, too, and else worker w is idle.
+    fn meets(&mut self, w: u32, fork: u32) -> Result<(), OutOfMemory>
+        requires { (z : Seen) × MayMeet self.old w fork z }
+        ensures { OnOk result ((z : Seen) → MayMeet self.old w fork z → Comes self.new z (meets (law_of z) w fork (has_finished z.m.core.machine (left_of fork) && has_finished z.m.core.machine (right_of fork)) z.m)) }
+    {
+        self.hint();
+        if self.core.has_finished(fork + 1) && self.core.has_finished(fork + 2) {
+            return self.joins(w, fork);
+        }
+        with_run(&mut self.workers, w, None);
+        Ok(())
+    }
+
+    /// After main, nothing; after the left strand of a fork that was not split, its right one; else the strand that forked.
+    fn follows(&mut self, w: u32, strand: u32, dead: bool) -> Result<(), OutOfMemory>
+        requires { (z : Seen) × HasFinished self.old w strand dead z }
+        ensures { OnOk result ((z : Seen) → HasFinished self.old w strand dead z → Comes self.new z (follows (law_of z) w strand dead z.m)) }
+    {
+        if strand == 0 {
+            with_run(&mut self.workers, w, None);
+            return Ok(());
+        }
+        self.hint();
+        let fork = self.core.tree().parent(strand);
+        if strand == fork + 1 && !self.core.is_split(fork) {
+            return self.turns(w, fork, dead);
+        }
+        self.meets(w, fork)
+    }
+
+    /// A strand of worker w has come to its end.
+    fn finishes(&mut self, w: u32, strand: u32, dead: bool) -> Result<(), OutOfMemory>
+        requires { (z : Seen) × MayFinish self.old w strand dead z }
+        ensures { OnOk result ((z : Seen) → MayFinish self.old w strand dead z → Comes self.new z (finishes (law_of z) w strand dead z.m)) }
+    {
+        self.core.step(Event::Finish { strand, dead })?;
+        self.follows(w, strand, dead)
+    }
+
+    /// The innermost pending block of a strand that is dying is rolled back, and the strand stands at its begin again.
+    fn rolls(&mut self, strand: u32) -> Result<(), OutOfMemory>
+        requires { (z : Seen) × MayRoll self.old strand z }
+        ensures { OnOk result ((z : Seen) → MayRoll self.old strand z → Comes self.new z (with_strand strand (z.m.saved (place (tree z.m) strand)) (does (event.Roll strand) z.m))) }
+    {
+        let block = self.core.place(strand);
+        let saved = self.saved.take(block);
+        let mut body = self.bodies.take(strand);
+        self.core.step(Event::Roll { strand })?;
+        body.back(&saved);
+        self.bodies.put(strand, body)
+    }
+
+    /// A strand that is dying rolls back a block, or finishes dead where it has none.
+    fn dies(&mut self, w: u32, strand: u32) -> Result<(), OutOfMemory>
+        requires { (z : Seen) × MayDie self.old w strand z }
+        ensures { OnOk result ((z : Seen) → MayDie self.old w strand z → Comes self.new z (dies (law_of z) w strand z.m)) }
+    {
+        if self.core.in_block(strand) {
+            self.rolls(strand)
+        } else {
+            self.finishes(w, strand, true)
+        }
+    }
+
+    /// A strand goes on to its next want, once this one is answered.
+    fn answers(&mut self, strand: u32, given: Given) -> Result<(), OutOfMemory>
+        requires { (z : Seen) × MayAnswer self.old strand z }
+        ensures { OnOk result ((z : Seen) → MayAnswer self.old strand z → Stands self.new (answered strand given z)) }
+    {
+        let mut body = self.bodies.take(strand);
+        body.answer(given, self.task.program)?;
+        self.bodies.put(strand, body)
+    }
+
+    /// The run stops.
+    fn stops(&mut self, halt: Halt) -> Result<(), OutOfMemory>
+        requires { fits self.old.core (event.Stop halt) ≡ true }
+        ensures { OnOk result ((z : Seen) → Stands self.old z → Stands self.new (record z { m = does (event.Stop halt) z.m })) }
+    {
+        self.core.step(Event::Stop { halt })?;
+        Ok(())
+    }
+
+    /// It stops where the last attempt that a block or an access may have was refused.
+    fn stops_if_spent(&mut self) -> Result<(), OutOfMemory>
+        requires { self.old.core.halt ≡ None }
+        ensures { OnOk result ((z : Seen) → Stands self.old z → Stands self.new (record z { m = stops_if_spent (law_of z) z.m })) }
+    {
+        match self.core.spent() {
+            Some(strand) => self.stops(Halt::Budget { strand }),
+            None => Ok(()),
+        }
+    }
+
+    /// An access is answered; a strand whose access is refused stands where it stood.
+    fn accesses(&mut self, strand: u32, cell: u32, write: Option<i64>) -> Result<(), OutOfMemory>
+        requires { (z : Seen) × MayDo self.old strand (access_of cell write) z }
+        ensures { OnOk result ((z : Seen) → MayDo self.old strand (access_of cell write) z → Comes self.new z (accesses (law_of z) strand cell write z.m)) }
+    {
+        match self.core.step(Event::Access {
+            strand,
+            cell,
+            write,
+        })? {
+            Reply::Value(value) => self.answers(strand, given_for(write, value)),
+            _ => self.stops_if_spent(),
+        }
+    }
+
+    /// A value is put out.
+    fn puts_out(&mut self, strand: u32, value: i64) -> Result<(), OutOfMemory>
+        requires { (z : Seen) × MayDo self.old strand (Want.Out value) z }
+        ensures { OnOk result ((z : Seen) → MayDo self.old strand (Want.Out value) z → Comes self.new z (answers (law_of z) strand given.Nothing (does (event.Out strand value) z.m))) }
+    {
+        self.core.step(Event::Out { strand, value })?;
+        self.answers(strand, Given::Nothing)
+    }
+
+    /// A block begins, and what its strand needs to go back there is saved.
+    fn begins(&mut self, strand: u32) -> Result<(), OutOfMemory>
+        requires { (z : Seen) × MayDo self.old strand Want.Begin z }
+        ensures { OnOk result ((z : Seen) → MayDo self.old strand Want.Begin z → Comes self.new z (begins (law_of z) strand z.m)) }
+    {
+        let saved = self.bodies.at(strand).save()?;
+        let block = self.next_node();
+        self.core.step(Event::Begin { strand })?;
+        self.saved.put(block, saved)?;
+        self.answers(strand, Given::Nothing)
+    }
+
+    /// The innermost block of a strand ends.
+    fn ends(&mut self, strand: u32) -> Result<(), OutOfMemory>
+        requires { (z : Seen) × MayDo self.old strand Want.End z }
+        ensures { OnOk result ((z : Seen) → MayDo self.old strand Want.End z → Comes self.new z (answers (law_of z) strand given.Nothing (does (event.Commit strand) z.m))) }
+    {
+        let block = self.core.place(strand);
+        let _ = self.saved.take(block);
+        self.core.step(Event::Commit { strand })?;
+        self.answers(strand, Given::Nothing)
+    }
+
+    /// A strand of worker w forks, and w goes on with the left strand.
+    fn forks(&mut self, w: u32, strand: u32) -> Result<(), OutOfMemory>
+        requires { (z : Seen) × MayFork self.old w strand z }
+        ensures { OnOk result ((z : Seen) → MayFork self.old w strand z → Comes self.new z (forks (law_of z) w strand z.m)) }
+    {
+        let fork = self.next_node();
+        let mut right = self.bodies.take(strand);
+        let left = right.fork(self.task.program)?;
+        let reply = self.core.step(Event::Fork { strand })?;
+        self.hint();
+        let columns = matches!(reply, Reply::Forked { .. });
+        self.bodies.put(fork + 1, left)?;
+        self.bodies.put(fork + 2, right)?;
+        with_fork(&mut self.workers, w, columns, fork)?;
+        with_run(&mut self.workers, w, Some(fork + 1));
+        Ok(())
+    }
+
+    /// A strand of worker w does what it wants.
+    fn acts(&mut self, w: u32, strand: u32, want: Want) -> Result<(), OutOfMemory>
+        requires { (z : Seen) × MayAct self.old w strand want z }
+        ensures { OnOk result ((z : Seen) → MayAct self.old w strand want z → Comes self.new z (acts (law_of z) w strand want z.m)) }
+    {
+        match want {
+            Want::Load(cell) => self.accesses(strand, cell, None),
+            Want::Store(cell, value) => self.accesses(strand, cell, Some(value)),
+            Want::Out(value) => self.puts_out(strand, value),
+            Want::Begin => self.begins(strand),
+            Want::End => self.ends(strand),
+            Want::Fork => self.forks(w, strand),
+            Want::Sync | Want::Done => self.finishes(w, strand, false),
+            Want::Fault(kind) => self.stops(Halt::Fault { strand, kind }),
+        }
+    }
+
+    /// A move of worker w.
+    fn moves(&mut self, w: u32) -> Result<(), OutOfMemory>
+        requires { (z : Seen) × MayMove self.old w z }
+        ensures { OnOk result ((z : Seen) → MayMove self.old w z → Comes self.new z (move (law_of z) w z.m)) }
+    {
+        let Some(strand) = self.workers[w as usize].runs else {
+            return self.steals(w);
+        };
+        if self.core.is_dying(strand) {
+            return self.dies(w, strand);
+        }
+        let want = self.bodies.at(strand).want();
+        self.acts(w, strand, want)
+    }
+
+    /// Moves are made until the run is over, at most as many as the limit says.
+    fn runs(&mut self, turns: &mut Turns) -> Result<(), OutOfMemory>
+        requires compiled { IsCompiled self.old.task.program.now }
+        requires words { Takes self.old.task.program.now (length self.old.task.words.now) }
+        requires strands { 0 < self.old.task.limits.strands }
+        requires stands { Stands self.old (opened (job_of self.old.task) turns.old.workers) }
+        requires turns { AreAt turns.old 0 }
+        ensures { OnOk result (Ends self.new (job_of self.old.task) turns.old.workers turns.old.schedule.now) }
+    {
+        for n in 0..self.task.limits.moves {
+            if self.is_over() {
+                break;
+            }
+            let w = turns.worker_at(n);
+            self.moves(w)?;
+        }
+        Ok(())
+    }
+}
+
+ghost use Rattle.cw_sim.specs.Held.{job_of};
+
+/// What the moves of so many workers leave, in the turns of a schedule, and whether they were used up.
+pub(crate) fn moved(
+    alloc: Global,
+    task: Task,
+    workers: u32,
+    schedule: &Schedule,
+) -> Result<(Closed, bool), OutOfMemory>
+    requires compiled { IsCompiled task.program.now }
+    requires words { Takes task.program.now (length task.words.now) }
+    requires strands { 0 < task.limits.strands }
+    requires workers { 0 < workers }
+    requires listed { ListsWorkers schedule.now workers }
+    ensures closed { IfOk result (λ r. r.0 ≡ closed_of (left_by (job_of task.entry) workers schedule.now)) }
+    ensures spent { IfOk result (λ r. r.1 ≡ not (is_over (left_by (job_of task.entry) workers schedule.now))) }
+    ensures few { OnOk result (length (tree (left_by (job_of task.entry) workers schedule.now)) < 2 ^ 32) }
+{
+    let mut simulation = Simulation::opening(alloc, task, workers)?;
+    let mut turns = Turns::new(schedule, workers);
+    simulation.runs(&mut turns)?;
+    let spent = !simulation.is_over();
+    simulation.hint();
+    match simulation.core.close() {
+        Ok(closed) => Ok((closed, spent)),
+        Err((_core, error)) => Err(error),
+    }
+}

@@ -1,0 +1,47 @@
+ghost use Rattle.std.specs.Prelude.{◌≡◌, ◌<◌, IfOk, length};
+ghost use Rattle.cw_strand.specs.Programs.{IsCompiled};
+ghost use Rattle.cw_serial.specs.Jobs.{Takes};
+ghost use Rattle.cw_record.specs.Records.{HasItsOutputs, IsCoherentRun, IsNumberedDepthFirst, IsReplayed, job_of};
+ghost use Rattle.cw_sim.specs.Turns.{ListsWorkers};
+ghost use Rattle.cw_sim.specs.Runs.{IsRecordOf, left_by};
+
+use crate::moves::{Task, moved};
+use cw_base::{OutOfMemory, Seq};
+use cw_io::Schedule;
+use cw_record::{Record, build};
+use cw_serial::{Limits, Program};
+use std::alloc::Global;
+
+/// The run of so many virtual workers over one core, each of which makes a move when its turn comes, by a schedule. It ends by itself, at the
+/// first fault, where the last attempt that a block or an access may have was refused, or once its moves are used up. The only error is want
+/// of memory.
+pub fn simulate(
+    alloc: Global,
+    program: Program,
+    words: Seq<i64>,
+    workers: u32,
+    schedule: &Schedule,
+    limits: Limits,
+) -> Result<Record, OutOfMemory>
+    requires compiled { IsCompiled program }
+    requires words { Takes program (length words) }
+    requires workers { 0 < workers }
+    requires listed { ListsWorkers schedule.now workers }
+    requires strands { 0 < limits.strands }
+    ensures program { IfOk result (λ r. r.program ≡ program) }
+    ensures words { IfOk result (λ r. r.words ≡ words) }
+    ensures limits { IfOk result (λ r. r.limits ≡ limits) }
+    ensures moves { IfOk result (λ r. IsRecordOf (left_by (job_of r) workers schedule.now) r) }
+    ensures coherent { IfOk result (λ r. IsCoherentRun r) }
+    ensures outputs { IfOk result (λ r. HasItsOutputs r) }
+    ensures replays { IfOk result (λ r. IsReplayed r) }
+    ensures numbered { IfOk result (λ r. IsNumberedDepthFirst r.tree) }
+{
+    let task = Task {
+        program: &program,
+        words: words.as_slice(),
+        limits,
+    };
+    let (closed, spent) = moved(alloc, task, workers, schedule)?;
+    build(alloc, program, words, limits, closed, spent)
+}

@@ -1,0 +1,110 @@
+ghost use Rattle.std.specs.Prelude.{◌≡◌, ℕ, List, ◌<◌, ◌-◌, ◌∷◌, [], replicate, slice_set, vec_len, Some, IfOk, OnOk, length};
+ghost use Rattle.cw_sim.specs.Workers.{idle, with_fork, worker_in};
+
+use cw_base::OutOfMemory;
+use std::alloc::Global;
+use std::collections::VecDeque;
+
+/// A worker. Of each fork that waits in it the right strand is still to be started, while the worker runs in the left one.
+#[derive(Drop)]
+pub(crate) struct Worker {
+    /// The strand that it runs, if it is not idle.
+    pub(crate) runs: Option<u32>,
+    /// The forks that others may take from it, oldest first.
+    pub(crate) deque: VecDeque<u32>,
+    /// Those that they may not: their strands have no columns.
+    pub(crate) inline: Vec<u32>,
+}
+
+ghost use Rattle.cw_sim.specs.HeldWorkers.{first_with_forks, after, IsLast, without, workers_of};
+
+/// A worker in which no fork waits.
+fn resting(alloc: Global, runs: Option<u32>) -> Worker
+    ensures runs { result.runs ≡ runs }
+    ensures deque { result.deque.items ≡ [] }
+    ensures inline { result.inline.items ≡ [] }
+{
+    Worker {
+        runs,
+        deque: VecDeque::new(alloc),
+        inline: Vec::new(alloc),
+    }
+}
+
+/// So many workers, of which the first runs strand 0 and the others are idle.
+pub(crate) fn opening(alloc: Global, workers: u32) -> Result<Vec<Worker>, OutOfMemory>
+    requires { 0 < workers }
+    ensures { IfOk result (λ ws. workers_of ws.items ≡ record idle { runs = Some 0 } ∷ replicate (workers - 1) idle) }
+{
+    let mut all = Vec::new(alloc);
+    all.push(resting(alloc, Some(0)))?;
+    for _i in 1..workers {
+        all.push(resting(alloc, None))?;
+    }
+    Ok(all)
+}
+
+/// The first worker after worker w, round and round, from which a fork may be taken.
+pub(crate) fn robbed(workers: &[Worker], w: u32) -> Option<usize>
+    requires { w < length workers.now }
+    ensures { result ≡ first_with_forks (workers_of workers.now) (after w (length workers.now)) }
+{
+    let count = workers.len();
+    for i in 1..count {
+        let v = (w as usize + i) % count;
+        if !workers[v].deque.is_empty() {
+            return Some(v);
+        }
+    }
+    None
+}
+
+/// Worker w goes on with this strand, or is idle.
+pub(crate) fn with_run(workers: &mut Vec<Worker>, w: u32, runs: Option<u32>)
+    requires { w < vec_len workers.old }
+    ensures { workers_of workers.new.items ≡ slice_set (workers_of workers.old.items) w (record (worker_in (workers_of workers.old.items) w) { runs = runs }) }
+{
+    let worker = &mut workers[w as usize];
+    worker.runs = runs;
+}
+
+/// The oldest fork that waits in the deque of worker w is taken.
+pub(crate) fn take_oldest(workers: &mut Vec<Worker>, w: usize) -> Option<u32>
+    requires { w < vec_len workers.old }
+    ensures { (f : ℕ) (fs : List ℕ) → (worker_in (workers_of workers.old.items) w).deque ≡ f ∷ fs → (result ≡ Some f)
+        × (workers_of workers.new.items ≡ slice_set (workers_of workers.old.items) w (record (worker_in (workers_of workers.old.items) w) { deque = fs })) }
+{
+    let worker = &mut workers[w];
+    worker.deque.pop_front()
+}
+
+/// The fork that waits last in worker w no more waits.
+pub(crate) fn take_newest(workers: &mut Vec<Worker>, w: u32, _fork: u32)
+    requires there { w < vec_len workers.old }
+    requires last { IsLast (worker_in (workers_of workers.old.items) w) _fork }
+    ensures { workers_of workers.new.items ≡ slice_set (workers_of workers.old.items) w (without _fork (worker_in (workers_of workers.old.items) w)) }
+{
+    let worker = &mut workers[w as usize];
+    if worker.inline.pop().is_none() {
+        worker.deque.pop_back();
+    }
+}
+
+/// A new fork waits in worker w, too, in its deque where its strands have columns.
+pub(crate) fn with_fork(
+    workers: &mut Vec<Worker>,
+    w: u32,
+    columns: bool,
+    fork: u32,
+) -> Result<(), OutOfMemory>
+    requires { w < vec_len workers.old }
+    ensures { OnOk result (workers_of workers.new.items ≡ slice_set (workers_of workers.old.items) w (with_fork columns fork (worker_in (workers_of workers.old.items) w))) }
+{
+    let worker = &mut workers[w as usize];
+    if columns {
+        worker.deque.push_back(fork)?;
+    } else {
+        worker.inline.push(fork)?;
+    }
+    Ok(())
+}
