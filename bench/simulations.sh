@@ -75,7 +75,7 @@ for count in 500 1000 2000; do
   echo "cell c; fn main() { let i = 0; while i < $count { spawn { atomic { c = c + 1; } } i = i + 1; } }" > source
   wants 9 'moves spent/' --schedule "$schedule" --moves "$((moves - 1))"
   wants 0 "c = $count/end/" --schedule "$schedule" --moves "$moves"
-  each=$(($(time_of 20 --schedule "$schedule") / moves))
+  each=$(($(time_of 100 --schedule "$schedule") / moves))
   echo "$count spawned increments: $moves moves, $each ns each"
   if [ "$fastest" = 0 ] || [ "$each" -lt "$fastest" ]; then fastest=$each; fi
   if [ "$each" -gt "$slowest" ]; then slowest=$each; fi

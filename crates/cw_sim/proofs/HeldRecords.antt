@@ -1,6 +1,6 @@
 -- What a simulation in memory leaves: whether it is over, and its record.
 use Rattle.std.proofs.Common.{◌≡◌, ℕ, ◌<◌, ◌^◌, List, length, ap, sym, ◌∙◌, subst, Bool, Option}
-use Rattle.std.specs.Prelude.{not, ℤ, Result, Ok, Err, IfOk}
+use Rattle.std.specs.Prelude.{◌↔◌, not, false, ℤ, Result, Ok, Err, IfOk}
 use Rattle.std.proofs.lemmas.Result.{IfOk-weaker}
 use Rattle.cw_code.specs.declared.Limits.{Limits}
 use Rattle.cw_code.specs.declared.program.Program.{Program}
@@ -17,14 +17,16 @@ use Rattle.cw_serial.specs.Room.Strands.{StrandState}
 use Rattle.cw_record.specs.declared.record.Record.{Record}
 use Rattle.cw_record.specs.Built.{HasRecord, IsLeftBy}
 use Rattle.cw_record.specs.Order.{order_of}
-use Rattle.cw_record.specs.Records.{HasItsOutputs, IsCoherentRun, IsNumberedDepthFirst, IsReplayed}
+use Rattle.cw_record.specs.declared.record_end.RecordEnd.TheVariants.{Moves}
+use Rattle.cw_record.specs.Records.{job_of, HasItsOutputs, IsCoherentRun, IsNumberedDepthFirst, IsReplayed}
 use Rattle.cw_record.proofs.LeftRuns.{left_has_record}
 use Rattle.cw_replay.proofs.Kept.{kept_records_replay}
 use Rattle.cw_sim.specs.Workers.{Simulation, tree}
 use Rattle.cw_sim.specs.Turns.{ListsWorkers}
 use Rattle.cw_sim.specs.Moves.{is_over}
-use Rattle.cw_sim.specs.Runs.{closed_of, left_by}
+use Rattle.cw_sim.specs.Runs.{IsRecordOf, closed_of, left_by}
 use Rattle.cw_sim.proofs.Closing.{job_left}
+use Rattle.cw_sim.proofs.Unstopped.{left_told}
 
 -- whether it is over is so of the same job, workers and schedule
 pub over_same : (j k : Job) (v w : ℕ) (s t : Schedule) (b : Bool) → b ≡ is_over (left_by j v s) → j ≡ k → v ≡ w → s ≡ t → not b ≡ not (is_over (left_by k w t))
@@ -81,3 +83,8 @@ module _ (p : Program) (words : List ℤ) (compiled : IsCompiled p) (takes : Tak
       kept_records_replay r
       (record { program = subst IsCompiled (sym program) compiled; words = subst (λ (q : Program). Takes q (length r.words)) (sym program) same; coherent = coherent })
       outputs order
+
+-- and the record of the moves tells whether they were spent
+pub built_spent : {E : Type 0} (workers : ℕ) (schedule : Schedule) (o : Result Record E) → IfOk o (λ r. IsRecordOf (left_by (job_of r) workers schedule) r)
+    → IfOk o (λ r. r.end ≡ Moves ↔ (is_over (left_by (job_of r) workers schedule) ≡ false))
+built_spent workers schedule o is = IfOk-weaker o (λ r. IsRecordOf (left_by (job_of r) workers schedule) r) (λ r. r.end ≡ Moves ↔ (is_over (left_by (job_of r) workers schedule) ≡ false)) (λ r z. left_told (job_of r) workers schedule r z) is

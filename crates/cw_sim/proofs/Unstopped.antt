@@ -1,6 +1,6 @@
 -- The moves of a simulation never stop it for want of memory; so of the record of moves it is told whether they came to an end.
 use Rattle.std.proofs.Common.{◌≡◌, ◌∙◌, ◌∷◌, [], ℕ, zero, suc, ℤ, ◌==◌, ◌&&◌, ◌||◌, Bool, true, false, not, List, Option, Some, None, ap, refl, sym, subst}
-use Rattle.std.specs.Prelude.{if◌then◌else◌, is_some}
+use Rattle.std.specs.Prelude.{◌↔◌, if◌then◌else◌, is_some}
 use Rattle.std.specs.Option.{option_map_or}
 use Rattle.cw_strand.specs.declared.want.Want.{Want}
 use Rattle.cw_strand.specs.declared.want.Want.TheVariants as want
@@ -17,14 +17,18 @@ use Rattle.cw_core.specs.declared.event.Reply.{Reply}
 use Rattle.cw_core.specs.declared.event.Reply.TheVariants as reply
 use Rattle.cw_core.specs.State.{is_split, spent}
 use Rattle.cw_core.specs.Events.{reply_to}
+use Rattle.cw_io.specs.declared.schedule.Schedule.{Schedule}
+use Rattle.cw_serial.specs.Jobs.{Job}
+use Rattle.cw_serial.specs.Room.Strands.{strands_of}
 use Rattle.cw_record.specs.declared.record.Record.{Record}
 use Rattle.cw_record.specs.declared.record_end.RecordEnd.{RecordEnd}
 use Rattle.cw_record.specs.declared.record_end.RecordEnd.TheVariants.{Finished, Fault, Budget, Moves}
 use Rattle.cw_record.specs.Built.{memory_left, outputs_left}
 use Rattle.cw_record.specs.ClosedRun.{end_after}
-use Rattle.cw_sim.specs.Workers.{Simulation, left_of, right_of, tree, worker}
+use Rattle.cw_sim.specs.Workers.{Simulation, left_of, right_of, opening, tree, worker}
+use Rattle.cw_sim.specs.Turns.{worker_at}
 use Rattle.cw_sim.specs.Moves.{accesses, acts, after_moves, dies, does, finishes, follows, is_over, joins, meets, meets_cell, move, others, steals, stops_if_spent, takes, turns}
-use Rattle.cw_sim.specs.Runs.{IsRecordOf, closed_of}
+use Rattle.cw_sim.specs.Runs.{IsRecordOf, closed_of, left_by}
 
 -- what an end tells of the moves, where it is not for want of memory
 ends_so : (t : List Node) (h : Option Halt) (root : Bool) (memory outputs : List ℤ) → (h ≡ Some halt.Memory → ⊥)
@@ -38,7 +42,7 @@ ends_so t None false memory outputs want = (λ e. refl, λ e. refl)
 
 module _ {A : Type 0} where
   -- it was not stopped for want of memory
-  abbrev pub Goes : Simulation A → Type 0
+  abbrev Goes : Simulation A → Type 0
   Goes m = m.core.halt ≡ Some halt.Memory → ⊥
 
   by_test : (b : Bool) (m n : Simulation A) → Goes m → Goes n → Goes (if b then m else n)
@@ -107,7 +111,7 @@ module _ {A : Type 0} where
         by_run None = steals_goes w (others m w) m g
         by_run (Some x) = by_test (is_dying m.core.machine x) _ _ (dies_goes w x m g) (acts_goes w x (s.want (m.at x)) m g)
 
-    pub moves_go : (turn : ℕ → ℕ) (k n : ℕ) (m : Simulation A) → Goes m → Goes (after_moves s turn k n m)
+    moves_go : (turn : ℕ → ℕ) (k n : ℕ) (m : Simulation A) → Goes m → Goes (after_moves s turn k n m)
     moves_go turn zero n m g = g
     moves_go turn (suc k) n m g = by_over (is_over m) (moves_go turn k (suc n) (move s (turn n) m) (move_goes (turn n) m g))
       where
@@ -118,7 +122,7 @@ module _ {A : Type 0} where
   -- ## What the record tells
 
   module _ (m : Simulation A) (r : Record) (is : IsRecordOf m r) (goes : Goes m) where
-    pub told : (r.end ≡ Moves → is_over m ≡ false) × (is_over m ≡ false → r.end ≡ Moves)
+    told : (r.end ≡ Moves → is_over m ≡ false) × (is_over m ≡ false → r.end ≡ Moves)
     told =
         let c = closed_of m in
         let memory = memory_left (first_memory r.program.cells) c.journals in
@@ -126,8 +130,9 @@ module _ {A : Type 0} where
         let z = ends_so (tree m) m.core.halt (has_finished m.core.machine 0) memory outputs goes in
         (λ f. z.0 (sym is.end ∙ f), λ f. is.end ∙ z.1 f)
 
-    pub spent_if_told : r.end ≡ Moves → is_over m ≡ false
-    spent_if_told = told.0
-
-    pub told_if_spent : is_over m ≡ false → r.end ≡ Moves
-    told_if_spent = told.1
+-- the record of what the moves of a job come to tells whether they were spent
+pub left_told : (job : Job) (workers : ℕ) (schedule : Schedule) (r : Record) → IsRecordOf (left_by job workers schedule) r → r.end ≡ Moves ↔ (is_over (left_by job workers schedule) ≡ false)
+left_told job workers schedule r is =
+    let s = strands_of job in
+    told (left_by job workers schedule) r is
+    (moves_go s (worker_at schedule workers) job.limits.moves 0 (opening (first_memory job.program.cells) job.limits.strands job.limits.aborts workers s.start) (λ e. cc))

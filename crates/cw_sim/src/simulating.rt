@@ -1,8 +1,10 @@
-ghost use Rattle.std.specs.Prelude.{◌≡◌, ◌<◌, IfOk, length};
+ghost use Rattle.std.specs.Prelude.{◌≡◌, ◌<◌, ◌↔◌, false, IfOk, length};
 ghost use Rattle.cw_strand.specs.Programs.{IsCompiled};
 ghost use Rattle.cw_serial.specs.Jobs.{Takes};
 ghost use Rattle.cw_record.specs.Records.{HasItsOutputs, IsCoherentRun, IsNumberedDepthFirst, IsReplayed, job_of};
 ghost use Rattle.cw_sim.specs.Turns.{ListsWorkers};
+ghost use Rattle.cw_record.specs.declared.record_end.RecordEnd.TheVariants.{Moves};
+ghost use Rattle.cw_sim.specs.Moves.{is_over};
 ghost use Rattle.cw_sim.specs.Runs.{IsRecordOf, left_by};
 
 use crate::moves::{Task, moved};
@@ -32,6 +34,7 @@ pub fn simulate(
     ensures words { IfOk result (λ r. r.words ≡ words) }
     ensures limits { IfOk result (λ r. r.limits ≡ limits) }
     ensures moves { IfOk result (λ r. IsRecordOf (left_by (job_of r) workers schedule.now) r) }
+    ensures spent { IfOk result (λ r. r.end ≡ Moves ↔ (is_over (left_by (job_of r) workers schedule.now) ≡ false)) }
     ensures coherent { IfOk result (λ r. IsCoherentRun r) }
     ensures outputs { IfOk result (λ r. HasItsOutputs r) }
     ensures replays { IfOk result (λ r. IsReplayed r) }

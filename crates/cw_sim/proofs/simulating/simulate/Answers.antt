@@ -1,6 +1,9 @@
 -- What is left is that of a closed run of the job.
+use Rattle.std.proofs.Common.{IfOk, rules}
+use Rattle.cw_record.specs.Records.{job_of}
+use Rattle.cw_sim.specs.Runs.{IsRecordOf, left_by}
 use Rattle.cw_serial.specs.Jobs.{Job}
-use Rattle.cw_sim.proofs.HeldRecords.{moved_same, closed_has_record, built_coherent, built_numbered, built_replays}
+use Rattle.cw_sim.proofs.HeldRecords.{moved_same, closed_has_record, built_coherent, built_numbered, built_replays, built_spent}
 use Rattle.cw_sim.proofs.simulating.simulate.Goals as goal
 
 pub build-requires : goal.build-requires
@@ -31,3 +34,8 @@ returns-clause-replays c =
     let is = moved_same c.args.program c.args.limits c.as_slice.result.now c.args.words c.args.workers c.args.schedule.now to.closed to.spent c.as_slice.ensures (record { closed = to.ensures.closed; spends = to.ensures.spent; few = to.ensures.few }) in
     let coherent = built_coherent job c.args.workers c.args.schedule.now c.requires.compiled c.requires.words c.requires.strands c.requires.workers c.requires.listed to.closed to.spent is c.build.result c.build.ensures.coherent in
     built_replays c.args.program c.args.words c.requires.compiled c.requires.words c.build.result c.build.ensures.program c.build.ensures.words coherent c.build.ensures.outputs c.build.ensures.order
+
+pub returns-clause-spent : goal.returns-clause-spent
+returns-clause-spent c =
+    let is : IfOk c.build.result (λ r. IsRecordOf (left_by (job_of r) c.args.workers c.args.schedule.now) r) = search rules in
+    built_spent c.args.workers c.args.schedule.now c.build.result is
