@@ -8,7 +8,7 @@ use Rattle.cw_code.specs.declared.instruction.Instr.{Instr}
 use Rattle.cw_code.specs.declared.instruction.Func.{Func}
 use Rattle.cw_code.specs.declared.instruction.Code.{Code}
 use Rattle.cw_code.specs.declared.effects.Effect.{Effect}
-use Rattle.cw_code.specs.Rules.{earlier, earliest, inside, if_inside, next_of, target_of, never_passed, jumps, natural, head_faults, is_laid, place_faults, places, size_of, faults_from, faults, precedes, Before, number_of, IsFirst}
+use Rattle.cw_code.specs.Rules.{earlier, earliest, inside, if_inside, next_of, target_of, never_passed, jumps, natural, head_faults, is_laid, place_faults, places, size_of, faults_from, faults, precedes, Before, kind_number, IsFirst}
 use Rattle.std.proofs.lemmas.Bool.{and_parts, or_cases, or_parts}
 
 pub earliest_append : (o : Option CodeFault) (xs ys : List CodeFault) → earliest o (xs ++ ys) ≡ earliest (earliest o xs) ys
@@ -65,18 +65,18 @@ and_false false y e t = cc
 precedes_is : (a b : CodeFault) → precedes a b ≡ true → Before a b
 precedes_is a b e =
     let lt = nat_lt a.at b.at in
-    let rest = (a.at == b.at) && nat_le (number_of a.kind) (number_of b.kind) in
+    let rest = (a.at == b.at) && nat_le (kind_number a.kind) (kind_number b.kind) in
     ⊎_elim (λ l. inl (ltb-true a.at b.at l)) (λ r.
-    let p = and_parts (a.at == b.at) (nat_le (number_of a.kind) (number_of b.kind)) r in
-    inr (eqb-true a.at b.at p.0, leb-true (number_of a.kind) (number_of b.kind) p.1)) (or_cases lt rest e)
+    let p = and_parts (a.at == b.at) (nat_le (kind_number a.kind) (kind_number b.kind)) r in
+    inr (eqb-true a.at b.at p.0, leb-true (kind_number a.kind) (kind_number b.kind) p.1)) (or_cases lt rest e)
 
 precedes_not : (a b : CodeFault) → precedes a b ≡ false → Before b a
 precedes_not a b e =
     let lt = nat_lt a.at b.at in
-    let rest = (a.at == b.at) && nat_le (number_of a.kind) (number_of b.kind) in
+    let rest = (a.at == b.at) && nat_le (kind_number a.kind) (kind_number b.kind) in
     let p = or_parts lt rest e in
     let le = ltb-false a.at b.at p.0 in
-    ⊎_elim (λ y. inr (sym y.1, omega (arith, leb-false (number_of a.kind) (number_of b.kind) (and_false (a.at == b.at) _ p.1 y.0)))) (λ y. inl (omega (arith, y.1))) (eqb_tells a.at b.at)
+    ⊎_elim (λ y. inr (sym y.1, omega (arith, leb-false (kind_number a.kind) (kind_number b.kind) (and_false (a.at == b.at) _ p.1 y.0)))) (λ y. inl (omega (arith, y.1))) (eqb_tells a.at b.at)
 
 before_all : (a b d : CodeFault) → Before a b → Before b d → Before a d
 before_all a b d (inl x) (inl y) = inl (omega arith)

@@ -16,6 +16,6 @@ AreNumbered first [] past = first ≡ past
 AreNumbered first (c ∷ cs) past = (c.base ≡ first) × AreNumbered (first + elements c) cs past
 
 -- main is a function of the code, and the elements of the cells are numbered from 0 up to as many cells as the code may name
-pub record IsProgram (code : Code) (cells : List CellInfo) (main : ℕ) : Type 0 where
+pub record IsProgramCode (code : Code) (cells : List CellInfo) (main : ℕ) : Type 0 where
   pub main_there : main < length code.funcs
   pub numbered : AreNumbered 0 cells code.cells

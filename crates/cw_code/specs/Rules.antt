@@ -245,18 +245,18 @@ faults_from c laid at (f ∷ fs) =
 abbrev pub faults : Code → List CodeFault
 faults c = faults_from c true 0 c.funcs
 
-abbrev pub number_of : CodeKind → ℕ
-number_of Underflow = 1
-number_of Uneven = 2
-number_of JumpOut = 3
-number_of NoEnd = 4
+abbrev pub kind_number : CodeKind → ℕ
+kind_number Underflow = 1
+kind_number Uneven = 2
+kind_number JumpOut = 3
+kind_number NoEnd = 4
 
 abbrev pub Before : CodeFault → CodeFault → Type 0
-Before a b = (a.at < b.at) ⊎ ((a.at ≡ b.at) × (number_of a.kind ≤ number_of b.kind))
+Before a b = (a.at < b.at) ⊎ ((a.at ≡ b.at) × (kind_number a.kind ≤ kind_number b.kind))
 
 -- the one of two faults that comes first, by place and at one place by kind
 abbrev pub precedes : CodeFault → CodeFault → Bool
-precedes a b = nat_lt a.at b.at || ((a.at == b.at) && nat_le (number_of a.kind) (number_of b.kind))
+precedes a b = nat_lt a.at b.at || ((a.at == b.at) && nat_le (kind_number a.kind) (kind_number b.kind))
 
 abbrev pub earlier : Option CodeFault → CodeFault → Option CodeFault
 earlier None g = Some g

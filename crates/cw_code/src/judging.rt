@@ -1,5 +1,5 @@
 ghost use Rattle.std.specs.Prelude.{◌≡◌, ◌+◌, ◌<◌, ◌^◌, length, slice_get, Some, IfOk};
-ghost use Rattle.cw_code.specs.Rules.{earlier, earliest, when, number_of, below, cells_below, inside, is_target, is_tick, operand_faults, effect_of, called, pops, passed, onwards, never_passed, jumps, is_border, is_torn, next_of, target_of, if_inside, natural};
+ghost use Rattle.cw_code.specs.Rules.{earlier, earliest, when, kind_number, below, cells_below, inside, is_target, is_tick, operand_faults, effect_of, called, pops, passed, onwards, never_passed, jumps, is_border, is_torn, next_of, target_of, if_inside, natural};
 ghost use Rattle.cw_code.specs.Table.{effect_at, taken, left_there};
 
 use crate::effects::Effect;
@@ -10,7 +10,7 @@ use cw_base::OutOfMemory;
 
 /// The number of a kind, by which kinds at one place come.
 fn number(kind: CodeKind) -> u8
-    ensures { result ≡ number_of kind }
+    ensures { result ≡ kind_number kind }
 {
     kind as u8
 }

@@ -1,5 +1,5 @@
 ghost use Rattle.std.specs.Prelude.{◌≡◌, []};
-ghost use Rattle.cw_code.specs.Programs.{IsProgram};
+ghost use Rattle.cw_code.specs.Programs.{IsProgramCode};
 ghost use Rattle.cw_code.specs.Rules.{faults};
 
 use crate::{CellInfo, Verified};
@@ -12,5 +12,5 @@ pub struct Program {
     pub cells: Seq<CellInfo>,
     pub main: u32,
     pub ghost sound: { faults code ≡ [] },
-    pub ghost whole: { ∥ IsProgram code cells main ∥₁ },
+    pub ghost whole: { ∥ IsProgramCode code cells main ∥₁ },
 }

@@ -3,7 +3,7 @@ use Rattle.std.proofs.Common.{◌≡◌, ℕ, ◌-◌, ◌≤◌, List, [], leng
 use Rattle.std.proofs.lemmas.List.{drop_all}
 use Rattle.cw_text.specs.declared.ast.Word.{Word}
 use Rattle.cw_text.specs.Syntax.{Statement, declare, assign, assign_at, run, out, choose, repeat, atomic, spawn, sync, return, Block, empty, first}
-use Rattle.cw_strand.specs.Compilation.{Slots, with_params, most_in, most, visible_after}
+use Rattle.cw_strand.specs.Compilation.{Slots, slots_with_params, most_in, most, visible_after}
 use Rattle.cw_strand.proofs.Numbering.{count_of_params}
 use Rattle.cw_compile.specs.Emitted.{peak_in, peak}
 
@@ -40,7 +40,7 @@ mutual
   most_is_peak n (first s b) = omega (arith, most_in_is_peak n s, most_is_peak (visible_after s n) b, visible_most n s)
 
 -- where all were forgotten, the parameters are all that are visible
-pub length-params : (ws : List Word) (old : Slots) → length (with_params ws (drop (length old - 0) old)) ≡ length ws
+pub length-params : (ws : List Word) (old : Slots) → length (slots_with_params ws (drop (length old - 0) old)) ≡ length ws
 length-params ws old =
     let none : drop (length old - 0) old ≡ [] = drop_all (length old - 0) old (omega arith) in
     rw none (omega (arith, count_of_params ws []))

@@ -5,7 +5,7 @@ use Rattle.std.specs.Str.{bytes_eq}
 use Rattle.cw_text.specs.Syntax.{Declaration, cell, func}
 use Rattle.cw_code.specs.declared.CellInfo.{CellInfo}
 use Rattle.cw_code.specs.declared.instruction.CodeFault.{CodeFault}
-use Rattle.cw_code.specs.Programs.{AreNumbered, IsProgram}
+use Rattle.cw_code.specs.Programs.{AreNumbered, IsProgramCode}
 use Rattle.cw_strand.proofs.StandingNames.{no_fault}
 use Rattle.cw_strand.specs.Names.{◌then◌, main_from, without_main, cells_from, naming_fault, in_items, in_functions, globals, main_of, cells_of}
 use Rattle.cw_strand.specs.Compilation.{function_names, number_from, function_code, funcs_from, elements_in, code_of, main_function}
@@ -32,7 +32,7 @@ numbered n (cell x l (suc len) i ∷ ds) =
     (refl, rw past (numbered (n + suc len) ds))
 numbered n (func x l ps b ∷ ds) = numbered n ds
 
-pub is_program : (ds : List Declaration) → naming_fault ds ≡ None → IsProgram (code_of ds) (cells_of ds) (main_function ds)
+pub is_program : (ds : List Declaration) → naming_fault ds ≡ None → IsProgramCode (code_of ds) (cells_of ds) (main_function ds)
 is_program ds none =
     let later = (no_fault (in_items [] 0 ds) (in_functions (globals ds) ds then without_main (main_of ds)) none).1 in
     let all : 0 + elements_in ds ≡ elements_in ds = omega arith in

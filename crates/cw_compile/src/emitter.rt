@@ -1,7 +1,7 @@
 ghost use Rattle.std.specs.Prelude.{◌≡◌, ◌<◌, ◌+◌, ◌∷◌, ◌++◌, [], length, max, slice_set, OnOk, IfOk};
 ghost use Rattle.cw_strand.specs.Meaning.{cell_of};
 ghost use Rattle.cw_text.specs.Syntax.{term_of, terms_of, statement_of, block_of};
-ghost use Rattle.cw_strand.specs.Compilation.{jump, jump_zero, set, discard, show, wait, ret, loads_at, stores_at, reads, writes, slot_of, calls, term_code, terms_code, with_params, function_code, most};
+ghost use Rattle.cw_strand.specs.Compilation.{jump, jump_zero, set, discard, show, wait, ret, loads_at, stores_at, reads, writes, slot_of, calls, term_code, terms_code, slots_with_params, function_code, most};
 
 use crate::elements::Elements;
 use crate::functions::Functions;
@@ -289,7 +289,7 @@ impl<'a> Emitter<'a> {
 
     /// Parameters are visible from now on.
     fn params(&mut self, params: &'a [Word]) -> Result<(), OutOfMemory>
-        ensures { OnOk result (self.new ≡ record self.old { slots = with_params params.now self.old.slots }) }
+        ensures { OnOk result (self.new ≡ record self.old { slots = slots_with_params params.now self.old.slots }) }
     {
         for word in params {
             self.slots.add(word.name.as_str())?;

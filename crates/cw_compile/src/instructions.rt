@@ -148,7 +148,7 @@ pub(crate) fn fork(place: u32) -> Instr
 
 /// The number of an operator's instruction.
 fn number_of(operator: Operator) -> u8
-    ensures { result ≡ code.number_of operator }
+    ensures { result ≡ code.operator_number operator }
 {
     match operator {
         Operator::Add => 8,
@@ -169,7 +169,7 @@ fn number_of(operator: Operator) -> u8
 
 /// The arithmetic of an operator.
 pub(crate) fn arithmetic(operator: Operator) -> Instr
-    ensures { result ≡ code.plain (code.number_of operator) }
+    ensures { result ≡ code.plain (code.operator_number operator) }
 {
     plain(number_of(operator))
 }

@@ -21,15 +21,15 @@ use Rattle.cw_stack.specs.Cells.{CellParts, entry_of}
 use Rattle.cw_trace.specs.Columns.{used}
 use Rattle.cw_trace.specs.Stands.{column_in}
 use Rattle.cw_trace.proofs.Grow.{column_append}
-use Rattle.cw_open.specs.Machine.{Machine, live, value_of, is_running, is_free}
+use Rattle.cw_open.specs.Machine.{OpenMachine, live, live_value, is_running, is_free}
 use Rattle.cw_open.specs.Steps.{accesses, refuses, after_all}
 use Rattle.cw_open.proofs.ListSteps.{none_new}
 use Rattle.cw_open.proofs.Standing.{stands}
 use Rattle.cw_open.proofs.TreeSteps.{free_runs}
 use Rattle.cw_core.specs.declared.event.Event.TheVariants as event
 use Rattle.cw_core.specs.declared.row.Row.{Row}
-use Rattle.cw_core.specs.State.{State, waits_for_left, column_of, spent}
-use Rattle.cw_core.specs.Events.{fits, fits_now, is_stop, is_met, met_by, after}
+use Rattle.cw_core.specs.State.{CoreState, waits_for_left, column_of, spent}
+use Rattle.cw_core.specs.Events.{fits, fits_now, is_stop, is_met, met_by, after_event}
 use Rattle.cw_core.specs.Laws.{IsCore}
 use Rattle.cw_core.specs.Kept.{AreParts, IsEntryOf, IsHeld, changed, with_tail, with_place, plain_tail, leaf_row, cell_changed, with_entry}
 use Rattle.cw_core.proofs.Going.{well, at_place}
@@ -50,18 +50,18 @@ wrote_kind c None v z mark = refl
 wrote_kind c (Some w) v z mark = refl
 
 -- what an access needs
-pub access_ready : (k : State) (s c : ℕ) (write : Option ℤ) → IsCore k.machine.first k → fits k (event.Access s c write) ≡ true → (is_free k.machine s ≡ true) × (waits_for_left k s ≡ false) × (nat_lt c (length k.machine.lists) ≡ true)
+pub access_ready : (k : CoreState) (s c : ℕ) (write : Option ℤ) → IsCore k.machine.first k → fits k (event.Access s c write) ≡ true → (is_free k.machine s ≡ true) × (waits_for_left k s ≡ false) × (nat_lt c (length k.machine.lists) ≡ true)
 access_ready k s c write core fit =
     let now = (and_parts (is_none k.halt && (is_none (spent k) || is_stop (event.Access s c write))) (fits_now k (event.Access s c write)) fit).1 in
     let y = and_parts (is_free k.machine s && not (waits_for_left k s)) (nat_lt c (length k.machine.lists)) now in
     let z = free_ready k.machine.first k core s y.0 in
     (z.0, z.1, y.1)
 
-module _ (k : State) (rows : List Row) (forks : List ℕ) (cells : List CellParts) (last : Option ℕ) (w : AreParts k rows forks cells last) where
+module _ (k : CoreState) (rows : List Row) (forks : List ℕ) (cells : List CellParts) (last : Option ℕ) (w : AreParts k rows forks cells last) where
   abbrev t : List Node
   t = k.machine.tree
 
-  abbrev m : Machine
+  abbrev m : OpenMachine
   m = k.machine
 
   module _ (s c : ℕ) (write : Option ℤ) (fit : fits k (event.Access s c write) ≡ true) (off : is_met k s c ≡ false) where
@@ -72,7 +72,7 @@ module _ (k : State) (rows : List Row) (forks : List ℕ) (cells : List CellPart
     stamp = m.clock + 1
 
     abbrev x : Node
-    x = fresh_node p (access_kind c write (value_of m c)) stamp
+    x = fresh_node p (access_kind c write (live_value m c)) stamp
 
     abbrev u : List Node
     u = t ++ x ∷ []
@@ -80,11 +80,11 @@ module _ (k : State) (rows : List Row) (forks : List ℕ) (cells : List CellPart
     abbrev lists : List (List ℕ)
     lists = slice_set m.lists c (live m c ++ stamp ∷ [])
 
-    abbrev pub made : State
+    abbrev pub made : CoreState
     made = record k { machine = record m { tree = u; lists = lists; clock = max m.clock stamp } }
 
-    pub after_made : after k (event.Access s c write) ≡ made
-    after_made = ap (λ b. let z : State = record k { machine = after_all m (cond b (refuses s c write (met_by k s c)) (accesses s c write stamp) ∷ []) } in z) off
+    pub after_made : after_event k (event.Access s c write) ≡ made
+    after_made = ap (λ b. let z : CoreState = record k { machine = after_all m (cond b (refuses s c write (met_by k s c)) (accesses s c write stamp) ∷ []) } in z) off
 
     now : (is_free m s ≡ true) × (waits_for_left k s ≡ false) × (nat_lt c (length m.lists) ≡ true)
     now = access_ready k s c write w.core fit
@@ -99,13 +99,13 @@ module _ (k : State) (rows : List Row) (forks : List ℕ) (cells : List CellPart
     there = (at_place m.first k w.core s running now.1).there
 
     no_strand : is_strand_kind x.kind ≡ false
-    no_strand = kinds (λ y. is_strand_kind y ≡ false) c write (value_of m c) refl (λ v. refl)
+    no_strand = kinds (λ y. is_strand_kind y ≡ false) c write (live_value m c) refl (λ v. refl)
 
     no_fork : is_fork_kind x.kind ≡ false
-    no_fork = kinds (λ y. is_fork_kind y ≡ false) c write (value_of m c) refl (λ v. refl)
+    no_fork = kinds (λ y. is_fork_kind y ≡ false) c write (live_value m c) refl (λ v. refl)
 
     no_block : is_block_kind x.kind ≡ false
-    no_block = kinds (λ y. is_block_kind y ≡ false) c write (value_of m c) refl (λ v. refl)
+    no_block = kinds (λ y. is_block_kind y ≡ false) c write (live_value m c) refl (λ v. refl)
 
     quiet : (n : ℕ) → length t ≤ n → is_pending u n ≡ false
     quiet n le = none_new (λ y. is_block_kind y.kind && is_pending_state y.state) t (x ∷ []) n (ap (λ b. (b && is_pending_state x.state) || false) no_block) le
@@ -114,7 +114,7 @@ module _ (k : State) (rows : List Row) (forks : List ℕ) (cells : List CellPart
     same_place n = place_grown t (x ∷ []) rooted n (λ b le h. and_left (is_pending u b) (nat_eq (strand_of u b) n) (quiet b le))
 
     none_tried : tried_cell u (length t) ≡ None
-    none_tried = rw (get_next t x []) (kinds (λ y. tried_cell_in y ≡ None) c write (value_of m c) refl (λ v. refl))
+    none_tried = rw (get_next t x []) (kinds (λ y. tried_cell_in y ≡ None) c write (live_value m c) refl (λ v. refl))
 
     -- ## The new entry
 
@@ -127,9 +127,9 @@ module _ (k : State) (rows : List Row) (forks : List ℕ) (cells : List CellPart
     new_entry : (v : ℤ) → IsEntryOf made c (entry_of mark write v)
     new_entry v = record {
       node = length t;
-      touches = node_new t x (λ y. touches_kind c y.kind) ∙ kinds (λ y. touches_kind c y ≡ true) c write (value_of m c) (eq-eqb c c refl) (λ v. eq-eqb c c refl);
+      touches = node_new t x (λ y. touches_kind c y.kind) ∙ kinds (λ y. touches_kind c y ≡ true) c write (live_value m c) (eq-eqb c c refl) (λ v. eq-eqb c c refl);
       stamp = number_new t x (λ y. y.stamp);
-      wrote = ap (value_in written_kind) (get_next t x []) ∙ wrote_kind c write (value_of m c) v mark;
+      wrote = ap (value_in written_kind) (get_next t x []) ∙ wrote_kind c write (live_value m c) v mark;
       strand =
           (let h = strand_there k rows forks cells last w s running in
           let self = Rattle.cw_open.proofs.Standing.strand_itself t rooted s (Rattle.cw_open.proofs.Standing.runs m (well m.first k w.core).sound.tree (well m.first k w.core).nested s running).strand in
@@ -153,9 +153,9 @@ module _ (k : State) (rows : List Row) (forks : List ℕ) (cells : List CellPart
             held_here : IsHeld made c next
             held_here = record {
               whole = (w.held c cell at).whole;
-              entries = λ i e g. elim (there_or_last cell.entries (entry_of mark write (Rattle.cw_stack.specs.Cells.value_of cell)) i e g) [
+              entries = λ i e g. elim (there_or_last cell.entries (entry_of mark write (Rattle.cw_stack.specs.Cells.entries_value cell)) i e g) [
                 | inl old ↦ entry_still m.first k w.core s running now.1 x refl lists (max m.clock stamp) k.words no_fork c e ((w.held c cell at).entries i e old)
-                | inr new ↦ (let P : Entry → Type 0 = λ e. IsEntryOf made c e in subst P (sym new.1) (new_entry (Rattle.cw_stack.specs.Cells.value_of cell)))
+                | inr new ↦ (let P : Entry → Type 0 = λ e. IsEntryOf made c e in subst P (sym new.1) (new_entry (Rattle.cw_stack.specs.Cells.entries_value cell)))
               ];
             }
 
@@ -163,13 +163,13 @@ module _ (k : State) (rows : List Row) (forks : List ℕ) (cells : List CellPart
       listed =
           map-set (λ b. stamps b.entries) cells c next
           ∙ ap (λ ls. slice_set ls c (stamps next.entries)) w.lists
-          ∙ ap (slice_set m.lists c) (map-append (λ e. e.mark.stamp) cell.entries (entry_of mark write (Rattle.cw_stack.specs.Cells.value_of cell) ∷ []) ∙ ap (λ us. us ++ stamp ∷ []) (sym (live_is k rows forks cells last w c cell at)))
+          ∙ ap (slice_set m.lists c) (map-append (λ e. e.mark.stamp) cell.entries (entry_of mark write (Rattle.cw_stack.specs.Cells.entries_value cell) ∷ []) ∙ ap (λ us. us ++ stamp ∷ []) (sym (live_is k rows forks cells last w c cell at)))
 
       made_parts : (r : Row) → slice_get rows p ≡ Some r → length t + 1 < 2 ^ 32 → AreParts made (changed (with_place p) s (changed (with_tail plain_tail) p rows ++ leaf_row s 0 ∷ [])) forks (slice_set cells c next) last
       made_parts r here few =
           let f = m.first in
           let core = w.core in
-          let P : State → Type 0 = λ z. IsCore f z in
+          let P : CoreState → Type 0 = λ z. IsCore f z in
           record {
             core = subst P after_made (events f k (event.Access s c write) core fit).1;
             few = omega (arith, length_more t x);
@@ -186,9 +186,9 @@ module _ (k : State) (rows : List Row) (forks : List ℕ) (cells : List CellPart
           }
 
     pub access_parts : (r : Row) → slice_get rows p ≡ Some r → length t + 1 < 2 ^ 32 → (cell : CellParts) → slice_get cells c ≡ Some cell
-        → AreParts (after k (event.Access s c write)) (changed (with_place p) s (changed (with_tail plain_tail) p rows ++ leaf_row s 0 ∷ [])) forks (cell_changed (with_entry (column_of k s) stamp write) c cells) last
+        → AreParts (after_event k (event.Access s c write)) (changed (with_place p) s (changed (with_tail plain_tail) p rows ++ leaf_row s 0 ∷ [])) forks (cell_changed (with_entry (column_of k s) stamp write) c cells) last
     access_parts r here few cell at =
         let rs = changed (with_place p) s (changed (with_tail plain_tail) p rows ++ leaf_row s 0 ∷ []) in
-        let P : State → Type 0 = λ z. AreParts z rs forks (cell_changed (with_entry (column_of k s) stamp write) c cells) last in
+        let P : CoreState → Type 0 = λ z. AreParts z rs forks (cell_changed (with_entry (column_of k s) stamp write) c cells) last in
         let Q : List CellParts → Type 0 = λ cs. AreParts made rs forks cs last in
         subst P (sym after_made) (subst Q (sym (changed_cell (with_entry (column_of k s) stamp write) c cells cell at)) (made_parts cell at r here few))

@@ -20,7 +20,7 @@ use Rattle.cw_trace.specs.Stands.{column}
 use Rattle.cw_trace.specs.Query.{verdict}
 use Rattle.cw_trace.specs.Verdicts.{Tells, is_against}
 use Rattle.cw_trace.proofs.Answering.{decides}
-use Rattle.cw_open.specs.Machine.{Machine, live, value_of, is_running, is_free}
+use Rattle.cw_open.specs.Machine.{OpenMachine, live, live_value, is_running, is_free}
 use Rattle.cw_open.specs.Steps.{Met, Step, accesses, refuses, after_all}
 use Rattle.cw_open.specs.Runs.{IsRun, IsRefused, ComesLast, meets, at_once}
 use Rattle.cw_open.specs.Open.{is_open}
@@ -30,7 +30,7 @@ use Rattle.cw_open.proofs.Listing.{listed}
 use Rattle.cw_open.proofs.ListSteps.{none_new, kept, new_in}
 use Rattle.cw_open.proofs.ChainSteps.{newest_in}
 use Rattle.cw_core.specs.declared.event.Event.TheVariants as event
-use Rattle.cw_core.specs.State.{State, joins, waits_for_left, column_of}
+use Rattle.cw_core.specs.State.{CoreState, joined_columns, waits_for_left, column_of}
 use Rattle.cw_core.specs.Events.{is_met, met_by, against}
 use Rattle.cw_core.specs.Laws.{IsCore}
 use Rattle.cw_core.proofs.Joined.{has_in}
@@ -53,11 +53,11 @@ against_some Free e = absurd (cc e)
 against_some Within e = absurd (cc e)
 against_some (Against w) e = refl
 
-module _ (first : List ℤ) (k : State) (core : IsCore first k) (s c : ℕ) (write : Option ℤ) (free : is_free k.machine s ≡ true) (ready : waits_for_left k s ≡ false) (there : nat_lt c (length k.machine.lists) ≡ true) where
+module _ (first : List ℤ) (k : CoreState) (core : IsCore first k) (s c : ℕ) (write : Option ℤ) (free : is_free k.machine s ≡ true) (ready : waits_for_left k s ≡ false) (there : nat_lt c (length k.machine.lists) ≡ true) where
   abbrev t : List Node
   t = k.machine.tree
 
-  abbrev m : Machine
+  abbrev m : OpenMachine
   m = k.machine
 
   abbrev p : ℕ
@@ -72,7 +72,7 @@ module _ (first : List ℤ) (k : State) (core : IsCore first k) (s c : ℕ) (wri
   stamp = m.clock + 1
 
   abbrev x : Node
-  x = fresh_node p (access_kind c write (value_of m c)) stamp
+  x = fresh_node p (access_kind c write (live_value m c)) stamp
 
   abbrev u : List Node
   u = t ++ x ∷ []
@@ -95,11 +95,11 @@ module _ (first : List ℤ) (k : State) (core : IsCore first k) (s c : ℕ) (wri
       let a = (state first k core).listed in
       let place = at_place first k core s running ready in
       elim (cases_lt n (length t)) [
-        | inr le ↦ (new_in m r a p c stamp write (value_of m c) place (ltb-true c (length m.lists) there) (next_stamp first k core p) below_next d n le e).0
+        | inr le ↦ (new_in m r a p c stamp write (live_value m c) place (ltb-true c (length m.lists) there) (next_stamp first k core p) below_next d n le e).0
         | inl h ↦
             (let old = all_listed first k core d n (sym (node_grown t (x ∷ []) (λ y. touches_kind d y.kind) n h) ∙ e) (sym (live_grown t (x ∷ []) r n h) ∙ l) in
             let P : ℕ → Type 0 = λ v. In v (listed ls d) in
-            subst P (sym (number_grown t (x ∷ []) (λ y. y.stamp) n h)) (kept m r a p c stamp write (value_of m c) place (ltb-true c (length m.lists) there) (next_stamp first k core p) below_next d (stamp_of t n) old))
+            subst P (sym (number_grown t (x ∷ []) (λ y. y.stamp) n h)) (kept m r a p c stamp write (live_value m c) place (ltb-true c (length m.lists) there) (next_stamp first k core p) below_next d (stamp_of t n) old))
       ]
 
   made_run : is_met k s c ≡ false → IsRun at_once m (accesses s c write stamp ∷ [])
@@ -114,7 +114,7 @@ module _ (first : List ℤ) (k : State) (core : IsCore first k) (s c : ℕ) (wri
 
   made : IsRun at_once m (accesses s c write stamp ∷ []) → IsCore first (record k { machine = after_all m (accesses s c write stamp ∷ []) })
   made run =
-      let n = access_no c write (value_of m c) in
+      let n = access_no c write (live_value m c) in
       record {
         reached = reached_more at_once first m (accesses s c write stamp ∷ []) core.reached run;
         complete = none_of (after_all m (accesses s c write stamp ∷ [])) all_there;
@@ -134,7 +134,7 @@ module _ (first : List ℤ) (k : State) (core : IsCore first k) (s c : ℕ) (wri
       let named : v ≡ a.0 = ap (access_at t) (sym a.2) ∙ access_named t w.sound.stamps c a.0 a.1 in
       let touched : touches t c v ≡ true = ap (touches t c) named ∙ a.1 in
       let stamped : last ≡ stamp_of t v = sym a.2 ∙ ap (stamp_of t) (sym named) in
-      decides k.tier k.words (record { strand = column_of k v; stamp = last }) (column_of k s) t k.splits (joins k) (is_open m) c v p core.stands w.sound.tree w.sound.stamps (in_order first k core s running ready) (goes first k core s running ready) touched
+      decides k.tier k.words (record { strand = column_of k v; stamp = last }) (column_of k s) t k.splits (joined_columns k) (is_open m) c v p core.stands w.sound.tree w.sound.stamps (in_order first k core s running ready) (goes first k core s running ready) touched
       (ap (λ z. (let q : Mark = record { strand = column t (used k.tier) v; stamp = z } in q)) stamped) (sym (column_place first k core s (used k.tier) running))
 
   abbrev met : Met

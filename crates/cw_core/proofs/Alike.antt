@@ -3,23 +3,23 @@ use Rattle.std.proofs.Common.{◌≡◌, ℕ, suc, ◌+◌, List, [], ◌∷◌,
 use Rattle.std.specs.Prelude.{ℤ, is_none, slice_index}
 use Rattle.std.proofs.lemmas.List.{length-append, length-map, map-append}
 use Rattle.cw_tree.specs.Series.{place}
-use Rattle.cw_trace.specs.Columns.{Columns, used, owner, parts, first_tier, forked, split_at, merged, back_to, around_fork}
+use Rattle.cw_trace.specs.Columns.{ColumnTable, used, owner, parts, first_tier, forked, split_at, merged, back_to, around_fork}
 use Rattle.cw_trace.specs.Stands.{fork_column}
-use Rattle.cw_open.specs.Machine.{Machine}
-use Rattle.cw_open.specs.Steps.{Step, forks, begins, accesses, refuses, outputs, commits, undoes, aborts, finishes, joins, stops, refusal, after_all, after as after_step}
+use Rattle.cw_open.specs.Machine.{OpenMachine}
+use Rattle.cw_open.specs.Steps.{Step, forks, begins, accesses, refuses, outputs, commits, undoes, aborts, finishes, joins, stops, refusal, after_all, after_open_step as after_step}
 use Rattle.cw_core.specs.declared.event.Event.{Event}
 use Rattle.cw_core.specs.declared.event.Event.TheVariants as event
-use Rattle.cw_core.specs.State.{State, column_of, gap_of, is_split}
-use Rattle.cw_core.specs.Events.{after, steps_of, next, is_met, met_by, is_early, may_fork, tier_after}
+use Rattle.cw_core.specs.State.{CoreState, column_of, gap_of, is_split}
+use Rattle.cw_core.specs.Events.{after_event, steps_of, next, is_met, met_by, is_early, may_fork, tier_after}
 use Rattle.cw_core.specs.Laws.{blockless, without_blocks, AreAlike, AlikeStay}
 
-pub alike_self : (k : State) → AreAlike k k
+pub alike_self : (k : CoreState) → AreAlike k k
 alike_self k = record { machine = refl; columns = refl; room = refl; budget = refl; halt = refl }
 
-pub alike_sym : (k j : State) → AreAlike k j → AreAlike j k
+pub alike_sym : (k j : CoreState) → AreAlike k j → AreAlike j k
 alike_sym k j a = record { machine = sym a.machine; columns = sym a.columns; room = sym a.room; budget = sym a.budget; halt = sym a.halt }
 
-pub alike_trans : (i k j : State) → AreAlike i k → AreAlike k j → AreAlike i j
+pub alike_trans : (i k j : CoreState) → AreAlike i k → AreAlike k j → AreAlike i j
 alike_trans i k j a b = record { machine = a.machine ∙ b.machine; columns = a.columns ∙ b.columns; room = a.room ∙ b.room; budget = a.budget ∙ b.budget; halt = a.halt ∙ b.halt }
 
 -- ## The machine
@@ -38,9 +38,9 @@ plain (finishes s d) = finishes s d
 plain (joins f) = joins f
 plain (stops s) = stops s
 
-plain_step : (m : Machine) (e : Step) → without_blocks (after_step m e) ≡ after_step (without_blocks m) (plain e)
+plain_step : (m : OpenMachine) (e : Step) → without_blocks (after_step m e) ≡ after_step (without_blocks m) (plain e)
 plain_step m (refuses s c w met) =
-    ap (λ cs. let y : Machine = record (after_step (without_blocks m) (plain (refuses s c w met))) { conflicts = cs } in y)
+    ap (λ cs. let y : OpenMachine = record (after_step (without_blocks m) (plain (refuses s c w met))) { conflicts = cs } in y)
     (map-append blockless m.conflicts (refusal m (place m.tree s) c met ∷ []))
 plain_step m (forks s n) = refl
 plain_step m (begins s n) = refl
@@ -53,12 +53,12 @@ plain_step m (finishes s d) = refl
 plain_step m (joins f) = refl
 plain_step m (stops s) = refl
 
-plain_steps : (m : Machine) (es : List Step) → without_blocks (after_all m es) ≡ after_all (without_blocks m) (map plain es)
+plain_steps : (m : OpenMachine) (es : List Step) → without_blocks (after_all m es) ≡ after_all (without_blocks m) (map plain es)
 plain_steps m [] = refl
 plain_steps m (e ∷ es) = plain_steps (after_step m e) es ∙ ap (λ x. after_all x (map plain es)) (plain_step m e)
 
 -- a core with this machine, whose columns tell nothing
-abbrev with_machine : Machine → State
+abbrev with_machine : OpenMachine → CoreState
 with_machine m = record { machine = m; tier = first_tier 0; words = []; splits = []; budget = 0; halt = None }
 
 access_steps : (z : Bool) (s c : ℕ) (w : Option ℤ) (n last b d : ℕ) (chain : List ℕ)
@@ -67,7 +67,7 @@ access_steps true s c w n last b d chain = refl
 access_steps false s c w n last b d chain = refl
 
 -- the steps of an event come from the machine alone, but for those blocks
-same_steps : (k : State) (e : Event) → map plain (steps_of k e) ≡ map plain (steps_of (with_machine (without_blocks k.machine)) e)
+same_steps : (k : CoreState) (e : Event) → map plain (steps_of k e) ≡ map plain (steps_of (with_machine (without_blocks k.machine)) e)
 same_steps k (event.Access s c w) =
     let met = met_by k s c in
     access_steps (is_met k s c) s c w (next k) met.last met.block (met_by (with_machine (without_blocks k.machine)) s c).block met.chain
@@ -81,10 +81,10 @@ same_steps k (event.Split f) = refl
 same_steps k (event.Join f) = refl
 same_steps k (event.Stop h) = refl
 
-abbrev made : Event → Machine → Machine
+abbrev made : Event → OpenMachine → OpenMachine
 made e m = after_all m (map plain (steps_of (with_machine m) e))
 
-machine_is : (k : State) (e : Event) → without_blocks (after k e).machine ≡ made e (without_blocks k.machine)
+machine_is : (k : CoreState) (e : Event) → without_blocks (after_event k e).machine ≡ made e (without_blocks k.machine)
 machine_is k e = plain_steps k.machine (steps_of k e) ∙ ap (λ es. after_all (without_blocks k.machine) es) (same_steps k e)
 
 -- ## The columns
@@ -97,19 +97,19 @@ pub parts_length : (t f i : ℕ) (os : List ℕ) → length (parts t f i os) ≡
 parts_length t f i [] = refl
 parts_length t f i (o ∷ os) = ap suc (parts_length t f (suc i) os)
 
-fork_used : (z : Bool) (word p : ℕ) (c : Columns) → used (cond z (forked word p c) c) ≡ cond z (used c + 2) (used c)
+fork_used : (z : Bool) (word p : ℕ) (c : ColumnTable) → used (cond z (forked word p c) c) ≡ cond z (used c + 2) (used c)
 fork_used true word p c = length-append c.owners (owner c p ∷ owner c p ∷ [])
 fork_used false word p c = refl
 
-split_used : (z : Bool) (f : ℕ) (c : Columns) → used (cond z (split_at f c) c) ≡ used c
+split_used : (z : Bool) (f : ℕ) (c : ColumnTable) → used (cond z (split_at f c) c) ≡ used c
 split_used true f c = parts_length (owner c f) f 0 c.owners
 split_used false f c = refl
 
-join_used : (z : Bool) (f : ℕ) (c : Columns) → used (cond z (merged f c) c) ≡ used c
+join_used : (z : Bool) (f : ℕ) (c : ColumnTable) → used (cond z (merged f c) c) ≡ used c
 join_used true f c = length-map c.owners (back_to (around_fork c f) f)
 join_used false f c = refl
 
-used_is : (k : State) (e : Event) → used (tier_after k e) ≡ used_after (used k.tier) k.tier.room e
+used_is : (k : CoreState) (e : Event) → used (tier_after k e) ≡ used_after (used k.tier) k.tier.room e
 used_is k (event.Fork s) = fork_used (may_fork k) (slice_index k.words (gap_of k s)) (column_of k s) k.tier
 used_is k (event.Split f) = split_used (is_none (is_early k f)) (fork_column k.machine.tree f) k.tier
 used_is k (event.Join f) = join_used (is_split k f) (fork_column k.machine.tree f) k.tier
@@ -121,19 +121,19 @@ used_is k (event.Roll s) = refl
 used_is k (event.Finish s dead) = refl
 used_is k (event.Stop h) = refl
 
-fork_room : (z : Bool) (word p : ℕ) (c : Columns) → (cond z (forked word p c) c).room ≡ c.room
+fork_room : (z : Bool) (word p : ℕ) (c : ColumnTable) → (cond z (forked word p c) c).room ≡ c.room
 fork_room true word p c = refl
 fork_room false word p c = refl
 
-split_room : (z : Bool) (f : ℕ) (c : Columns) → (cond z (split_at f c) c).room ≡ c.room
+split_room : (z : Bool) (f : ℕ) (c : ColumnTable) → (cond z (split_at f c) c).room ≡ c.room
 split_room true f c = refl
 split_room false f c = refl
 
-join_room : (z : Bool) (f : ℕ) (c : Columns) → (cond z (merged f c) c).room ≡ c.room
+join_room : (z : Bool) (f : ℕ) (c : ColumnTable) → (cond z (merged f c) c).room ≡ c.room
 join_room true f c = refl
 join_room false f c = refl
 
-room_is : (k : State) (e : Event) → (tier_after k e).room ≡ k.tier.room
+room_is : (k : CoreState) (e : Event) → (tier_after k e).room ≡ k.tier.room
 room_is k (event.Fork s) = fork_room (may_fork k) (slice_index k.words (gap_of k s)) (column_of k s) k.tier
 room_is k (event.Split f) = split_room (is_none (is_early k f)) (fork_column k.machine.tree f) k.tier
 room_is k (event.Join f) = join_room (is_split k f) (fork_column k.machine.tree f) k.tier
@@ -147,7 +147,7 @@ room_is k (event.Stop h) = refl
 
 -- ## Both
 
-halt_is : (k j : State) (e : Event) → k.halt ≡ j.halt → (after k e).halt ≡ (after j e).halt
+halt_is : (k j : CoreState) (e : Event) → k.halt ≡ j.halt → (after_event k e).halt ≡ (after_event j e).halt
 halt_is k j (event.Stop h) same = refl
 halt_is k j (event.Fork s) same = same
 halt_is k j (event.Begin s) same = same
@@ -169,5 +169,5 @@ alike_after k j e a = record {
 }
 
 -- a split leaves a core alike
-pub alike_split : (k : State) (f : ℕ) → AreAlike (after k (event.Split f)) k
+pub alike_split : (k : CoreState) (f : ℕ) → AreAlike (after_event k (event.Split f)) k
 alike_split k f = record { machine = refl; columns = used_is k (event.Split f); room = room_is k (event.Split f); budget = refl; halt = refl }

@@ -17,22 +17,22 @@ use Rattle.cw_trace.specs.Columns.{used}
 use Rattle.cw_trace.specs.Stands.{column}
 use Rattle.cw_trace.specs.Query.{verdict}
 use Rattle.cw_trace.specs.Verdicts.{Tells, is_against, mark_of}
-use Rattle.cw_open.specs.Machine.{Machine, live}
+use Rattle.cw_open.specs.Machine.{OpenMachine, live}
 use Rattle.cw_open.specs.Runs.{meets}
 use Rattle.cw_open.proofs.Named.{access_named}
 use Rattle.cw_core.specs.declared.event.Event.TheVariants as event
 use Rattle.cw_core.specs.declared.cores.Core.TheInside.{Inside}
-use Rattle.cw_core.specs.State.{State, column_of}
+use Rattle.cw_core.specs.State.{CoreState, column_of}
 use Rattle.cw_core.specs.Events.{fits, is_met, met_by, against}
 use Rattle.cw_core.specs.Kept.{IsEntryOf, IsMarked, IsBarrier}
-use Rattle.cw_core.specs.Held.{state_of, IsKept}
+use Rattle.cw_core.specs.Held.{state_of, IsCoreInMemory}
 use Rattle.cw_core.proofs.Going.{well}
 use Rattle.cw_core.proofs.Accesses.{access_ready}
 use Rattle.cw_core.proofs.Accessing.{told_newest}
 use Rattle.cw_core.proofs.Entering.{live_is}
 
 -- the newest stamp is that of the newest entry
-newest_stamp : (es : List Entry) (e : Entry) → stack.newest es ≡ Some e → newest (stamps es) ≡ e.mark.stamp ∷ []
+newest_stamp : (es : List Entry) (e : Entry) → stack.newest_entry es ≡ Some e → newest (stamps es) ≡ e.mark.stamp ∷ []
 newest_stamp [] e at = absurd (cc at)
 newest_stamp (x ∷ []) e at = let same : x ≡ e = cc at in ap (λ y. y.mark.stamp ∷ []) same
 newest_stamp (x ∷ y ∷ es) e at =
@@ -48,11 +48,11 @@ or_false : (b : Bool) → (b || false) ≡ b
 or_false true = refl
 or_false false = refl
 
-module _ (a : Inside) (i : IsKept a) (s c : ℕ) (fit : fits (state_of a) (event.Access s c None) ≡ true) (cell : CellParts) (at : slice_get a.cells.items c ≡ Some cell) where
-  abbrev k : State
+module _ (a : Inside) (i : IsCoreInMemory a) (s c : ℕ) (fit : fits (state_of a) (event.Access s c None) ≡ true) (cell : CellParts) (at : slice_get a.cells.items c ≡ Some cell) where
+  abbrev k : CoreState
   k = state_of a
 
-  abbrev m : Machine
+  abbrev m : OpenMachine
   m = k.machine
 
   abbrev t : List Node
@@ -68,7 +68,7 @@ module _ (a : Inside) (i : IsKept a) (s c : ℕ) (fit : fits (state_of a) (event
   pub free_of : cell.entries ≡ [] → is_met k s c ≡ false
   free_of e = ap (λ us. meets t (newest us) p) (same_list ∙ ap stamps e)
 
-  module _ (e : Entry) (last : stack.newest cell.entries ≡ Some e) where
+  module _ (e : Entry) (last : stack.newest_entry cell.entries ≡ Some e) where
     alone : newest (live m c) ≡ e.mark.stamp ∷ []
     alone = ap newest same_list ∙ newest_stamp cell.entries e last
 
@@ -111,14 +111,14 @@ module _ (a : Inside) (i : IsKept a) (s c : ℕ) (fit : fits (state_of a) (event
         }
 
   -- the verdict by the mark of the newest entry tells whether an access by the strand conflicts
-  module _ (mark : Mark) (last : Some mark ≡ option_map (λ e. e.mark) (stack.newest cell.entries)) (asker : ℕ) (own : asker ≡ column_of k s) where
+  module _ (mark : Mark) (last : Some mark ≡ option_map (λ e. e.mark) (stack.newest_entry cell.entries)) (asker : ℕ) (own : asker ≡ column_of k s) where
     pub off : (v : Verdict) → v ≡ verdict k.tier k.words mark asker → is_against v ≡ false → is_met k s c ≡ false
     off v is none =
-        let e = entry_marked (stack.newest cell.entries) mark last in
+        let e = entry_marked (stack.newest_entry cell.entries) mark last in
         sym (decided e.0 e.1) ∙ ap is_against (ap (λ q. verdict k.tier k.words q (column_of k s)) e.2 ∙ ap (verdict k.tier k.words mark) (sym own) ∙ sym is) ∙ none
 
     pub on : (block : ℕ) → Against block ≡ verdict k.tier k.words mark asker → IsBarrier k s c (record { last = mark; block = block })
     on block is =
-        let e = entry_marked (stack.newest cell.entries) mark last in
+        let e = entry_marked (stack.newest_entry cell.entries) mark last in
         let P : Mark → Type 0 = λ q. IsBarrier k s c (record { last = q; block = block }) in
         subst P e.2 (barred e.0 e.1 block (ap (λ q. verdict k.tier k.words q (column_of k s)) e.2 ∙ ap (verdict k.tier k.words mark) (sym own) ∙ sym is))

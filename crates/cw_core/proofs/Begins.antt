@@ -15,15 +15,15 @@ use Rattle.cw_tree.proofs.Lists.{In}
 use Rattle.cw_tree.proofs.There.{node_there}
 use Rattle.cw_tree.proofs.Growing.{get_next, length_more, node_grown, node_new, number_new, strand_of_new}
 use Rattle.cw_stack.specs.Cells.{CellParts}
-use Rattle.cw_open.specs.Machine.{Machine, is_running, is_free, falls}
+use Rattle.cw_open.specs.Machine.{OpenMachine, is_running, is_free, falls}
 use Rattle.cw_open.specs.Runs.{at_once}
 use Rattle.cw_open.proofs.Standing.{stands}
 use Rattle.cw_open.proofs.TreeSteps.{free_runs}
 use Rattle.cw_open.proofs.Victims.{IsTold, told_states}
 use Rattle.cw_core.specs.declared.event.Event.TheVariants as event
 use Rattle.cw_core.specs.declared.row.Row.{Row}
-use Rattle.cw_core.specs.State.{State, waits_for_left, spent}
-use Rattle.cw_core.specs.Events.{fits, fits_now, is_stop, after}
+use Rattle.cw_core.specs.State.{CoreState, waits_for_left, spent}
+use Rattle.cw_core.specs.Events.{fits, fits_now, is_stop, after_event}
 use Rattle.cw_core.specs.Kept.{AreParts, changed, with_tail, with_place, plain_tail, leaf_row}
 use Rattle.cw_core.proofs.Going.{well, at_place}
 use Rattle.cw_core.proofs.Kept.{events, free_ready}
@@ -33,11 +33,11 @@ use Rattle.cw_core.proofs.Stakes.{no_victim}
 use Rattle.cw_core.proofs.RowsGrow.{tail_here}
 use Rattle.cw_core.proofs.PartsGrow.{all_at, askers_still, unspent, none_spent, forks_still, held_still, closed_still, rows_grown}
 
-module _ (k : State) (rows : List Row) (forks : List ℕ) (cells : List CellParts) (last : Option ℕ) (w : AreParts k rows forks cells last) where
+module _ (k : CoreState) (rows : List Row) (forks : List ℕ) (cells : List CellParts) (last : Option ℕ) (w : AreParts k rows forks cells last) where
   abbrev t : List Node
   t = k.machine.tree
 
-  abbrev m : Machine
+  abbrev m : OpenMachine
   m = k.machine
 
   module _ (s : ℕ) (fit : fits k (event.Begin s) ≡ true) where
@@ -78,7 +78,7 @@ module _ (k : State) (rows : List Row) (forks : List ℕ) (cells : List CellPart
         Rattle.std.proofs.lemmas.Bool.and_right (is_pending u b) (nat_eq (strand_of u b) n)
         (ne_eqb (strand_of u b) n (λ q. ne (sym (sym own ∙ ap (strand_of u) (sym (only b le g)) ∙ q)))))
 
-    fresh : (c : Conflict) (v i : ℕ) → slice_get m.conflicts i ≡ Some c → length t ≤ v → falls (after k (event.Begin s)).machine c v ≡ false
+    fresh : (c : Conflict) (v i : ℕ) → slice_get m.conflicts i ≡ Some c → length t ≤ v → falls (after_event k (event.Begin s)).machine c v ≡ false
     fresh c v i at le =
         elim (cases_lt v (length u)) [
           | inl h ↦
@@ -89,18 +89,18 @@ module _ (k : State) (rows : List Row) (forks : List ℕ) (cells : List CellPart
                 | inl e ↦ omega arith
                 | inr z ↦ (let b = and_parts (is_block t z.0) (is_above t z.0 c.asker) z.1 in let g = (well m.first k w.core).clock z.0 (node_there (λ y. is_block_kind y.kind) t z.0 b.0) in omega (arith, g.0, z.2))
               ] in
-              no_victim (after k (event.Begin s)).machine c v (omega arith))
+              no_victim (after_event k (event.Begin s)).machine c v (omega arith))
           | inr ge ↦ and_left (is_pending u v) (is_victim u (c ∷ []) v) (false_from_ne_true (is_pending u v) (λ e. absurd (let h = node_there (λ y. is_block_kind y.kind && is_pending_state y.state) u v e in omega arith)))
         ]
 
     pub begin_parts : (r : Row) → slice_get rows p ≡ Some r → length t + 1 < 2 ^ 32
-        → AreParts (after k (event.Begin s)) (changed (with_place (length t)) s (changed (with_tail plain_tail) p rows ++ leaf_row s (r.tail.aborted + 1) ∷ [])) forks cells last
+        → AreParts (after_event k (event.Begin s)) (changed (with_place (length t)) s (changed (with_tail plain_tail) p rows ++ leaf_row s (r.tail.aborted + 1) ∷ [])) forks cells last
     begin_parts r at few =
         let c = m.first in
         let core = w.core in
         let row = w.rowed.each p r at in
         let now_clock = max m.clock (m.clock + 1) in
-        let words = (after k (event.Begin s)).words in
+        let words = (after_event k (event.Begin s)).words in
         let elders_are : elders u (length t) ≡ children t p =
         ap (λ q. filter (λ l. nat_lt l (length t)) (children u q)) (number_new t x (λ y. y.parent))
         ∙ elders_more t x p (length t) (omega (arith, there)) (omega arith)
@@ -122,7 +122,7 @@ module _ (k : State) (rows : List Row) (forks : List ℕ) (cells : List CellPart
           held = λ i cell e. held_still c k core s running now.1 x refl m.lists now_clock words refl i cell (w.held i cell e);
           firsts = w.firsts;
           lists = w.lists;
-          told = none_spent k (after k (event.Begin s)) (unspent k (event.Begin s) refl fit) refl refl ∙ w.told;
+          told = none_spent k (after_event k (event.Begin s)) (unspent k (event.Begin s) refl fit) refl refl ∙ w.told;
         } where
           none_tried : tried_cell u (length t) ≡ None
           none_tried = rw (get_next t x []) refl

@@ -20,15 +20,15 @@ use Rattle.cw_trace.specs.Stands.{fork_column}
 use Rattle.cw_trace.specs.Keeps.{Keeps}
 use Rattle.cw_trace.proofs.Ending.{fork_column_same}
 use Rattle.cw_trace.proofs.TierLaws.{close, closed_shape}
-use Rattle.cw_open.specs.Machine.{Machine, has_finished, is_running, in_block, is_dying, is_free}
+use Rattle.cw_open.specs.Machine.{OpenMachine, has_finished, is_running, in_block, is_dying, is_free}
 use Rattle.cw_open.specs.Steps.{stops}
-use Rattle.cw_open.specs.Runs.{IsRun, Reached, at_once, left_died}
+use Rattle.cw_open.specs.Runs.{IsRun, IsReachedBy, at_once, left_died}
 use Rattle.cw_open.specs.Open.{is_open}
 use Rattle.cw_open.proofs.TreeSteps.{free_runs, place_pending}
 use Rattle.cw_open.proofs.Named.{live_tells, live_from, aborted_done}
 use Rattle.cw_core.specs.declared.event.Event.TheVariants as event
-use Rattle.cw_core.specs.State.{State, joins, waits_for_left, gap_of}
-use Rattle.cw_core.specs.Events.{fits_now, steps_of, after}
+use Rattle.cw_core.specs.State.{CoreState, joined_columns, waits_for_left, gap_of}
+use Rattle.cw_core.specs.Events.{fits_now, steps_of, after_event}
 use Rattle.cw_core.specs.Laws.{IsLeftFirst, IsCore}
 use Rattle.cw_core.proofs.Joined.{joins_of, joins_same}
 use Rattle.cw_core.proofs.LeftFirst.{left_shut}
@@ -38,11 +38,11 @@ use Rattle.cw_core.proofs.Making.{IsKept}
 
 -- ## The block at a place is closed
 
-module _ (first : List ℤ) (k : State) (core : IsCore first k) (s : ℕ) (running : is_running k.machine s ≡ true) (ready : waits_for_left k s ≡ false) (within : in_block k.machine s ≡ true) (state : BlockState) (done : is_pending_state state ≡ false) where
+module _ (first : List ℤ) (k : CoreState) (core : IsCore first k) (s : ℕ) (running : is_running k.machine s ≡ true) (ready : waits_for_left k s ≡ false) (within : in_block k.machine s ≡ true) (state : BlockState) (done : is_pending_state state ≡ false) where
   abbrev t : List Node
   t = k.machine.tree
 
-  abbrev m : Machine
+  abbrev m : OpenMachine
   m = k.machine
 
   abbrev p : ℕ
@@ -60,7 +60,7 @@ module _ (first : List ℤ) (k : State) (core : IsCore first k) (s : ℕ) (runni
   columns_same : (f : ℕ) → fork_column v f ≡ fork_column t f
   columns_same = fork_column_same t v (well first k core).sound.tree.rooted (closed_shape t p state end)
 
-  joins_closed : joins_of v k.tier.room m.joined ≡ joins k
+  joins_closed : joins_of v k.tier.room m.joined ≡ joined_columns k
   joins_closed = joins_same t v k.tier.room m.joined (λ f e. columns_same f)
 
   pub closed_forks : (f : ℕ) → has m.joined f ≡ true → is_fork v f ≡ true
@@ -71,10 +71,10 @@ module _ (first : List ℤ) (k : State) (core : IsCore first k) (s : ℕ) (runni
       let stamps = (well first k core).sound.stamps in
       let low = λ (b : ℕ) (e : is_pending t b ≡ true). node_there (λ y. is_block_kind y.kind && is_pending_state y.state) t b e in
       let P : List ℕ → Type 0 = λ js. Keeps k.tier (closed_word k.words (gap_of k s) (stamp_of t p)) v k.splits js in
-      let Q : ℕ → Type 0 = λ i. Keeps k.tier (closed_word k.words (gap k.tier i) (stamp_of t p)) v k.splits (joins k) in
+      let Q : ℕ → Type 0 = λ i. Keeps k.tier (closed_word k.words (gap k.tier i) (stamp_of t p)) v k.splits (joined_columns k) in
       subst P (sym joins_closed)
       (subst Q (column_place first k core s (used k.tier) running)
-      (close k.tier k.words t k.splits (joins k) (is_open m) p end state core.stands (well first k core).sound.tree (in_order first k core s running ready) (goes first k core s running ready) pending done (pending_stamped first k core)
+      (close k.tier k.words t k.splits (joined_columns k) (is_open m) p end state core.stands (well first k core).sound.tree (in_order first k core s running ready) (goes first k core s running ready) pending done (pending_stamped first k core)
       (λ b e same. stamps.distinct b p (low b e) (at_place first k core s running ready).there (pending_stamped first k core b e) same)))
 
   still_open : (n : ℕ) → is_open (record m { tree = v }) n ≡ true → is_open m n ≡ true
@@ -114,7 +114,7 @@ module _ (first : List ℤ) (k : State) (core : IsCore first k) (s : ℕ) (runni
 
 -- ## A commit
 
-pub keeps_commit : (first : List ℤ) (k : State) (core : IsCore first k) (s : ℕ) → is_free k.machine s ≡ true → waits_for_left k s ≡ false → in_block k.machine s ≡ true → is_victim k.machine.tree k.machine.conflicts (place k.machine.tree s) ≡ false → IsKept first k (event.Commit s)
+pub keeps_commit : (first : List ℤ) (k : CoreState) (core : IsCore first k) (s : ℕ) → is_free k.machine s ≡ true → waits_for_left k s ≡ false → in_block k.machine s ≡ true → is_victim k.machine.tree k.machine.conflicts (place k.machine.tree s) ≡ false → IsKept first k (event.Commit s)
 keeps_commit first k core s free ready within safe =
     let m = k.machine in
     let t = m.tree in
@@ -131,7 +131,7 @@ keeps_commit first k core s free ready within safe =
       run = run;
       core = record {
         reached = reached_more at_once first m (steps_of k (event.Commit s)) core.reached run;
-        complete = none_of (after k (event.Commit s)).machine (all_fewer t (closed t p Committed (m.clock + 1)) m.lists (was_live first k core s running ready within Committed refl) (all_listed first k core));
+        complete = none_of (after_event k (event.Commit s)).machine (all_fewer t (closed t p Committed (m.clock + 1)) m.lists (was_live first k core s running ready within Committed refl) (all_listed first k core));
         joined = closed_forks first k core s running ready within Committed refl;
         left_first = closed_left first k core s running ready within Committed refl;
         stands = closed_stands first k core s running ready within Committed refl;
@@ -143,7 +143,7 @@ keeps_commit first k core s free ready within safe =
 pub same_shape : (t : List Node) → (a n : ℕ) → n < length t → is_ancestor t a n ≡ is_ancestor t a n
 same_shape t a n h = refl
 
-pub keeps_finish : (first : List ℤ) (k : State) (core : IsCore first k) (s : ℕ) (dead : Bool) → fits_now k (event.Finish s dead) ≡ true → IsKept first k (event.Finish s dead)
+pub keeps_finish : (first : List ℤ) (k : CoreState) (core : IsCore first k) (s : ℕ) (dead : Bool) → fits_now k (event.Finish s dead) ≡ true → IsKept first k (event.Finish s dead)
 keeps_finish first k core s dead e =
     let m = k.machine in
     let t = m.tree in
@@ -152,7 +152,7 @@ keeps_finish first k core s dead e =
     let y = and_parts (is_running m s && not (waits_for_left k s)) (not (in_block m s)) z.0 in
     let x = and_parts (is_running m s) (not (waits_for_left k s)) y.0 in
     let run : IsRun at_once m (steps_of k (event.Finish s dead)) = (and_from (is_running m s && not (in_block m s)) kind (and_from (is_running m s) (not (in_block m s)) x.0 y.1) z.1, tt) in
-    let mz = (after k (event.Finish s dead)).machine in
+    let mz = (after_event k (event.Finish s dead)).machine in
     let fewer : (n : ℕ) → is_open mz n ≡ true → is_open m n ≡ true = λ n f. (
     let a = is_strand t n && not (has_finished m n) in
     let b = is_fork t n && not (has m.joined n) in
@@ -176,10 +176,10 @@ keeps_finish first k core s dead e =
       };
     }
 
-same_core : (first : List ℤ) (k : State) (core : IsCore first k) (stopped : List ℕ) (halt : Option Halt) → Reached at_once first (record k.machine { stopped = stopped }) → IsCore first (record k { machine = record k.machine { stopped = stopped }; halt = halt })
+same_core : (first : List ℤ) (k : CoreState) (core : IsCore first k) (stopped : List ℕ) (halt : Option Halt) → IsReachedBy at_once first (record k.machine { stopped = stopped }) → IsCore first (record k { machine = record k.machine { stopped = stopped }; halt = halt })
 same_core first k core stopped halt reached = record { reached = reached; complete = core.complete; joined = core.joined; left_first = core.left_first; stands = core.stands }
 
-pub keeps_stop : (first : List ℤ) (k : State) (core : IsCore first k) (h : Halt) → IsRun at_once k.machine (steps_of k (event.Stop h)) → IsKept first k (event.Stop h)
+pub keeps_stop : (first : List ℤ) (k : CoreState) (core : IsCore first k) (h : Halt) → IsRun at_once k.machine (steps_of k (event.Stop h)) → IsKept first k (event.Stop h)
 keeps_stop first k core (halt.Fault s kind) run = record { run = run; core = same_core first k core (s ∷ k.machine.stopped) (Some (halt.Fault s kind)) (reached_more at_once first k.machine (stops s ∷ []) core.reached run) }
 keeps_stop first k core (halt.Budget s) run = record { run = run; core = same_core first k core (s ∷ k.machine.stopped) (Some (halt.Budget s)) (reached_more at_once first k.machine (stops s ∷ []) core.reached run) }
 keeps_stop first k core halt.Memory run = record { run = run; core = same_core first k core k.machine.stopped (Some halt.Memory) core.reached }

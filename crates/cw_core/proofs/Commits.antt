@@ -11,16 +11,16 @@ use Rattle.cw_tree.specs.Refusals.{is_victim}
 use Rattle.cw_tree.proofs.Closing.{length_closed, state_closed}
 use Rattle.cw_stack.specs.Cells.{CellParts}
 use Rattle.cw_trace.specs.Columns.{closed_word}
-use Rattle.cw_open.specs.Machine.{Machine, is_running, in_block, is_free}
+use Rattle.cw_open.specs.Machine.{OpenMachine, is_running, in_block, is_free}
 use Rattle.cw_open.proofs.NodeKinds.{pending_block}
 use Rattle.cw_open.proofs.TreeSteps.{free_runs}
 use Rattle.cw_core.specs.declared.cores.Core.TheInside.{Inside}
 use Rattle.cw_core.specs.declared.event.Event.TheVariants as event
 use Rattle.cw_core.specs.declared.row.Row.{Row}
-use Rattle.cw_core.specs.State.{State, waits_for_left, gap_of}
-use Rattle.cw_core.specs.Events.{fits, after}
+use Rattle.cw_core.specs.State.{CoreState, waits_for_left, gap_of}
+use Rattle.cw_core.specs.Events.{fits, after_event}
 use Rattle.cw_core.specs.Kept.{IsTail, IsNow, IsRow, AreRows, AreParts, changed, with_tail, with_place, plain_tail}
-use Rattle.cw_core.specs.Held.{state_of, IsKept}
+use Rattle.cw_core.specs.Held.{state_of, IsCoreInMemory}
 use Rattle.cw_core.proofs.Kept.{events}
 use Rattle.cw_core.proofs.Changed.{length_changed, was_changed}
 use Rattle.cw_core.proofs.PartsGrow.{unspent, none_spent}
@@ -28,13 +28,13 @@ use Rattle.cw_core.proofs.RowsClose.{open_block, there, low, made_closed, tail_c
 use Rattle.cw_core.proofs.PartsClose.{forks_closed, held_closed, askers_closed, one_closed, tail_shut}
 use Rattle.cw_core.proofs.HeldOut.{now_of, max_next}
 
-pub record MayCommit (k : State) (s : ℕ) : Type 0 where
+pub record MayCommit (k : CoreState) (s : ℕ) : Type 0 where
   pub running : is_running k.machine s ≡ true
   pub ready : waits_for_left k s ≡ false
   pub within : in_block k.machine s ≡ true
   pub safe : is_victim k.machine.tree k.machine.conflicts (place k.machine.tree s) ≡ false
 
-pub may_commit : (k : State) (s : ℕ) → fits k (event.Commit s) ≡ true → MayCommit k s
+pub may_commit : (k : CoreState) (s : ℕ) → fits k (event.Commit s) ≡ true → MayCommit k s
 may_commit k s fit =
     let m = k.machine in
     let x = and_parts (is_free m s && not (waits_for_left k s) && in_block m s) (not (is_victim m.tree m.conflicts (place m.tree s))) (now_of k (event.Commit s) fit) in
@@ -42,11 +42,11 @@ may_commit k s fit =
     let z = and_parts (is_free m s) (not (waits_for_left k s)) y.0 in
     record { running = free_runs m s z.0; ready = not-true (waits_for_left k s) z.1; within = y.1; safe = not-true (is_victim m.tree m.conflicts (place m.tree s)) x.1 }
 
-module _ (k : State) (rows : List Row) (forks : List ℕ) (cells : List CellParts) (last : Option ℕ) (w : AreParts k rows forks cells last) (s : ℕ) (fit : fits k (event.Commit s) ≡ true) where
+module _ (k : CoreState) (rows : List Row) (forks : List ℕ) (cells : List CellParts) (last : Option ℕ) (w : AreParts k rows forks cells last) (s : ℕ) (fit : fits k (event.Commit s) ≡ true) where
   abbrev t : List Node
   t = k.machine.tree
 
-  abbrev m : Machine
+  abbrev m : OpenMachine
   m = k.machine
 
   abbrev b : ℕ
@@ -61,8 +61,8 @@ module _ (k : State) (rows : List Row) (forks : List ℕ) (cells : List CellPart
   abbrev u : List Node
   u = closed t b Committed end
 
-  abbrev z : State
-  z = after k (event.Commit s)
+  abbrev z : CoreState
+  z = after_event k (event.Commit s)
 
   may : MayCommit k s
   may = may_commit k s fit
@@ -112,7 +112,7 @@ module _ (k : State) (rows : List Row) (forks : List ℕ) (cells : List CellPart
         subst P (sym is) (row_at n d.before (nat_eq n q) (nat_eq n s) refl refl (w.rowed.each n d.before d.there) h));
   }
 
-  pub commit_parts : AreParts (after k (event.Commit s)) (changed (with_place q) s (changed (with_tail plain_tail) q rows)) forks cells last
+  pub commit_parts : AreParts (after_event k (event.Commit s)) (changed (with_place q) s (changed (with_tail plain_tail) q rows)) forks cells last
   commit_parts = record {
     core = (events m.first k (event.Commit s) w.core fit).1;
     few = (let f = w.few in omega (arith, f, length_closed t b Committed end));
@@ -128,8 +128,8 @@ module _ (k : State) (rows : List Row) (forks : List ℕ) (cells : List CellPart
 
 -- ## Fields
 
-module _ (a : Inside) (i : IsKept a) (s : ℕ) (fit : fits (state_of a) (event.Commit s) ≡ true) where
-  abbrev j : State
+module _ (a : Inside) (i : IsCoreInMemory a) (s : ℕ) (fit : fits (state_of a) (event.Commit s) ≡ true) where
+  abbrev j : CoreState
   j = state_of a
 
   module _ (b : Inside) (tree : b.tree ≡ closed a.tree (place a.tree s) Committed (a.clock + 1)) (drawn : b.clock ≡ a.clock + 1)
@@ -137,14 +137,14 @@ module _ (a : Inside) (i : IsKept a) (s : ℕ) (fit : fits (state_of a) (event.C
     abbrev whole : Inside
     whole = record a { tree = b.tree; clock = b.clock; rows = b.rows; gaps = b.gaps }
 
-    pub commit_state : state_of whole ≡ after j (event.Commit s)
+    pub commit_state : state_of whole ≡ after_event j (event.Commit s)
     commit_state =
         ap (λ t. state_of (record a { tree = t; clock = b.clock; rows = b.rows; gaps = b.gaps })) tree
         ∙ ap (λ n. state_of (record a { tree = closed a.tree (place a.tree s) Committed (a.clock + 1); clock = n; rows = b.rows; gaps = b.gaps })) (drawn ∙ max_next a.clock)
-        ∙ ap (λ ws. let y : State = record (after j (event.Commit s)) { words = ws } in y) words
+        ∙ ap (λ ws. let y : CoreState = record (after_event j (event.Commit s)) { words = ws } in y) words
 
-    pub commit_kept : b.rows.items ≡ changed (with_place (parent_of a.tree (place a.tree s))) s (changed (with_tail plain_tail) (parent_of a.tree (place a.tree s)) a.rows.items) → IsKept whole
+    pub commit_kept : b.rows.items ≡ changed (with_place (parent_of a.tree (place a.tree s))) s (changed (with_tail plain_tail) (parent_of a.tree (place a.tree s)) a.rows.items) → IsCoreInMemory whole
     commit_kept rows =
-        let P : State → Type 0 = λ z. AreParts z b.rows.items a.forks.items a.cells.items a.spent in
-        let Q : List Row → Type 0 = λ rs. AreParts (after j (event.Commit s)) rs a.forks.items a.cells.items a.spent in
+        let P : CoreState → Type 0 = λ z. AreParts z b.rows.items a.forks.items a.cells.items a.spent in
+        let Q : List Row → Type 0 = λ rs. AreParts (after_event j (event.Commit s)) rs a.forks.items a.cells.items a.spent in
         subst P (sym commit_state) (subst Q (sym rows) (commit_parts j a.rows.items a.forks.items a.cells.items a.spent i s fit))

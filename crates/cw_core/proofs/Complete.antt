@@ -8,7 +8,7 @@ use Rattle.cw_tree.specs.Walks.{IsRooted}
 use Rattle.cw_tree.specs.Accesses.{is_live}
 use Rattle.cw_tree.proofs.Lists.{In}
 use Rattle.cw_tree.proofs.Growing.{node_grown, number_grown}
-use Rattle.cw_open.specs.Machine.{Machine, live}
+use Rattle.cw_open.specs.Machine.{OpenMachine, live}
 use Rattle.cw_open.specs.Laws.{NoneUndone}
 use Rattle.cw_open.proofs.Named.{live_grown}
 use Rattle.cw_open.proofs.Listing.{listed}
@@ -18,10 +18,10 @@ use Rattle.cw_core.proofs.Joined.{has_in, in_has}
 abbrev pub HasAll : List Node → List (List ℕ) → Type 0
 HasAll t ls = (c n : ℕ) → touches t c n ≡ true → is_live t n ≡ true → In (stamp_of t n) (listed ls c)
 
-pub all_of : (first : List ℤ) (m : Machine) → IsState first m → NoneUndone m → HasAll m.tree m.lists
+pub all_of : (first : List ℤ) (m : OpenMachine) → IsState first m → NoneUndone m → HasAll m.tree m.lists
 all_of first m s none c n e l = elim (s.listed.missing c n e l) [ inl i ↦ i | inr g ↦ has_in (live m c) (stamp_of m.tree n) (none g.block c n g.pending g.over e l) ]
 
-pub none_of : (m : Machine) → HasAll m.tree m.lists → NoneUndone m
+pub none_of : (m : OpenMachine) → HasAll m.tree m.lists → NoneUndone m
 none_of m all b c n pending over e l = in_has (live m c) (stamp_of m.tree n) (all c n e l)
 
 -- what is live in another tree was live in this one

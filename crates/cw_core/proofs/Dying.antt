@@ -10,9 +10,9 @@ use Rattle.cw_tree.specs.Refusals.{is_victim}
 use Rattle.cw_tree.proofs.Lists.{any_in, any_from}
 use Rattle.cw_tree.proofs.Members.{below_in}
 use Rattle.cw_tree.proofs.There.{node_there}
-use Rattle.cw_open.specs.Machine.{Machine, is_running, is_dying, falls}
+use Rattle.cw_open.specs.Machine.{OpenMachine, is_running, is_dying, falls}
 use Rattle.cw_open.proofs.Standing.{runs}
-use Rattle.cw_core.specs.State.{State}
+use Rattle.cw_core.specs.State.{CoreState}
 use Rattle.cw_core.specs.Laws.{IsCore}
 use Rattle.cw_core.specs.Kept.{IsAtStake, IsVictim, is_counted}
 use Rattle.cw_core.proofs.Going.{well}
@@ -30,8 +30,8 @@ any_conflict p (x ∷ cs) e = elim (or_cases (p x) (list_any p cs) e) [
   | inr a ↦ (let z = any_conflict p cs a in (suc z.0, z.1, z.2, z.3))
 ]
 
-module _ (first : List ℤ) (k : State) (core : IsCore first k) (s : ℕ) (running : is_running k.machine s ≡ true) where
-  abbrev m : Machine
+module _ (first : List ℤ) (k : CoreState) (core : IsCore first k) (s : ℕ) (running : is_running k.machine s ≡ true) where
+  abbrev m : OpenMachine
   m = k.machine
 
   -- what falls beneath a running strand is at stake for it

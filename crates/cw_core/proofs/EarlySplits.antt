@@ -13,7 +13,7 @@ use Rattle.cw_open.specs.Open.{is_open}
 use Rattle.cw_open.proofs.Trees.{IsWell}
 use Rattle.cw_core.specs.declared.event.Event.TheVariants as event
 use Rattle.cw_core.specs.declared.event.Reply.TheVariants as reply
-use Rattle.cw_core.specs.State.{State, joins}
+use Rattle.cw_core.specs.State.{CoreState, joined_columns}
 use Rattle.cw_core.specs.Events.{fits, is_early, fork_at, reply_to}
 use Rattle.cw_core.specs.Laws.{IsCore, Bars, IsNextOut, SplitsAreAnswered}
 use Rattle.cw_core.proofs.Forks.{names}
@@ -33,7 +33,7 @@ answered first k f core fit = by (is_early k f) refl where
   low : fork_column k.machine.tree f + 1 < used k.tier
   low = columns_used k w core.joined core.left_first core.stands f may.fork may.columns
 
-  in_order : IsOrdered k.tier k.machine.tree k.splits (joins k) (is_open k.machine)
+  in_order : IsOrdered k.tier k.machine.tree k.splits (joined_columns k) (is_open k.machine)
   in_order =
       let there = node_there (λ y. is_fork_kind y.kind) k.machine.tree f may.fork in
       ordered k w core.joined core.left_first core.stands (root_open first k core f there (open_fork k w core.joined core.left_first core.stands f may.fork may.unjoined))
@@ -45,12 +45,12 @@ answered first k f core fit = by (is_early k f) refl where
       let whole = names first k core f may.fork may.unjoined false may.uncut low in
       inl (
         ap (λ o. option_map_or (λ c. reply.Early (fork_at k c)) o reply.Done) e,
-        none_bars k.tier k.words k.machine.tree k.splits (joins k) core.stands w.sound.tree (is_open k.machine) in_order (fork_column k.machine.tree f) f may.fork refl un (omega (arith, low)) (odd_column k.machine.tree f) whole e,
+        none_bars k.tier k.words k.machine.tree k.splits (joined_columns k) core.stands w.sound.tree (is_open k.machine) in_order (fork_column k.machine.tree f) f may.fork refl un (omega (arith, low)) (odd_column k.machine.tree f) whole e,
       )
   by (Some c) e =
       let un = unjoined k w core.joined core.left_first core.stands f may.fork may.unjoined in
       let whole = names first k core f may.fork may.unjoined false may.uncut low in
-      let next = next_bars k.tier k.words k.machine.tree k.splits (joins k) core.stands w.sound.tree (is_open k.machine) in_order (fork_column k.machine.tree f) f may.fork refl un (omega (arith, low)) (odd_column k.machine.tree f) whole c e in
+      let next = next_bars k.tier k.words k.machine.tree k.splits (joined_columns k) core.stands w.sound.tree (is_open k.machine) in_order (fork_column k.machine.tree f) f may.fork refl un (omega (arith, low)) (odd_column k.machine.tree f) whole c e in
       inr (
         next.fork,
         ap (λ o. option_map_or (λ c. reply.Early (fork_at k c)) o reply.Done) e ∙ ap reply.Early (fork_is k next.fork next.bars.outward.fork c next.at),

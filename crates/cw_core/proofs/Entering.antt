@@ -11,10 +11,10 @@ use Rattle.cw_tree.specs.Accesses.{cell_value, written}
 use Rattle.cw_tree.specs.Stacks.{access_at, written_by, stamps}
 use Rattle.cw_tree.proofs.Growing.{get_append, get_next}
 use Rattle.cw_tree.specs.Nodes.{stamp_of}
-use Rattle.cw_open.specs.Machine.{Machine, live}
+use Rattle.cw_open.specs.Machine.{OpenMachine, live}
 use Rattle.cw_open.proofs.Named.{access_named}
-use Rattle.cw_stack.specs.Cells.{CellParts, value_of}
-use Rattle.cw_core.specs.State.{State}
+use Rattle.cw_stack.specs.Cells.{CellParts, entries_value}
+use Rattle.cw_core.specs.State.{CoreState}
 use Rattle.cw_core.specs.Kept.{AreParts, IsEntryOf, cell_changed, without_room}
 use Rattle.cw_core.proofs.Going.{well}
 
@@ -71,8 +71,8 @@ firsts_kept f (x ∷ cells) (suc n) c b at e = ap (λ ys. f x ∷ ys) (firsts_ke
 
 -- ## What a cell's entries tell
 
-module _ (k : State) (rows : List Rattle.cw_core.specs.declared.row.Row.Row) (forks : List ℕ) (cells : List CellParts) (last : Option ℕ) (w : AreParts k rows forks cells last) where
-  abbrev m : Machine
+module _ (k : CoreState) (rows : List Rattle.cw_core.specs.declared.row.Row.Row) (forks : List ℕ) (cells : List CellParts) (last : Option ℕ) (w : AreParts k rows forks cells last) where
+  abbrev m : OpenMachine
   m = k.machine
 
   pub cells_len : length cells ≡ length m.lists
@@ -93,7 +93,7 @@ module _ (k : State) (rows : List Rattle.cw_core.specs.declared.row.Row.Row) (fo
     wrote_all (e ∷ es) h = ap (λ y. y ∷ map (λ v. written m.tree (access_at m.tree v)) (stamps es)) (entry_wrote e (h 0 e refl)) ∙ ap (λ ys. written_by e ∷ ys) (wrote_all es (λ i e at. h (suc i) e at))
 
     -- the cell's value is the machine's
-    pub value_is : value_of cell ≡ Rattle.cw_open.specs.Machine.value_of m c
+    pub value_is : entries_value cell ≡ Rattle.cw_open.specs.Machine.live_value m c
     value_is =
         sym (ap (λ us. cell_value (unwrap_or (slice_get m.first c) (Rattle.std.specs.Prelude.pos 0)) (map (λ s. written m.tree (access_at m.tree s)) us)) live_is
         ∙ ap (λ ws. cell_value (unwrap_or (slice_get m.first c) (Rattle.std.specs.Prelude.pos 0)) ws) (wrote_all cell.entries (w.held c cell at).entries)
@@ -107,7 +107,7 @@ module _ (k : State) (rows : List Rattle.cw_core.specs.declared.row.Row.Row) (fo
         omega (arith, low.0, h.stamp)
 
 -- rooms of cells matter for no part
-pub rooms_parts : (k : State) (rows : List Rattle.cw_core.specs.declared.row.Row.Row) (forks : List ℕ) (cells : List CellParts) (last : Option ℕ) → AreParts k rows forks cells last → (more : List CellParts) → map without_room more ≡ map without_room cells → AreParts k rows forks more last
+pub rooms_parts : (k : CoreState) (rows : List Rattle.cw_core.specs.declared.row.Row.Row) (forks : List ℕ) (cells : List CellParts) (last : Option ℕ) → AreParts k rows forks cells last → (more : List CellParts) → map without_room more ≡ map without_room cells → AreParts k rows forks more last
 rooms_parts k rows forks cells last w more same = record {
   core = w.core;
   few = w.few;

@@ -21,13 +21,13 @@ use Rattle.cw_open.proofs.NodeKinds.{pending_block, strand_no_block}
 use Rattle.cw_open.proofs.Standing.{strand_itself}
 use Rattle.cw_core.specs.declared.row.Row.{Row}
 use Rattle.cw_core.specs.declared.cores.Core.TheInside.{Inside}
-use Rattle.cw_core.specs.State.{State, joins, column_of}
+use Rattle.cw_core.specs.State.{CoreState, joined_columns, column_of}
 use Rattle.cw_core.specs.Kept.{IsRow, IsMarked}
-use Rattle.cw_core.specs.Held.{state_of, IsKept}
+use Rattle.cw_core.specs.Held.{state_of, IsCoreInMemory}
 use Rattle.cw_core.proofs.Going.{well}
 
-module _ (a : Inside) (i : IsKept a) where
-  abbrev k : State
+module _ (a : Inside) (i : IsCoreInMemory a) where
+  abbrev k : CoreState
   k = state_of a
 
   abbrev t : List Node
@@ -50,7 +50,7 @@ module _ (a : Inside) (i : IsKept a) where
       let of_strand = subst P (sym row.made.strand) strand_row in
       let column : own.made.column ≡ column_of k n = sym (of_strand.made.column (strand_is t tree.root n)) ∙ strand_column n in
       let marks = ap (λ c. let m : Mark = record { strand = c; stamp = stamp } in m) column ∙ ap (λ s. let m : Mark = record { strand = column_of k n; stamp = s } in m) stamped in
-      let told = tells t a.splits (joins k) w.cell (access_at t last.stamp) n (stands_of a.tier.columns a.gaps.words.items t a.splits (joins k) i.core.stands) tree (well k.machine.first k i.core).sound.stamps w.touched w.marks pending marks in
+      let told = tells t a.splits (joined_columns k) w.cell (access_at t last.stamp) n (stands_of a.tier.columns a.gaps.words.items t a.splits (joined_columns k) i.core.stands) tree (well k.machine.first k i.core).sound.stamps w.touched w.marks pending marks in
       ap not told ∙ sym (ap (λ b. b && not (is_above t n (access_at t last.stamp))) pending)
 
 -- ## The walk up

@@ -6,11 +6,11 @@ use Rattle.cw_tree.specs.declared.conflict.Conflict.{Conflict}
 use Rattle.cw_tree.specs.Nodes.{parent_of, is_strand}
 use Rattle.cw_tree.specs.Walks.{has}
 use Rattle.cw_stack.specs.Cells.{CellParts}
-use Rattle.cw_open.specs.Machine.{Machine, has_finished, finished_dead, waits, is_running}
+use Rattle.cw_open.specs.Machine.{OpenMachine, has_finished, finished_dead, waits, is_running}
 use Rattle.cw_core.specs.declared.event.Event.TheVariants as event
 use Rattle.cw_core.specs.declared.row.Row.{Row}
-use Rattle.cw_core.specs.State.{State}
-use Rattle.cw_core.specs.Events.{fits, after}
+use Rattle.cw_core.specs.State.{CoreState}
+use Rattle.cw_core.specs.Events.{fits, after_event}
 use Rattle.cw_core.specs.Kept.{IsNow, IsRow, AreRows, AreParts, IsAtStake, IsVictim, is_counted, changed, with_finished}
 use Rattle.cw_core.proofs.Kept.{events}
 use Rattle.cw_core.proofs.Changed.{length_changed, was_changed}
@@ -18,11 +18,11 @@ use Rattle.cw_core.proofs.RowsGrow.{dead_finished}
 use Rattle.cw_core.proofs.PartsGrow.{unspent, none_spent}
 use Rattle.cw_core.proofs.SameTree.{with_same_tree, made_same, forks_same, held_same}
 
-module _ (k : State) (s : ℕ) (dead : Bool) (running : is_running k.machine s ≡ true) where
-  abbrev m : Machine
+module _ (k : CoreState) (s : ℕ) (dead : Bool) (running : is_running k.machine s ≡ true) where
+  abbrev m : OpenMachine
   m = k.machine
 
-  abbrev z : State
+  abbrev z : CoreState
   z = with_same_tree k ((s, dead) ∷ m.finished) m.joined m.stopped k.tier k.splits k.halt refl refl
 
   unfinished : has_finished m s ≡ false
@@ -93,7 +93,7 @@ module _ (k : State) (s : ℕ) (dead : Bool) (running : is_running k.machine s �
   }
 
   pub finish_parts : (rows : List Row) (forks : List ℕ) (cells : List CellParts) (last : Option ℕ) → AreParts k rows forks cells last → fits k (event.Finish s dead) ≡ true
-      → AreParts (after k (event.Finish s dead)) (changed (with_finished dead) s rows) forks cells last
+      → AreParts (after_event k (event.Finish s dead)) (changed (with_finished dead) s rows) forks cells last
   finish_parts rows forks cells last w fit = record {
     core = (events m.first k (event.Finish s dead) w.core fit).1;
     few = w.few;
@@ -104,5 +104,5 @@ module _ (k : State) (s : ℕ) (dead : Bool) (running : is_running k.machine s �
     held = λ i cell e. held_same k ((s, dead) ∷ m.finished) m.joined m.stopped k.tier k.splits k.halt refl refl i cell (w.held i cell e);
     firsts = w.firsts;
     lists = w.lists;
-    told = none_spent k (after k (event.Finish s dead)) (unspent k (event.Finish s dead) refl fit) refl refl ∙ w.told;
+    told = none_spent k (after_event k (event.Finish s dead)) (unspent k (event.Finish s dead) refl fit) refl refl ∙ w.told;
   }

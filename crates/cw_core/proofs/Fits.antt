@@ -12,7 +12,7 @@ use Rattle.cw_tree.specs.Newest.{newest}
 use Rattle.cw_tree.proofs.Lists.{In}
 use Rattle.cw_tree.proofs.Members.{in_filter}
 use Rattle.cw_tree.proofs.There.{node_there}
-use Rattle.cw_open.specs.Machine.{Machine, has_finished, finished_dead, waits, is_running, is_dying, is_free, in_block, leads_back, rolls_back}
+use Rattle.cw_open.specs.Machine.{OpenMachine, has_finished, finished_dead, waits, is_running, is_dying, is_free, in_block, leads_back, rolls_back}
 use Rattle.cw_open.specs.Runs.{left_died, at_once}
 use Rattle.cw_open.proofs.Rising.{Rises}
 use Rattle.cw_open.proofs.Falling.{back_dies}
@@ -22,7 +22,7 @@ use Rattle.cw_open.proofs.ChainStates.{newest_alone}
 use Rattle.cw_open.proofs.Victims.{dying_roll_back, free_are_safe}
 use Rattle.cw_core.specs.declared.row.Row.{Row}
 use Rattle.cw_core.specs.declared.event.Event.TheVariants as event
-use Rattle.cw_core.specs.State.{State, has_columns, is_split, waits_for_left}
+use Rattle.cw_core.specs.State.{CoreState, has_columns, is_split, waits_for_left}
 use Rattle.cw_core.specs.Events.{fits_now, is_unstarted}
 use Rattle.cw_core.specs.Laws.{IsCore}
 use Rattle.cw_core.specs.Kept.{IsRow, elder_list}
@@ -31,8 +31,8 @@ use Rattle.cw_core.proofs.Forks.{in_child, children_rise}
 
 -- ## Strands
 
-module _ (k : State) (s : ℕ) (r : Row) (row : IsRow k s r) where
-  abbrev m : Machine
+module _ (k : CoreState) (s : ℕ) (r : Row) (row : IsRow k s r) where
+  abbrev m : OpenMachine
   m = k.machine
 
   pub died_tells : is_strand m.tree s ≡ true → left_died m s ≡ (not r.tail.started && list_any (finished_dead m) (elder_list r.made.elder))
@@ -49,8 +49,8 @@ module _ (k : State) (s : ℕ) (r : Row) (row : IsRow k s r) where
 
 -- ## Forks
 
-module _ (k : State) (f : ℕ) (r : Row) (row : IsRow k f r) (fork : is_fork k.machine.tree f ≡ true) where
-  abbrev n : Machine
+module _ (k : CoreState) (f : ℕ) (r : Row) (row : IsRow k f r) (fork : is_fork k.machine.tree f ≡ true) where
+  abbrev n : OpenMachine
   n = k.machine
 
   abbrev left : ℕ
@@ -100,8 +100,8 @@ same_truth true y f g = sym (f refl)
 same_truth false true f g = g refl
 same_truth false false f g = refl
 
-module _ (k : State) (core : IsCore k.machine.first k) (s : ℕ) where
-  abbrev j : Machine
+module _ (k : CoreState) (core : IsCore k.machine.first k) (s : ℕ) where
+  abbrev j : OpenMachine
   j = k.machine
 
   -- a strand rolls back exactly where it runs in a block and is dying

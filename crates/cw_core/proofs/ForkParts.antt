@@ -16,7 +16,7 @@ use Rattle.cw_tree.proofs.Members.{in_below, below_in}
 use Rattle.cw_tree.proofs.There.{node_there}
 use Rattle.cw_tree.proofs.Growing.{get_next, get_append, node_grown, number_grown}
 use Rattle.cw_stack.specs.Cells.{CellParts}
-use Rattle.cw_trace.specs.Columns.{Columns, used, left_of, forked}
+use Rattle.cw_trace.specs.Columns.{ColumnTable, used, left_column_of, forked}
 use Rattle.cw_trace.specs.Stands.{column, fork_column}
 use Rattle.cw_trace.proofs.Counting.{fork_column_lt}
 use Rattle.cw_trace.proofs.InRange.{fork_low}
@@ -24,12 +24,12 @@ use Rattle.cw_trace.proofs.Meaning.{odd_column}
 use Rattle.cw_trace.proofs.Grow.{fork_column_append, column_append}
 use Rattle.cw_trace.proofs.Owners.{column_strand, column_other}
 use Rattle.cw_trace.proofs.Forking.{column_more, get_right}
-use Rattle.cw_open.specs.Machine.{Machine, is_running, is_free}
+use Rattle.cw_open.specs.Machine.{OpenMachine, is_running, is_free}
 use Rattle.cw_open.proofs.TreeSteps.{free_runs}
 use Rattle.cw_core.specs.declared.event.Event.TheVariants as event
 use Rattle.cw_core.specs.declared.row.Row.{Row}
-use Rattle.cw_core.specs.State.{State, waits_for_left, column_of, gap_of, is_split, spent}
-use Rattle.cw_core.specs.Events.{fits, fits_now, is_stop, may_fork, after}
+use Rattle.cw_core.specs.State.{CoreState, waits_for_left, column_of, gap_of, is_split, spent}
+use Rattle.cw_core.specs.Events.{fits, fits_now, is_stop, may_fork, after_event}
 use Rattle.cw_core.specs.Laws.{IsCore}
 use Rattle.cw_core.specs.Kept.{AreParts, AreForks, IsEntryOf, IsHeld, changed, with_tail, with_wait, plain_tail, fork_row, strand_row, fork_rows}
 use Rattle.cw_core.proofs.Going.{well, at_place, column_place}
@@ -39,11 +39,11 @@ use Rattle.cw_core.proofs.ForkTails.{closed_apart}
 use Rattle.cw_core.proofs.ForkRows.{rows_forked}
 use Rattle.cw_core.proofs.Entering.{there_or_last}
 
-module _ (k : State) (rows : List Row) (forks : List ℕ) (cells : List CellParts) (last : Option ℕ) (w : AreParts k rows forks cells last) (s : ℕ) (fit : fits k (event.Fork s) ≡ true) where
+module _ (k : CoreState) (rows : List Row) (forks : List ℕ) (cells : List CellParts) (last : Option ℕ) (w : AreParts k rows forks cells last) (s : ℕ) (fit : fits k (event.Fork s) ≡ true) where
   abbrev t : List Node
   t = k.machine.tree
 
-  abbrev m : Machine
+  abbrev m : OpenMachine
   m = k.machine
 
   abbrev p : ℕ
@@ -77,21 +77,21 @@ module _ (k : State) (rows : List Row) (forks : List ℕ) (cells : List CellPart
   old_tree = (well m.first k w.core).sound.tree
 
   tree : IsTree u
-  tree = (well m.first (after k (event.Fork s)) (events m.first k (event.Fork s) w.core fit).1).sound.tree
+  tree = (well m.first (after_event k (event.Fork s)) (events m.first k (event.Fork s) w.core fit).1).sound.tree
 
   len : length u ≡ f + 3
   len = length-append t xs
 
   -- ## Columns
 
-  abbrev tier : Bool → Columns
+  abbrev tier : Bool → ColumnTable
   tier z = cond z (forked (slice_index k.words (gap_of k s)) (column_of k s) k.tier) k.tier
 
-  abbrev pub forked_state : Bool → State
+  abbrev pub forked_state : Bool → CoreState
   forked_state z = record k { machine = record m { tree = u; clock = max m.clock stamp }; tier = tier z }
 
-  pub after_is : (z : Bool) → may_fork k ≡ z → after k (event.Fork s) ≡ forked_state z
-  after_is z e = ap (λ b. let y : State = record k { machine = record m { tree = u; clock = max m.clock stamp }; tier = tier b } in y) e
+  pub after_is : (z : Bool) → may_fork k ≡ z → after_event k (event.Fork s) ≡ forked_state z
+  after_is z e = ap (λ b. let y : CoreState = record k { machine = record m { tree = u; clock = max m.clock stamp }; tier = tier b } in y) e
 
   used_more : used (tier true) ≡ used k.tier + 2
   used_more = length-append k.tier.owners _
@@ -103,7 +103,7 @@ module _ (k : State) (rows : List Row) (forks : List ℕ) (cells : List CellPart
   -- the forks of the tree have all columns that are in use
   columns_out : used k.tier ≤ fork_column t f
   columns_out = by_used (used k.tier) w.core.stands.segments.odd (λ i h q. w.core.stands.all_used i h q) where
-    by_used : (n : ℕ) → n % 2 ≡ 1 → ((i : ℕ) → i < n → 0 < i → (g : ℕ) × (is_fork t g ≡ true) × (fork_column t g ≡ left_of i)) → n ≤ fork_column t f
+    by_used : (n : ℕ) → n % 2 ≡ 1 → ((i : ℕ) → i < n → 0 < i → (g : ℕ) × (is_fork t g ≡ true) × (fork_column t g ≡ left_column_of i)) → n ≤ fork_column t f
     by_used zero e all = omega arith
     by_used (suc zero) e all = odd_some (fork_column t f) (odd_column t f) where
       odd_some : (n : ℕ) → n % 2 ≡ 1 → 1 ≤ n
@@ -111,9 +111,9 @@ module _ (k : State) (rows : List Row) (forks : List ℕ) (cells : List CellPart
     by_used (suc (suc n)) e all =
         let z = all (suc n) (omega arith) (omega arith) in
         let l = fork_column_lt t z.0 f (fork_low t z.0 z.1) z.1 in
-        let at : left_of (suc n) ≡ n = even_left n e in
+        let at : left_column_of (suc n) ≡ n = even_left n e in
         omega (arith, l, z.2, at) where
-          even_left : (n : ℕ) → suc (suc n) % 2 ≡ 1 → left_of (suc n) ≡ n
+          even_left : (n : ℕ) → suc (suc n) % 2 ≡ 1 → left_column_of (suc n) ≡ n
           even_left n e = omega arith
 
   new_column : fork_column u f ≡ fork_column t f
@@ -277,10 +277,10 @@ module _ (k : State) (rows : List Row) (forks : List ℕ) (cells : List CellPart
   abbrev pub rows_after : Bool → List Row
   rows_after z = changed with_wait s (changed (with_tail plain_tail) p rows ++ fork_rows s (left_column z) (right_column z) f z)
 
-  pub fork_parts : (z : Bool) → may_fork k ≡ z → f + 3 < 2 ^ 32 → AreParts (after k (event.Fork s)) (rows_after z) (forks_after z) cells last
+  pub fork_parts : (z : Bool) → may_fork k ≡ z → f + 3 < 2 ^ 32 → AreParts (after_event k (event.Fork s)) (rows_after z) (forks_after z) cells last
   fork_parts z e few =
-      let P : State → Type 0 = λ y. AreParts y (rows_after z) (forks_after z) cells last in
-      let Q : State → Type 0 = λ y. IsCore m.first y in
+      let P : CoreState → Type 0 = λ y. AreParts y (rows_after z) (forks_after z) cells last in
+      let Q : CoreState → Type 0 = λ y. IsCore m.first y in
       let R : List Row → Type 0 = λ rs. Rattle.cw_core.specs.Kept.AreRows (forked_state z) rs in
       let rowed = rows_forked m.first k w.core s now.0 now.1 stamp (max m.clock stamp) (tier z) (room_same z) (columns z e) tree (left_column z) (right_column z) z (has_is z e) (fork_at z e) (whole z) (left_at z e) (right_at z e) rows w.rowed in
       subst P (sym (after_is z e)) (record {

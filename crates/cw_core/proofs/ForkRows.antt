@@ -19,11 +19,11 @@ use Rattle.cw_tree.proofs.Growing.{get_next, length_more, node_grown, number_gro
 use Rattle.cw_tree.proofs.NextTrees.{no_fork}
 use Rattle.cw_tree.proofs.Ancestors.{above_ancestor, ancestor_le}
 use Rattle.cw_tree.proofs.Strands.{strand_of_strand, strand_of_other, strand_of_le}
-use Rattle.cw_trace.specs.Columns.{Columns, used}
+use Rattle.cw_trace.specs.Columns.{ColumnTable, used}
 use Rattle.cw_trace.specs.Stands.{fork_column, column}
 use Rattle.cw_trace.proofs.Grow.{fork_column_append, column_append}
 use Rattle.cw_trace.proofs.Forking.{get_right}
-use Rattle.cw_open.specs.Machine.{Machine, has_finished, finished_dead, waits, is_running, is_dying, is_free, falls}
+use Rattle.cw_open.specs.Machine.{OpenMachine, has_finished, finished_dead, waits, is_running, is_dying, is_free, falls}
 use Rattle.cw_open.specs.Runs.{at_once}
 use Rattle.cw_open.proofs.ListSteps.{none_new}
 use Rattle.cw_open.proofs.Standing.{runs, stands}
@@ -33,7 +33,7 @@ use Rattle.cw_core.specs.declared.row.Made.{Made}
 use Rattle.cw_core.specs.declared.row.Tail.{Tail}
 use Rattle.cw_core.specs.declared.row.Now.{Now}
 use Rattle.cw_core.specs.declared.row.Row.{Row}
-use Rattle.cw_core.specs.State.{State, has_columns, is_split, waits_for_left}
+use Rattle.cw_core.specs.State.{CoreState, has_columns, is_split, waits_for_left}
 use Rattle.cw_core.specs.Laws.{IsCore}
 use Rattle.cw_core.specs.Kept.{IsMade, IsTail, IsNow, IsRow, AreRows, IsVictim, is_counted, elder_list, plain_tail, fork_row, strand_row, changed, with_tail, with_wait}
 use Rattle.cw_core.proofs.Going.{well, at_place}
@@ -46,12 +46,12 @@ use Rattle.cw_core.proofs.PartsGrow.{all_at}
 use Rattle.cw_core.proofs.Dying.{dying_is}
 use Rattle.cw_core.proofs.ForkTails.{elders_apart, place_children, fork_children, other_children, no_children}
 
-module _ (first : List ℤ) (k : State) (core : IsCore first k) (s : ℕ) (free : is_free k.machine s ≡ true) (ready : waits_for_left k s ≡ false) (stamp clock : ℕ) (d : Columns) (room : d.room ≡ k.tier.room)
+module _ (first : List ℤ) (k : CoreState) (core : IsCore first k) (s : ℕ) (free : is_free k.machine s ≡ true) (ready : waits_for_left k s ≡ false) (stamp clock : ℕ) (d : ColumnTable) (room : d.room ≡ k.tier.room)
     (columns : (n : ℕ) → n < length k.machine.tree → column k.machine.tree (used d) n ≡ column k.machine.tree (used k.tier) n) where
   abbrev t : List Node
   t = k.machine.tree
 
-  abbrev m : Machine
+  abbrev m : OpenMachine
   m = k.machine
 
   abbrev p : ℕ
@@ -66,7 +66,7 @@ module _ (first : List ℤ) (k : State) (core : IsCore first k) (s : ℕ) (free 
   abbrev u : List Node
   u = t ++ xs
 
-  abbrev z : State
+  abbrev z : CoreState
   z = record k { machine = record m { tree = u; clock = clock }; tier = d }
 
   running : is_running m s ≡ true

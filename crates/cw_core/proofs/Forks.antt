@@ -14,22 +14,22 @@ use Rattle.cw_tree.proofs.Lists.{In, any_from, all_in}
 use Rattle.cw_tree.proofs.Members.{in_below, below_in, in_filter}
 use Rattle.cw_tree.proofs.There.{node_there}
 use Rattle.cw_tree.proofs.NextTrees.{is_child}
-use Rattle.cw_trace.specs.Columns.{Columns, used, owner, back_to, around_fork, is_trace, before_split, split_at, merged, left_of}
+use Rattle.cw_trace.specs.Columns.{ColumnTable, used, owner, back_to, around_fork, is_trace, before_split, split_at, merged, left_column_of}
 use Rattle.cw_trace.specs.Stands.{fork_column, is_apart}
 use Rattle.cw_trace.specs.Keeps.{Keeps}
 use Rattle.cw_trace.specs.Running.{IsOrdered, IsUnstarted, IsDone}
 use Rattle.cw_trace.proofs.FromTree.{split_keeps, merge_keeps}
 use Rattle.cw_trace.proofs.Meaning.{odd_column}
 use Rattle.cw_trace.proofs.TierLaws.{join}
-use Rattle.cw_open.specs.Machine.{Machine, has_finished}
+use Rattle.cw_open.specs.Machine.{OpenMachine, has_finished}
 use Rattle.cw_open.specs.Runs.{IsRun, at_once}
 use Rattle.cw_open.specs.Open.{is_open}
 use Rattle.cw_open.proofs.Filtered.{filter_in}
 use Rattle.cw_open.proofs.Rising.{Rises, rises_filter}
 use Rattle.cw_open.proofs.KeysRise.{below_rises}
 use Rattle.cw_core.specs.declared.event.Event.TheVariants as event
-use Rattle.cw_core.specs.State.{State, joins, has_columns, is_split}
-use Rattle.cw_core.specs.Events.{steps_of, after, is_unstarted, is_early}
+use Rattle.cw_core.specs.State.{CoreState, joined_columns, has_columns, is_split}
+use Rattle.cw_core.specs.Events.{steps_of, after_event, is_unstarted, is_early}
 use Rattle.cw_core.specs.Laws.{IsCore}
 use Rattle.cw_core.proofs.Alike.{parts_length}
 use Rattle.cw_core.proofs.Joined.{joins_of, joins_more, joins_no_more}
@@ -65,11 +65,11 @@ none_in (x ∷ xs) v e i = let z : length (x ∷ xs) ≡ 0 = eqb-true (length (x
 
 -- ## Splits
 
-module _ (first : List ℤ) (k : State) (core : IsCore first k) (f : ℕ) (fork : is_fork k.machine.tree f ≡ true) (unjoined_f : has k.machine.joined f ≡ false) where
+module _ (first : List ℤ) (k : CoreState) (core : IsCore first k) (f : ℕ) (fork : is_fork k.machine.tree f ≡ true) (unjoined_f : has k.machine.joined f ≡ false) where
   abbrev t : List Node
   t = k.machine.tree
 
-  abbrev m : Machine
+  abbrev m : OpenMachine
   m = k.machine
 
   abbrev col : ℕ
@@ -81,22 +81,22 @@ module _ (first : List ℤ) (k : State) (core : IsCore first k) (f : ℕ) (fork 
   there : f < length t
   there = node_there (λ y. is_fork_kind y.kind) t f fork
 
-  no_join : has (joins k) col ≡ false
+  no_join : has (joined_columns k) col ≡ false
   no_join = unjoined k (well first k core) core.joined core.left_first core.stands f fork unjoined_f
 
   -- a fork that is split names traces, and one that is not names none
   pub names : (z : Bool) → has k.splits col ≡ z → fork_column t f + 1 < used k.tier → is_trace k.tier col ≡ z
   names z e low =
       let odd = odd_column t f in
-      let self : left_of col ≡ col = left_odd col odd in
+      let self : left_column_of col ≡ col = left_odd col odd in
       let some : nat_eq col 0 ≡ false = ne_eqb col 0 (λ q. not_zero col odd q) in
       core.stands.outside.named col (omega arith)
-      ∙ ap (λ b. b || is_apart k.splits (joins k) col) some
-      ∙ ap (λ i. has k.splits i && not (has (joins k) i)) self
-      ∙ ap (λ b. b && not (has (joins k) col)) e
+      ∙ ap (λ b. b || is_apart k.splits (joined_columns k) col) some
+      ∙ ap (λ i. has k.splits i && not (has (joined_columns k) i)) self
+      ∙ ap (λ b. b && not (has (joined_columns k) col)) e
       ∙ ap (λ b. z && not b) no_join
       ∙ and-true z where
-        left_odd : (i : ℕ) → i % 2 ≡ 1 → left_of i ≡ i
+        left_odd : (i : ℕ) → i % 2 ≡ 1 → left_column_of i ≡ i
         left_odd i e = omega arith
 
         not_zero : (i : ℕ) → i % 2 ≡ 1 → i ≡ 0 → ⊥
@@ -106,7 +106,7 @@ module _ (first : List ℤ) (k : State) (core : IsCore first k) (f : ℕ) (fork 
     low : col + 1 < used k.tier
     low = columns_used k (well first k core) core.joined core.left_first core.stands f fork columns
 
-    is_unstarted_at : IsUnstarted t (joins k) col
+    is_unstarted_at : IsUnstarted t (joined_columns k) col
     is_unstarted_at =
         let (l, r, these, strands) = tree.forks f there fork in
         let both = and_parts (is_strand t l) (is_strand t r) strands in
@@ -147,7 +147,7 @@ module _ (first : List ℤ) (k : State) (core : IsCore first k) (f : ℕ) (fork 
           complete = core.complete;
           joined = core.joined;
           left_first = left_tier k.tier (split_at col k.tier) t k.splits (col ∷ k.splits) (is_open m) (omega (arith, same_used)) (λ g e. or_right (nat_eq col g) (has k.splits g) e) core.left_first;
-          stands = split_keeps k.tier k.words t k.splits (joins k) core.stands tree col (omega (arith, low)) (odd_column t f) (names false uncut low) is_unstarted_at none;
+          stands = split_keeps k.tier k.words t k.splits (joined_columns k) core.stands tree col (omega (arith, low)) (odd_column t f) (names false uncut low) is_unstarted_at none;
         } where
           is_none_tells : (o : Option ℕ) → is_none o ≡ true → o ≡ None
           is_none_tells None e = refl
@@ -168,10 +168,10 @@ module _ (first : List ℤ) (k : State) (core : IsCore first k) (f : ℕ) (fork 
     is_done : IsDone t (is_open m) col
     is_done = record { fork = f; is = fork; at = refl; done = child_done }
 
-    in_order : IsOrdered k.tier t k.splits (joins k) (is_open m)
+    in_order : IsOrdered k.tier t k.splits (joined_columns k) (is_open m)
     in_order = ordered k (well first k core) core.joined core.left_first core.stands (root_open first k core f there (open_fork k (well first k core) core.joined core.left_first core.stands f fork unjoined_f))
 
-    abbrev mz : Machine
+    abbrev mz : OpenMachine
     mz = record m { joined = f ∷ m.joined }
 
     fewer : (n : ℕ) → is_open mz n ≡ true → is_open m n ≡ true
@@ -197,11 +197,11 @@ module _ (first : List ℤ) (k : State) (core : IsCore first k) (f : ℕ) (fork 
     joined_stands true true columns cut =
         let low = columns_used k (well first k core) core.joined core.left_first core.stands f fork columns in
         let P : List ℕ → Type 0 = λ js. Keeps (merged col k.tier) k.words t k.splits js in
-        subst P (sym (joins_more t k.tier.room m.joined f columns)) (merge_keeps k.tier k.words t k.splits (joins k) core.stands tree (is_open m) in_order col (omega (arith, low)) (odd_column t f) (names true cut low) is_done)
+        subst P (sym (joins_more t k.tier.room m.joined f columns)) (merge_keeps k.tier k.words t k.splits (joined_columns k) core.stands tree (is_open m) in_order col (omega (arith, low)) (odd_column t f) (names true cut low) is_done)
     joined_stands true false columns uncut =
         let low = columns_used k (well first k core) core.joined core.left_first core.stands f fork columns in
         let P : List ℕ → Type 0 = λ js. Keeps k.tier k.words t k.splits js in
-        subst P (sym (joins_more t k.tier.room m.joined f columns)) (join k.tier k.words t k.splits (joins k) (is_open m) col core.stands tree in_order (record { done = is_done; low = low; uncut = uncut }))
+        subst P (sym (joins_more t k.tier.room m.joined f columns)) (join k.tier k.words t k.splits (joined_columns k) (is_open m) col core.stands tree in_order (record { done = is_done; low = low; uncut = uncut }))
 
     tier_used : (z : Bool) → used k.tier ≤ used (cond z (merged col k.tier) k.tier)
     tier_used true = omega (arith, length-map k.tier.owners (back_to (around_fork k.tier col) col))
@@ -215,13 +215,13 @@ module _ (first : List ℤ) (k : State) (core : IsCore first k) (f : ℕ) (fork 
     keeps_join =
         let run : IsRun at_once m (steps_of k (event.Join f)) = (and_from (is_fork t f && not (has m.joined f)) (list_all (has_finished m) (children t f)) (and_from (is_fork t f) (not (has m.joined f)) fork (not_from_false (has m.joined f) unjoined_f)) all, tt) in
         let z = is_split k f in
-        let d : Columns = cond z (merged col k.tier) k.tier in
+        let d : ColumnTable = cond z (merged col k.tier) k.tier in
         let P : ℕ → Type 0 = λ r. Keeps d k.words t k.splits (joins_of t r (f ∷ m.joined)) in
         record {
           run = run;
           core = record {
             reached = reached_more at_once first m (steps_of k (event.Join f)) core.reached run;
-            complete = none_of (after k (event.Join f)).machine (all_listed first k core);
+            complete = none_of (after_event k (event.Join f)).machine (all_listed first k core);
             joined = forks;
             left_first = left_tier k.tier d t k.splits k.splits (is_open mz) (tier_used z) (λ g e. e) (left_shut k.tier t t k.splits (is_open m) (is_open mz) refl (λ n. refl) (λ n. refl) (λ g. refl) (same_shape t) fewer core.left_first);
             stands = subst P (sym (tier_room z)) (joined_stands (has_columns k f) (has k.splits col) refl refl);

@@ -20,15 +20,15 @@ use Rattle.cw_trace.specs.Keeps.{Keeps}
 use Rattle.cw_trace.specs.Running.{IsUnsplit, IsOrdered, MayGoOn}
 use Rattle.cw_trace.proofs.TierLaws.{leaf}
 use Rattle.cw_trace.proofs.Grow.{fork_column_append}
-use Rattle.cw_open.specs.Machine.{Machine, has_finished, is_running}
-use Rattle.cw_open.specs.Steps.{Step, after, after_all, opening}
-use Rattle.cw_open.specs.Runs.{Rules, IsRun, Reached, at_once}
+use Rattle.cw_open.specs.Machine.{OpenMachine, has_finished, is_running}
+use Rattle.cw_open.specs.Steps.{Step, after_open_step, after_all, first_machine}
+use Rattle.cw_open.specs.Runs.{Rules, IsRun, IsReachedBy, at_once}
 use Rattle.cw_open.specs.Open.{is_open}
 use Rattle.cw_open.proofs.Standing.{runs, stands, strand_itself, place_open, open_over}
 use Rattle.cw_open.proofs.NodeKinds.{strand_no_block, fork_no_strand, pending_block}
 use Rattle.cw_open.proofs.Trees.{IsWell, stands_well, open_more}
 use Rattle.cw_open.proofs.States.{IsState, states}
-use Rattle.cw_core.specs.State.{State, joins, waits_for_left}
+use Rattle.cw_core.specs.State.{CoreState, joined_columns, waits_for_left}
 use Rattle.cw_core.specs.Laws.{IsLeftFirst, IsCore}
 use Rattle.cw_core.proofs.Joined.{joins_of, joins_same}
 use Rattle.cw_core.proofs.Ordering.{ordered, may_go_on}
@@ -37,22 +37,22 @@ use Rattle.cw_core.proofs.Complete.{HasAll, all_of}
 
 -- ## Runs
 
-pub run_more : (r : Rules) (m : Machine) (es fs : List Step) → IsRun r m es → IsRun r (after_all m es) fs → IsRun r m (es ++ fs)
+pub run_more : (r : Rules) (m : OpenMachine) (es fs : List Step) → IsRun r m es → IsRun r (after_all m es) fs → IsRun r m (es ++ fs)
 run_more r m [] fs h g = g
-run_more r m (e ∷ es) fs h g = (h.0, run_more r (after m e) es fs h.1 g)
+run_more r m (e ∷ es) fs h g = (h.0, run_more r (after_open_step m e) es fs h.1 g)
 
-pub after_more : (m : Machine) (es fs : List Step) → after_all m (es ++ fs) ≡ after_all (after_all m es) fs
+pub after_more : (m : OpenMachine) (es fs : List Step) → after_all m (es ++ fs) ≡ after_all (after_all m es) fs
 after_more m [] fs = refl
-after_more m (e ∷ es) fs = after_more (after m e) es fs
+after_more m (e ∷ es) fs = after_more (after_open_step m e) es fs
 
 -- a run from a state that is reached leads to one that is
-pub reached_more : (r : Rules) (first : List ℤ) (m : Machine) (es : List Step) → Reached r first m → IsRun r m es → Reached r first (after_all m es)
+pub reached_more : (r : Rules) (first : List ℤ) (m : OpenMachine) (es : List Step) → IsReachedBy r first m → IsRun r m es → IsReachedBy r first (after_all m es)
 reached_more r first m es reached run =
-    let P : Machine → Type 0 = λ x. IsRun r x es in
+    let P : OpenMachine → Type 0 = λ x. IsRun r x es in
     record {
       steps = reached.steps ++ es;
-      run = run_more r (opening first) reached.steps es reached.run (subst P (sym reached.there) run);
-      there = after_more (opening first) reached.steps es ∙ ap (λ x. after_all x es) reached.there;
+      run = run_more r (first_machine first) reached.steps es reached.run (subst P (sym reached.there) run);
+      there = after_more (first_machine first) reached.steps es ∙ ap (λ x. after_all x es) reached.there;
     }
 
 no_stamp : (k : Kind) → is_block_kind k ≡ true → not (is_strand_kind k || is_tried_kind k) ≡ true
@@ -71,11 +71,11 @@ block_stamped t b = by (slice_get t b) where
   by None e = absurd (cc e)
   by (Some x) e = no_stamp x.kind e
 
-module _ (first : List ℤ) (k : State) (core : IsCore first k) where
+module _ (first : List ℤ) (k : CoreState) (core : IsCore first k) where
   abbrev t : List Node
   t = k.machine.tree
 
-  abbrev m : Machine
+  abbrev m : OpenMachine
   m = k.machine
 
   pub state : IsState first m
@@ -117,7 +117,7 @@ module _ (first : List ℤ) (k : State) (core : IsCore first k) where
 
   -- ## The tier
 
-  pub joins_grown : (xs : List Node) → joins_of (t ++ xs) k.tier.room m.joined ≡ joins k
+  pub joins_grown : (xs : List Node) → joins_of (t ++ xs) k.tier.room m.joined ≡ joined_columns k
   joins_grown xs = joins_same t (t ++ xs) k.tier.room m.joined (λ f e. let h = well.joined f e in fork_column_append t xs well.sound.tree.rooted (used k.tier) f (omega arith))
 
   pub forks_grown : (xs : List Node) → (f : ℕ) → has m.joined f ≡ true → is_fork (t ++ xs) f ≡ true
@@ -151,7 +151,7 @@ module _ (first : List ℤ) (k : State) (core : IsCore first k) where
     abbrev p : ℕ
     p = place t s
 
-    pub in_order : IsOrdered k.tier t k.splits (joins k) (is_open m)
+    pub in_order : IsOrdered k.tier t k.splits (joined_columns k) (is_open m)
     in_order = ordered k well core.joined core.left_first core.stands (root_runs s running)
 
     pub goes : MayGoOn k.tier t k.splits (is_open m) p
@@ -165,7 +165,7 @@ module _ (first : List ℤ) (k : State) (core : IsCore first k) where
         → Keeps k.tier k.words (t ++ x ∷ []) k.splits (joins_of (t ++ x ∷ []) k.tier.room m.joined)
     leaf_stands x up a b c =
         let P : List ℕ → Type 0 = λ js. Keeps k.tier k.words (t ++ x ∷ []) k.splits js in
-        subst P (sym (joins_grown (x ∷ []))) (leaf k.tier k.words t k.splits (joins k) (is_open m) p x core.stands well.sound.tree in_order goes up a b c)
+        subst P (sym (joins_grown (x ∷ []))) (leaf k.tier k.words t k.splits (joined_columns k) (is_open m) p x core.stands well.sound.tree in_order goes up a b c)
 
     -- any node there
     pub node_left : (x : Node) → x.parent ≡ p → IsLeftFirst k.tier (t ++ x ∷ []) k.splits (is_open (record m { tree = t ++ x ∷ [] }))

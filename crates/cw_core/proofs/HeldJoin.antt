@@ -12,7 +12,7 @@ use Rattle.cw_tree.proofs.Lists.{In}
 use Rattle.cw_tree.proofs.There.{node_there}
 use Rattle.cw_tree.proofs.Strands.{strand_of_le}
 use Rattle.cw_stack.specs.Cells.{CellParts}
-use Rattle.cw_trace.specs.Columns.{Columns, used, is_trace, back_to, around_fork, merged}
+use Rattle.cw_trace.specs.Columns.{ColumnTable, used, is_trace, back_to, around_fork, merged}
 use Rattle.cw_trace.specs.Stands.{fork_column}
 use Rattle.cw_trace.proofs.Meaning.{odd_column}
 use Rattle.cw_open.specs.Machine.{has_finished}
@@ -20,10 +20,10 @@ use Rattle.cw_open.proofs.Named.{strand_is}
 use Rattle.cw_core.specs.declared.cores.Core.TheInside.{Inside}
 use Rattle.cw_core.specs.declared.event.Event.TheVariants as event
 use Rattle.cw_core.specs.declared.row.Row.{Row}
-use Rattle.cw_core.specs.State.{State, has_columns, is_split}
-use Rattle.cw_core.specs.Events.{fits, after}
+use Rattle.cw_core.specs.State.{CoreState, has_columns, is_split}
+use Rattle.cw_core.specs.Events.{fits, after_event}
 use Rattle.cw_core.specs.Kept.{IsRow, AreParts, IsVictim, changed, with_joined, with_back, least}
-use Rattle.cw_core.specs.Held.{state_of, IsKept}
+use Rattle.cw_core.specs.Held.{state_of, IsCoreInMemory}
 use Rattle.cw_core.proofs.Kept.{events}
 use Rattle.cw_core.proofs.Going.{well}
 use Rattle.cw_core.proofs.Ordering.{columns_used, strand_under}
@@ -35,37 +35,37 @@ use Rattle.cw_core.proofs.SameTree.{forks_same, held_same}
 use Rattle.cw_core.proofs.Rejoining.{join_rows}
 use Rattle.cw_core.proofs.HeldOut.{seen, now_of}
 
-pub record MayJoin (k : State) (f : ℕ) : Type 0 where
+pub record MayJoin (k : CoreState) (f : ℕ) : Type 0 where
   pub fork : is_fork k.machine.tree f ≡ true
   pub unjoined : has k.machine.joined f ≡ false
   pub all : list_all (has_finished k.machine) (children k.machine.tree f) ≡ true
 
-pub may_join : (k : State) (f : ℕ) → fits k (event.Join f) ≡ true → MayJoin k f
+pub may_join : (k : CoreState) (f : ℕ) → fits k (event.Join f) ≡ true → MayJoin k f
 may_join k f fit =
     let m = k.machine in
     let x = and_parts (is_fork m.tree f && not (has m.joined f)) (list_all (has_finished m) (children m.tree f)) (now_of k (event.Join f) fit) in
     let y = and_parts (is_fork m.tree f) (not (has m.joined f)) x.0 in
     record { fork = y.0; unjoined = not-true (has m.joined f) y.1; all = x.1 }
 
-pub join_there : (k : State) (f : ℕ) → fits k (event.Join f) ≡ true → f < length k.machine.tree
+pub join_there : (k : CoreState) (f : ℕ) → fits k (event.Join f) ≡ true → f < length k.machine.tree
 join_there k f fit = node_there (λ y. is_fork_kind y.kind) k.machine.tree f (may_join k f fit).fork
 
-abbrev pub tier_joined : State → ℕ → Columns
+abbrev pub tier_joined : CoreState → ℕ → ColumnTable
 tier_joined k f = cond (is_split k f) (merged (fork_column k.machine.tree f) k.tier) k.tier
 
-joined_used : (k : State) (f : ℕ) → used (tier_joined k f) ≡ used k.tier
+joined_used : (k : CoreState) (f : ℕ) → used (tier_joined k f) ≡ used k.tier
 joined_used k f = by (is_split k f) where
   by : (b : Bool) → used (cond b (merged (fork_column k.machine.tree f) k.tier) k.tier) ≡ used k.tier
   by true = length-map k.tier.owners (back_to (around_fork k.tier (fork_column k.machine.tree f)) (fork_column k.machine.tree f))
   by false = refl
 
-joined_room : (k : State) (f : ℕ) → (tier_joined k f).room ≡ k.tier.room
+joined_room : (k : CoreState) (f : ℕ) → (tier_joined k f).room ≡ k.tier.room
 joined_room k f = by (is_split k f) where
   by : (b : Bool) → (cond b (merged (fork_column k.machine.tree f) k.tier) k.tier).room ≡ k.tier.room
   by true = refl
   by false = refl
 
-module _ (k : State) (rows : List Row) (forks : List ℕ) (cells : List CellParts) (last : Option ℕ) (w : AreParts k rows forks cells last) (f : ℕ) (may : MayJoin k f) where
+module _ (k : CoreState) (rows : List Row) (forks : List ℕ) (cells : List CellParts) (last : Option ℕ) (w : AreParts k rows forks cells last) (f : ℕ) (may : MayJoin k f) where
   abbrev t : List Node
   t = k.machine.tree
 
@@ -100,7 +100,7 @@ module _ (k : State) (rows : List Row) (forks : List ℕ) (cells : List CellPart
       subst P (row.now.quiet strand waiting) (row.now.victim strand)
 
   pub join_parts : (r l q : Row) → IsRow k f r → IsRow k r.made.left l → IsRow k r.made.right q → fits k (event.Join f) ≡ true
-      → AreParts (after k (event.Join f)) (changed with_joined f (changed (with_back (least l.now.victim q.now.victim)) (strand_of t f) rows)) forks cells last
+      → AreParts (after_event k (event.Join f)) (changed with_joined f (changed (with_back (least l.now.victim q.now.victim)) (strand_of t f) rows)) forks cells last
   join_parts r l q row left right fit =
       let h = halves_there r row in
       let m = k.machine in
@@ -115,7 +115,7 @@ module _ (k : State) (rows : List Row) (forks : List ℕ) (cells : List CellPart
         held = λ c cell e. held_same k m.finished (f ∷ m.joined) m.stopped d k.splits k.halt (joined_used k f) (joined_room k f) c cell (w.held c cell e);
         firsts = w.firsts;
         lists = w.lists;
-        told = none_spent k (after k (event.Join f)) (unspent k (event.Join f) refl fit) refl refl ∙ w.told;
+        told = none_spent k (after_event k (event.Join f)) (unspent k (event.Join f) refl fit) refl refl ∙ w.told;
       }
 
   -- ## The columns of a fork that was split
@@ -147,8 +147,8 @@ module _ (k : State) (rows : List Row) (forks : List ℕ) (cells : List CellPart
 
 -- ## Fields
 
-module _ (a : Inside) (i : IsKept a) (k : State) (view : state_of a ≡ k) (f : ℕ) (fit : fits k (event.Join f) ≡ true) where
-  abbrev j : State
+module _ (a : Inside) (i : IsCoreInMemory a) (k : CoreState) (view : state_of a ≡ k) (f : ℕ) (fit : fits k (event.Join f) ≡ true) where
+  abbrev j : CoreState
   j = state_of a
 
   pub fits_here : fits j (event.Join f) ≡ true
@@ -164,18 +164,18 @@ module _ (a : Inside) (i : IsKept a) (k : State) (view : state_of a ≡ k) (f : 
     abbrev whole : Inside
     whole = record a { tier = b.tier; joined = b.joined; rows = b.rows }
 
-    here : state_of whole ≡ after j (event.Join f)
+    here : state_of whole ≡ after_event j (event.Join f)
     here =
         ap (λ c. state_of (record a { tier = record b.tier { columns = c }; joined = b.joined; rows = b.rows })) (tier ∙ merge_is j a.rows.items a.forks.items a.cells.items a.spent i f may_here r row)
-        ∙ ap (λ js. let y : State = record j { machine = record j.machine { joined = js }; tier = tier_joined j f } in y) more
+        ∙ ap (λ js. let y : CoreState = record j { machine = record j.machine { joined = js }; tier = tier_joined j f } in y) more
 
-    pub join_state : state_of whole ≡ after k (event.Join f)
-    join_state = here ∙ ap (λ k. after k (event.Join f)) view
+    pub join_state : state_of whole ≡ after_event k (event.Join f)
+    join_state = here ∙ ap (λ k. after_event k (event.Join f)) view
 
-    pub join_kept : (l q : Row) → IsRow j r.made.left l → IsRow j r.made.right q → b.rows.items ≡ changed with_joined f (changed (with_back (least l.now.victim q.now.victim)) r.made.strand a.rows.items) → IsKept whole
+    pub join_kept : (l q : Row) → IsRow j r.made.left l → IsRow j r.made.right q → b.rows.items ≡ changed with_joined f (changed (with_back (least l.now.victim q.now.victim)) r.made.strand a.rows.items) → IsCoreInMemory whole
     join_kept l q left right rows =
-        let P : State → Type 0 = λ z. AreParts z b.rows.items a.forks.items a.cells.items a.spent in
-        let Q : List Row → Type 0 = λ rs. AreParts (after j (event.Join f)) rs a.forks.items a.cells.items a.spent in
+        let P : CoreState → Type 0 = λ z. AreParts z b.rows.items a.forks.items a.cells.items a.spent in
+        let Q : List Row → Type 0 = λ rs. AreParts (after_event j (event.Join f)) rs a.forks.items a.cells.items a.spent in
         let parts = join_parts j a.rows.items a.forks.items a.cells.items a.spent i f may_here r l q row left right fits_here in
         let at = ap (λ s. changed with_joined f (changed (with_back (least l.now.victim q.now.victim)) s a.rows.items)) row.made.strand in
         subst P (sym here) (subst Q (at ∙ sym rows) parts)

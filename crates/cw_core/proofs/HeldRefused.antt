@@ -19,7 +19,7 @@ use Rattle.cw_tree.specs.VictimsAt.{victim_at}
 use Rattle.cw_tree.proofs.There.{node_there}
 use Rattle.cw_tree.proofs.Growing.{strand_of_grown, strand_of_new}
 use Rattle.cw_stack.specs.Cells.{CellParts}
-use Rattle.cw_open.specs.Machine.{Machine, value_of, is_running, is_free}
+use Rattle.cw_open.specs.Machine.{OpenMachine, live_value, is_running, is_free}
 use Rattle.cw_open.specs.Steps.{Met, refusal}
 use Rattle.cw_open.proofs.Standing.{stands}
 use Rattle.cw_open.proofs.TreeSteps.{free_runs}
@@ -31,11 +31,11 @@ use Rattle.cw_core.specs.declared.held.Barrier.{Barrier}
 use Rattle.cw_core.specs.declared.held.Refused.{Refused}
 use Rattle.cw_core.specs.declared.row.Row.{Row}
 use Rattle.cw_core.specs.declared.cores.Core.TheInside.{Inside}
-use Rattle.cw_core.specs.State.{State, waits_for_left, spent}
-use Rattle.cw_core.specs.Events.{fits, met_by, after, reply_to}
+use Rattle.cw_core.specs.State.{CoreState, waits_for_left, spent}
+use Rattle.cw_core.specs.Events.{fits, met_by, after_event, reply_to}
 use Rattle.cw_core.specs.Laws.{IsCore}
 use Rattle.cw_core.specs.Kept.{IsRow, AreParts, IsVictim, IsBarrier, changed, with_tail, with_victim, tried_again, tried_tail, leaf_row, conflict_with}
-use Rattle.cw_core.specs.Held.{state_of, IsKept}
+use Rattle.cw_core.specs.Held.{state_of, IsCoreInMemory}
 use Rattle.cw_core.proofs.Going.{well, at_place, pending_stamped}
 use Rattle.cw_core.proofs.Kept.{events}
 use Rattle.cw_core.proofs.PartsGrow.{unspent}
@@ -62,7 +62,7 @@ told_by b c asker r chain d cell asks last block victim attempt listed =
     ∙ ap (λ q. let z : Conflict = record d { chain = q } in z) listed
 
 -- one more refusal of a cell in its place has a number
-pub tried_fits : (a : Inside) → IsKept a → (n : ℕ) → n < length a.tree → (r : Row) → IsRow (state_of a) n r → r.tail.tried + 1 < 2 ^ 32
+pub tried_fits : (a : Inside) → IsCoreInMemory a → (n : ℕ) → n < length a.tree → (r : Row) → IsRow (state_of a) n r → r.tail.tried + 1 < 2 ^ 32
 tried_fits a i n there r row =
     let same : suffix_len (λ m. same_cell (tried_cell a.tree m) (Some r.tail.cell)) (children a.tree n) ≡ r.tail.tried = row.tail.tried r.tail.cell ∙ ap (λ b. cond b r.tail.tried 0) (eq-eqb r.tail.cell r.tail.cell refl) in
     let z = suffix_len-le-length (λ m. same_cell (tried_cell a.tree m) (Some r.tail.cell)) (children a.tree n) in
@@ -81,7 +81,7 @@ pub record Finds (a : Inside) (s c : ℕ) (b : Barrier) (own parent : Row) (v : 
   pub row : IsRow (state_of a) (place a.tree s) parent
   pub found : v ≡ victim_at a.tree (access_at a.tree b.last.stamp) (place a.tree s)
 
-pub finds : (a : Inside) → IsKept a → (k : State) → state_of a ≡ k → (s c : ℕ) → fits k (event.Access s c None) ≡ true → (b : Barrier) → IsBarrier k s c b
+pub finds : (a : Inside) → IsCoreInMemory a → (k : CoreState) → state_of a ≡ k → (s c : ℕ) → fits k (event.Access s c None) ≡ true → (b : Barrier) → IsBarrier k s c b
     → (own : Row) → IsRow k s own → (parent : Row) → IsRow k own.now.place parent → (v : Option ℕ) → v ≡ victim_at k.machine.tree (access_at k.machine.tree b.last.stamp) own.now.place
     → Finds a s c b own parent v
 finds a i k e s c fit b w own row parent of v found =
@@ -103,7 +103,7 @@ pub record Tells (a : Inside) (s tried : ℕ) (v : Option ℕ) (x : Refused) : T
   pub attempt : x.attempt ≡ option_map_or (block_attempt a.tree) v tried
   pub strand : x.strand ≡ option_map_or (strand_of a.tree) v s
 
-pub tells : (a : Inside) (k : State) → state_of a ≡ k → (s : ℕ) (v : Option ℕ) (x : Refused) (tried again : ℕ)
+pub tells : (a : Inside) (k : CoreState) → state_of a ≡ k → (s : ℕ) (v : Option ℕ) (x : Refused) (tried again : ℕ)
     → x.victim ≡ option_map_or (stamp_of k.machine.tree) v 0 → x.attempt ≡ option_map_or (block_attempt k.machine.tree) v tried → x.strand ≡ option_map_or (strand_of k.machine.tree) v s → tried ≡ again
     → Tells a s again v x
 tells a k e s v x tried again victim attempt strand counted = record {
@@ -112,11 +112,11 @@ tells a k e s v x tried again victim attempt strand counted = record {
   strand = strand ∙ ap (λ k. option_map_or (strand_of k.machine.tree) v s) (sym e);
 }
 
-module _ (a : Inside) (i : IsKept a) (s c : ℕ) (b : Barrier) (own parent : Row) (v : Option ℕ) (h : Finds a s c b own parent v) where
-  abbrev k : State
+module _ (a : Inside) (i : IsCoreInMemory a) (s c : ℕ) (b : Barrier) (own parent : Row) (v : Option ℕ) (h : Finds a s c b own parent v) where
+  abbrev k : CoreState
   k = state_of a
 
-  abbrev m : Machine
+  abbrev m : OpenMachine
   m = k.machine
 
   abbrev t : List Node
@@ -152,7 +152,7 @@ module _ (a : Inside) (i : IsKept a) (s c : ℕ) (b : Barrier) (own parent : Row
   there : p < length t
   there = (at_place m.first k i.core s running ready).there
 
-  abbrev z : State
+  abbrev z : CoreState
   z = refused_state m.first k i.core s free ready c conflict refl
 
   -- ## The victim
@@ -234,28 +234,28 @@ module _ (a : Inside) (i : IsKept a) (s c : ℕ) (b : Barrier) (own parent : Row
   -- ## The core
 
   core_after : IsCore m.first z
-  core_after = let P : State → Type 0 = λ x. IsCore m.first x in subst P (after_refused k s c None h.barrier.met) (events m.first k (event.Access s c None) i.core h.fit).1
+  core_after = let P : CoreState → Type 0 = λ x. IsCore m.first x in subst P (after_refused k s c None h.barrier.met) (events m.first k (event.Access s c None) i.core h.fit).1
 
   module _ (n : Inside) (grown : n.tree ≡ u) (more : n.conflicts.items ≡ a.conflicts.items ++ conflict ∷ []) where
     abbrev pub next : Inside
     next = record a { tree = n.tree; rows = n.rows; conflicts = n.conflicts; spent = n.spent }
 
     same : state_of next ≡ z
-    same = ap (λ t. state_of (record next { tree = t })) grown ∙ ap (λ cs. let y : State = record k { machine = record m { tree = u; conflicts = cs } } in y) more
+    same = ap (λ t. state_of (record next { tree = t })) grown ∙ ap (λ cs. let y : CoreState = record k { machine = record m { tree = u; conflicts = cs } } in y) more
 
-    pub refused_view : (write : Option ℤ) → state_of next ≡ after k (event.Access s c write)
+    pub refused_view : (write : Option ℤ) → state_of next ≡ after_event k (event.Access s c write)
     refused_view write = same ∙ sym (after_refused k s c write h.barrier.met)
 
     pub refused_kept : (length a.tree ≡ 2 ^ 32 - 1 → ⊥) → n.rows.items ≡ changed (with_victim v) s (changed (with_tail (tried_tail c parent.tail)) p a.rows.items ++ leaf_row s 0 ∷ []) → spent z ≡ n.spent
-        → IsKept next
+        → IsCoreInMemory next
     refused_kept full rows told =
         let q = row_there k a.rows.items a.forks.items a.cells.items a.spent i p there in
         let parts = refused_parts m.first k i.core s free ready c conflict refl a.rows.items a.forks.items a.cells.items a.spent i core_after (one_more (length a.tree) i.few full) v marked q.0 q.1 n.spent told in
-        let P : State → Type 0 = λ x. AreParts x n.rows.items a.forks.items a.cells.items n.spent in
+        let P : CoreState → Type 0 = λ x. AreParts x n.rows.items a.forks.items a.cells.items n.spent in
         let Q : List Row → Type 0 = λ rs. AreParts z rs a.forks.items a.cells.items n.spent in
         subst P (sym same) (subst Q (again q.0 (i.rowed.each p q.0 q.1) ∙ sym rows) parts) where
           again : (o : Row) → IsRow k p o → changed (with_victim v) s (changed (with_tail (tried_tail c o.tail)) p a.rows.items ++ leaf_row s 0 ∷ []) ≡ changed (with_victim v) s (changed (with_tail (tried_tail c parent.tail)) p a.rows.items ++ leaf_row s 0 ∷ [])
           again o of = ap (λ n. changed (with_victim v) s (changed (with_tail (record { started = true; aborted = 0; tried = n; cell = c })) p a.rows.items ++ leaf_row s 0 ∷ [])) (sym (own_attempt m.first k i.core s free ready c o.tail of.tail) ∙ own_attempt m.first k i.core s free ready c parent.tail h.row.tail)
 
   pub refused_reply : (write : Option ℤ) (d : Conflict) → d ≡ conflict → reply.Conflict d ≡ reply_to k (event.Access s c write)
-  refused_reply write d is = ap reply.Conflict is ∙ sym (ap (λ b. let y : Reply = cond b (reply.Conflict conflict) (reply.Value (unwrap_or write (value_of m c))) in y) h.barrier.met)
+  refused_reply write d is = ap reply.Conflict is ∙ sym (ap (λ b. let y : Reply = cond b (reply.Conflict conflict) (reply.Value (unwrap_or write (live_value m c))) in y) h.barrier.met)

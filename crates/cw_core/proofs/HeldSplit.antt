@@ -12,10 +12,10 @@ use Rattle.cw_core.specs.declared.cores.Core.TheInside.{Inside}
 use Rattle.cw_core.specs.declared.event.Event.TheVariants as event
 use Rattle.cw_core.specs.declared.event.Reply.TheVariants as reply
 use Rattle.cw_core.specs.declared.row.Row.{Row}
-use Rattle.cw_core.specs.State.{State}
-use Rattle.cw_core.specs.Events.{fits, fork_at, after, reply_to}
+use Rattle.cw_core.specs.State.{CoreState}
+use Rattle.cw_core.specs.Events.{fits, fork_at, after_event, reply_to}
 use Rattle.cw_core.specs.Kept.{IsRow, AreParts, changed, with_split}
-use Rattle.cw_core.specs.Held.{state_of, IsKept}
+use Rattle.cw_core.specs.Held.{state_of, IsCoreInMemory}
 use Rattle.cw_core.proofs.Forks.{names}
 use Rattle.cw_core.proofs.Ordering.{columns_used}
 use Rattle.cw_core.proofs.Going.{well}
@@ -23,7 +23,7 @@ use Rattle.cw_core.proofs.HeldOut.{seen, now_of}
 use Rattle.cw_core.proofs.Splitting.{MaySplit, may_split, after_split, after_early, split_parts, IsBefore, is_before}
 
 -- a fork that is split is there
-pub split_there : (k : State) (f : ℕ) → fits k (event.Split f) ≡ true → f < length k.machine.tree
+pub split_there : (k : CoreState) (f : ℕ) → fits k (event.Split f) ≡ true → f < length k.machine.tree
 split_there k f fit = node_there (λ y. is_fork_kind y.kind) k.machine.tree f (may_split k f (now_of k (event.Split f) fit)).fork
 
 -- what is found by its row
@@ -35,8 +35,8 @@ pub record Cuts (a : Inside) (f : ℕ) (r : Row) : Type 0 where
   pub left : r.made.column % 2 ≡ 1
   pub whole : is_trace a.tier.columns r.made.column ≡ false
 
-module _ (a : Inside) (i : IsKept a) (k : State) (view : state_of a ≡ k) (f : ℕ) (fit : fits k (event.Split f) ≡ true) where
-  abbrev j : State
+module _ (a : Inside) (i : IsCoreInMemory a) (k : CoreState) (view : state_of a ≡ k) (f : ℕ) (fit : fits k (event.Split f) ≡ true) where
+  abbrev j : CoreState
   j = state_of a
 
   fits_here : fits j (event.Split f) ≡ true
@@ -71,21 +71,21 @@ module _ (a : Inside) (i : IsKept a) (k : State) (view : state_of a ≡ k) (f : 
     at : c ≡ fork_column a.tree f
     at = (cuts r row).column
 
-    pub split_state : before_split a.tier.columns c ≡ None → b.tier.columns ≡ split_at c a.tier.columns → b.splits ≡ c ∷ a.splits → state_of whole ≡ after k (event.Split f)
+    pub split_state : before_split a.tier.columns c ≡ None → b.tier.columns ≡ split_at c a.tier.columns → b.splits ≡ c ∷ a.splits → state_of whole ≡ after_event k (event.Split f)
     split_state none tier splits =
-        ap (λ t. let y : State = record j { tier = t; splits = b.splits } in y) (tier ∙ ap (λ c. split_at c a.tier.columns) at)
-        ∙ ap (λ ss. let y : State = record j { tier = split_at (fork_column a.tree f) a.tier.columns; splits = ss } in y) (splits ∙ ap (λ c. c ∷ a.splits) at)
+        ap (λ t. let y : CoreState = record j { tier = t; splits = b.splits } in y) (tier ∙ ap (λ c. split_at c a.tier.columns) at)
+        ∙ ap (λ ss. let y : CoreState = record j { tier = split_at (fork_column a.tree f) a.tier.columns; splits = ss } in y) (splits ∙ ap (λ c. c ∷ a.splits) at)
         ∙ sym (after_split j f may (ap (before_split a.tier.columns) (sym at) ∙ none))
-        ∙ ap (λ k. after k (event.Split f)) view
+        ∙ ap (λ k. after_event k (event.Split f)) view
 
-    pub split_kept : before_split a.tier.columns c ≡ None → b.tier.columns ≡ split_at c a.tier.columns → b.splits ≡ c ∷ a.splits → b.rows.items ≡ changed with_split f a.rows.items → IsKept whole
+    pub split_kept : before_split a.tier.columns c ≡ None → b.tier.columns ≡ split_at c a.tier.columns → b.splits ≡ c ∷ a.splits → b.rows.items ≡ changed with_split f a.rows.items → IsCoreInMemory whole
     split_kept none tier splits rows =
-        let P : State → Type 0 = λ z. AreParts z b.rows.items a.forks.items a.cells.items a.spent in
+        let P : CoreState → Type 0 = λ z. AreParts z b.rows.items a.forks.items a.cells.items a.spent in
         let now = ap (before_split a.tier.columns) (sym at) ∙ none in
         let parts = split_parts j f may a.rows.items a.forks.items a.cells.items a.spent i fits_here now in
         let same : state_of whole ≡ record j { tier = split_at (fork_column a.tree f) a.tier.columns; splits = fork_column a.tree f ∷ a.splits } =
-        ap (λ t. let y : State = record j { tier = t; splits = b.splits } in y) (tier ∙ ap (λ c. split_at c a.tier.columns) at)
-        ∙ ap (λ ss. let y : State = record j { tier = split_at (fork_column a.tree f) a.tier.columns; splits = ss } in y) (splits ∙ ap (λ c. c ∷ a.splits) at) in
+        ap (λ t. let y : CoreState = record j { tier = t; splits = b.splits } in y) (tier ∙ ap (λ c. split_at c a.tier.columns) at)
+        ∙ ap (λ ss. let y : CoreState = record j { tier = split_at (fork_column a.tree f) a.tier.columns; splits = ss } in y) (splits ∙ ap (λ c. c ∷ a.splits) at) in
         let Q : List Row → Type 0 = λ rs. AreParts (record j { tier = split_at (fork_column a.tree f) a.tier.columns; splits = fork_column a.tree f ∷ a.splits }) rs a.forks.items a.cells.items a.spent in
         subst P (sym same) (subst Q (sym rows) parts)
 
@@ -95,8 +95,8 @@ module _ (a : Inside) (i : IsKept a) (k : State) (view : state_of a ≡ k) (f : 
         ∙ ap (λ k. reply_to k (event.Split f)) view
 
     -- another fork is to be split before
-    pub early_state : (n : ℕ) → before_split a.tier.columns c ≡ Some n → after k (event.Split f) ≡ k
-    early_state n e = ap (λ k. after k (event.Split f)) (sym view) ∙ after_early j f may n (ap (before_split a.tier.columns) (sym at) ∙ e) ∙ view
+    pub early_state : (n : ℕ) → before_split a.tier.columns c ≡ Some n → after_event k (event.Split f) ≡ k
+    early_state n e = ap (λ k. after_event k (event.Split f)) (sym view) ∙ after_early j f may n (ap (before_split a.tier.columns) (sym at) ∙ e) ∙ view
 
     pub before : (n : ℕ) → NextBars c n a.tier.columns → IsBefore j a.forks.items n
     before n bars =

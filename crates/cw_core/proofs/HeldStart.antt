@@ -6,14 +6,14 @@ use Rattle.cw_tree.specs.declared.node.Kind.TheVariants.{Strand}
 use Rattle.cw_tree.specs.declared.conflict.Conflict.{Conflict}
 use Rattle.cw_tree.specs.Nodes.{fresh_node}
 use Rattle.cw_stack.specs.Cells.{CellParts}
-use Rattle.cw_trace.specs.Columns.{Columns, first_tier}
+use Rattle.cw_trace.specs.Columns.{ColumnTable, first_tier}
 use Rattle.cw_core.specs.declared.row.Row.{Row}
-use Rattle.cw_core.specs.State.{State, start}
+use Rattle.cw_core.specs.State.{CoreState, start}
 use Rattle.cw_core.specs.Kept.{AreParts, leaf_row, fresh_cell}
 use Rattle.cw_core.proofs.Starts.{start_parts, firsts_are, lists_are}
 
 -- a state by its parts, those of a core without an event in which something differs
-abbrev parts_of : List ℤ → List Node → List (List ℕ) → List Conflict → List (ℕ × Bool) → (joined splits : List ℕ) → Columns → (words : List ℕ) → ℕ → State
+abbrev parts_of : List ℤ → List Node → List (List ℕ) → List Conflict → List (ℕ × Bool) → (joined splits : List ℕ) → ColumnTable → (words : List ℕ) → ℕ → CoreState
 parts_of first tree lists conflicts finished joined splits tier words budget = record {
   machine = record { first = first; tree = tree; lists = lists; clock = 0; conflicts = conflicts; finished = finished; joined = joined; stopped = [] };
   tier = tier;
@@ -24,7 +24,7 @@ parts_of first tree lists conflicts finished joined splits tier words budget = r
 }
 
 module _ (first : List ℤ) (room budget : ℕ) (some : 0 < room) (cells : List CellParts) (are : cells ≡ map fresh_cell first) (tree : List Node) (tree_is : tree ≡ fresh_node 0 Strand 0 ∷ []) (conflicts : List Conflict) (conflicts_are : conflicts ≡ [])
-    (finished : List (ℕ × Bool)) (finished_are : finished ≡ []) (joined splits : List ℕ) (joined_are : joined ≡ []) (splits_are : splits ≡ []) (tier : Columns) (tier_is : tier ≡ first_tier room) (words : List ℕ) (words_are : words ≡ replicate room 0) where
+    (finished : List (ℕ × Bool)) (finished_are : finished ≡ []) (joined splits : List ℕ) (joined_are : joined ≡ []) (splits_are : splits ≡ []) (tier : ColumnTable) (tier_is : tier ≡ first_tier room) (words : List ℕ) (words_are : words ≡ replicate room 0) where
   abbrev lists : List (List ℕ)
   lists = map (λ c. Rattle.cw_tree.specs.Stacks.stamps c.entries) cells
 
@@ -51,7 +51,7 @@ module _ (first : List ℤ) (room budget : ℕ) (some : 0 < room) (cells : List 
 
   pub start_kept : (rows : List Row) → rows ≡ leaf_row 0 0 ∷ [] → (forks : List ℕ) → forks ≡ [] → AreParts (parts_of firsts tree lists conflicts finished joined splits tier words budget) rows forks cells None
   start_kept rows rows_are forks forks_are =
-      let P : State → Type 0 = λ z. AreParts z rows forks cells None in
+      let P : CoreState → Type 0 = λ z. AreParts z rows forks cells None in
       let Q : List Row → Type 0 = λ rs. AreParts (start first room budget) rs forks cells None in
       let R : List ℕ → Type 0 = λ fs. AreParts (start first room budget) (leaf_row 0 0 ∷ []) fs cells None in
       subst P (sym start_state) (subst Q (sym rows_are) (subst R (sym forks_are) (start_parts first room budget some cells are)))

@@ -9,9 +9,9 @@ use Rattle.cw_tree.specs.Stacks.{access_at, written_by, stamps}
 use Rattle.cw_open.proofs.Named.{access_named}
 use Rattle.cw_stack.specs.Cells.{CellParts, entry_of, AreSteps}
 use Rattle.cw_core.specs.declared.cores.Core.TheInside.{Inside}
-use Rattle.cw_core.specs.State.{State, column_of}
+use Rattle.cw_core.specs.State.{CoreState, column_of}
 use Rattle.cw_core.specs.Kept.{IsEntryOf, IsHeld}
-use Rattle.cw_core.specs.Held.{state_of, IsKept}
+use Rattle.cw_core.specs.Held.{state_of, IsCoreInMemory}
 use Rattle.cw_core.specs.Closing.{journal, journals, journals_of}
 use Rattle.cw_core.proofs.Going.{well}
 
@@ -20,7 +20,7 @@ wrote_is : (b : Bool) (v : ℤ) → is_some (cond b (Some v) None) ≡ b
 wrote_is true v = refl
 wrote_is false v = refl
 
-module _ (k : State) (stamped : AreStamps k.machine.tree) (c : ℕ) where
+module _ (k : CoreState) (stamped : AreStamps k.machine.tree) (c : ℕ) where
   abbrev u : Entry → ℕ
   u e = access_at k.machine.tree e.mark.stamp
 
@@ -47,7 +47,7 @@ module _ (k : State) (stamped : AreStamps k.machine.tree) (c : ℕ) where
       ∙ ap (λ w. e ∷ journal k (unwrap_or w v) (stamps es)) (wrote e first)
       ∙ ap (λ xs. e ∷ xs) (sym rest))
 
-pub journals_are : (k : State) → AreStamps k.machine.tree → (cells : List CellParts) → ((i : ℕ) (x : CellParts) → slice_get cells i ≡ Some x → (c : ℕ) × IsHeld k c x) → ((i : ℕ) (x : CellParts) → slice_get cells i ≡ Some x → AreSteps x.first x.entries)
+pub journals_are : (k : CoreState) → AreStamps k.machine.tree → (cells : List CellParts) → ((i : ℕ) (x : CellParts) → slice_get cells i ≡ Some x → (c : ℕ) × IsHeld k c x) → ((i : ℕ) (x : CellParts) → slice_get cells i ≡ Some x → AreSteps x.first x.entries)
     → map (λ x. x.entries) cells ≡ journals k (map (λ x. x.first) cells) (map (λ x. stamps x.entries) cells)
 journals_are k stamped [] held steps = refl
 journals_are k stamped (x ∷ cells) held steps =
@@ -56,7 +56,7 @@ journals_are k stamped (x ∷ cells) held steps =
     ∙ ap (λ xs. journal k x.first (stamps x.entries) ∷ xs) (journals_are k stamped cells (λ i y at. held (suc i) y at) (λ i y at. steps (suc i) y at))
 
 -- so they are where each cell's entries are steps from its first value
-pub closed_journals : (a : Inside) → IsKept a → ((i : ℕ) (x : CellParts) → slice_get a.cells.items i ≡ Some x → AreSteps x.first x.entries) → map (λ x. x.entries) a.cells.items ≡ journals_of (state_of a)
+pub closed_journals : (a : Inside) → IsCoreInMemory a → ((i : ℕ) (x : CellParts) → slice_get a.cells.items i ≡ Some x → AreSteps x.first x.entries) → map (λ x. x.entries) a.cells.items ≡ journals_of (state_of a)
 closed_journals a w steps =
     let k = state_of a in
     journals_are k (well k.machine.first k w.core).sound.stamps a.cells.items (λ i x at. (i, w.held i x at)) steps

@@ -16,8 +16,8 @@ use Rattle.cw_trace.specs.Columns.{used}
 use Rattle.cw_trace.proofs.GoingOn.{goes_on}
 use Rattle.cw_trace.specs.Stands.{GoesOn, fork_column}
 use Rattle.cw_trace.proofs.TierLaws.{start}
-use Rattle.cw_open.specs.Machine.{Machine, has_finished, in_block, is_free, rolls_back}
-use Rattle.cw_open.specs.Steps.{after_all, opening}
+use Rattle.cw_open.specs.Machine.{OpenMachine, has_finished, in_block, is_free, rolls_back}
+use Rattle.cw_open.specs.Steps.{after_all, first_machine}
 use Rattle.cw_open.specs.Runs.{IsRun, at_once}
 use Rattle.cw_open.specs.Open.{is_open}
 use Rattle.cw_open.proofs.LawsHold.{same_list, any_time}
@@ -26,8 +26,8 @@ use Rattle.cw_open.proofs.States.{states, by_rules}
 use Rattle.cw_open.proofs.ChainStates.{newest_alone, chain_states}
 use Rattle.cw_core.specs.declared.event.Event.{Event}
 use Rattle.cw_core.specs.declared.event.Event.TheVariants as event
-use Rattle.cw_core.specs.State.{State, joins, start as begin_with, waits_for_left, has_columns, is_split, spent, last_refusal}
-use Rattle.cw_core.specs.Events.{fits, fits_now, is_stop, is_unstarted, may_stop, after, steps_of, all_fit, after_events, steps_of_all}
+use Rattle.cw_core.specs.State.{CoreState, joined_columns, start as begin_with, waits_for_left, has_columns, is_split, spent, last_refusal}
+use Rattle.cw_core.specs.Events.{fits, fits_now, is_stop, is_unstarted, may_stop, after_event, steps_of, all_fit, after_events, steps_of_all}
 use Rattle.cw_core.specs.Laws.{IsCore, StartsAreCores, EventsAreRuns, ListsAreRuns, CellsAreChains, StrandsGoOn}
 use Rattle.cw_core.proofs.Going.{run_more, after_more, well, column_place, in_order, goes}
 use Rattle.cw_core.proofs.Making.{IsKept, keeps_out, keeps_begin, keeps_fork}
@@ -42,15 +42,15 @@ spent_strand : (t : List Node) → is_strand t 0 ≡ true → (s : ℕ) (o : Opt
 spent_strand t root s None e = absurd (cc e)
 spent_strand t root s (Some c) e = let P : ℕ → Type 0 = λ x. is_strand t x ≡ true in subst P (eqb-true (strand_of t (refused t c)) s e) (strand_is t root (refused t c))
 
-stop_run : (k : State) → is_strand k.machine.tree 0 ≡ true → (h : Halt) → may_stop k h ≡ true → IsRun at_once k.machine (steps_of k (event.Stop h))
+stop_run : (k : CoreState) → is_strand k.machine.tree 0 ≡ true → (h : Halt) → may_stop k h ≡ true → IsRun at_once k.machine (steps_of k (event.Stop h))
 stop_run k root (halt.Fault s kind) e = (e, tt)
 stop_run k root (halt.Budget s) e = (spent_strand k.machine.tree root s (last_refusal k) e, tt)
 stop_run k root halt.Memory e = tt
 
 -- ## Each event
 
-module _ (first : List ℤ) (k : State) (core : IsCore first k) where
-  abbrev m : Machine
+module _ (first : List ℤ) (k : CoreState) (core : IsCore first k) where
+  abbrev m : OpenMachine
   m = k.machine
 
   pub free_ready : (s : ℕ) → (is_free m s && not (waits_for_left k s)) ≡ true → (is_free m s ≡ true) × (waits_for_left k s ≡ false)
@@ -110,26 +110,26 @@ starts first room budget some = record {
   left_first = λ l r n pos less h same fork w hn over ne. absurd (omega arith);
   stands = start room (zeros room) some (omega (arith, length_zeros room)) (all_zero room);
 } where
-  none_pending : (b : ℕ) → is_pending (opening first).tree b ≡ false
+  none_pending : (b : ℕ) → is_pending (first_machine first).tree b ≡ false
   none_pending zero = refl
   none_pending (suc b) = refl
 
 -- ## Lists of events
 
-pub record IsListKept (first : List ℤ) (k : State) (es : List Event) : Type 0 where
+pub record IsListKept (first : List ℤ) (k : CoreState) (es : List Event) : Type 0 where
   pub run : IsRun at_once k.machine (steps_of_all k es)
   pub there : (after_events k es).machine ≡ after_all k.machine (steps_of_all k es)
   pub core : IsCore first (after_events k es)
 
-lists_kept : (first : List ℤ) (k : State) (es : List Event) → IsCore first k → all_fit k es ≡ true → IsListKept first k es
+lists_kept : (first : List ℤ) (k : CoreState) (es : List Event) → IsCore first k → all_fit k es ≡ true → IsListKept first k es
 lists_kept first k [] core e = record { run = tt; there = refl; core = core }
 lists_kept first k (x ∷ es) core e =
-    let z = and_parts (fits k x) (all_fit (after k x) es) e in
+    let z = and_parts (fits k x) (all_fit (after_event k x) es) e in
     let w = events first k x core z.0 in
-    let more = lists_kept first (after k x) es w.1 z.1 in
+    let more = lists_kept first (after_event k x) es w.1 z.1 in
     record {
-      run = run_more at_once k.machine (steps_of k x) (steps_of_all (after k x) es) w.0 more.run;
-      there = more.there ∙ sym (after_more k.machine (steps_of k x) (steps_of_all (after k x) es));
+      run = run_more at_once k.machine (steps_of k x) (steps_of_all (after_event k x) es) w.0 more.run;
+      there = more.there ∙ sym (after_more k.machine (steps_of k x) (steps_of_all (after_event k x) es));
       core = more.core;
     }
 
@@ -148,4 +148,4 @@ strands first k s core running ready =
     let w = well first k core in
     let P : ℕ → Type 0 = λ i. GoesOn k.tier k.machine.tree i (place k.machine.tree s) in
     subst P (column_place first k core s (used k.tier) running)
-    (goes_on k.tier k.words k.machine.tree k.splits (joins k) w.sound.tree core.stands (is_open k.machine) (in_order first k core s running ready) (place k.machine.tree s) (goes first k core s running ready))
+    (goes_on k.tier k.words k.machine.tree k.splits (joined_columns k) w.sound.tree core.stands (is_open k.machine) (in_order first k core s running ready) (place k.machine.tree s) (goes first k core s running ready))

@@ -9,14 +9,14 @@ use Rattle.cw_tree.proofs.Ancestors.{ancestor_le}
 use Rattle.cw_tree.proofs.Growing.{length_more, node_grown, number_grown, rooted_more, ancestor_grown}
 use Rattle.cw_tree.proofs.NextTrees.{each_more}
 use Rattle.cw_tree.proofs.NextBefore.{over_parent}
-use Rattle.cw_trace.specs.Columns.{Columns, used}
+use Rattle.cw_trace.specs.Columns.{ColumnTable, used}
 use Rattle.cw_trace.specs.Stands.{fork_column}
 use Rattle.cw_trace.specs.Running.{IsUnsplit}
 use Rattle.cw_trace.proofs.Grow.{fork_column_append}
 use Rattle.cw_core.specs.Laws.{IsLeftFirst}
 
 -- one node more, in q: where q is the right strand of an unsplit fork, the left one has finished
-module _ (c : Columns) (t : List Node) (splits : List ℕ) (o z : ℕ → Bool) (r : IsRooted t) (old : IsLeftFirst c t splits o) (x : Node) (there : x.parent < length t) (same : (n : ℕ) → n < length t → z n ≡ o n)
+module _ (c : ColumnTable) (t : List Node) (splits : List ℕ) (o z : ℕ → Bool) (r : IsRooted t) (old : IsLeftFirst c t splits o) (x : Node) (there : x.parent < length t) (same : (n : ℕ) → n < length t → z n ≡ o n)
     (here : (l : ℕ) → 0 < l → l < x.parent → parent_of t l ≡ parent_of t x.parent → is_fork t (parent_of t x.parent) ≡ true → IsUnsplit c t splits (parent_of t x.parent) → o l ≡ false) where
   abbrev u : List Node
   u = t ++ x ∷ []
@@ -58,7 +58,7 @@ module _ (c : Columns) (t : List Node) (splits : List ℕ) (o z : ℕ → Bool) 
       ]
 
 -- more columns, and more splits
-pub left_tier : (c d : Columns) (t : List Node) (splits more : List ℕ) (o : ℕ → Bool) → used c ≤ used d → ((g : ℕ) → has splits g ≡ true → has more g ≡ true) → IsLeftFirst c t splits o → IsLeftFirst d t more o
+pub left_tier : (c d : ColumnTable) (t : List Node) (splits more : List ℕ) (o : ℕ → Bool) → used c ≤ used d → ((g : ℕ) → has splits g ≡ true → has more g ≡ true) → IsLeftFirst c t splits o → IsLeftFirst d t more o
 left_tier c d t splits more o le all old l s n some less h e fork w =
     old l s n some less h e fork (elim w [
       | inl low ↦ inl (omega arith)
@@ -66,7 +66,7 @@ left_tier c d t splits more o le all old l s n some less h e fork w =
     ])
 
 -- fewer open nodes, in a tree of the same shape
-pub left_shut : (c : Columns) (t u : List Node) (splits : List ℕ) (o z : ℕ → Bool) → length u ≡ length t → ((n : ℕ) → parent_of u n ≡ parent_of t n) → ((n : ℕ) → is_fork u n ≡ is_fork t n) → ((f : ℕ) → fork_column u f ≡ fork_column t f)
+pub left_shut : (c : ColumnTable) (t u : List Node) (splits : List ℕ) (o z : ℕ → Bool) → length u ≡ length t → ((n : ℕ) → parent_of u n ≡ parent_of t n) → ((n : ℕ) → is_fork u n ≡ is_fork t n) → ((f : ℕ) → fork_column u f ≡ fork_column t f)
     → ((a n : ℕ) → n < length t → is_ancestor u a n ≡ is_ancestor t a n) → ((n : ℕ) → z n ≡ true → o n ≡ true) → IsLeftFirst c t splits o → IsLeftFirst c u splits z
 left_shut c t u splits o z len up forks columns over fewer old l s n some less h e fork w hn above ne =
     let P : ℕ → Type 0 = λ k. (used c < k + 2) ⊎ (has splits k ≡ false) in

@@ -12,7 +12,7 @@ use Rattle.cw_tree.proofs.Members.{in_filter}
 use Rattle.cw_tree.proofs.There.{node_there}
 use Rattle.cw_open.specs.Machine.{has_finished}
 use Rattle.cw_core.specs.declared.row.Made.{Made}
-use Rattle.cw_core.specs.State.{State, is_split, waits_for_left}
+use Rattle.cw_core.specs.State.{CoreState, is_split, waits_for_left}
 use Rattle.cw_core.specs.Kept.{IsMade, elder_list}
 use Rattle.cw_core.proofs.Forks.{in_child}
 
@@ -24,7 +24,7 @@ any_filter p q (x ∷ xs) = ap (λ b. (p x && q x) || b) (any_filter p q xs) ∙
   by true = refl
   by false = refl
 
-module _ (k : State) (tree : IsTree k.machine.tree) (s : ℕ) (strand : is_strand k.machine.tree s ≡ true) (r : Made) (row : IsMade k s r) where
+module _ (k : CoreState) (tree : IsTree k.machine.tree) (s : ℕ) (strand : is_strand k.machine.tree s ≡ true) (r : Made) (row : IsMade k s r) where
   abbrev t : List Node
   t = k.machine.tree
 

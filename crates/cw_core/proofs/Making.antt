@@ -9,12 +9,12 @@ use Rattle.cw_tree.specs.Series.{place}
 use Rattle.cw_tree.specs.NextNodes.{fork_nodes}
 use Rattle.cw_tree.proofs.Growing.{length_more, node_grown, number_grown, number_new}
 use Rattle.cw_tree.proofs.NextTrees.{in_turn, hung_one, hung_two, no_fork}
-use Rattle.cw_trace.specs.Columns.{Columns, used, owner, gap, forked, begun_word}
+use Rattle.cw_trace.specs.Columns.{ColumnTable, used, owner, gap, forked, begun_word}
 use Rattle.cw_trace.specs.Stands.{column}
 use Rattle.cw_trace.specs.Keeps.{Keeps}
 use Rattle.cw_trace.proofs.Kept.{fork_keeps, inline_keeps}
 use Rattle.cw_trace.proofs.TierLaws.{begin}
-use Rattle.cw_open.specs.Machine.{Machine, is_running, is_free}
+use Rattle.cw_open.specs.Machine.{OpenMachine, is_running, is_free}
 use Rattle.cw_open.specs.Runs.{IsRun, at_once}
 use Rattle.cw_open.specs.Open.{is_open}
 use Rattle.cw_open.proofs.TreeSteps.{free_runs}
@@ -22,8 +22,8 @@ use Rattle.cw_open.proofs.ListSteps.{none_new}
 use Rattle.cw_open.proofs.Trees.{open_more}
 use Rattle.cw_core.specs.declared.event.Event.{Event}
 use Rattle.cw_core.specs.declared.event.Event.TheVariants as event
-use Rattle.cw_core.specs.State.{State, joins, waits_for_left, gap_of, column_of}
-use Rattle.cw_core.specs.Events.{steps_of, after, may_fork}
+use Rattle.cw_core.specs.State.{CoreState, joined_columns, waits_for_left, gap_of, column_of}
+use Rattle.cw_core.specs.Events.{steps_of, after_event, may_fork}
 use Rattle.cw_core.specs.Laws.{IsLeftFirst, IsCore}
 use Rattle.cw_core.proofs.Joined.{joins_of}
 use Rattle.cw_core.proofs.LeftFirst.{left_more, left_tier}
@@ -31,15 +31,15 @@ use Rattle.cw_core.proofs.Complete.{none_of, all_quiet}
 use Rattle.cw_core.proofs.Going.{reached_more, well, all_listed, next_stamp, pending_stamped, joins_grown, forks_grown, column_place, in_order, goes, at_place, leaf_stands, node_left}
 
 -- what holds of a core after an event
-pub record IsKept (first : List ℤ) (k : State) (e : Event) : Type 0 where
+pub record IsKept (first : List ℤ) (k : CoreState) (e : Event) : Type 0 where
   pub run : IsRun at_once k.machine (steps_of k e)
-  pub core : IsCore first (after k e)
+  pub core : IsCore first (after_event k e)
 
-module _ (first : List ℤ) (k : State) (core : IsCore first k) (s : ℕ) (free : is_free k.machine s ≡ true) (ready : waits_for_left k s ≡ false) where
+module _ (first : List ℤ) (k : CoreState) (core : IsCore first k) (s : ℕ) (free : is_free k.machine s ≡ true) (ready : waits_for_left k s ≡ false) where
   abbrev t : List Node
   t = k.machine.tree
 
-  abbrev m : Machine
+  abbrev m : OpenMachine
   m = k.machine
 
   abbrev p : ℕ
@@ -56,7 +56,7 @@ module _ (first : List ℤ) (k : State) (core : IsCore first k) (s : ℕ) (free 
         run = run;
         core = record {
           reached = reached_more at_once first m (steps_of k (event.Out s v)) core.reached run;
-          complete = none_of (after k (event.Out s v)).machine (all_quiet t (x ∷ []) (well first k core).sound.tree.rooted m.lists (λ c n le. none_new (λ y. touches_kind c y.kind) t (x ∷ []) n refl le) (all_listed first k core));
+          complete = none_of (after_event k (event.Out s v)).machine (all_quiet t (x ∷ []) (well first k core).sound.tree.rooted m.lists (λ c n le. none_new (λ y. touches_kind c y.kind) t (x ∷ []) n refl le) (all_listed first k core));
           joined = forks_grown first k core (x ∷ []);
           left_first = node_left first k core s running ready x refl;
           stands = leaf_stands first k core s running ready x refl refl refl refl;
@@ -68,15 +68,15 @@ module _ (first : List ℤ) (k : State) (core : IsCore first k) (s : ℕ) (free 
       let x = fresh_node p Block (m.clock + 1) in
       let run : IsRun at_once m (steps_of k (event.Begin s)) = ((free, next_stamp first k core p), tt) in
       let P : List ℕ → Type 0 = λ js. Keeps k.tier (begun_word k.words (gap_of k s) (m.clock + 1)) (t ++ x ∷ []) k.splits js in
-      let Q : ℕ → Type 0 = λ i. Keeps k.tier (begun_word k.words (gap k.tier i) (m.clock + 1)) (t ++ x ∷ []) k.splits (joins k) in
-      let stands : Keeps k.tier (begun_word k.words (gap k.tier (column t (used k.tier) p)) (m.clock + 1)) (t ++ x ∷ []) k.splits (joins k) =
-      begin k.tier k.words t k.splits (joins k) (is_open m) p (m.clock + 1) core.stands (well first k core).sound.tree (in_order first k core s running ready) (goes first k core s running ready) (pending_stamped first k core) (omega arith)
+      let Q : ℕ → Type 0 = λ i. Keeps k.tier (begun_word k.words (gap k.tier i) (m.clock + 1)) (t ++ x ∷ []) k.splits (joined_columns k) in
+      let stands : Keeps k.tier (begun_word k.words (gap k.tier (column t (used k.tier) p)) (m.clock + 1)) (t ++ x ∷ []) k.splits (joined_columns k) =
+      begin k.tier k.words t k.splits (joined_columns k) (is_open m) p (m.clock + 1) core.stands (well first k core).sound.tree (in_order first k core s running ready) (goes first k core s running ready) (pending_stamped first k core) (omega arith)
       (λ n h same. let z = (well first k core).clock n h in omega (arith, z.0)) in
       record {
         run = run;
         core = record {
           reached = reached_more at_once first m (steps_of k (event.Begin s)) core.reached run;
-          complete = none_of (after k (event.Begin s)).machine (all_quiet t (x ∷ []) (well first k core).sound.tree.rooted m.lists (λ c n le. none_new (λ y. touches_kind c y.kind) t (x ∷ []) n refl le) (all_listed first k core));
+          complete = none_of (after_event k (event.Begin s)).machine (all_quiet t (x ∷ []) (well first k core).sound.tree.rooted m.lists (λ c n le. none_new (λ y. touches_kind c y.kind) t (x ∷ []) n refl le) (all_listed first k core));
           joined = forks_grown first k core (x ∷ []);
           left_first = node_left first k core s running ready x refl;
           stands = subst P (sym (joins_grown first k core (x ∷ []))) (subst Q (column_place first k core s (used k.tier) running) stands);
@@ -131,12 +131,12 @@ module _ (first : List ℤ) (k : State) (core : IsCore first k) (s : ℕ) (free 
   word = slice_index k.words (gap_of k s)
 
   -- with columns where there are two left, or without
-  forked_stands : (z : Bool) → may_fork k ≡ z → Keeps (cond z (forked word (column_of k s) k.tier) k.tier) k.words (t ++ more) k.splits (joins k)
+  forked_stands : (z : Bool) → may_fork k ≡ z → Keeps (cond z (forked word (column_of k s) k.tier) k.tier) k.words (t ++ more) k.splits (joined_columns k)
   forked_stands true e =
-      fork_keeps word (column_of k s) k.tier (forked word (column_of k s) k.tier) (leb-true (used k.tier + 2) k.tier.room e) refl k.words t k.splits (joins k) (is_open m) p stamp core.stands (well first k core).sound.tree (pending_stamped first k core)
+      fork_keeps word (column_of k s) k.tier (forked word (column_of k s) k.tier) (leb-true (used k.tier + 2) k.tier.room e) refl k.words t k.splits (joined_columns k) (is_open m) p stamp core.stands (well first k core).sound.tree (pending_stamped first k core)
       (in_order first k core s running ready) (goes first k core s running ready) (column_place first k core s (used k.tier) running) refl
   forked_stands false e =
-      inline_keeps word (column_of k s) k.tier k.tier (leb-false (used k.tier + 2) k.tier.room e) refl k.words t k.splits (joins k) (is_open m) p stamp core.stands (well first k core).sound.tree (pending_stamped first k core)
+      inline_keeps word (column_of k s) k.tier k.tier (leb-false (used k.tier + 2) k.tier.room e) refl k.words t k.splits (joined_columns k) (is_open m) p stamp core.stands (well first k core).sound.tree (pending_stamped first k core)
       (in_order first k core s running ready) (goes first k core s running ready) (column_place first k core s (used k.tier) running) refl
 
   forked_room : (z : Bool) → (cond z (forked word (column_of k s) k.tier) k.tier).room ≡ k.tier.room
@@ -150,13 +150,13 @@ module _ (first : List ℤ) (k : State) (core : IsCore first k) (s : ℕ) (free 
   pub keeps_fork : IsKept first k (event.Fork s)
   keeps_fork =
       let run : IsRun at_once m (steps_of k (event.Fork s)) = ((free, next_stamp first k core p), tt) in
-      let d : Columns = cond (may_fork k) (forked word (column_of k s) k.tier) k.tier in
+      let d : ColumnTable = cond (may_fork k) (forked word (column_of k s) k.tier) k.tier in
       let P : List ℕ → Type 0 = λ js. Keeps d k.words (t ++ more) k.splits js in
       record {
         run = run;
         core = record {
           reached = reached_more at_once first m (steps_of k (event.Fork s)) core.reached run;
-          complete = none_of (after k (event.Fork s)).machine (all_quiet t more (well first k core).sound.tree.rooted m.lists (λ c n le. none_new (λ y. touches_kind c y.kind) t more n refl le) (all_listed first k core));
+          complete = none_of (after_event k (event.Fork s)).machine (all_quiet t more (well first k core).sound.tree.rooted m.lists (λ c n le. none_new (λ y. touches_kind c y.kind) t more n refl le) (all_listed first k core));
           joined = forks_grown first k core more;
           left_first = left_tier k.tier d (t ++ more) k.splits k.splits (is_open (record m { tree = t ++ more })) (forked_used (may_fork k)) (λ g e. e) left_forked;
           stands = subst P (sym (ap (λ r. joins_of (t ++ more) r m.joined) (forked_room (may_fork k)) ∙ joins_grown first k core more)) (forked_stands (may_fork k) refl);

@@ -14,7 +14,7 @@ use Rattle.cw_tree.proofs.Ancestors.{ancestor_le, ancestor_trans}
 use Rattle.cw_tree.proofs.Meets.{lca_is_meet}
 use Rattle.cw_tree.proofs.Parting.{series_or_parallel}
 use Rattle.cw_tree.proofs.Strands.{strand_over, strand_innermost, strand_of_le}
-use Rattle.cw_open.specs.Machine.{Machine}
+use Rattle.cw_open.specs.Machine.{OpenMachine}
 use Rattle.cw_open.specs.Open.{is_open, AreNested}
 use Rattle.cw_open.proofs.Standing.{open_over, open_last}
 use Rattle.cw_core.proofs.Ordering.{strand_under}
@@ -45,7 +45,7 @@ not_parallel t tree f g hf hg off same =
     let e = z.parent in
     absurd (omega (arith, le, up, e)))
 
-module _ (m : Machine) (tree : IsTree m.tree) (w : AreNested m.tree (is_open m)) where
+module _ (m : OpenMachine) (tree : IsTree m.tree) (w : AreNested m.tree (is_open m)) where
   abbrev t : List Node
   t = m.tree
 

@@ -15,13 +15,13 @@ use Rattle.cw_trace.specs.Columns.{used}
 use Rattle.cw_trace.specs.Stands.{fork_column}
 use Rattle.cw_trace.specs.Keeps.{Keeps}
 use Rattle.cw_trace.specs.Running.{IsUnsplit, IsOrdered, MayGoOn}
-use Rattle.cw_open.specs.Machine.{Machine, has_finished, is_running}
+use Rattle.cw_open.specs.Machine.{OpenMachine, has_finished, is_running}
 use Rattle.cw_open.specs.Open.{is_open}
 use Rattle.cw_open.proofs.Filtered.{filter_in}
 use Rattle.cw_open.proofs.NodeKinds.{fork_no_strand, fork_no_block_at, strand_no_block, pending_block}
 use Rattle.cw_open.proofs.Standing.{stands, place_open, none_open, pending_open}
 use Rattle.cw_open.proofs.Trees.{IsWell, stands_well}
-use Rattle.cw_core.specs.State.{State, joins, has_columns, is_split, waits_for_left}
+use Rattle.cw_core.specs.State.{CoreState, joined_columns, has_columns, is_split, waits_for_left}
 use Rattle.cw_core.specs.Laws.{IsLeftFirst}
 use Rattle.cw_core.proofs.Joined.{joins_have, joins_tell}
 
@@ -36,17 +36,17 @@ strand_under t tree n some h fork =
     elim (subst P these child) [ inl q ↦ ap (is_strand t) q ∙ both.0 | inr q ↦ elim q [ inl e ↦ ap (is_strand t) e ∙ both.1 | inr e ↦ absurd e ] ]
 
 -- a strand that finished is open no more
-pub closed_strand : (m : Machine) (s : ℕ) → is_strand m.tree s ≡ true → has_finished m s ≡ true → is_open m s ≡ false
+pub closed_strand : (m : OpenMachine) (s : ℕ) → is_strand m.tree s ≡ true → has_finished m s ≡ true → is_open m s ≡ false
 closed_strand m s strand done =
     or_from (is_strand m.tree s && not (has_finished m s) || is_fork m.tree s && not (has m.joined s)) (is_pending m.tree s)
     (or_from (is_strand m.tree s && not (has_finished m s)) (is_fork m.tree s && not (has m.joined s)) (and_right (is_strand m.tree s) _ (not_from_true _ done)) (and_left (is_fork m.tree s) _ (false_from_ne_true (is_fork m.tree s) (λ e. absurd (cc (strand, fork_no_strand m.tree s e))))))
     (false_from_ne_true (is_pending m.tree s) (λ e. absurd (cc (strand_no_block m.tree s strand, pending_block m.tree s e))))
 
-module _ (k : State) (w : IsWell k.machine) (forks : (f : ℕ) → has k.machine.joined f ≡ true → is_fork k.machine.tree f ≡ true) (left : IsLeftFirst k.tier k.machine.tree k.splits (is_open k.machine)) (tier : Keeps k.tier k.words k.machine.tree k.splits (joins k)) where
+module _ (k : CoreState) (w : IsWell k.machine) (forks : (f : ℕ) → has k.machine.joined f ≡ true → is_fork k.machine.tree f ≡ true) (left : IsLeftFirst k.tier k.machine.tree k.splits (is_open k.machine)) (tier : Keeps k.tier k.words k.machine.tree k.splits (joined_columns k)) where
   abbrev t : List Node
   t = k.machine.tree
 
-  abbrev m : Machine
+  abbrev m : OpenMachine
   m = k.machine
 
   tree : IsTree t
@@ -74,8 +74,8 @@ module _ (k : State) (w : IsWell k.machine) (forks : (f : ℕ) → has k.machine
         ]
       ]
 
-  pub unjoined : (f : ℕ) → is_fork t f ≡ true → has m.joined f ≡ false → has (joins k) (fork_column t f) ≡ false
-  unjoined f fork e = false_from_ne_true (has (joins k) (fork_column t f)) (λ z. absurd (cc (e, joins_tell t k.tier.room m.joined forks f fork z)))
+  pub unjoined : (f : ℕ) → is_fork t f ≡ true → has m.joined f ≡ false → has (joined_columns k) (fork_column t f) ≡ false
+  unjoined f fork e = false_from_ne_true (has (joined_columns k) (fork_column t f)) (λ z. absurd (cc (e, joins_tell t k.tier.room m.joined forks f fork z)))
 
   open_kinds : (n : ℕ) → is_open m n ≡ true → (is_strand t n ≡ true) ⊎ ((is_fork t n ≡ true) ⊎ (is_pending t n ≡ true))
   open_kinds n e =
@@ -97,7 +97,7 @@ module _ (k : State) (w : IsWell k.machine) (forks : (f : ℕ) → has k.machine
         ]
       ]
 
-  pub ordered : has_finished m 0 ≡ false → IsOrdered k.tier t k.splits (joins k) (is_open m)
+  pub ordered : has_finished m 0 ≡ false → IsOrdered k.tier t k.splits (joined_columns k) (is_open m)
   ordered runs = record {
     root = or_left (is_strand t 0 && not (has_finished m 0) || is_fork t 0 && not (has m.joined 0)) (is_pending t 0)
         (or_left (is_strand t 0 && not (has_finished m 0)) (is_fork t 0 && not (has m.joined 0)) (and_from (is_strand t 0) (not (has_finished m 0)) tree.root (not_from_false (has_finished m 0) runs)));

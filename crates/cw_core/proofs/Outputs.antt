@@ -11,12 +11,12 @@ use Rattle.cw_tree.specs.Refusals.{is_victim}
 use Rattle.cw_tree.specs.Attempts.{tried_cell}
 use Rattle.cw_tree.proofs.Growing.{get_next, length_more, node_new}
 use Rattle.cw_stack.specs.Cells.{CellParts}
-use Rattle.cw_open.specs.Machine.{Machine, is_running, is_free}
+use Rattle.cw_open.specs.Machine.{OpenMachine, is_running, is_free}
 use Rattle.cw_open.proofs.TreeSteps.{free_runs}
 use Rattle.cw_core.specs.declared.event.Event.TheVariants as event
 use Rattle.cw_core.specs.declared.row.Row.{Row}
-use Rattle.cw_core.specs.State.{State, waits_for_left, spent}
-use Rattle.cw_core.specs.Events.{fits, fits_now, is_stop, after}
+use Rattle.cw_core.specs.State.{CoreState, waits_for_left, spent}
+use Rattle.cw_core.specs.Events.{fits, fits_now, is_stop, after_event}
 use Rattle.cw_core.specs.Kept.{AreParts, changed, with_tail, with_place, plain_tail, leaf_row}
 use Rattle.cw_core.proofs.Going.{well}
 use Rattle.cw_core.proofs.Kept.{events, free_ready}
@@ -24,11 +24,11 @@ use Rattle.cw_core.proofs.Places.{place_grown}
 use Rattle.cw_core.proofs.RowsGrow.{tail_here}
 use Rattle.cw_core.proofs.PartsGrow.{askers_still, unspent, none_spent, forks_still, held_still, closed_still, rows_grown}
 
-module _ (k : State) (rows : List Row) (forks : List ℕ) (cells : List CellParts) (last : Option ℕ) (w : AreParts k rows forks cells last) where
+module _ (k : CoreState) (rows : List Row) (forks : List ℕ) (cells : List CellParts) (last : Option ℕ) (w : AreParts k rows forks cells last) where
   abbrev t : List Node
   t = k.machine.tree
 
-  abbrev m : Machine
+  abbrev m : OpenMachine
   m = k.machine
 
   module _ (s : ℕ) (v : ℤ) (fit : fits k (event.Out s v) ≡ true) where
@@ -56,7 +56,7 @@ module _ (k : State) (rows : List Row) (forks : List ℕ) (cells : List CellPart
     same_place : (n : ℕ) → place u n ≡ place t n
     same_place n = place_grown t (x ∷ []) rooted n (λ b le h. and_left (is_pending u b) (nat_eq (strand_of u b) n) (quiet b le))
 
-    pub out_parts : (r : Row) → slice_get rows p ≡ Some r → length t + 1 < 2 ^ 32 → AreParts (after k (event.Out s v)) (changed (with_place p) s (changed (with_tail plain_tail) p rows ++ leaf_row s 0 ∷ [])) forks cells last
+    pub out_parts : (r : Row) → slice_get rows p ≡ Some r → length t + 1 < 2 ^ 32 → AreParts (after_event k (event.Out s v)) (changed (with_place p) s (changed (with_tail plain_tail) p rows ++ leaf_row s 0 ∷ [])) forks cells last
     out_parts r at few =
         let c = m.first in
         let core = w.core in
@@ -72,7 +72,7 @@ module _ (k : State) (rows : List Row) (forks : List ℕ) (cells : List CellPart
           held = λ i cell e. held_still c k core s running now.1 x refl m.lists (max m.clock (m.clock + 1)) k.words refl i cell (w.held i cell e);
           firsts = w.firsts;
           lists = w.lists;
-          told = none_spent k (after k (event.Out s v)) (unspent k (event.Out s v) refl fit) refl refl ∙ w.told;
+          told = none_spent k (after_event k (event.Out s v)) (unspent k (event.Out s v) refl fit) refl refl ∙ w.told;
         } where
           none_tried : tried_cell u (length t) ≡ None
           none_tried = rw (get_next t x []) refl

@@ -21,9 +21,9 @@ use Rattle.cw_tree.proofs.NextTrees.{is_child}
 use Rattle.cw_stack.specs.Cells.{CellParts}
 use Rattle.cw_trace.specs.Columns.{used}
 use Rattle.cw_trace.proofs.Ending.{fork_column_same, column_same}
-use Rattle.cw_open.specs.Machine.{Machine, is_running, in_block}
+use Rattle.cw_open.specs.Machine.{OpenMachine, is_running, in_block}
 use Rattle.cw_open.proofs.NodeKinds.{pending_block}
-use Rattle.cw_core.specs.State.{State, waits_for_left}
+use Rattle.cw_core.specs.State.{CoreState, waits_for_left}
 use Rattle.cw_core.specs.Laws.{IsCore}
 use Rattle.cw_core.specs.Kept.{IsTail, AreForks, IsHeld}
 use Rattle.cw_core.proofs.Tails.{suffix_same, suffix_more}
@@ -53,11 +53,11 @@ pub filter_all : (f : ℕ → Bool) (xs : List ℕ) → ((v : ℕ) → In v xs �
 filter_all f [] g = refl
 filter_all f (y ∷ xs) g = ap (λ b. cond b (y ∷ filter f xs) (filter f xs)) (g y (inl refl)) ∙ ap (λ ns. y ∷ ns) (filter_all f xs (λ v i. g v (inr i)))
 
-module _ (first : List ℤ) (k : State) (core : IsCore first k) (s : ℕ) (running : is_running k.machine s ≡ true) (ready : waits_for_left k s ≡ false) (within : in_block k.machine s ≡ true) (state : BlockState) (done : is_pending_state state ≡ false) (end clock : ℕ) (words : List ℕ) where
+module _ (first : List ℤ) (k : CoreState) (core : IsCore first k) (s : ℕ) (running : is_running k.machine s ≡ true) (ready : waits_for_left k s ≡ false) (within : in_block k.machine s ≡ true) (state : BlockState) (done : is_pending_state state ≡ false) (end clock : ℕ) (words : List ℕ) where
   abbrev t : List Node
   t = k.machine.tree
 
-  abbrev m : Machine
+  abbrev m : OpenMachine
   m = k.machine
 
   abbrev b : ℕ
@@ -69,7 +69,7 @@ module _ (first : List ℤ) (k : State) (core : IsCore first k) (s : ℕ) (runni
   abbrev u : List Node
   u = closed t b state end
 
-  abbrev pub z : State
+  abbrev pub z : CoreState
   z = record k { machine = record m { tree = u; clock = clock }; words = words }
 
   -- ## Forks, cells, the clock

@@ -21,14 +21,14 @@ use Rattle.cw_tree.proofs.Growing.{length_more, get_append, node_grown, number_g
 use Rattle.cw_stack.specs.Cells.{CellParts}
 use Rattle.cw_trace.specs.Columns.{used}
 use Rattle.cw_trace.proofs.Grow.{fork_column_append, column_append}
-use Rattle.cw_open.specs.Machine.{Machine, has_finished, waits, is_running, falls}
+use Rattle.cw_open.specs.Machine.{OpenMachine, has_finished, waits, is_running, falls}
 use Rattle.cw_open.specs.Runs.{at_once}
 use Rattle.cw_open.proofs.Standing.{runs}
 use Rattle.cw_open.proofs.Victims.{told_states}
 use Rattle.cw_core.specs.declared.row.Tail.{Tail}
 use Rattle.cw_core.specs.declared.row.Row.{Row}
 use Rattle.cw_core.specs.declared.event.Event.{Event}
-use Rattle.cw_core.specs.State.{State, waits_for_left, last_refusal, spent}
+use Rattle.cw_core.specs.State.{CoreState, waits_for_left, last_refusal, spent}
 use Rattle.cw_core.specs.Events.{fits, fits_now, is_stop}
 use Rattle.cw_core.specs.Laws.{IsCore}
 use Rattle.cw_core.specs.Kept.{IsTail, IsNow, IsRow, AreRows, AreForks, IsEntryOf, IsHeld, IsVictim, is_counted, changed, with_tail, with_place, leaf_row}
@@ -41,14 +41,14 @@ pub all_at : {X : Type 0} (P : X → Type 0) (xs : List X) (i : ℕ) (x : X) →
 all_at P xs i x e all = subst P (get_or_from_slice_get xs i x x e) (All-get_or P xs i x (slice_get_within xs i x e) all)
 
 -- but for a stop, nothing fits where a budget was spent
-pub unspent : (k : State) (e : Event) → is_stop e ≡ false → fits k e ≡ true → is_none (spent k) ≡ true
+pub unspent : (k : CoreState) (e : Event) → is_stop e ≡ false → fits k e ≡ true → is_none (spent k) ≡ true
 unspent k e other fit =
     let a = and_parts (is_none k.halt && (is_none (spent k) || is_stop e)) (fits_now k e) fit in
     let b = and_parts (is_none k.halt) (is_none (spent k) || is_stop e) a.0 in
     elim (or_cases (is_none (spent k)) (is_stop e) b.1) [ inl c ↦ c | inr c ↦ absurd (cc (c, other)) ]
 
 -- what was spent is none still where the conflicts are the same
-pub none_spent : (k z : State) → is_none (spent k) ≡ true → z.machine.conflicts ≡ k.machine.conflicts → z.budget ≡ k.budget → spent z ≡ spent k
+pub none_spent : (k z : CoreState) → is_none (spent k) ≡ true → z.machine.conflicts ≡ k.machine.conflicts → z.budget ≡ k.budget → spent z ≡ spent k
 none_spent k z e same budget = by (last_refusal k) refl e where
   by : (o : Option Conflict) → last_refusal k ≡ o → is_none (option_map (λ c. strand_of k.machine.tree (refused k.machine.tree c)) o) ≡ true → spent z ≡ spent k
   by (Some c) q e = absurd (cc e)
@@ -58,11 +58,11 @@ none_spent k z e same budget = by (last_refusal k) refl e where
       ∙ ap (option_map (λ c. strand_of z.machine.tree (refused z.machine.tree c))) q
       ∙ ap (option_map (λ c. strand_of k.machine.tree (refused k.machine.tree c))) (sym q)
 
-module _ (first : List ℤ) (k : State) (core : IsCore first k) (s : ℕ) (running : is_running k.machine s ≡ true) (ready : waits_for_left k s ≡ false) (x : Node) (up : x.parent ≡ place k.machine.tree s) where
+module _ (first : List ℤ) (k : CoreState) (core : IsCore first k) (s : ℕ) (running : is_running k.machine s ≡ true) (ready : waits_for_left k s ≡ false) (x : Node) (up : x.parent ≡ place k.machine.tree s) where
   abbrev t : List Node
   t = k.machine.tree
 
-  abbrev m : Machine
+  abbrev m : OpenMachine
   m = k.machine
 
   abbrev p : ℕ
@@ -75,7 +75,7 @@ module _ (first : List ℤ) (k : State) (core : IsCore first k) (s : ℕ) (runni
   rooted = (well first k core).sound.tree.rooted
 
   module _ (lists : List (List ℕ)) (clock : ℕ) (words : List ℕ) (other : is_fork_kind x.kind ≡ false) where
-    abbrev z : State
+    abbrev z : CoreState
     z = record k { machine = record m { tree = u; lists = lists; clock = clock }; words = words }
 
     -- ## Victims
@@ -143,7 +143,7 @@ module _ (first : List ℤ) (k : State) (core : IsCore first k) (s : ℕ) (runni
       (tail : Tail) (tail_is : IsTail u p tail) (q : ℕ) (place_is : place u s ≡ q) (place_other : (n : ℕ) → n < length t → is_strand t n ≡ true → n ≢ s → place u n ≡ place t n)
       (attempt : ℕ) (attempt_is : is_pending u (length t) ≡ true → block_attempt u (length t) ≡ attempt)
       (fresh : (c : Conflict) (v i : ℕ) → slice_get m.conflicts i ≡ Some c → length t ≤ v → falls (z lists clock words other).machine c v ≡ false) where
-    abbrev y : State
+    abbrev y : CoreState
     y = z lists clock words other
 
     tail_at : (n : ℕ) (r : Row) (a : Bool) → nat_eq n p ≡ a → IsRow k n r → n < length t → IsTail u n (cond a (with_tail tail r) r).tail

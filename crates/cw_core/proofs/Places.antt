@@ -11,7 +11,7 @@ use Rattle.cw_tree.specs.Series.{strand_of, place}
 use Rattle.cw_tree.proofs.Lists.{any_from}
 use Rattle.cw_tree.proofs.Members.{any_same, in_below, below_in}
 use Rattle.cw_tree.proofs.Growing.{node_grown, strand_of_grown}
-use Rattle.cw_open.specs.Machine.{Machine, waits}
+use Rattle.cw_open.specs.Machine.{OpenMachine, waits}
 use Rattle.cw_open.proofs.Standing.{StandsAt, begun_in, stands_at}
 
 -- ## Tests of the numbers below another
@@ -88,8 +88,8 @@ module _ (t xs : List Node) (r : IsRooted t) where
   pub place_begun : (s b : ℕ) → length u ≡ suc b → begun_in u s b ≡ true → place u s ≡ b
   place_begun s b len e = ap (λ n. unwrap_or (last_below (begun_in u s) n) s) len ∙ ap (λ z. unwrap_or (cond z (Some b) (last_below (begun_in u s) b)) s) e
 
-  module _ (m z : Machine) (tm : m.tree ≡ t) (tz : z.tree ≡ u) (same : z.joined ≡ m.joined) where
-    abbrev test : Machine → List Node → ℕ → ℕ → Bool
+  module _ (m z : OpenMachine) (tm : m.tree ≡ t) (tz : z.tree ≡ u) (same : z.joined ≡ m.joined) where
+    abbrev test : OpenMachine → List Node → ℕ → ℕ → Bool
     test m t s f = is_fork t f && nat_eq (strand_of t f) s && not (has m.joined f)
 
     pub waits_grown : (s : ℕ) → ((f : ℕ) → length t ≤ f → f < length u → (is_fork u f && nat_eq (strand_of u f) s) ≡ false) → waits z s ≡ waits m s
@@ -104,7 +104,7 @@ module _ (t xs : List Node) (r : IsRooted t) where
         ∙ ap (λ t. list_any (test m t s) (all_nodes t)) (sym tm)
 
 -- a strand waits where a fork of it was not joined
-pub waits_for : (m : Machine) (s f : ℕ) → f < length m.tree → is_fork m.tree f ≡ true → strand_of m.tree f ≡ s → has m.joined f ≡ false → waits m s ≡ true
+pub waits_for : (m : OpenMachine) (s f : ℕ) → f < length m.tree → is_fork m.tree f ≡ true → strand_of m.tree f ≡ s → has m.joined f ≡ false → waits m s ≡ true
 waits_for m s f h fork own off =
     any_from (λ f. is_fork m.tree f && nat_eq (strand_of m.tree f) s && not (has m.joined f)) f (all_nodes m.tree) (below_in f (length m.tree) h)
     (and_from (is_fork m.tree f && nat_eq (strand_of m.tree f) s) (not (has m.joined f)) (and_from (is_fork m.tree f) (nat_eq (strand_of m.tree f) s) fork (eq-eqb (strand_of m.tree f) s own)) (Rattle.std.proofs.lemmas.Bool.not_from_false (has m.joined f) off))

@@ -20,7 +20,7 @@ use Rattle.cw_trace.proofs.Lines.{gap_le}
 use Rattle.cw_open.specs.Machine.{is_running}
 use Rattle.cw_open.proofs.Standing.{runs, stands}
 use Rattle.cw_core.specs.declared.row.Row.{Row}
-use Rattle.cw_core.specs.State.{State, joins}
+use Rattle.cw_core.specs.State.{CoreState, joined_columns}
 use Rattle.cw_core.specs.Kept.{IsRow, AreParts}
 use Rattle.cw_core.proofs.Going.{well}
 
@@ -54,7 +54,7 @@ children_few t q some = by (length t) some where
 closed_few : (t : List Node) → length (filter (is_closed t) (all_nodes t)) ≤ length t
 closed_few t = omega (arith, fewer (is_closed t) (all_nodes t), length_below (length t))
 
-module _ (k : State) (rows : List Row) (forks : List ℕ) (cells : List CellParts) (last : Option ℕ) (w : AreParts k rows forks cells last) where
+module _ (k : CoreState) (rows : List Row) (forks : List ℕ) (cells : List CellParts) (last : Option ℕ) (w : AreParts k rows forks cells last) where
   pub clock_fits : k.machine.clock + 1 < 2 ^ 64
   clock_fits = let d = w.drawn in let f = w.few in let c = closed_few k.machine.tree in omega arith
 
@@ -79,7 +79,7 @@ module _ (k : State) (rows : List Row) (forks : List ℕ) (cells : List CellPart
     pub gap_there : (r : Row) → IsRow k s r → gap k.tier r.made.column < length k.words
     gap_there r row =
         let h = column_there r row in
-        let z = gap_le k.tier k.splits (joins k) (is_pending k.machine.tree) (column k.machine.tree (used k.tier)) w.core.stands.segments r.made.column h in
+        let z = gap_le k.tier k.splits (joined_columns k) (is_pending k.machine.tree) (column k.machine.tree (used k.tier)) w.core.stands.segments r.made.column h in
         let room = w.core.stands.room in
         omega (arith, h, z, room.0, room.1)
 

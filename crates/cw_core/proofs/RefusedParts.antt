@@ -15,14 +15,14 @@ use Rattle.cw_tree.proofs.Growing.{get_next, node_grown, number_grown, node_new,
 use Rattle.cw_stack.specs.Cells.{CellParts}
 use Rattle.cw_trace.specs.Columns.{used}
 use Rattle.cw_trace.proofs.Grow.{fork_column_append}
-use Rattle.cw_open.specs.Machine.{Machine, has_finished, waits, is_running, is_free}
+use Rattle.cw_open.specs.Machine.{OpenMachine, has_finished, waits, is_running, is_free}
 use Rattle.cw_open.proofs.ListSteps.{none_new}
 use Rattle.cw_open.proofs.Standing.{runs}
 use Rattle.cw_open.proofs.TreeSteps.{free_runs}
 use Rattle.cw_core.specs.declared.row.Tail.{Tail}
 use Rattle.cw_core.specs.declared.row.Now.{Now}
 use Rattle.cw_core.specs.declared.row.Row.{Row}
-use Rattle.cw_core.specs.State.{State, waits_for_left, spent}
+use Rattle.cw_core.specs.State.{CoreState, waits_for_left, spent}
 use Rattle.cw_core.specs.Laws.{IsCore}
 use Rattle.cw_core.specs.Kept.{IsTail, IsNow, IsRow, AreRows, AreForks, IsHeld, AreParts, IsVictim, is_counted, changed, with_tail, with_victim, tried_tail, leaf_row}
 use Rattle.cw_core.proofs.Going.{well, at_place}
@@ -34,11 +34,11 @@ use Rattle.cw_core.proofs.PartsGrow.{askers_still, forks_still, held_still, clos
 use Rattle.cw_core.proofs.RefusedStakes.{victim_other}
 use Rattle.cw_core.proofs.Entering.{there_or_last}
 
-module _ (first : List ℤ) (k : State) (core : IsCore first k) (s : ℕ) (free : is_free k.machine s ≡ true) (ready : waits_for_left k s ≡ false) (c : ℕ) (conflict : Conflict) (asks : conflict.asker ≡ length k.machine.tree) where
+module _ (first : List ℤ) (k : CoreState) (core : IsCore first k) (s : ℕ) (free : is_free k.machine s ≡ true) (ready : waits_for_left k s ≡ false) (c : ℕ) (conflict : Conflict) (asks : conflict.asker ≡ length k.machine.tree) where
   abbrev t : List Node
   t = k.machine.tree
 
-  abbrev m : Machine
+  abbrev m : OpenMachine
   m = k.machine
 
   abbrev p : ℕ
@@ -56,10 +56,10 @@ module _ (first : List ℤ) (k : State) (core : IsCore first k) (s : ℕ) (free 
   abbrev conflicts : List Conflict
   conflicts = m.conflicts ++ conflict ∷ []
 
-  abbrev pub refused_state : State
+  abbrev pub refused_state : CoreState
   refused_state = record k { machine = record m { tree = u; conflicts = conflicts } }
 
-  abbrev z : State
+  abbrev z : CoreState
   z = refused_state
 
   running : is_running m s ≡ true

@@ -15,14 +15,14 @@ use Rattle.cw_tree.proofs.There.{node_there}
 use Rattle.cw_tree.proofs.Ancestors.{beneath, ancestor_up, ancestor_self}
 use Rattle.cw_tree.proofs.Strands.{strand_of_other}
 use Rattle.cw_tree.proofs.Growing.{get_append, get_next, node_grown, number_grown, strand_of_grown, is_above_grown, above_new}
-use Rattle.cw_open.specs.Machine.{Machine, has_finished, is_running, is_dying, is_free, falls}
+use Rattle.cw_open.specs.Machine.{OpenMachine, has_finished, is_running, is_dying, is_free, falls}
 use Rattle.cw_open.specs.Runs.{at_once}
 use Rattle.cw_open.proofs.NodeKinds.{fork_no_strand, fork_no_block_at, pending_block}
 use Rattle.cw_open.proofs.ListSteps.{none_new}
 use Rattle.cw_open.proofs.Standing.{stands, strand_itself, place_open, open_over}
 use Rattle.cw_open.proofs.TreeSteps.{free_runs}
 use Rattle.cw_open.proofs.Victims.{IsTold, told_states}
-use Rattle.cw_core.specs.State.{State, waits_for_left}
+use Rattle.cw_core.specs.State.{CoreState, waits_for_left}
 use Rattle.cw_core.specs.Laws.{IsCore}
 use Rattle.cw_core.specs.Kept.{IsAtStake, IsVictim, is_counted}
 use Rattle.cw_core.proofs.Going.{well, at_place}
@@ -51,11 +51,11 @@ fork_between t r n strand q h over out forks =
             ]
           ]
 
-module _ (first : List ℤ) (k : State) (core : IsCore first k) (s : ℕ) (free : is_free k.machine s ≡ true) (ready : waits_for_left k s ≡ false) (c : ℕ) (conflict : Conflict) (asks : conflict.asker ≡ length k.machine.tree) where
+module _ (first : List ℤ) (k : CoreState) (core : IsCore first k) (s : ℕ) (free : is_free k.machine s ≡ true) (ready : waits_for_left k s ≡ false) (c : ℕ) (conflict : Conflict) (asks : conflict.asker ≡ length k.machine.tree) where
   abbrev t : List Node
   t = k.machine.tree
 
-  abbrev m : Machine
+  abbrev m : OpenMachine
   m = k.machine
 
   abbrev p : ℕ
@@ -70,10 +70,10 @@ module _ (first : List ℤ) (k : State) (core : IsCore first k) (s : ℕ) (free 
   abbrev u : List Node
   u = t ++ x ∷ []
 
-  abbrev pub refused_machine : Machine
+  abbrev pub refused_machine : OpenMachine
   refused_machine = record m { tree = u; conflicts = m.conflicts ++ conflict ∷ [] }
 
-  abbrev z : Machine
+  abbrev z : OpenMachine
   z = refused_machine
 
   running : is_running m s ≡ true

@@ -16,14 +16,14 @@ use Rattle.cw_tree.proofs.Lists.{In}
 use Rattle.cw_tree.proofs.Members.{in_below, below_in}
 use Rattle.cw_tree.proofs.There.{node_there}
 use Rattle.cw_tree.proofs.Growing.{get_next, node_grown, number_grown, number_new, length_more}
-use Rattle.cw_open.specs.Machine.{Machine, is_running, is_free}
+use Rattle.cw_open.specs.Machine.{OpenMachine, is_running, is_free}
 use Rattle.cw_open.specs.Steps.{accesses, refuses, refusal, after_all}
 use Rattle.cw_open.proofs.NodeKinds.{pending_block}
 use Rattle.cw_open.proofs.TreeSteps.{free_runs}
 use Rattle.cw_core.specs.declared.event.Event.TheVariants as event
 use Rattle.cw_core.specs.declared.row.Row.{Row}
-use Rattle.cw_core.specs.State.{State, waits_for_left, last_refusal, spent}
-use Rattle.cw_core.specs.Events.{is_met, met_by, after}
+use Rattle.cw_core.specs.State.{CoreState, waits_for_left, last_refusal, spent}
+use Rattle.cw_core.specs.Events.{is_met, met_by, after_event}
 use Rattle.cw_core.specs.Laws.{IsCore}
 use Rattle.cw_core.specs.Kept.{IsTail, IsRow, tried_again}
 use Rattle.cw_core.specs.declared.row.Tail.{Tail}
@@ -32,9 +32,9 @@ use Rattle.cw_core.proofs.Tails.{suffix_same, child_low, elders_more}
 use Rattle.cw_core.proofs.RowsGrow.{tried_grown, made_grown}
 
 -- a refused access leads to its state
-pub after_refused : (k : State) (s c : ℕ) (write : Option ℤ) → is_met k s c ≡ true
-    → after k (event.Access s c write) ≡ record k { machine = record k.machine { tree = k.machine.tree ++ fresh_node (place k.machine.tree s) (Tried c) 0 ∷ []; conflicts = k.machine.conflicts ++ refusal k.machine (place k.machine.tree s) c (met_by k s c) ∷ [] } }
-after_refused k s c write met = ap (λ b. let z : State = record k { machine = after_all k.machine (cond b (refuses s c write (met_by k s c)) (accesses s c write (k.machine.clock + 1)) ∷ []) } in z) met
+pub after_refused : (k : CoreState) (s c : ℕ) (write : Option ℤ) → is_met k s c ≡ true
+    → after_event k (event.Access s c write) ≡ record k { machine = record k.machine { tree = k.machine.tree ++ fresh_node (place k.machine.tree s) (Tried c) 0 ∷ []; conflicts = k.machine.conflicts ++ refusal k.machine (place k.machine.tree s) c (met_by k s c) ∷ [] } }
+after_refused k s c write met = ap (λ b. let z : CoreState = record k { machine = after_all k.machine (cond b (refuses s c write (met_by k s c)) (accesses s c write (k.machine.clock + 1)) ∷ []) } in z) met
 
 filter_all : (q : ℕ → Bool) (xs : List ℕ) → ((v : ℕ) → In v xs → q v ≡ true) → filter q xs ≡ xs
 filter_all q [] g = refl
@@ -48,11 +48,11 @@ find_only q (x ∷ xs) b i e only = by (q x) refl (λ j. find_only q xs b j e (�
   by true p more = ap Some (only x (inl refl) p)
   by false p more = elim i [ inl same ↦ absurd (let a = ap q same in cc (a, e, p)) | inr j ↦ more j ]
 
-module _ (first : List ℤ) (k : State) (core : IsCore first k) (s : ℕ) (free : is_free k.machine s ≡ true) (ready : waits_for_left k s ≡ false) (c : ℕ) where
+module _ (first : List ℤ) (k : CoreState) (core : IsCore first k) (s : ℕ) (free : is_free k.machine s ≡ true) (ready : waits_for_left k s ≡ false) (c : ℕ) where
   abbrev t : List Node
   t = k.machine.tree
 
-  abbrev m : Machine
+  abbrev m : OpenMachine
   m = k.machine
 
   abbrev p : ℕ
@@ -95,7 +95,7 @@ module _ (first : List ℤ) (k : State) (core : IsCore first k) (s : ℕ) (free 
   -- ## Budgets
 
   module _ (conflict : Conflict) (asks : conflict.asker ≡ length t) where
-    abbrev z : State
+    abbrev z : CoreState
     z = record k { machine = record m { tree = u; conflicts = m.conflicts ++ conflict ∷ [] } }
 
     -- a budget is spent where the conflict has its last attempt

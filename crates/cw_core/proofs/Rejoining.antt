@@ -18,13 +18,13 @@ use Rattle.cw_tree.proofs.There.{node_there}
 use Rattle.cw_tree.proofs.Kin.{branch}
 use Rattle.cw_tree.proofs.Ancestors.{ancestor_above, above_ancestor, ancestor_le, ancestor_trans, ancestor_up}
 use Rattle.cw_tree.proofs.Strands.{strand_over, strand_of_le}
-use Rattle.cw_trace.specs.Columns.{Columns, used}
+use Rattle.cw_trace.specs.Columns.{ColumnTable, used}
 use Rattle.cw_trace.specs.Stands.{fork_column}
-use Rattle.cw_open.specs.Machine.{Machine, has_finished, waits, is_running, falls}
+use Rattle.cw_open.specs.Machine.{OpenMachine, has_finished, waits, is_running, falls}
 use Rattle.cw_open.specs.Open.{is_open, AreNested}
 use Rattle.cw_open.proofs.Named.{strand_is}
 use Rattle.cw_core.specs.declared.row.Row.{Row}
-use Rattle.cw_core.specs.State.{State, is_split}
+use Rattle.cw_core.specs.State.{CoreState, is_split}
 use Rattle.cw_core.specs.Laws.{IsCore}
 use Rattle.cw_core.specs.Kept.{IsMade, IsRow, AreRows, IsAtStake, IsVictim, is_counted, changed, with_joined, with_back, least}
 use Rattle.cw_core.proofs.Going.{well}
@@ -68,10 +68,10 @@ one_of (Some a) (Some b) x e = elim (Rattle.std.proofs.lemmas.Bool.cases_lt a b)
   | inr le ↦ (let q : min a b ≡ b = omega arith in inr (ap Some (sym q) ∙ e))
 ]
 
-module _ (first : List ℤ) (k : State) (core : IsCore first k) (askers : (i : ℕ) (c : Conflict) → slice_get k.machine.conflicts i ≡ Some c → is_tried k.machine.tree c.asker ≡ true)
+module _ (first : List ℤ) (k : CoreState) (core : IsCore first k) (askers : (i : ℕ) (c : Conflict) → slice_get k.machine.conflicts i ≡ Some c → is_tried k.machine.tree c.asker ≡ true)
     (f : ℕ) (fork : is_fork k.machine.tree f ≡ true) (unjoined : has k.machine.joined f ≡ false) (all : list_all (has_finished k.machine) (children k.machine.tree f) ≡ true)
-    (d : Columns) (same : used d ≡ used k.tier) (room : d.room ≡ k.tier.room) where
-  abbrev m : Machine
+    (d : ColumnTable) (same : used d ≡ used k.tier) (room : d.room ≡ k.tier.room) where
+  abbrev m : OpenMachine
   m = k.machine
 
   abbrev t : List Node
@@ -80,7 +80,7 @@ module _ (first : List ℤ) (k : State) (core : IsCore first k) (askers : (i : �
   abbrev p : ℕ
   p = strand_of t f
 
-  abbrev pub z : State
+  abbrev pub z : CoreState
   z = with_same_tree k m.finished (f ∷ m.joined) m.stopped d k.splits k.halt same room
 
   tree : IsTree t

@@ -15,14 +15,14 @@ use Rattle.cw_tree.proofs.Ancestors.{ancestor_self, ancestor_above, above_ancest
 use Rattle.cw_tree.proofs.Kin.{branch, ancestor_linear}
 use Rattle.cw_tree.proofs.Strands.{strand_of_other, strand_over}
 use Rattle.cw_tree.proofs.There.{node_there}
-use Rattle.cw_open.specs.Machine.{Machine, has_finished, is_running, in_block, falls}
+use Rattle.cw_open.specs.Machine.{OpenMachine, has_finished, is_running, in_block, falls}
 use Rattle.cw_open.specs.Open.{is_open}
 use Rattle.cw_open.specs.Runs.{at_once}
 use Rattle.cw_open.proofs.NodeKinds.{pending_block, strand_no_block, fork_no_strand, fork_no_block_at}
 use Rattle.cw_open.proofs.Standing.{strand_itself, open_over, pending_open, runs, stands, none_open}
 use Rattle.cw_core.proofs.PartsGrow.{all_at}
 use Rattle.cw_open.proofs.Victims.{IsTold, told_states}
-use Rattle.cw_core.specs.State.{State, waits_for_left}
+use Rattle.cw_core.specs.State.{CoreState, waits_for_left}
 use Rattle.cw_core.specs.Laws.{IsCore}
 use Rattle.cw_core.specs.Kept.{is_counted}
 use Rattle.cw_core.proofs.Going.{well, pending_stamped}
@@ -42,11 +42,11 @@ fork_over t tree s own =
           ]
     ])
 
-module _ (first : List ℤ) (k : State) (core : IsCore first k) (s : ℕ) (running : is_running k.machine s ≡ true) (ready : waits_for_left k s ≡ false) (within : in_block k.machine s ≡ true) where
+module _ (first : List ℤ) (k : CoreState) (core : IsCore first k) (s : ℕ) (running : is_running k.machine s ≡ true) (ready : waits_for_left k s ≡ false) (within : in_block k.machine s ≡ true) where
   abbrev t : List Node
   t = k.machine.tree
 
-  abbrev m : Machine
+  abbrev m : OpenMachine
   m = k.machine
 
   abbrev b : ℕ

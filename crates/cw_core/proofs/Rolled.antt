@@ -14,12 +14,12 @@ use Rattle.cw_tree.proofs.Lists.{In}
 use Rattle.cw_tree.proofs.Ancestors.{above_ancestor}
 use Rattle.cw_tree.proofs.Stamps.{stamps_beneath}
 use Rattle.cw_stack.specs.Cells.{CellParts}
-use Rattle.cw_open.specs.Machine.{Machine, live, is_running, in_block}
+use Rattle.cw_open.specs.Machine.{OpenMachine, live, is_running, in_block}
 use Rattle.cw_open.proofs.Listing.{listed}
 use Rattle.cw_open.proofs.Rising.{Rises}
 use Rattle.cw_open.proofs.Named.{access_named, none_aborted, live_from}
 use Rattle.cw_core.specs.declared.row.Row.{Row}
-use Rattle.cw_core.specs.State.{State, waits_for_left}
+use Rattle.cw_core.specs.State.{CoreState, waits_for_left}
 use Rattle.cw_core.specs.Kept.{AreParts}
 use Rattle.cw_core.specs.Undone.{Among, MayUndo}
 use Rattle.cw_core.proofs.Kept.{cells}
@@ -100,11 +100,11 @@ after_passes p (x ∷ xs) r e a b i j le on =
 
 -- ## What is undone
 
-module _ (k : State) (rows : List Row) (forks : List ℕ) (cs : List CellParts) (last : Option ℕ) (w : AreParts k rows forks cs last) (s : ℕ) (running : is_running k.machine s ≡ true) (ready : waits_for_left k s ≡ false) (within : in_block k.machine s ≡ true) where
+module _ (k : CoreState) (rows : List Row) (forks : List ℕ) (cs : List CellParts) (last : Option ℕ) (w : AreParts k rows forks cs last) (s : ℕ) (running : is_running k.machine s ≡ true) (ready : waits_for_left k s ≡ false) (within : in_block k.machine s ≡ true) where
   abbrev t : List Node
   t = k.machine.tree
 
-  abbrev m : Machine
+  abbrev m : OpenMachine
   m = k.machine
 
   abbrev b : ℕ

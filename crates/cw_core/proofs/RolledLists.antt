@@ -15,7 +15,7 @@ use Rattle.cw_stack.specs.Cells.{CellParts}
 use Rattle.cw_open.specs.Machine.{rolls_back}
 use Rattle.cw_open.proofs.Listing.{listed}
 use Rattle.cw_open.proofs.ListSteps.{listed_here, listed_other}
-use Rattle.cw_core.specs.State.{State, waits_for_left}
+use Rattle.cw_core.specs.State.{CoreState, waits_for_left}
 use Rattle.cw_core.specs.Laws.{IsCore}
 use Rattle.cw_core.specs.Undone.{AreUndone}
 use Rattle.cw_core.proofs.PartsClose.{filter_all}
@@ -67,7 +67,7 @@ firsts_same (y ∷ ys) (x ∷ xs) len h =
     let q : x ≡ z.0 = (let e = z.1 in cc e) in
     ap (λ i. i ∷ map (λ c. c.first) ys) (z.2 ∙ ap (λ c. c.first) (sym q)) ∙ ap (λ is. x.first ∷ is) (firsts_same ys xs (omega arith) (λ c y e. h (suc c) y e))
 
-module _ (first : List ℤ) (k : State) (core : IsCore first k) (s : ℕ) (rolls : rolls_back k.machine s ≡ true) (ready : waits_for_left k s ≡ false) where
+module _ (first : List ℤ) (k : CoreState) (core : IsCore first k) (s : ℕ) (rolls : rolls_back k.machine s ≡ true) (ready : waits_for_left k s ≡ false) where
   abbrev t : List Node
   t = k.machine.tree
 

@@ -14,9 +14,9 @@ use Rattle.cw_tree.proofs.Lists.{In, any_from, all_from}
 use Rattle.cw_tree.proofs.Members.{in_filter, in_below, below_in}
 use Rattle.cw_tree.proofs.There.{node_there}
 use Rattle.cw_tree.proofs.Closing.{state_closed, is_above_closed}
-use Rattle.cw_open.specs.Machine.{Machine, live, is_running, in_block, rolls_back}
+use Rattle.cw_open.specs.Machine.{OpenMachine, live, is_running, in_block, rolls_back}
 use Rattle.cw_open.specs.Steps.{undoes, aborts, after_all}
-use Rattle.cw_open.specs.Runs.{IsRun, Reached, at_once}
+use Rattle.cw_open.specs.Runs.{IsRun, IsReachedBy, at_once}
 use Rattle.cw_open.proofs.NodeKinds.{pending_block}
 use Rattle.cw_open.proofs.TreeSteps.{rolls_runs}
 use Rattle.cw_open.proofs.Filtered.{filter_in}
@@ -24,8 +24,8 @@ use Rattle.cw_open.proofs.Listing.{listed}
 use Rattle.cw_open.proofs.ListSteps.{listed_here, listed_other}
 use Rattle.cw_open.proofs.Named.{access_named, live_tells}
 use Rattle.cw_core.specs.declared.event.Event.TheVariants as event
-use Rattle.cw_core.specs.State.{State, waits_for_left}
-use Rattle.cw_core.specs.Events.{steps_of, after, touched, next}
+use Rattle.cw_core.specs.State.{CoreState, waits_for_left}
+use Rattle.cw_core.specs.Events.{steps_of, after_event, touched, next}
 use Rattle.cw_core.specs.Laws.{IsCore}
 use Rattle.cw_core.proofs.Complete.{HasAll, none_of}
 use Rattle.cw_core.proofs.Going.{run_more, after_more, reached_more, well, all_listed, end_stamp, at_place}
@@ -76,11 +76,11 @@ all_lists f (l ∷ ls) h = and_from (list_all f l) (list_all (list_all f) ls) (a
 
 -- ## The undos of a roll
 
-module _ (first : List ℤ) (k : State) (core : IsCore first k) (s : ℕ) (rolls : rolls_back k.machine s ≡ true) (ready : waits_for_left k s ≡ false) where
+module _ (first : List ℤ) (k : CoreState) (core : IsCore first k) (s : ℕ) (rolls : rolls_back k.machine s ≡ true) (ready : waits_for_left k s ≡ false) where
   abbrev t : List Node
   t = k.machine.tree
 
-  abbrev m : Machine
+  abbrev m : OpenMachine
   m = k.machine
 
   abbrev pub p : ℕ
@@ -132,7 +132,7 @@ module _ (first : List ℤ) (k : State) (core : IsCore first k) (s : ℕ) (rolls
             w.1 (filter_in (λ c. list_any (λ u. is_above t p (access_at t u)) (live m c)) d (below (length m.lists)) (below_in d (length m.lists) (listed_low m.lists d u w.0)) (any_from (λ u. is_above t p (access_at t u)) u (live m d) w.0 over))
       ]
 
-  abbrev pub rolled : Machine
+  abbrev pub rolled : OpenMachine
   rolled = record m { tree = v; lists = ls; clock = max m.clock (next k) }
 
   pub machine_is : after_all m (steps_of k (event.Roll s)) ≡ rolled
@@ -140,7 +140,7 @@ module _ (first : List ℤ) (k : State) (core : IsCore first k) (s : ℕ) (rolls
 
   run : IsRun at_once m (steps_of k (event.Roll s))
   run =
-      let P : Machine → Type 0 = λ z. IsRun at_once z (aborts s (next k) ∷ []) in
+      let P : OpenMachine → Type 0 = λ z. IsRun at_once z (aborts s (next k) ∷ []) in
       let last : IsRun at_once (record m { lists = ls }) (aborts s (next k) ∷ []) = ((and_from (rolls_back m s) (list_all (list_all beside) ls) rolls (all_lists beside ls none_beneath), end_stamp first k core p (at_place first k core s running ready).there), tt) in
       run_more at_once m (map (undoes s) cs) (aborts s (next k) ∷ []) (undo_run m.lists cs low) (subst P (sym (undone m.lists cs)) last)
 
@@ -155,13 +155,13 @@ module _ (first : List ℤ) (k : State) (core : IsCore first k) (s : ℕ) (rolls
       let P : ℕ → Type 0 = λ u. In u (listed ls c) in
       subst P (sym w.2) (in_filtered beside m.lists cs low c (stamp_of t n) (all_listed first k core c n w.0 w.1) (not_from_false (is_above t p (access_at t (stamp_of t n))) (ap (is_above t p) (access_named t (well first k core).sound.stamps c n w.0) ∙ off)))
 
-  abbrev pub state_with : Machine → State
-  state_with z = record (after k (event.Roll s)) { machine = z }
+  abbrev pub state_with : OpenMachine → CoreState
+  state_with z = record (after_event k (event.Roll s)) { machine = z }
 
   pub keeps_roll : IsKept first k (event.Roll s)
   keeps_roll =
-      let P : Machine → Type 0 = λ z. IsCore first (state_with z) in
-      let reach = Reached at_once first in
+      let P : OpenMachine → Type 0 = λ z. IsCore first (state_with z) in
+      let reach = IsReachedBy at_once first in
       record {
         run = run;
         core = subst P (sym machine_is) (record {

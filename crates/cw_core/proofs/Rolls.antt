@@ -11,16 +11,16 @@ use Rattle.cw_tree.specs.Series.{place}
 use Rattle.cw_tree.specs.Attempts.{block_attempt}
 use Rattle.cw_tree.proofs.Closing.{length_closed, state_closed, is_above_closed}
 use Rattle.cw_stack.specs.Cells.{CellParts}
-use Rattle.cw_open.specs.Machine.{Machine, is_running, in_block, falls, rolls_back}
+use Rattle.cw_open.specs.Machine.{OpenMachine, is_running, in_block, falls, rolls_back}
 use Rattle.cw_open.proofs.NodeKinds.{pending_block}
 use Rattle.cw_open.proofs.TreeSteps.{rolls_runs}
 use Rattle.cw_core.specs.declared.event.Event.TheVariants as event
 use Rattle.cw_core.specs.declared.row.Row.{Row}
 use Rattle.cw_core.specs.declared.cores.Core.TheInside.{Inside}
-use Rattle.cw_core.specs.Held.{state_of, IsKept}
+use Rattle.cw_core.specs.Held.{state_of, IsCoreInMemory}
 use Rattle.cw_trace.specs.Columns.{closed_word}
-use Rattle.cw_core.specs.State.{State, waits_for_left, gap_of}
-use Rattle.cw_core.specs.Events.{fits, after}
+use Rattle.cw_core.specs.State.{CoreState, waits_for_left, gap_of}
+use Rattle.cw_core.specs.Events.{fits, after_event}
 use Rattle.cw_core.specs.Kept.{IsTail, IsNow, IsRow, IsAtStake, IsVictim, IsHeld, AreRows, AreParts, is_counted, changed, with_tail, with_rolled, without, aborted_tail, stopped_by}
 use Rattle.cw_core.specs.Undone.{AreUndone, NoneBeneath, is_beneath}
 use Rattle.cw_core.proofs.Kept.{events}
@@ -35,30 +35,30 @@ use Rattle.cw_core.proofs.Rolled.{among_get, lists_of}
 use Rattle.cw_core.proofs.RolledLists.{rolled_lists, rolled_firsts}
 use Rattle.cw_core.proofs.RollVictims.{last_victim, other_victim}
 
-pub record MayRoll (k : State) (s : ℕ) : Type 0 where
+pub record MayRoll (k : CoreState) (s : ℕ) : Type 0 where
   pub rolls : rolls_back k.machine s ≡ true
   pub running : is_running k.machine s ≡ true
   pub ready : waits_for_left k s ≡ false
   pub within : in_block k.machine s ≡ true
 
-pub may_roll : (k : State) (s : ℕ) → fits k (event.Roll s) ≡ true → MayRoll k s
+pub may_roll : (k : CoreState) (s : ℕ) → fits k (event.Roll s) ≡ true → MayRoll k s
 may_roll k s fit =
     let x = and_parts (rolls_back k.machine s) (not (waits_for_left k s)) (now_of k (event.Roll s) fit) in
     let y = rolls_runs k.machine s x.0 in
     record { rolls = x.0; running = y.running; ready = not-true (waits_for_left k s) x.1; within = y.within }
 
 -- a state in which the cells have other lists
-abbrev relisted : State → List (List ℕ) → State
+abbrev relisted : CoreState → List (List ℕ) → CoreState
 relisted z xs = record z { machine = record z.machine { lists = xs } }
 
-relist_stake : (z : State) (xs : List (List ℕ)) (n v : ℕ) (c : Conflict) → IsAtStake (relisted z xs).machine n c v → IsAtStake z.machine n c v
+relist_stake : (z : CoreState) (xs : List (List ℕ)) (n v : ℕ) (c : Conflict) → IsAtStake (relisted z xs).machine n c v → IsAtStake z.machine n c v
 relist_stake z xs n v c w = record { over = w.over; falls = w.falls; beside = w.beside }
 
-relist_victim : (z : State) (xs : List (List ℕ)) (n : ℕ) (o : Option ℕ) → IsVictim z.machine n o → IsVictim (relisted z xs).machine n o
+relist_victim : (z : CoreState) (xs : List (List ℕ)) (n : ℕ) (o : Option ℕ) → IsVictim z.machine n o → IsVictim (relisted z xs).machine n o
 relist_victim z xs n None w = λ i v c at stake. w i v c at (relist_stake z xs n v c stake)
 relist_victim z xs n (Some y) w = (λ i v c at stake. w.0 i v c at (relist_stake z xs n v c stake), w.1)
 
-relist_row : (z : State) (xs : List (List ℕ)) (n : ℕ) (r : Row) → IsRow z n r → IsRow (relisted z xs) n r
+relist_row : (z : CoreState) (xs : List (List ℕ)) (n : ℕ) (r : Row) → IsRow z n r → IsRow (relisted z xs) n r
 relist_row z xs n r w = record {
   made = record { strand = w.made.strand; column = w.made.column; elder = w.made.elder; halves = w.made.halves; columns = w.made.columns; forked = w.made.forked; attempt = w.made.attempt };
   tail = w.tail;
@@ -74,11 +74,11 @@ relist_row z xs n r w = record {
   };
 }
 
-module _ (k : State) (rows : List Row) (forks : List ℕ) (cells : List CellParts) (last : Option ℕ) (w : AreParts k rows forks cells last) (s : ℕ) (fit : fits k (event.Roll s) ≡ true) where
+module _ (k : CoreState) (rows : List Row) (forks : List ℕ) (cells : List CellParts) (last : Option ℕ) (w : AreParts k rows forks cells last) (s : ℕ) (fit : fits k (event.Roll s) ≡ true) where
   abbrev t : List Node
   t = k.machine.tree
 
-  abbrev m : Machine
+  abbrev m : OpenMachine
   m = k.machine
 
   abbrev b : ℕ
@@ -94,10 +94,10 @@ module _ (k : State) (rows : List Row) (forks : List ℕ) (cells : List CellPart
   u = closed t b Aborted end
 
   abbrev words : List ℕ
-  words = (after k (event.Roll s)).words
+  words = (after_event k (event.Roll s)).words
 
   -- the block is closed, with the lists as they were
-  abbrev z : State
+  abbrev z : CoreState
   z = record k { machine = record m { tree = u; clock = max m.clock end }; words = words }
 
   pub may : MayRoll k s
@@ -197,10 +197,10 @@ module _ (k : State) (rows : List Row) (forks : List ℕ) (cells : List CellPart
 
   -- ## The whole
 
-  abbrev y : State
+  abbrev y : CoreState
   y = state_with m.first k w.core s may.rolls may.ready (rolled m.first k w.core s may.rolls may.ready)
 
-  pub is_rolled : after k (event.Roll s) ≡ y
+  pub is_rolled : after_event k (event.Roll s) ≡ y
   is_rolled = ap (state_with m.first k w.core s may.rolls may.ready) (machine_is m.first k w.core s may.rolls may.ready)
 
   held_at : (new : List CellParts) → AreUndone t b cells new → (c : ℕ) (cell : CellParts) → slice_get new c ≡ Some cell → IsHeld y c cell
@@ -217,10 +217,10 @@ module _ (k : State) (rows : List Row) (forks : List ℕ) (cells : List CellPart
             record { node = told.node; touches = told.touches; stamp = told.stamp; wrote = told.wrote; strand = told.strand });
       }
 
-  pub roll_parts : (count : ℕ) → block_attempt t b ≡ count → (new : List CellParts) → AreUndone t b cells new → AreParts (after k (event.Roll s)) (changed (with_rolled q b) s (changed (with_tail (aborted_tail count)) q rows)) forks new last
+  pub roll_parts : (count : ℕ) → block_attempt t b ≡ count → (new : List CellParts) → AreUndone t b cells new → AreParts (after_event k (event.Roll s)) (changed (with_rolled q b) s (changed (with_tail (aborted_tail count)) q rows)) forks new last
   roll_parts count is new undone =
-      let P : State → Type 0 = λ x. AreParts x (changed (with_rolled q b) s (changed (with_tail (aborted_tail count)) q rows)) forks new last in
-      let Q : State → Type 0 = λ x. Rattle.cw_core.specs.Laws.IsCore m.first x in
+      let P : CoreState → Type 0 = λ x. AreParts x (changed (with_rolled q b) s (changed (with_tail (aborted_tail count)) q rows)) forks new last in
+      let Q : CoreState → Type 0 = λ x. Rattle.cw_core.specs.Laws.IsCore m.first x in
       let fs = forks_closed m.first k w.core s may.running may.ready may.within Aborted refl end (max m.clock end) words forks w.forked in
       let rs = roll_rows count is in
       subst P (sym is_rolled) (record {
@@ -238,11 +238,11 @@ module _ (k : State) (rows : List Row) (forks : List ℕ) (cells : List CellPart
 
 -- ## Fields
 
-module _ (a : Inside) (i : IsKept a) (s : ℕ) (fit : fits (state_of a) (event.Roll s) ≡ true) where
-  abbrev j : State
+module _ (a : Inside) (i : IsCoreInMemory a) (s : ℕ) (fit : fits (state_of a) (event.Roll s) ≡ true) where
+  abbrev j : CoreState
   j = state_of a
 
-  abbrev form : List ℤ → List Node → List (List ℕ) → ℕ → List ℕ → State
+  abbrev form : List ℤ → List Node → List (List ℕ) → ℕ → List ℕ → CoreState
   form f t l n ws = record {
     machine = record { first = f; tree = t; lists = l; clock = n; conflicts = a.conflicts.items; finished = a.finished; joined = a.joined; stopped = stopped_by a.halt };
     tier = a.tier.columns;
@@ -257,7 +257,7 @@ module _ (a : Inside) (i : IsKept a) (s : ℕ) (fit : fits (state_of a) (event.R
     abbrev whole : Inside
     whole = record a { tree = o.tree; clock = o.clock; rows = o.rows; gaps = o.gaps; cells = o.cells }
 
-    pub roll_state : state_of whole ≡ after j (event.Roll s)
+    pub roll_state : state_of whole ≡ after_event j (event.Roll s)
     roll_state =
         let g = may_roll j s fit in
         ap (λ f. form f o.tree (lists_of o.cells.items) o.clock o.gaps.words.items) (rolled_firsts j.machine.first j i.core s g.rolls g.ready a.cells.items o.cells.items i.lists undone)
@@ -268,10 +268,10 @@ module _ (a : Inside) (i : IsKept a) (s : ℕ) (fit : fits (state_of a) (event.R
         ∙ sym (is_rolled j a.rows.items a.forks.items a.cells.items a.spent i s fit)
 
     pub roll_kept : (count : ℕ) → block_attempt a.tree (place a.tree s) ≡ count
-        → o.rows.items ≡ changed (with_rolled (parent_of a.tree (place a.tree s)) (place a.tree s)) s (changed (with_tail (aborted_tail count)) (parent_of a.tree (place a.tree s)) a.rows.items) → IsKept whole
+        → o.rows.items ≡ changed (with_rolled (parent_of a.tree (place a.tree s)) (place a.tree s)) s (changed (with_tail (aborted_tail count)) (parent_of a.tree (place a.tree s)) a.rows.items) → IsCoreInMemory whole
     roll_kept count is rows =
-        let P : State → Type 0 = λ z. AreParts z o.rows.items a.forks.items o.cells.items a.spent in
-        let Q : List Row → Type 0 = λ rs. AreParts (after j (event.Roll s)) rs a.forks.items o.cells.items a.spent in
+        let P : CoreState → Type 0 = λ z. AreParts z o.rows.items a.forks.items o.cells.items a.spent in
+        let Q : List Row → Type 0 = λ rs. AreParts (after_event j (event.Roll s)) rs a.forks.items o.cells.items a.spent in
         subst P (sym roll_state) (subst Q (sym rows) (roll_parts j a.rows.items a.forks.items a.cells.items a.spent i s fit count is o.cells.items undone))
 
 -- nothing is left of what was done beneath a block where that was undone

@@ -23,7 +23,7 @@ use Rattle.cw_tree.proofs.Closing.{length_closed, all_nodes_closed, node_closed,
 use Rattle.cw_tree.proofs.NextTrees.{is_child}
 use Rattle.cw_trace.specs.Columns.{used}
 use Rattle.cw_trace.proofs.Ending.{SameShape, fork_column_same, column_same}
-use Rattle.cw_open.specs.Machine.{Machine, has_finished, waits, is_running, in_block, falls}
+use Rattle.cw_open.specs.Machine.{OpenMachine, has_finished, waits, is_running, in_block, falls}
 use Rattle.cw_open.proofs.Standing.{StandsAt, begun_in, runs, stands, strand_itself}
 use Rattle.cw_open.specs.Runs.{at_once}
 use Rattle.cw_open.proofs.Victims.{IsTold, told_states}
@@ -31,7 +31,7 @@ use Rattle.cw_open.proofs.NodeKinds.{pending_block, strand_no_block}
 use Rattle.cw_core.specs.declared.row.Made.{Made}
 use Rattle.cw_core.specs.declared.row.Tail.{Tail}
 use Rattle.cw_core.specs.declared.row.Now.{Now}
-use Rattle.cw_core.specs.State.{State, waits_for_left}
+use Rattle.cw_core.specs.State.{CoreState, waits_for_left}
 use Rattle.cw_core.specs.Laws.{IsCore}
 use Rattle.cw_core.specs.Kept.{IsMade, IsTail, IsNow, IsAtStake, IsVictim, is_counted}
 use Rattle.cw_core.proofs.Going.{well, at_place}
@@ -51,11 +51,11 @@ cell_of (Some x) = tried_cell_in x.kind
 cell_is : (t : List Node) (n : ℕ) → tried_cell t n ≡ cell_of (slice_get t n)
 cell_is t n = elim (slice_get t n) [ None ↦ refl | Some x ↦ refl ]
 
-module _ (first : List ℤ) (k : State) (core : IsCore first k) (s : ℕ) (running : is_running k.machine s ≡ true) (ready : waits_for_left k s ≡ false) (within : in_block k.machine s ≡ true) (state : BlockState) (done : is_pending_state state ≡ false) (end clock : ℕ) (words : List ℕ) where
+module _ (first : List ℤ) (k : CoreState) (core : IsCore first k) (s : ℕ) (running : is_running k.machine s ≡ true) (ready : waits_for_left k s ≡ false) (within : in_block k.machine s ≡ true) (state : BlockState) (done : is_pending_state state ≡ false) (end clock : ℕ) (words : List ℕ) where
   abbrev t : List Node
   t = k.machine.tree
 
-  abbrev m : Machine
+  abbrev m : OpenMachine
   m = k.machine
 
   abbrev b : ℕ
@@ -67,7 +67,7 @@ module _ (first : List ℤ) (k : State) (core : IsCore first k) (s : ℕ) (runni
   abbrev u : List Node
   u = closed t b state end
 
-  abbrev z : State
+  abbrev z : CoreState
   z = record k { machine = record m { tree = u; clock = clock }; words = words }
 
   tree : IsTree t

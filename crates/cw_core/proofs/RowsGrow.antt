@@ -15,12 +15,12 @@ use Rattle.cw_tree.proofs.NextTrees.{children_none, no_fork}
 use Rattle.cw_trace.specs.Columns.{used}
 use Rattle.cw_trace.specs.Stands.{fork_column}
 use Rattle.cw_trace.proofs.Grow.{fork_column_append, column_append}
-use Rattle.cw_open.specs.Machine.{Machine, has_finished, finished_dead, waits, is_running}
+use Rattle.cw_open.specs.Machine.{OpenMachine, has_finished, finished_dead, waits, is_running}
 use Rattle.cw_open.proofs.Standing.{stands}
 use Rattle.cw_core.specs.declared.row.Made.{Made}
 use Rattle.cw_core.specs.declared.row.Tail.{Tail}
 use Rattle.cw_core.specs.declared.row.Now.{Now}
-use Rattle.cw_core.specs.State.{State, waits_for_left}
+use Rattle.cw_core.specs.State.{CoreState, waits_for_left}
 use Rattle.cw_core.specs.Laws.{IsCore}
 use Rattle.cw_core.specs.Kept.{IsMade, IsTail, IsNow, IsRow, IsVictim, leaf_row}
 use Rattle.cw_core.proofs.Going.{well, at_place}
@@ -34,7 +34,7 @@ tried_grown t xs n h = by (slice_get t n) refl where
   by o e = rw (get_append t xs n h, e) refl
 
 -- a dead strand has finished
-pub dead_finished : (m : Machine) (s : ℕ) → finished_dead m s ≡ true → has_finished m s ≡ true
+pub dead_finished : (m : OpenMachine) (s : ℕ) → finished_dead m s ≡ true → has_finished m s ≡ true
 dead_finished m s e = weaker m.finished e where
   weaker : (fs : List (ℕ × Bool)) → list_any (λ f. nat_eq f.0 s && f.1) fs ≡ true → list_any (λ f. nat_eq f.0 s) fs ≡ true
   weaker [] e = absurd (cc e)
@@ -44,11 +44,11 @@ dead_finished m s e = weaker m.finished e where
         | inr a ↦ Rattle.std.proofs.lemmas.Bool.or_right (nat_eq f.0 s) (list_any (λ f. nat_eq f.0 s) fs) (weaker fs a)
       ]
 
-module _ (first : List ℤ) (k : State) (core : IsCore first k) (s : ℕ) (running : is_running k.machine s ≡ true) (ready : waits_for_left k s ≡ false) (x : Node) (up : x.parent ≡ place k.machine.tree s) where
+module _ (first : List ℤ) (k : CoreState) (core : IsCore first k) (s : ℕ) (running : is_running k.machine s ≡ true) (ready : waits_for_left k s ≡ false) (x : Node) (up : x.parent ≡ place k.machine.tree s) where
   abbrev t : List Node
   t = k.machine.tree
 
-  abbrev m : Machine
+  abbrev m : OpenMachine
   m = k.machine
 
   abbrev p : ℕ
@@ -81,7 +81,7 @@ module _ (first : List ℤ) (k : State) (core : IsCore first k) (s : ℕ) (runni
   -- ## What is known of nodes since they were made
 
   module _ (lists : List (List ℕ)) (clock : ℕ) (conflicts : List Conflict) (words : List ℕ) where
-    abbrev z : State
+    abbrev z : CoreState
     z = record k { machine = record m { tree = u; lists = lists; clock = clock; conflicts = conflicts }; words = words }
 
     pub made_grown : (n : ℕ) (r : Made) → n < length t → IsMade k n r → IsMade z n r

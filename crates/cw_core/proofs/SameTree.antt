@@ -4,15 +4,15 @@ use Rattle.std.specs.Prelude.{nat_le}
 use Rattle.cw_tree.specs.declared.node.Node.{Node}
 use Rattle.cw_tree.specs.declared.access.Entry.{Entry}
 use Rattle.cw_tree.specs.declared.closed.Halt.{Halt}
-use Rattle.cw_trace.specs.Columns.{Columns, used}
+use Rattle.cw_trace.specs.Columns.{ColumnTable, used}
 use Rattle.cw_trace.specs.Stands.{fork_column, column}
 use Rattle.cw_stack.specs.Cells.{CellParts}
 use Rattle.cw_core.specs.declared.row.Made.{Made}
-use Rattle.cw_core.specs.State.{State}
+use Rattle.cw_core.specs.State.{CoreState}
 use Rattle.cw_core.specs.Kept.{IsMade, AreForks, IsEntryOf, IsHeld}
 
-module _ (k : State) (finished : List (ℕ × Bool)) (joined stopped : List ℕ) (tier : Columns) (splits : List ℕ) (halt : Option Halt) (same : used tier ≡ used k.tier) (room : tier.room ≡ k.tier.room) where
-  abbrev pub with_same_tree : State
+module _ (k : CoreState) (finished : List (ℕ × Bool)) (joined stopped : List ℕ) (tier : ColumnTable) (splits : List ℕ) (halt : Option Halt) (same : used tier ≡ used k.tier) (room : tier.room ≡ k.tier.room) where
+  abbrev pub with_same_tree : CoreState
   with_same_tree = record k { machine = record k.machine { finished = finished; joined = joined; stopped = stopped }; tier = tier; splits = splits; halt = halt }
 
   abbrev t : List Node

@@ -13,12 +13,12 @@ use Rattle.cw_trace.specs.Stands.{fork_column}
 use Rattle.cw_trace.specs.Outward.{NextBars}
 use Rattle.cw_trace.proofs.Counting.{fork_column_one}
 use Rattle.cw_trace.proofs.Meaning.{odd_column}
-use Rattle.cw_open.specs.Machine.{Machine}
+use Rattle.cw_open.specs.Machine.{OpenMachine}
 use Rattle.cw_open.specs.Open.{is_open}
 use Rattle.cw_core.specs.declared.event.Event.TheVariants as event
 use Rattle.cw_core.specs.declared.row.Row.{Row}
-use Rattle.cw_core.specs.State.{State, joins, has_columns, is_split}
-use Rattle.cw_core.specs.Events.{fits, fits_now, is_unstarted, fork_at, after}
+use Rattle.cw_core.specs.State.{CoreState, joined_columns, has_columns, is_split}
+use Rattle.cw_core.specs.Events.{fits, fits_now, is_unstarted, fork_at, after_event}
 use Rattle.cw_core.specs.Kept.{IsRow, AreRows, AreParts, changed, with_split}
 use Rattle.cw_core.proofs.Alike.{parts_length}
 use Rattle.cw_core.proofs.Kept.{events}
@@ -38,13 +38,13 @@ find_one p v (x ∷ xs) i e one = by (p x) refl (λ j. find_one p v xs j e one) 
 
 -- ## What is asked of a fork that is split
 
-pub record MaySplit (k : State) (f : ℕ) : Type 0 where
+pub record MaySplit (k : CoreState) (f : ℕ) : Type 0 where
   pub fork : is_fork k.machine.tree f ≡ true
   pub columns : has_columns k f ≡ true
   pub uncut : has k.splits (fork_column k.machine.tree f) ≡ false
   pub unjoined : has k.machine.joined f ≡ false
 
-pub may_split : (k : State) (f : ℕ) → fits_now k (event.Split f) ≡ true → MaySplit k f
+pub may_split : (k : CoreState) (f : ℕ) → fits_now k (event.Split f) ≡ true → MaySplit k f
 may_split k f e =
     let m = k.machine in
     let x = and_parts (is_fork m.tree f && has_columns k f && not (is_split k f) && not (has m.joined f)) (is_unstarted k f) e in
@@ -53,8 +53,8 @@ may_split k f e =
     let w = and_parts (is_fork m.tree f) (has_columns k f) z.0 in
     record { fork = w.0; columns = w.1; uncut = sym (ap (λ q. q && has k.splits (fork_column m.tree f)) w.1) ∙ not-true (is_split k f) z.1; unjoined = not-true (has m.joined f) y.1 }
 
-module _ (k : State) (f : ℕ) (may : MaySplit k f) where
-  abbrev m : Machine
+module _ (k : CoreState) (f : ℕ) (may : MaySplit k f) where
+  abbrev m : OpenMachine
   m = k.machine
 
   abbrev col : ℕ
@@ -63,7 +63,7 @@ module _ (k : State) (f : ℕ) (may : MaySplit k f) where
   pub same_used : used (split_at col k.tier) ≡ used k.tier
   same_used = parts_length (owner k.tier col) col 0 k.tier.owners
 
-  abbrev z : State
+  abbrev z : CoreState
   z = with_same_tree k m.finished m.joined m.stopped (split_at col k.tier) (col ∷ k.splits) k.halt same_used refl
 
   row_at : (n : ℕ) (r : Row) (b : Bool) → nat_eq n f ≡ b → IsRow k n r → IsRow z n (cond b with_split (λ r. r) r)
@@ -116,17 +116,17 @@ module _ (k : State) (f : ℕ) (may : MaySplit k f) where
     either false r = refl
 
   -- what the event makes of the core where no other fork is to be split before
-  pub after_split : before_split k.tier col ≡ None → after k (event.Split f) ≡ z
-  after_split e = ap (λ b. let y : State = record k { tier = cond b (split_at col k.tier) k.tier; splits = cond b (col ∷ k.splits) k.splits } in y) (ap is_none e)
+  pub after_split : before_split k.tier col ≡ None → after_event k (event.Split f) ≡ z
+  after_split e = ap (λ b. let y : CoreState = record k { tier = cond b (split_at col k.tier) k.tier; splits = cond b (col ∷ k.splits) k.splits } in y) (ap is_none e)
 
   -- and where one is
-  pub after_early : (c : ℕ) → before_split k.tier col ≡ Some c → after k (event.Split f) ≡ k
-  after_early c e = ap (λ b. let y : State = record k { tier = cond b (split_at col k.tier) k.tier; splits = cond b (col ∷ k.splits) k.splits } in y) (ap is_none e)
+  pub after_early : (c : ℕ) → before_split k.tier col ≡ Some c → after_event k (event.Split f) ≡ k
+  after_early c e = ap (λ b. let y : CoreState = record k { tier = cond b (split_at col k.tier) k.tier; splits = cond b (col ∷ k.splits) k.splits } in y) (ap is_none e)
 
   pub split_parts : (rows : List Row) (forks : List ℕ) (cells : List CellParts) (last : Option ℕ) → AreParts k rows forks cells last → fits k (event.Split f) ≡ true → before_split k.tier col ≡ None
       → AreParts z (changed with_split f rows) forks cells last
   split_parts rows forks cells last w fit now =
-      let Q : State → Type 0 = λ z. Rattle.cw_core.specs.Laws.IsCore m.first z in
+      let Q : CoreState → Type 0 = λ z. Rattle.cw_core.specs.Laws.IsCore m.first z in
       record {
         core = subst Q (after_split now) (events m.first k (event.Split f) w.core fit).1;
         few = w.few;
@@ -143,18 +143,18 @@ module _ (k : State) (f : ℕ) (may : MaySplit k f) where
 -- ## The fork that is to be split before
 
 -- a fork is found by its column
-pub fork_is : (k : State) (h : ℕ) → is_fork k.machine.tree h ≡ true → (c : ℕ) → fork_column k.machine.tree h ≡ c → fork_at k c ≡ h
+pub fork_is : (k : CoreState) (h : ℕ) → is_fork k.machine.tree h ≡ true → (c : ℕ) → fork_column k.machine.tree h ≡ c → fork_at k c ≡ h
 fork_is k h fork c same =
     let t = k.machine.tree in
     ap (λ o. unwrap_or o 0)
     (find_one (λ n. is_fork t n && nat_eq (fork_column t n) c) h (all_nodes t) (below_in h (length t) (node_there (λ y. is_fork_kind y.kind) t h fork)) (and_from (is_fork t h) (nat_eq (fork_column t h) c) fork (eq-eqb (fork_column t h) c same))
     (λ v p. let y = and_parts (is_fork t v) (nat_eq (fork_column t v) c) p in fork_column_one t v h y.0 fork (eqb-true (fork_column t v) c y.1 ∙ sym same)))
 
-pub record IsBefore (k : State) (forks : List ℕ) (c : ℕ) : Type 0 where
+pub record IsBefore (k : CoreState) (forks : List ℕ) (c : ℕ) : Type 0 where
   pub low : c / 2 < length forks
   pub named : (f : ℕ) → slice_get forks (c / 2) ≡ Some f → fork_at k c ≡ f
 
-pub is_before : (k : State) (f : ℕ) (rows : List Row) (forks : List ℕ) (cells : List CellParts) (last : Option ℕ) → AreParts k rows forks cells last → MaySplit k f → (c : ℕ) → NextBars (fork_column k.machine.tree f) c k.tier → IsBefore k forks c
+pub is_before : (k : CoreState) (f : ℕ) (rows : List Row) (forks : List ℕ) (cells : List CellParts) (last : Option ℕ) → AreParts k rows forks cells last → MaySplit k f → (c : ℕ) → NextBars (fork_column k.machine.tree f) c k.tier → IsBefore k forks c
 is_before k f rows forks cells last w may c bars =
     let core = w.core in
     let first = k.machine.first in
@@ -162,7 +162,7 @@ is_before k f rows forks cells last w may c bars =
     let t = k.machine.tree in
     let opened = open_fork k wl core.joined core.left_first core.stands f may.fork may.unjoined in
     let root = root_open first k core f (node_there (λ y. is_fork_kind y.kind) t f may.fork) opened in
-    let next = bars k.words t k.splits (joins k) (is_open k.machine) f core.stands wl.sound.tree (ordered k wl core.joined core.left_first core.stands root) may.fork refl (unjoined k wl core.joined core.left_first core.stands f may.fork may.unjoined) in
+    let next = bars k.words t k.splits (joined_columns k) (is_open k.machine) f core.stands wl.sound.tree (ordered k wl core.joined core.left_first core.stands root) may.fork refl (unjoined k wl core.joined core.left_first core.stands f may.fork may.unjoined) in
     let g = next.fork in
     let fork : is_fork t g ≡ true = next.bars.outward.fork in
     let at : fork_column t g ≡ c = next.at in

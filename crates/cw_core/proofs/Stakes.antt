@@ -12,13 +12,13 @@ use Rattle.cw_tree.specs.Series.{strand_of}
 use Rattle.cw_tree.specs.Refusals.{victim_of, is_victim}
 use Rattle.cw_tree.proofs.There.{node_there}
 use Rattle.cw_tree.proofs.Growing.{node_grown, number_grown, is_above_grown, strand_of_grown}
-use Rattle.cw_open.specs.Machine.{Machine, falls}
+use Rattle.cw_open.specs.Machine.{OpenMachine, falls}
 use Rattle.cw_core.specs.Kept.{IsAtStake}
 
 abbrev names : ℕ → Conflict → Bool
 names n c = option_map_or (λ x. nat_eq x n) (victim_of c) false
 
-module _ (t xs : List Node) (r : IsRooted t) (m z : Machine) (tm : m.tree ≡ t) (tz : z.tree ≡ t ++ xs) (same : z.joined ≡ m.joined) where
+module _ (t xs : List Node) (r : IsRooted t) (m z : OpenMachine) (tm : m.tree ≡ t) (tz : z.tree ≡ t ++ xs) (same : z.joined ≡ m.joined) where
   abbrev u : List Node
   u = t ++ xs
 
@@ -53,7 +53,7 @@ module _ (t xs : List Node) (r : IsRooted t) (m z : Machine) (tm : m.tree ≡ t)
       falls_old c v (node_there (λ y. is_block_kind y.kind && is_pending_state y.state) t v (ap (λ t. is_pending t v) (sym tm) ∙ z.0)) ∙ e
 
 -- a node with a stamp that no conflict names does not fall
-pub no_victim : (m : Machine) (c : Conflict) (v : ℕ) → c.victim < stamp_of m.tree v → falls m c v ≡ false
+pub no_victim : (m : OpenMachine) (c : Conflict) (v : ℕ) → c.victim < stamp_of m.tree v → falls m c v ≡ false
 no_victim m c v less = false_from_ne_true (falls m c v) (λ e.
     let y = and_parts (is_pending m.tree v) (is_victim m.tree (c ∷ []) v) e in
     let x = and_parts (is_block m.tree v) (list_any (names (stamp_of m.tree v)) (c ∷ [])) y.1 in

@@ -6,12 +6,12 @@ use Rattle.std.proofs.lemmas.Option.{slice_get-map}
 use Rattle.cw_tree.specs.Stacks.{stamps}
 use Rattle.cw_stack.specs.Cells.{CellParts}
 use Rattle.cw_core.specs.declared.row.Row.{Row}
-use Rattle.cw_core.specs.State.{State, start}
+use Rattle.cw_core.specs.State.{CoreState, start}
 use Rattle.cw_core.specs.Kept.{IsRow, IsHeld, AreParts, leaf_row, fresh_cell}
 use Rattle.cw_core.proofs.Kept.{starts}
 
 module _ (first : List ℤ) (room budget : ℕ) (some : 0 < room) where
-  abbrev k : State
+  abbrev k : CoreState
   k = start first room budget
 
   root : IsRow k 0 (leaf_row 0 0)

@@ -7,22 +7,22 @@ use Rattle.cw_tree.specs.declared.closed.Halt.{Halt}
 use Rattle.cw_tree.specs.declared.closed.Halt.TheVariants as halt
 use Rattle.cw_tree.specs.Nodes.{parent_of, is_strand}
 use Rattle.cw_tree.specs.Walks.{has}
-use Rattle.cw_open.specs.Machine.{Machine, has_finished, waits, is_running}
+use Rattle.cw_open.specs.Machine.{OpenMachine, has_finished, waits, is_running}
 use Rattle.cw_core.specs.declared.cores.Core.TheInside.{Inside}
 use Rattle.cw_core.specs.declared.event.Event.TheVariants as event
 use Rattle.cw_core.specs.declared.row.Row.{Row}
-use Rattle.cw_core.specs.State.{State, spent}
-use Rattle.cw_core.specs.Events.{fits, fits_now, after}
+use Rattle.cw_core.specs.State.{CoreState, spent}
+use Rattle.cw_core.specs.Events.{fits, fits_now, after_event}
 use Rattle.cw_core.specs.Kept.{IsRow, AreRows, AreParts, IsAtStake, IsVictim, is_counted, stopped_by}
-use Rattle.cw_core.specs.Held.{state_of, IsKept}
+use Rattle.cw_core.specs.Held.{state_of, IsCoreInMemory}
 use Rattle.cw_core.proofs.Kept.{events}
 use Rattle.cw_core.proofs.SameTree.{with_same_tree, made_same, forks_same, held_same}
 
-module _ (k : State) (stopped : List ℕ) (h : Option Halt) (more : (n : ℕ) → has k.machine.stopped n ≡ true → has stopped n ≡ true) where
-  abbrev m : Machine
+module _ (k : CoreState) (stopped : List ℕ) (h : Option Halt) (more : (n : ℕ) → has k.machine.stopped n ≡ true → has stopped n ≡ true) where
+  abbrev m : OpenMachine
   m = k.machine
 
-  abbrev z : State
+  abbrev z : CoreState
   z = with_same_tree k m.finished m.joined stopped k.tier k.splits h refl refl
 
   counted : (n : ℕ) (b : Bool) → has_finished m n ≡ b → is_counted z.machine n ≡ true → is_counted m n ≡ true
@@ -51,39 +51,39 @@ module _ (k : State) (stopped : List ℕ) (h : Option Halt) (more : (n : ℕ) �
   pub stopped_rows : (rows : List Row) → AreRows k rows → AreRows z rows
   stopped_rows rows w = record { len = w.len; each = λ n r e. row_same n r (w.each n r e) }
 
-abbrev after_stop : State → Halt → List ℕ
-after_stop k h = (after k (event.Stop h)).machine.stopped
+abbrev after_stop : CoreState → Halt → List ℕ
+after_stop k h = (after_event k (event.Stop h)).machine.stopped
 
-more_stopped : (k : State) (h : Halt) (n : ℕ) → has k.machine.stopped n ≡ true → has (after_stop k h) n ≡ true
+more_stopped : (k : CoreState) (h : Halt) (n : ℕ) → has k.machine.stopped n ≡ true → has (after_stop k h) n ≡ true
 more_stopped k (halt.Fault s kind) n e = or_right (nat_eq s n) (has k.machine.stopped n) e
 more_stopped k (halt.Budget s) n e = or_right (nat_eq s n) (has k.machine.stopped n) e
 more_stopped k halt.Memory n e = e
 
-stopped_state : (k : State) (h : Halt) → after k (event.Stop h) ≡ with_same_tree k k.machine.finished k.machine.joined (after_stop k h) k.tier k.splits (Some h) refl refl
+stopped_state : (k : CoreState) (h : Halt) → after_event k (event.Stop h) ≡ with_same_tree k k.machine.finished k.machine.joined (after_stop k h) k.tier k.splits (Some h) refl refl
 stopped_state k (halt.Fault s kind) = refl
 stopped_state k (halt.Budget s) = refl
 stopped_state k halt.Memory = refl
 
-seen_stop : (a : Inside) (h : Halt) → a.halt ≡ None → state_of (record a { halt = Some h }) ≡ after (state_of a) (event.Stop h)
+seen_stop : (a : Inside) (h : Halt) → a.halt ≡ None → state_of (record a { halt = Some h }) ≡ after_event (state_of a) (event.Stop h)
 seen_stop a (halt.Fault s kind) e = ap (λ ss. with_same_tree (state_of a) a.finished a.joined (s ∷ ss) a.tier.columns a.splits (Some (halt.Fault s kind)) refl refl) (sym (ap stopped_by e))
 seen_stop a (halt.Budget s) e = ap (λ ss. with_same_tree (state_of a) a.finished a.joined (s ∷ ss) a.tier.columns a.splits (Some (halt.Budget s)) refl refl) (sym (ap stopped_by e))
 seen_stop a halt.Memory e = ap (λ ss. with_same_tree (state_of a) a.finished a.joined ss a.tier.columns a.splits (Some halt.Memory) refl refl) (sym (ap stopped_by e))
 
-unhalted : (k : State) (h : Halt) → fits k (event.Stop h) ≡ true → k.halt ≡ None
+unhalted : (k : CoreState) (h : Halt) → fits k (event.Stop h) ≡ true → k.halt ≡ None
 unhalted k h fit = none k.halt (and_parts (is_none k.halt) (is_none (spent k) || true) (and_parts (is_none k.halt && (is_none (spent k) || true)) (fits_now k (event.Stop h)) fit).0).0 where
   none : (o : Option Halt) → is_none o ≡ true → o ≡ None
   none None e = refl
   none (Some x) e = absurd (cc e)
 
-pub stop_state : (a : Inside) (h : Halt) → fits (state_of a) (event.Stop h) ≡ true → state_of (record a { halt = Some h }) ≡ after (state_of a) (event.Stop h)
+pub stop_state : (a : Inside) (h : Halt) → fits (state_of a) (event.Stop h) ≡ true → state_of (record a { halt = Some h }) ≡ after_event (state_of a) (event.Stop h)
 stop_state a h fit = seen_stop a h (unhalted (state_of a) h fit)
 
-pub stop_kept : (a : Inside) → IsKept a → (h : Halt) → fits (state_of a) (event.Stop h) ≡ true → IsKept (record a { halt = Some h })
+pub stop_kept : (a : Inside) → IsCoreInMemory a → (h : Halt) → fits (state_of a) (event.Stop h) ≡ true → IsCoreInMemory (record a { halt = Some h })
 stop_kept a i h fit =
     let k = state_of a in
     let y = with_same_tree k k.machine.finished k.machine.joined (after_stop k h) k.tier k.splits (Some h) refl refl in
-    let P : State → Type 0 = λ z. AreParts z a.rows.items a.forks.items a.cells.items a.spent in
-    let Q : State → Type 0 = λ z. Rattle.cw_core.specs.Laws.IsCore k.machine.first z in
+    let P : CoreState → Type 0 = λ z. AreParts z a.rows.items a.forks.items a.cells.items a.spent in
+    let Q : CoreState → Type 0 = λ z. Rattle.cw_core.specs.Laws.IsCore k.machine.first z in
     subst P (sym (stopped_state k h) ∙ sym (stop_state a h fit))
     (record {
       core = subst Q (stopped_state k h) (events k.machine.first k (event.Stop h) i.core fit).1;

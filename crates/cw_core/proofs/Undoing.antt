@@ -9,7 +9,7 @@ use Rattle.cw_tree.specs.declared.node.Node.{Node}
 use Rattle.cw_tree.specs.declared.access.Mark.{Mark}
 use Rattle.cw_tree.specs.declared.access.Entry.{Entry}
 use Rattle.cw_tree.specs.Stacks.{stamps}
-use Rattle.cw_stack.specs.Cells.{CellParts, newest}
+use Rattle.cw_stack.specs.Cells.{CellParts, newest_entry}
 use Rattle.cw_stack.proofs.Rising.{above_last, earlier_less, filter_front, stamp_at}
 use Rattle.cw_tree.specs.declared.node.Kind.{Kind}
 use Rattle.cw_tree.specs.declared.node.Kind.TheVariants.{Strand, Fork, Block, Read, Write, Out, Tried}
@@ -74,12 +74,12 @@ take_all : (es : List Entry) → take (length es) es ≡ es
 take_all [] = refl
 take_all (x ∷ es) = ap (λ ys. x ∷ ys) (take_all es)
 
-pub all_before : (es : List Entry) (mark : Mark) (s : ℕ) → IsStrictlyIncreasing (stamps es) → Some mark ≡ option_map (λ e. e.mark) (newest es) → mark.stamp < s → before_stamp s es ≡ es
+pub all_before : (es : List Entry) (mark : Mark) (s : ℕ) → IsStrictlyIncreasing (stamps es) → Some mark ≡ option_map (λ e. e.mark) (newest_entry es) → mark.stamp < s → before_stamp s es ≡ es
 all_before es mark s rise q less =
     let len : length (stamps es) ≡ length es = length-map es (λ x. x.mark.stamp) in
     filter_front (λ e. nat_lt e.mark.stamp s) es (length es)
     (λ i d low l.
-    let top = above_last es s (newest_less (newest es) mark s q less) (omega arith) in
+    let top = above_last es s (newest_less (newest_entry es) mark s q less) (omega arith) in
     let at : get_or (stamps es) i 0 < s = elim (cases_lt i (length es - 1)) [
       | inl before ↦ (let more = earlier_less (stamps es) rise i (length (stamps es) - 1) (omega arith) (omega arith) in omega arith)
       | inr last ↦ (let same : get_or (stamps es) i 0 ≡ get_or (stamps es) (length (stamps es) - 1) 0 = ap (λ n. get_or (stamps es) n 0) (let g : i ≡ length (stamps es) - 1 = omega arith in g) in omega arith)

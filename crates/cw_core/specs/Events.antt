@@ -12,32 +12,32 @@ use Rattle.cw_tree.specs.Refusals.{is_victim}
 use Rattle.cw_tree.specs.Newest.{newest, last_eight}
 use Rattle.cw_trace.specs.declared.verdict.Verdict.{Verdict}
 use Rattle.cw_trace.specs.declared.verdict.Verdict.TheVariants.{Against}
-use Rattle.cw_trace.specs.Columns.{Columns, used, forked, split_at, merged, before_split, begun_word, closed_word}
+use Rattle.cw_trace.specs.Columns.{ColumnTable, used, forked, split_at, merged, before_split, begun_word, closed_word}
 use Rattle.cw_trace.specs.Stands.{fork_column}
 use Rattle.cw_trace.specs.Query.{verdict}
-use Rattle.cw_open.specs.Machine.{live, value_of, has_finished, is_running, in_block, is_dying, is_free, rolls_back}
+use Rattle.cw_open.specs.Machine.{live, live_value, has_finished, is_running, in_block, is_dying, is_free, rolls_back}
 use Rattle.cw_open.specs.Steps.{Met, Step, forks, begins, accesses, refuses, outputs, commits, undoes, aborts, finishes, joins, stops, refusal, after_all}
 use Rattle.cw_open.specs.Runs.{meets, left_died}
 use Rattle.cw_core.specs.declared.event.Event.{Event}
 use Rattle.cw_core.specs.declared.event.Event.TheVariants as event
 use Rattle.cw_core.specs.declared.event.Reply.{Reply}
 use Rattle.cw_core.specs.declared.event.Reply.TheVariants as reply
-use Rattle.cw_core.specs.State.{State, column_of, gap_of, has_columns, is_split, waits_for_left, spent}
+use Rattle.cw_core.specs.State.{CoreState, column_of, gap_of, has_columns, is_split, waits_for_left, spent}
 
 -- ## Which events fit
 
 -- a strand of the tree may stop at a fault of its own; one that has spent its budget may where it did
-abbrev pub may_stop : State → Halt → Bool
+abbrev pub may_stop : CoreState → Halt → Bool
 may_stop k (halt.Fault s kind) = is_strand k.machine.tree s
 may_stop k (halt.Budget s) = option_map_or (λ x. x == s) (spent k) false
 may_stop k halt.Memory = true
 
 -- the right strand of fork f has made no step
-abbrev pub is_unstarted : State → ℕ → Bool
+abbrev pub is_unstarted : CoreState → ℕ → Bool
 is_unstarted k f = list_all (λ r. not (list_any (λ l. nat_lt l r) (children k.machine.tree f)) || ((length (children k.machine.tree r) == 0) && not (has_finished k.machine r))) (children k.machine.tree f)
 
 -- what an event needs, where nothing has stopped and no budget is spent
-abbrev pub fits_now : State → Event → Bool
+abbrev pub fits_now : CoreState → Event → Bool
 fits_now k (event.Fork s) = is_free k.machine s && not (waits_for_left k s)
 fits_now k (event.Begin s) = is_free k.machine s && not (waits_for_left k s)
 fits_now k (event.Access s c w) = is_free k.machine s && not (waits_for_left k s) && nat_lt c (length k.machine.lists)
@@ -61,13 +61,13 @@ takes_none (event.Stop h) = true
 takes_none _ = false
 
 -- after a stop nothing fits, and once a budget is spent a stop alone
-abbrev pub fits : State → Event → Bool
+abbrev pub fits : CoreState → Event → Bool
 fits k e = is_none k.halt && (is_none (spent k) || is_stop e) && fits_now k e
 
 -- ## The steps
 
 -- the next stamp
-abbrev pub next : State → ℕ
+abbrev pub next : CoreState → ℕ
 next k = k.machine.clock + 1
 
 abbrev pub against : Verdict → ℕ
@@ -75,7 +75,7 @@ against (Against b) = b
 against _ = 0
 
 -- what an access of cell c by strand s meets where it is refused: its newest access, and the block that the columns name
-abbrev pub met_by : State → ℕ → ℕ → Met
+abbrev pub met_by : CoreState → ℕ → ℕ → Met
 met_by k s c =
     let last = unwrap_or (find (λ u. true) (newest (live k.machine c))) 0 in
     record {
@@ -85,11 +85,11 @@ met_by k s c =
     }
 
 -- an access of cell c by strand s conflicts with the newest one
-abbrev pub is_met : State → ℕ → ℕ → Bool
+abbrev pub is_met : CoreState → ℕ → ℕ → Bool
 is_met k s c = meets k.machine.tree (newest (live k.machine c)) (place k.machine.tree s)
 
 -- the cells with a live access beneath the block in which strand s stands
-abbrev pub touched : State → ℕ → List ℕ
+abbrev pub touched : CoreState → ℕ → List ℕ
 touched k s = filter (λ c. list_any (λ u. is_above k.machine.tree (place k.machine.tree s) (access_at k.machine.tree u)) (live k.machine c)) (below (length k.machine.lists))
 
 abbrev pub stop_steps : Halt → List Step
@@ -98,7 +98,7 @@ stop_steps (halt.Budget s) = stops s ∷ []
 stop_steps halt.Memory = []
 
 -- the steps that an event stands for: stamps are drawn in order, one for each, and none for a refused access
-abbrev pub steps_of : State → Event → List Step
+abbrev pub steps_of : CoreState → Event → List Step
 steps_of k (event.Fork s) = forks s (next k) ∷ []
 steps_of k (event.Begin s) = begins s (next k) ∷ []
 steps_of k (event.Access s c w) = (if is_met k s c then refuses s c w (met_by k s c) else accesses s c w (next k)) ∷ []
@@ -113,62 +113,62 @@ steps_of k (event.Stop h) = stop_steps h
 -- ## The tier
 
 -- another fork has to be split before fork f, by the column of its left strand
-abbrev pub is_early : State → ℕ → Option ℕ
+abbrev pub is_early : CoreState → ℕ → Option ℕ
 is_early k f = before_split k.tier (fork_column k.machine.tree f)
 
-abbrev pub may_fork : State → Bool
+abbrev pub may_fork : CoreState → Bool
 may_fork k = nat_le (used k.tier + 2) k.tier.room
 
-abbrev pub tier_after : State → Event → Columns
+abbrev pub tier_after : CoreState → Event → ColumnTable
 tier_after k (event.Fork s) = if may_fork k then forked (slice_index k.words (gap_of k s)) (column_of k s) k.tier else k.tier
 tier_after k (event.Split f) = if is_none (is_early k f) then split_at (fork_column k.machine.tree f) k.tier else k.tier
 tier_after k (event.Join f) = if is_split k f then merged (fork_column k.machine.tree f) k.tier else k.tier
 tier_after k _ = k.tier
 
-abbrev pub words_after : State → Event → List ℕ
+abbrev pub words_after : CoreState → Event → List ℕ
 words_after k (event.Begin s) = begun_word k.words (gap_of k s) (next k)
 words_after k (event.Commit s) = closed_word k.words (gap_of k s) (stamp_of k.machine.tree (place k.machine.tree s))
 words_after k (event.Roll s) = closed_word k.words (gap_of k s) (stamp_of k.machine.tree (place k.machine.tree s))
 words_after k _ = k.words
 
-abbrev pub splits_after : State → Event → List ℕ
+abbrev pub splits_after : CoreState → Event → List ℕ
 splits_after k (event.Split f) = if is_none (is_early k f) then fork_column k.machine.tree f ∷ k.splits else k.splits
 splits_after k _ = k.splits
 
-abbrev pub halt_after : State → Event → Option Halt
+abbrev pub halt_after : CoreState → Event → Option Halt
 halt_after k (event.Stop h) = Some h
 halt_after k _ = k.halt
 
 -- ## After an event, and its answer
 
-abbrev pub after : State → Event → State
-after k e = record { machine = after_all k.machine (steps_of k e); tier = tier_after k e; words = words_after k e; splits = splits_after k e; budget = k.budget; halt = halt_after k e }
+abbrev pub after_event : CoreState → Event → CoreState
+after_event k e = record { machine = after_all k.machine (steps_of k e); tier = tier_after k e; words = words_after k e; splits = splits_after k e; budget = k.budget; halt = halt_after k e }
 
 -- the fork with this left column
-abbrev pub fork_at : State → ℕ → ℕ
+abbrev pub fork_at : CoreState → ℕ → ℕ
 fork_at k c = unwrap_or (find (λ n. is_fork k.machine.tree n && (fork_column k.machine.tree n == c)) (all_nodes k.machine.tree)) 0
 
-abbrev pub reply_to : State → Event → Reply
+abbrev pub reply_to : CoreState → Event → Reply
 reply_to k (event.Fork s) = let n = length k.machine.tree in if may_fork k then reply.Forked (n + 1) (n + 2) n else reply.Inline (n + 1) (n + 2)
-reply_to k (event.Access s c w) = if is_met k s c then reply.Conflict (refusal k.machine (place k.machine.tree s) c (met_by k s c)) else reply.Value (unwrap_or w (value_of k.machine c))
+reply_to k (event.Access s c w) = if is_met k s c then reply.Conflict (refusal k.machine (place k.machine.tree s) c (met_by k s c)) else reply.Value (unwrap_or w (live_value k.machine c))
 reply_to k (event.Split f) = option_map_or (λ c. reply.Early (fork_at k c)) (is_early k f) reply.Done
 reply_to k _ = reply.Done
 
 -- ## Lists of events
 
-abbrev pub after_events : State → List Event → State
+abbrev pub after_events : CoreState → List Event → CoreState
 after_events k [] = k
-after_events k (e ∷ es) = after_events (after k e) es
+after_events k (e ∷ es) = after_events (after_event k e) es
 
 -- each fits where it comes
-abbrev pub all_fit : State → List Event → Bool
+abbrev pub all_fit : CoreState → List Event → Bool
 all_fit k [] = true
-all_fit k (e ∷ es) = fits k e && all_fit (after k e) es
+all_fit k (e ∷ es) = fits k e && all_fit (after_event k e) es
 
-abbrev pub replies : State → List Event → List Reply
+abbrev pub replies : CoreState → List Event → List Reply
 replies k [] = []
-replies k (e ∷ es) = reply_to k e ∷ replies (after k e) es
+replies k (e ∷ es) = reply_to k e ∷ replies (after_event k e) es
 
-abbrev pub steps_of_all : State → List Event → List Step
+abbrev pub steps_of_all : CoreState → List Event → List Step
 steps_of_all k [] = []
-steps_of_all k (e ∷ es) = steps_of k e ++ steps_of_all (after k e) es
+steps_of_all k (e ∷ es) = steps_of k e ++ steps_of_all (after_event k e) es

@@ -2,10 +2,10 @@
 use Rattle.std.specs.Prelude.{map}
 use Rattle.cw_tree.specs.Stacks.{stamps}
 use Rattle.cw_core.specs.declared.cores.Core.TheInside.{Inside}
-use Rattle.cw_core.specs.State.{State}
+use Rattle.cw_core.specs.State.{CoreState}
 use Rattle.cw_core.specs.Kept.{AreParts, stopped_by}
 
-abbrev pub state_of : Inside → State
+abbrev pub state_of : Inside → CoreState
 state_of a = record {
   machine = record {
     first = map (λ c. c.first) a.cells.items;
@@ -24,5 +24,5 @@ state_of a = record {
   halt = a.halt;
 }
 
-abbrev pub IsKept : Inside → Type 0
-IsKept a = AreParts (state_of a) a.rows.items a.forks.items a.cells.items a.spent
+abbrev pub IsCoreInMemory : Inside → Type 0
+IsCoreInMemory a = AreParts (state_of a) a.rows.items a.forks.items a.cells.items a.spent

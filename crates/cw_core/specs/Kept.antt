@@ -14,18 +14,18 @@ use Rattle.cw_tree.specs.Shape.{is_closed}
 use Rattle.cw_tree.specs.Attempts.{block_attempt, tried_cell, same_cell}
 use Rattle.cw_tree.specs.Accesses.{written}
 use Rattle.cw_tree.specs.Stacks.{access_at, written_by, stamps}
-use Rattle.cw_stack.specs.Cells.{CellParts, value_of, entry_of}
+use Rattle.cw_stack.specs.Cells.{CellParts, entries_value, entry_of}
 use Rattle.cw_trace.specs.Columns.{used}
 use Rattle.cw_trace.specs.Stands.{fork_column}
 use Rattle.cw_trace.specs.Verdicts.{mark_of}
-use Rattle.cw_open.specs.Machine.{Machine, has_finished, finished_dead, waits, is_running, falls}
+use Rattle.cw_open.specs.Machine.{OpenMachine, has_finished, finished_dead, waits, is_running, falls}
 use Rattle.cw_core.specs.declared.row.Made.{Made}
 use Rattle.cw_core.specs.declared.row.Tail.{Tail}
 use Rattle.cw_core.specs.declared.row.Now.{Now}
 use Rattle.cw_core.specs.declared.row.Row.{Row}
 use Rattle.cw_core.specs.declared.held.Barrier.{Barrier}
 use Rattle.cw_core.specs.declared.held.Refused.{Refused}
-use Rattle.cw_core.specs.State.{State, column_of, has_columns, is_split, spent}
+use Rattle.cw_core.specs.State.{CoreState, column_of, has_columns, is_split, spent}
 use Rattle.cw_core.specs.Events.{is_met, met_by}
 use Rattle.cw_core.specs.Laws.{IsCore}
 
@@ -36,7 +36,7 @@ elder_list None = []
 elder_list (Some l) = l ∷ []
 
 -- what is known of node n since it was made
-pub record IsMade (k : State) (n : ℕ) (r : Made) : Type 0 where
+pub record IsMade (k : CoreState) (n : ℕ) (r : Made) : Type 0 where
   pub strand : strand_of k.machine.tree n ≡ r.strand
   pub column : is_strand k.machine.tree n ≡ true → column_of k n ≡ r.column
   pub elder : is_strand k.machine.tree n ≡ true → filter (λ l. nat_lt l n) (children k.machine.tree (parent_of k.machine.tree n)) ≡ elder_list r.elder
@@ -52,24 +52,24 @@ pub record IsTail (t : List Node) (n : ℕ) (r : Tail) : Type 0 where
   pub tried : (c : ℕ) → suffix_len (λ m. same_cell (tried_cell t m) (Some c)) (children t n) ≡ (if r.cell == c then r.tried else 0)
 
 -- block v is pending, and has to fall for access c, which was refused beneath strand s, and not beneath a fork of s that was not joined
-pub record IsAtStake (m : Machine) (s : ℕ) (c : Conflict) (v : ℕ) : Type 0 where
+pub record IsAtStake (m : OpenMachine) (s : ℕ) (c : Conflict) (v : ℕ) : Type 0 where
   pub over : is_above m.tree s c.asker ≡ true
   pub falls : falls m c v ≡ true
   pub beside : (f : ℕ) → is_fork m.tree f ≡ true → strand_of m.tree f ≡ s → has m.joined f ≡ false → is_above m.tree f c.asker ≡ false
 
 -- strand s runs, or has finished and waits for the join of its fork
-abbrev pub is_counted : Machine → ℕ → Bool
+abbrev pub is_counted : OpenMachine → ℕ → Bool
 is_counted m s = if has_finished m s then not (has m.joined (parent_of m.tree s)) else is_running m s
 
 -- the outermost block that has to fall for what was refused beneath strand s
-abbrev pub IsVictim : Machine → ℕ → Option ℕ → Type 0
+abbrev pub IsVictim : OpenMachine → ℕ → Option ℕ → Type 0
 IsVictim m s None = (i v : ℕ) (c : Conflict) → slice_get m.conflicts i ≡ Some c → IsAtStake m s c v → v < 0
 IsVictim m s (Some w) =
     ((i v : ℕ) (c : Conflict) → slice_get m.conflicts i ≡ Some c → IsAtStake m s c v → w ≤ v)
     × (is_counted m s ≡ true → (i : ℕ) × (c : Conflict) × (slice_get m.conflicts i ≡ Some c) × (is_above m.tree s c.asker ≡ true) × (falls m c w ≡ true))
 
 -- what has become of node n
-pub record IsNow (k : State) (n : ℕ) (r : Now) : Type 0 where
+pub record IsNow (k : CoreState) (n : ℕ) (r : Now) : Type 0 where
   pub place : is_strand k.machine.tree n ≡ true → place k.machine.tree n ≡ r.place
   pub waits : is_strand k.machine.tree n ≡ true → waits k.machine n ≡ r.waits
   pub finished : has_finished k.machine n ≡ r.finished
@@ -80,25 +80,25 @@ pub record IsNow (k : State) (n : ℕ) (r : Now) : Type 0 where
   pub split : is_fork k.machine.tree n ≡ true → is_split k n ≡ r.split
   pub joined : has k.machine.joined n ≡ r.joined
 
-pub record IsRow (k : State) (n : ℕ) (r : Row) : Type 0 where
+pub record IsRow (k : CoreState) (n : ℕ) (r : Row) : Type 0 where
   pub made : IsMade k n r.made
   pub tail : IsTail k.machine.tree n r.tail
   pub now : IsNow k n r.now
 
 -- a row for each node
-pub record AreRows (k : State) (rows : List Row) : Type 0 where
+pub record AreRows (k : CoreState) (rows : List Row) : Type 0 where
   pub len : length rows ≡ length k.machine.tree
   pub each : (n : ℕ) (r : Row) → slice_get rows n ≡ Some r → IsRow k n r
 
 -- the forks with columns, by their left columns
-pub record AreForks (k : State) (forks : List ℕ) : Type 0 where
+pub record AreForks (k : CoreState) (forks : List ℕ) : Type 0 where
   pub count : used k.tier ≡ 2 * length forks + 1
   pub each : (i f : ℕ) → slice_get forks i ≡ Some f → (is_fork k.machine.tree f ≡ true) × (fork_column k.machine.tree f ≡ 2 * i + 1)
 
 -- ## Cells
 
 -- an entry of cell c tells of an access
-pub record IsEntryOf (k : State) (c : ℕ) (e : Entry) : Type 0 where
+pub record IsEntryOf (k : CoreState) (c : ℕ) (e : Entry) : Type 0 where
   pub node : ℕ
   pub touches : touches k.machine.tree c node ≡ true
   pub stamp : stamp_of k.machine.tree node ≡ e.mark.stamp
@@ -106,7 +106,7 @@ pub record IsEntryOf (k : State) (c : ℕ) (e : Entry) : Type 0 where
   pub strand : column_of k node ≡ e.mark.strand
 
 -- the entries of cell c tell of its accesses, and none was cleaned
-pub record IsHeld (k : State) (c : ℕ) (cell : CellParts) : Type 0 where
+pub record IsHeld (k : CoreState) (c : ℕ) (cell : CellParts) : Type 0 where
   pub whole : cell.cleaned ≡ 0
   pub entries : (i : ℕ) (e : Entry) → slice_get cell.entries i ≡ Some e → IsEntryOf k c e
 
@@ -120,7 +120,7 @@ stopped_by (Some (halt.Budget s)) = s ∷ []
 stopped_by (Some halt.Memory) = []
 
 -- what is true of the parts of every core: its state, and the rows, forks, cells and spent strand beside it
-pub record AreParts (k : State) (rows : List Row) (forks : List ℕ) (cells : List CellParts) (last : Option ℕ) : Type 0 where
+pub record AreParts (k : CoreState) (rows : List Row) (forks : List ℕ) (cells : List CellParts) (last : Option ℕ) : Type 0 where
   pub core : IsCore k.machine.first k
   pub few : length k.machine.tree < 2 ^ 32
   -- each node drew a stamp at most, and each closed block another one
@@ -135,13 +135,13 @@ pub record AreParts (k : State) (rows : List Row) (forks : List ℕ) (cells : Li
   pub told : spent k ≡ last
 
 -- the mark is that of an access
-pub record IsMarked (k : State) (x : Mark) : Type 0 where
+pub record IsMarked (k : CoreState) (x : Mark) : Type 0 where
   pub cell : ℕ
   pub touched : touches k.machine.tree cell (access_at k.machine.tree x.stamp) ≡ true
   pub marks : x ≡ mark_of k.tier k.machine.tree (access_at k.machine.tree x.stamp)
 
 -- the newest access of cell c, with which an access by strand s conflicts, and a pending block above it that stands in the way
-pub record IsBarrier (k : State) (s c : ℕ) (b : Barrier) : Type 0 where
+pub record IsBarrier (k : CoreState) (s c : ℕ) (b : Barrier) : Type 0 where
   pub met : is_met k s c ≡ true
   pub last : b.last.stamp ≡ (met_by k s c).last
   pub block : b.block ≡ (met_by k s c).block
@@ -219,7 +219,7 @@ cell_changed f n cells =
 
 -- an access was made
 abbrev pub with_entry : (column stamp : ℕ) → Option ℤ → CellParts → CellParts
-with_entry column stamp write c = record c { entries = c.entries ++ entry_of (record { strand = column; stamp = stamp }) write (value_of c) ∷ []; room = c.room - 1 }
+with_entry column stamp write c = record c { entries = c.entries ++ entry_of (record { strand = column; stamp = stamp }) write (entries_value c) ∷ []; room = c.room - 1 }
 
 -- a refused access of cell c came last: so often it was refused, without a break
 abbrev pub tried_again : ℕ → Tail → ℕ

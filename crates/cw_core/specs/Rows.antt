@@ -1,19 +1,19 @@
 -- Lists of events, and what the definitions say of them.
 use Rattle.std.specs.Prelude.{◌≡◌, List, [], ◌∷◌, Some, None, true, false, pos, map}
 use Rattle.cw_tree.specs.declared.closed.Halt.TheVariants.{Budget, Memory}
-use Rattle.cw_open.specs.Machine.{value_of}
+use Rattle.cw_open.specs.Machine.{live_value}
 use Rattle.cw_core.specs.declared.event.Event.{Event}
 use Rattle.cw_core.specs.declared.event.Event.TheVariants as event
 use Rattle.cw_core.specs.declared.event.Reply.TheVariants as reply
-use Rattle.cw_core.specs.State.{State, start}
-use Rattle.cw_core.specs.Events.{fits, all_fit, after, after_events, replies}
+use Rattle.cw_core.specs.State.{CoreState, start}
+use Rattle.cw_core.specs.Events.{fits, all_fit, after_event, after_events, replies}
 
 -- ## Splits: the fork outward comes first; a fork without columns
 
 abbrev pub out_of_order : List Event
 out_of_order = event.Fork 0 ∷ event.Fork 2 ∷ event.Split 4 ∷ event.Split 1 ∷ event.Split 4 ∷ event.Fork 5 ∷ []
 
-abbrev pub five_columns : State
+abbrev pub five_columns : CoreState
 five_columns = start (pos 0 ∷ []) 5 100000
 
 pub record Splits : Type 0 where
@@ -31,22 +31,22 @@ inner_commit =
     event.Fork 0 ∷ event.Split 1 ∷ event.Begin 2 ∷ event.Access 2 2 (Some (pos 1)) ∷ event.Begin 3 ∷ event.Begin 3 ∷ event.Access 3 0 None ∷ event.Access 3 0 (Some (pos 8)) ∷ event.Commit 3 ∷ event.Access 3 1 None ∷ event.Access 3 1 (Some (pos 9))
     ∷ event.Access 3 2 (Some (pos 2)) ∷ event.Roll 3 ∷ []
 
-abbrev pub three_cells : State
+abbrev pub three_cells : CoreState
 three_cells = start (pos 7 ∷ pos 8 ∷ pos 0 ∷ []) 100 100000
 
-abbrev pub rolled : State
+abbrev pub rolled : CoreState
 rolled = after_events three_cells inner_commit
 
 pub record Rolls : Type 0 where
   pub fit : all_fit three_cells inner_commit ≡ true
   pub conflicts : rolled.machine.conflicts ≡ record { cell = 2; last = 3; asker = 12; block = 2; victim = 4; attempt = 1; chain = 3 ∷ [] } ∷ []
-  pub values : map (value_of rolled.machine) (0 ∷ 1 ∷ 2 ∷ []) ≡ pos 7 ∷ pos 8 ∷ pos 1 ∷ []
+  pub values : map (live_value rolled.machine) (0 ∷ 1 ∷ 2 ∷ []) ≡ pos 7 ∷ pos 8 ∷ pos 1 ∷ []
   pub clock : rolled.machine.clock ≡ 11
   pub goes_on : fits rolled (event.Begin 3) ≡ true
 
 -- ## A write in a split fork that is joined in a block, and where there is none
 
-abbrev pub two_cells : State
+abbrev pub two_cells : CoreState
 two_cells = start (pos 0 ∷ pos 0 ∷ []) 100 100000
 
 abbrev pub joined_within : List Event
@@ -75,10 +75,10 @@ pub record Joins : Type 0 where
 abbrev pub refused_beneath : List Event
 refused_beneath = event.Fork 0 ∷ event.Split 1 ∷ event.Begin 2 ∷ event.Access 2 0 (Some (pos 1)) ∷ event.Begin 3 ∷ event.Fork 3 ∷ event.Access 8 0 (Some (pos 2)) ∷ []
 
-abbrev pub one_attempt : State
+abbrev pub one_attempt : CoreState
 one_attempt = after_events (start (pos 0 ∷ []) 100 1) refused_beneath
 
-abbrev pub two_attempts : State
+abbrev pub two_attempts : CoreState
 two_attempts = after_events (start (pos 0 ∷ []) 100 2) refused_beneath
 
 abbrev pub all_die : List Event
@@ -91,7 +91,7 @@ pub record Budgets : Type 0 where
   pub not_its : fits one_attempt (event.Stop (Budget 8)) ≡ false
   pub not_dead : fits one_attempt (event.Finish 8 true) ≡ false
   pub not_other : fits one_attempt (event.Commit 2) ≡ false
-  pub nothing_then : fits (after one_attempt (event.Stop (Budget 3))) (event.Stop Memory) ≡ false
+  pub nothing_then : fits (after_event one_attempt (event.Stop (Budget 3))) (event.Stop Memory) ≡ false
   pub die : all_fit two_attempts all_die ≡ true
   pub no_budget : fits two_attempts (event.Stop (Budget 3)) ≡ false
   pub dying : fits (after_events two_attempts (event.Finish 8 true ∷ event.Finish 9 true ∷ event.Join 7 ∷ [])) (event.Commit 3) ≡ false

@@ -8,14 +8,14 @@ use Rattle.cw_tree.specs.Nodes.{parent_of}
 use Rattle.cw_tree.specs.Walks.{has}
 use Rattle.cw_tree.specs.Series.{strand_of, children}
 use Rattle.cw_tree.specs.Refusals.{refused}
-use Rattle.cw_trace.specs.Columns.{Columns, used, gap, first_tier}
+use Rattle.cw_trace.specs.Columns.{ColumnTable, used, gap, first_tier}
 use Rattle.cw_trace.specs.Stands.{column, fork_column}
-use Rattle.cw_open.specs.Machine.{Machine, has_finished}
-use Rattle.cw_open.specs.Steps.{opening}
+use Rattle.cw_open.specs.Machine.{OpenMachine, has_finished}
+use Rattle.cw_open.specs.Steps.{first_machine}
 
-pub record State : Type 0 where
-  pub machine : Machine
-  pub tier : Columns
+pub record CoreState : Type 0 where
+  pub machine : OpenMachine
+  pub tier : ColumnTable
   pub words : List ℕ
   -- the forks that were split, by the columns of their left strands
   pub splits : List ℕ
@@ -24,41 +24,41 @@ pub record State : Type 0 where
   pub halt : Option Halt
 
 -- before the first event: one strand, with room for so many columns
-abbrev pub start : List ℤ → (room budget : ℕ) → State
-start first room budget = record { machine = opening first; tier = first_tier room; words = replicate room 0; splits = []; budget = budget; halt = None }
+abbrev pub start : List ℤ → (room budget : ℕ) → CoreState
+start first room budget = record { machine = first_machine first; tier = first_tier room; words = replicate room 0; splits = []; budget = budget; halt = None }
 
 -- ## Columns
 
 -- the column of the strand in which a node stands, and the gap in use by it
-abbrev pub column_of : State → ℕ → ℕ
+abbrev pub column_of : CoreState → ℕ → ℕ
 column_of k n = column k.machine.tree (used k.tier) n
 
-abbrev pub gap_of : State → ℕ → ℕ
+abbrev pub gap_of : CoreState → ℕ → ℕ
 gap_of k n = gap k.tier (column_of k n)
 
 -- a fork gets columns while there are two left
-abbrev pub has_columns : State → ℕ → Bool
+abbrev pub has_columns : CoreState → ℕ → Bool
 has_columns k f = nat_le (fork_column k.machine.tree f + 2) k.tier.room
 
-abbrev pub is_split : State → ℕ → Bool
+abbrev pub is_split : CoreState → ℕ → Bool
 is_split k f = has_columns k f && has k.splits (fork_column k.machine.tree f)
 
 -- the joined forks that have columns, by those of their left strands
-abbrev pub joins : State → List ℕ
-joins k = map (fork_column k.machine.tree) (filter (has_columns k) k.machine.joined)
+abbrev pub joined_columns : CoreState → List ℕ
+joined_columns k = map (fork_column k.machine.tree) (filter (has_columns k) k.machine.joined)
 
 -- ## Strands
 
 -- the left strand of strand s is still to finish, and their fork is not split
-abbrev pub waits_for_left : State → ℕ → Bool
+abbrev pub waits_for_left : CoreState → ℕ → Bool
 waits_for_left k s =
     not (is_split k (parent_of k.machine.tree s))
     && list_any (λ l. nat_lt l s && not (has_finished k.machine l)) (children k.machine.tree (parent_of k.machine.tree s))
 
 -- the conflict that a block or an access was refused with as often as it may be
-abbrev pub last_refusal : State → Option Conflict
+abbrev pub last_refusal : CoreState → Option Conflict
 last_refusal k = find (λ c. c.attempt == k.budget) k.machine.conflicts
 
 -- the strand that has spent its budget: that of the block, or of the access
-abbrev pub spent : State → Option ℕ
+abbrev pub spent : CoreState → Option ℕ
 spent k = option_map (λ c. strand_of k.machine.tree (refused k.machine.tree c)) (last_refusal k)

@@ -9,7 +9,7 @@ ghost use Rattle.cw_core.specs.State.{start, waits_for_left};
 ghost use Rattle.cw_tree.specs.Nodes.{stamp_of, is_strand, is_pending};
 ghost use Rattle.cw_tree.specs.Series.{strand_of};
 ghost use Rattle.cw_tree.specs.Attempts.{block_attempt};
-ghost use Rattle.cw_core.specs.Events.{fits, after, reply_to, is_met};
+ghost use Rattle.cw_core.specs.Events.{fits, after_event, reply_to, is_met};
 ghost use Rattle.cw_core.specs.declared.event.Event.TheVariants as event;
 
 mod closing;
@@ -98,15 +98,15 @@ fn or_later(passed: bool, node: u32, found: Option<u32>) -> Option<u32>
 }
 
 impl Model for Core {
-    ghost use Rattle.cw_core.specs.State.{State};
+    ghost use Rattle.cw_core.specs.State.{CoreState};
 
-    ghost Value = { State };
+    ghost Value = { CoreState };
 
-    ghost use Rattle.cw_core.specs.Held.{state_of, IsKept};
+    ghost use Rattle.cw_core.specs.Held.{state_of, IsCoreInMemory};
 
     ghost view = { state_of };
 
-    ghost invariant = { IsKept };
+    ghost invariant = { IsCoreInMemory };
 }
 
 /// The cells with their first values, that no access was made of.
@@ -229,7 +229,7 @@ impl Core {
     /// A block begins.
     fn begin(&mut self, strand: u32) -> Result<Reply, OutOfMemory>
         requires { IsTrue (fits self.old (event.Begin strand)) }
-        ensures ok { OnOk result (self.new ≡ after self.old (event.Begin strand)) }
+        ensures ok { OnOk result (self.new ≡ after_event self.old (event.Begin strand)) }
         ensures reply { IfOk result (λ r. r ≡ reply_to self.old (event.Begin strand)) }
         ensures err { OnErr result (self.new ≡ self.old) }
     {
@@ -249,7 +249,7 @@ impl Core {
     /// The block in which the strand stands ends.
     fn commit(&mut self, strand: u32)
         requires { IsTrue (fits self.old (event.Commit strand)) }
-        ensures { self.new ≡ after self.old (event.Commit strand) }
+        ensures { self.new ≡ after_event self.old (event.Commit strand) }
     {
         let own = self.row(strand);
         let block = own.now.place;
@@ -266,7 +266,7 @@ impl Core {
     /// What was done beneath the block in which the strand stands is undone, and the block is aborted.
     fn roll(&mut self, strand: u32)
         requires { IsTrue (fits self.old (event.Roll strand)) }
-        ensures { self.new ≡ after self.old (event.Roll strand) }
+        ensures { self.new ≡ after_event self.old (event.Roll strand) }
     {
         let own = self.row(strand);
         let block = own.now.place;
@@ -285,7 +285,7 @@ impl Core {
     /// The strand has come to its end.
     fn finish(&mut self, strand: u32, dead: bool) -> Result<Reply, OutOfMemory>
         requires { IsTrue (fits self.old (event.Finish strand dead)) }
-        ensures ok { OnOk result (self.new ≡ after self.old (event.Finish strand dead)) }
+        ensures ok { OnOk result (self.new ≡ after_event self.old (event.Finish strand dead)) }
         ensures reply { IfOk result (λ r. r ≡ reply_to self.old (event.Finish strand dead)) }
         ensures err { OnErr result (self.new ≡ self.old) }
     {
@@ -297,7 +297,7 @@ impl Core {
     /// The trace of a fork is cut there, or another fork is to be split before.
     fn split(&mut self, fork: u32) -> Result<Reply, OutOfMemory>
         requires { IsTrue (fits self.old (event.Split fork)) }
-        ensures ok { OnOk result (self.new ≡ after self.old (event.Split fork)) }
+        ensures ok { OnOk result (self.new ≡ after_event self.old (event.Split fork)) }
         ensures reply { IfOk result (λ r. r ≡ reply_to self.old (event.Split fork)) }
         ensures err { OnErr result (self.new ≡ self.old) }
     {
@@ -319,7 +319,7 @@ impl Core {
     /// The strands of a fork have finished, and the strand that forked goes on.
     fn join(&mut self, fork: u32) -> Result<Reply, OutOfMemory>
         requires { IsTrue (fits self.old (event.Join fork)) }
-        ensures ok { OnOk result (self.new ≡ after self.old (event.Join fork)) }
+        ensures ok { OnOk result (self.new ≡ after_event self.old (event.Join fork)) }
         ensures reply { IfOk result (λ r. r ≡ reply_to self.old (event.Join fork)) }
         ensures err { OnErr result (self.new ≡ self.old) }
     {
@@ -336,7 +336,7 @@ impl Core {
     /// The core stops.
     fn stop(&mut self, halt: Halt)
         requires { IsTrue (fits self.old (event.Stop halt)) }
-        ensures { self.new ≡ after self.old (event.Stop halt) }
+        ensures { self.new ≡ after_event self.old (event.Stop halt) }
     {
         self.halt = Some(halt);
     }
@@ -344,7 +344,7 @@ impl Core {
     /// The strand outputs a value.
     fn output(&mut self, strand: u32, value: i64) -> Result<Reply, OutOfMemory>
         requires { IsTrue (fits self.old (event.Out strand value)) }
-        ensures ok { OnOk result (self.new ≡ after self.old (event.Out strand value)) }
+        ensures ok { OnOk result (self.new ≡ after_event self.old (event.Out strand value)) }
         ensures reply { IfOk result (λ r. r ≡ reply_to self.old (event.Out strand value)) }
         ensures err { OnErr result (self.new ≡ self.old) }
     {
@@ -366,7 +366,7 @@ impl Core {
     ) -> Result<Reply, OutOfMemory>
         requires fits { IsTrue (fits self.old (event.Access strand cell write)) }
         requires met { is_met self.old strand cell ≡ false }
-        ensures ok { OnOk result (self.new ≡ after self.old (event.Access strand cell write)) }
+        ensures ok { OnOk result (self.new ≡ after_event self.old (event.Access strand cell write)) }
         ensures reply { IfOk result (λ r. r ≡ reply_to self.old (event.Access strand cell write)) }
         ensures err { OnErr result (self.new ≡ self.old) }
     {
@@ -439,7 +439,7 @@ impl Core {
     ) -> Result<Reply, OutOfMemory>
         requires fits { IsTrue (fits self.old (event.Access strand cell None)) }
         requires barrier { IsBarrier self.old strand cell barrier }
-        ensures ok { OnOk result ((write : Option ℤ) → self.new ≡ after self.old (event.Access strand cell write)) }
+        ensures ok { OnOk result ((write : Option ℤ) → self.new ≡ after_event self.old (event.Access strand cell write)) }
         ensures reply { IfOk result (λ r. (write : Option ℤ) → r ≡ reply_to self.old (event.Access strand cell write)) }
         ensures err { OnErr result (self.new ≡ self.old) }
     {
@@ -470,7 +470,7 @@ impl Core {
         requires looks { (blanks.0.name ≡ K.name) × (blanks.0.parts ≡ K.parts) × (0 < K.parts) }
         requires compares { (blanks.1.name ≡ L.name) × (blanks.1.parts ≡ L.parts) × (0 < L.parts) }
         requires fits { IsTrue (fits self.old (event.Access strand cell write)) }
-        ensures ok { OnOk result (self.new ≡ after self.old (event.Access strand cell write)) }
+        ensures ok { OnOk result (self.new ≡ after_event self.old (event.Access strand cell write)) }
         ensures reply { IfOk result (λ r. r ≡ reply_to self.old (event.Access strand cell write)) }
         ensures err { OnErr result (self.new ≡ self.old) }
     {
@@ -485,7 +485,7 @@ impl Core {
     /// An access is made, or refused where it conflicts with the newest one of its cell.
     fn access(&mut self, strand: u32, cell: u32, write: Option<i64>) -> Result<Reply, OutOfMemory>
         requires { IsTrue (fits self.old (event.Access strand cell write)) }
-        ensures ok { OnOk result (self.new ≡ after self.old (event.Access strand cell write)) }
+        ensures ok { OnOk result (self.new ≡ after_event self.old (event.Access strand cell write)) }
         ensures reply { IfOk result (λ r. r ≡ reply_to self.old (event.Access strand cell write)) }
         ensures err { OnErr result (self.new ≡ self.old) }
     {
@@ -496,7 +496,7 @@ impl Core {
     /// The strand forks, and waits for the join.
     fn fork(&mut self, strand: u32) -> Result<Reply, OutOfMemory>
         requires { IsTrue (fits self.old (event.Fork strand)) }
-        ensures ok { OnOk result (self.new ≡ after self.old (event.Fork strand)) }
+        ensures ok { OnOk result (self.new ≡ after_event self.old (event.Fork strand)) }
         ensures reply { IfOk result (λ r. r ≡ reply_to self.old (event.Fork strand)) }
         ensures err { OnErr result (self.new ≡ self.old) }
     {

@@ -73,8 +73,8 @@ pub(crate) fn put_entry(
 ) -> i64
     requires there { cell < vec_len cells.old }
     requires room { IfSome (slice_get cells.old.items cell) (λ c. 0 < c.room) }
-    requires later { IfSome (slice_get cells.old.items cell) (λ c. IfSome (stack.newest c.entries) (λ e. e.mark.stamp < stamp)) }
-    ensures answer { IfSome (slice_get cells.old.items cell) (λ c. result ≡ unwrap_or write (stack.value_of c)) }
+    requires later { IfSome (slice_get cells.old.items cell) (λ c. IfSome (stack.newest_entry c.entries) (λ e. e.mark.stamp < stamp)) }
+    ensures answer { IfSome (slice_get cells.old.items cell) (λ c. result ≡ unwrap_or write (stack.entries_value c)) }
     ensures entries { cells.new.items ≡ kept.cell_changed (kept.with_entry column stamp write) cell cells.old.items }
 {
     let mark = Mark {

@@ -31,8 +31,8 @@ abbrev pub Takes : (old new : Option (List ℕ)) (bytes : List ℕ) → Type 0
 Takes old new bytes = IfSome old (λ xs. IsSomeAnd new (λ ys. xs ≡ bytes ++ ys))
 
 -- What was to come is still to come.
-abbrev pub Keeps : (old new : Option (List ℕ)) → Type 0
-Keeps old new = Takes old new []
+abbrev pub TakesNothing : (old new : Option (List ℕ)) → Type 0
+TakesNothing old new = Takes old new []
 
 -- There is nothing to come.
 abbrev pub IsDry : Option (List ℕ) → Type 0

@@ -1,7 +1,7 @@
 ghost use Rattle.std.specs.Prelude.{◌≡◌, ◌≢◌, ◌≤◌, [], length, take, Some, Ok, IfOk, OnErr, IsOkAnd};
 ghost use Rattle.cw_io.specs.FaultPlan.{fresh_plan, IsListed, FailsWhere};
 ghost use Rattle.cw_io.specs.MemSource.{GivesNext, ends_after};
-ghost use Rattle.cw_io.specs.Outside.{CountsEnds, CountsFaults, Takes, Keeps, IsDry};
+ghost use Rattle.cw_io.specs.Outside.{CountsEnds, CountsFaults, Takes, TakesNothing, IsDry};
 
 use crate::fault_plan::FaultPlan;
 use crate::feed::Feed;
@@ -60,7 +60,7 @@ impl Source for MemSource {
         ensures within { IfOk result (λ n. n ≤ length buf.old) }
         ensures given { IfOk result (λ n. Takes (Some self.old.supply.left) (Some self.new.supply.left) (take n buf.new)) }
         ensures end { result ≡ Ok 0 → buf.old ≢ [] → IsDry (Some self.old.supply.left) }
-        ensures err { OnErr result (Keeps (Some self.old.supply.left) (Some self.new.supply.left)) }
+        ensures err { OnErr result (TakesNothing (Some self.old.supply.left) (Some self.new.supply.left)) }
     {
         if self.plan.call(false).is_err() {
             self.ends = self.ends.saturating_add(1);
@@ -120,7 +120,7 @@ impl Source for SureSource {
         ensures within { IfOk result (λ n. n ≤ length buf.old) }
         ensures given { IfOk result (λ n. Takes (Some self.old.supply.left) (Some self.new.supply.left) (take n buf.new)) }
         ensures end { result ≡ Ok 0 → buf.old ≢ [] → IsDry (Some self.old.supply.left) }
-        ensures err { OnErr result (Keeps (Some self.old.supply.left) (Some self.new.supply.left)) }
+        ensures err { OnErr result (TakesNothing (Some self.old.supply.left) (Some self.new.supply.left)) }
     {
         let count = self.feed.give(buf);
         if count == 0 {

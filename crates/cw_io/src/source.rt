@@ -1,5 +1,5 @@
 ghost use Rattle.std.specs.Prelude.{◌≡◌, ◌≢◌, ◌≤◌, ℕ, List, [], length, take, Option, IfOk, OnErr, Ok};
-ghost use Rattle.cw_io.specs.Outside.{CountsEnds, CountsFaults, Takes, Keeps, IsDry};
+ghost use Rattle.cw_io.specs.Outside.{CountsEnds, CountsFaults, Takes, TakesNothing, IsDry};
 
 /// A read or a write failed.
 #[derive(Clone, Copy, PartialEq, Eq, Debug)]
@@ -24,5 +24,5 @@ pub trait Source {
         ensures within { IfOk result (λ n. n ≤ length buf.old) }
         ensures given { IfOk result (λ n. Takes (left self.old) (left self.new) (take n buf.new)) }
         ensures end { result ≡ Ok 0 → buf.old ≢ [] → IsDry (left self.old) }
-        ensures err { OnErr result (Keeps (left self.old) (left self.new)) };
+        ensures err { OnErr result (TakesNothing (left self.old) (left self.new)) };
 }

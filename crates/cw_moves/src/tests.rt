@@ -1,5 +1,5 @@
 ghost use Rattle.std.specs.Prelude.{IfOk};
-ghost use Rattle.cw_serial.specs.Jobs.{Takes};
+ghost use Rattle.cw_serial.specs.Jobs.{TakesWords};
 ghost use Rattle.cw_strand.specs.Programs.{IsCompiled};
 
 use cw_base::Seq;
@@ -55,7 +55,7 @@ const fn asked<'a>(text: &'a str, workers: u32, list: &'a [u32], limits: Limits)
 
 fn program(alloc: Global, text: &str) -> Result<Program, Fail>
     ensures compiled { IfOk result (λ p. IsCompiled p) }
-    ensures words { IfOk result (λ p. Takes p 0) }
+    ensures words { IfOk result (λ p. TakesWords p 0) }
 {
     let program = compile(alloc, &read_program(alloc, text.as_bytes())?)?;
     if takes_words(&program, 0) {

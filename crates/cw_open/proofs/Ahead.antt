@@ -14,8 +14,8 @@ use Rattle.cw_tree.specs.Accesses.{HasAccess}
 use Rattle.cw_tree.specs.Stacks.{access_at}
 use Rattle.cw_tree.specs.Newest.{newest, last_eight}
 use Rattle.cw_tree.proofs.Lists.{In}
-use Rattle.cw_open.specs.Machine.{Machine, live}
-use Rattle.cw_open.specs.Steps.{Met, Step, forks, begins, accesses, refuses, outputs, commits, undoes, aborts, finishes, joins, stops, after, opening}
+use Rattle.cw_open.specs.Machine.{OpenMachine, live}
+use Rattle.cw_open.specs.Steps.{Met, Step, forks, begins, accesses, refuses, outputs, commits, undoes, aborts, finishes, joins, stops, after_open_step, first_machine}
 use Rattle.cw_open.specs.Runs.{Allowed, IsRun, IsRefused, at_once}
 use Rattle.cw_open.specs.Times.{is_changed, times_after, IsDrawn, IsMetInTime, IsTimely, AreTimely, IsAhead, AreAhead}
 use Rattle.cw_open.specs.Told.{IsNewest, as_told, AtOnceIsTold, AheadIsTimely}
@@ -61,7 +61,7 @@ newest_told t c us met rises are last chain =
       last = (drop k vs, chain ∙ ap (drop k) split ∙ drop-append-le k vs (met.last ∷ []) (omega arith));
     }
 
-told_step : (first : List ℤ) (m : Machine) (e : Step) → IsState first m → Allowed at_once m e → Allowed (as_told (λ t us w. newest us)) m e
+told_step : (first : List ℤ) (m : OpenMachine) (e : Step) → IsState first m → Allowed at_once m e → Allowed (as_told (λ t us w. newest us)) m e
 told_step first m (forks s stamp) w a = a
 told_step first m (begins s stamp) w a = a
 told_step first m (accesses s c write stamp) w a = a
@@ -74,16 +74,16 @@ told_step first m (finishes s dead) w a = a
 told_step first m (joins f) w a = a
 told_step first m (stops s) w a = a
 
-told_run : (first : List ℤ) (m : Machine) (es : List Step) → IsState first m → IsRun at_once m es → IsRun (as_told (λ t us w. newest us)) m es
+told_run : (first : List ℤ) (m : OpenMachine) (es : List Step) → IsState first m → IsRun at_once m es → IsRun (as_told (λ t us w. newest us)) m es
 told_run first m [] w run = tt
-told_run first m (e ∷ es) w run = (told_step first m e w run.0, told_run first (after m e) es (state_after at_once first m e w run.0) run.1)
+told_run first m (e ∷ es) w run = (told_step first m e w run.0, told_run first (after_open_step m e) es (state_after at_once first m e w run.0) run.1)
 
 pub at_once_told : AtOnceIsTold
-at_once_told first es run = told_run first (opening first) es (state_opening first) run
+at_once_told first es run = told_run first (first_machine first) es (state_opening first) run
 
 -- ## Stamps that are drawn when they are used
 
-clock_on : (m : Machine) (e : Step) → m.clock ≤ (after m e).clock
+clock_on : (m : OpenMachine) (e : Step) → m.clock ≤ (after_open_step m e).clock
 clock_on m (forks s stamp) = omega arith
 clock_on m (begins s stamp) = omega arith
 clock_on m (accesses s c w stamp) = omega arith
@@ -97,30 +97,30 @@ clock_on m (joins f) = omega arith
 clock_on m (stops s) = omega arith
 
 -- no time is above the clock
-abbrev AreLow : (ℕ → ℕ) → Machine → Type 0
+abbrev AreLow : (ℕ → ℕ) → OpenMachine → Type 0
 AreLow times m = (n : ℕ) → n < length m.tree → times n ≤ m.clock
 
-low_after : (times : ℕ → ℕ) (m : Machine) (e : Step) → AreLow times m → AreLow (times_after times m e) (after m e)
+low_after : (times : ℕ → ℕ) (m : OpenMachine) (e : Step) → AreLow times m → AreLow (times_after times m e) (after_open_step m e)
 low_after times m e low n h =
     elim (cases_Bool (is_changed m e n)) [
-      | inl yes_changed ↦ omega (arith, ap (λ b. cond b (after m e).clock (times n)) yes_changed)
+      | inl yes_changed ↦ omega (arith, ap (λ b. cond b (after_open_step m e).clock (times n)) yes_changed)
       | inr same ↦ elim (cases_lt n (length m.tree)) [
-        | inl old ↦ omega (arith, ap (λ b. cond b (after m e).clock (times n)) same, low n old, clock_on m e)
-        | inr le ↦ absurd (cc ((or_parts (nat_le (length m.tree) n) (is_pending m.tree n && not (is_pending (after m e).tree n)) same).0, le-leb (length m.tree) n le))
+        | inl old ↦ omega (arith, ap (λ b. cond b (after_open_step m e).clock (times n)) same, low n old, clock_on m e)
+        | inr le ↦ absurd (cc ((or_parts (nat_le (length m.tree) n) (is_pending m.tree n && not (is_pending (after_open_step m e).tree n)) same).0, le-leb (length m.tree) n le))
       ]
     ]
 
-drawn : (times : ℕ → ℕ) (m : Machine) (p stamp : ℕ) → AreLow times m → m.clock < stamp → IsDrawn times m.tree p stamp
+drawn : (times : ℕ → ℕ) (m : OpenMachine) (p stamp : ℕ) → AreLow times m → m.clock < stamp → IsDrawn times m.tree p stamp
 drawn times m p stamp low less n h e = let le = low n h in omega arith
 
-met_now : (times : ℕ → ℕ) (m : Machine) (s c : ℕ) (met : Met) → IsRefused m s c met → IsMetInTime times m.tree (place m.tree s) met
+met_now : (times : ℕ → ℕ) (m : OpenMachine) (s c : ℕ) (met : Met) → IsRefused m s c met → IsMetInTime times m.tree (place m.tree s) met
 met_now times m s c met w =
     let (b, is, stamped) = w.block in
     let y = and_parts (is_pending m.tree b && is_above m.tree b (access_at m.tree met.last)) (not (is_ancestor m.tree b (place m.tree s))) is in
     let pending = (and_parts (is_pending m.tree b) (is_above m.tree b (access_at m.tree met.last)) y.0).0 in
     (b, pending_block m.tree b pending, stamped, inl pending)
 
-timely_step : (times : ℕ → ℕ) (m : Machine) (e : Step) → AreLow times m → Allowed at_once m e → IsAhead m e → IsTimely times m e
+timely_step : (times : ℕ → ℕ) (m : OpenMachine) (e : Step) → AreLow times m → Allowed at_once m e → IsAhead m e → IsTimely times m e
 timely_step times m (forks s stamp) low a ahead = drawn times m (place m.tree s) stamp low ahead
 timely_step times m (begins s stamp) low a ahead = drawn times m (place m.tree s) stamp low ahead
 timely_step times m (accesses s c w stamp) low a ahead = drawn times m (place m.tree s) stamp low ahead
@@ -133,9 +133,9 @@ timely_step times m (finishes s dead) low a ahead = tt
 timely_step times m (joins f) low a ahead = tt
 timely_step times m (stops s) low a ahead = tt
 
-timely_run : (times : ℕ → ℕ) (m : Machine) (es : List Step) → AreLow times m → IsRun at_once m es → AreAhead m es → AreTimely times m es
+timely_run : (times : ℕ → ℕ) (m : OpenMachine) (es : List Step) → AreLow times m → IsRun at_once m es → AreAhead m es → AreTimely times m es
 timely_run times m [] low run ahead = tt
-timely_run times m (e ∷ es) low run ahead = (timely_step times m e low run.0 ahead.0, timely_run (times_after times m e) (after m e) es (low_after times m e low) run.1 ahead.1)
+timely_run times m (e ∷ es) low run ahead = (timely_step times m e low run.0 ahead.0, timely_run (times_after times m e) (after_open_step m e) es (low_after times m e low) run.1 ahead.1)
 
 pub ahead_timely : AheadIsTimely
-ahead_timely first es run ahead = timely_run (λ n. 0) (opening first) es (λ n h. omega arith) run ahead
+ahead_timely first es run ahead = timely_run (λ n. 0) (first_machine first) es (λ n h. omega arith) run ahead

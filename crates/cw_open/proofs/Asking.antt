@@ -15,9 +15,9 @@ use Rattle.cw_tree.specs.Shape.{IsTree}
 use Rattle.cw_tree.proofs.Members.{in_below, filter_same}
 use Rattle.cw_tree.proofs.Growing.{node_grown, node_new, all_nodes_more}
 use Rattle.cw_tree.proofs.NextTrees.{in_turn}
-use Rattle.cw_open.specs.Machine.{Machine, value_of}
-use Rattle.cw_open.specs.Steps.{Step, forks, begins, accesses, refuses, outputs, commits, undoes, aborts, finishes, joins, stops, refusal, after}
-use Rattle.cw_open.specs.Runs.{Rules, Allowed, Reached}
+use Rattle.cw_open.specs.Machine.{OpenMachine, live_value}
+use Rattle.cw_open.specs.Steps.{Step, forks, begins, accesses, refuses, outputs, commits, undoes, aborts, finishes, joins, stops, refusal, after_open_step}
+use Rattle.cw_open.specs.Runs.{Rules, Allowed, IsReachedBy}
 use Rattle.cw_open.proofs.Trees.{stands_well}
 use Rattle.cw_open.proofs.TreeSteps.{free_runs}
 use Rattle.cw_open.proofs.States.{IsState, state_after, state_opening, by_run}
@@ -49,13 +49,13 @@ access_untried : (c : ℕ) (w : Option ℤ) (v : ℤ) → is_tried_kind (access_
 access_untried c None v = refl
 access_untried c (Some w) v = refl
 
-abbrev pub AreAsking : Machine → Type 0
+abbrev pub AreAsking : OpenMachine → Type 0
 AreAsking m = map (λ c. c.asker) m.conflicts ≡ tries_of m.tree
 
-asking_after : (r : Rules) (first : List ℤ) (m : Machine) (e : Step) → IsState first m → AreAsking m → Allowed r m e → AreAsking (after m e)
+asking_after : (r : Rules) (first : List ℤ) (m : OpenMachine) (e : Step) → IsState first m → AreAsking m → Allowed r m e → AreAsking (after_open_step m e)
 asking_after r first m (forks s stamp) w k a = k ∙ sym (none_forked m.tree w.well.sound.tree (place m.tree s) (stands_well m w.well s (free_runs m s a.0)) stamp)
 asking_after r first m (begins s stamp) w k a = k ∙ sym (none_tried m.tree (fresh_node (place m.tree s) Block stamp) refl)
-asking_after r first m (accesses s c write stamp) w k a = k ∙ sym (none_tried m.tree (fresh_node (place m.tree s) (access_kind c write (value_of m c)) stamp) (access_untried c write (value_of m c)))
+asking_after r first m (accesses s c write stamp) w k a = k ∙ sym (none_tried m.tree (fresh_node (place m.tree s) (access_kind c write (live_value m c)) stamp) (access_untried c write (live_value m c)))
 asking_after r first m (refuses s c write met) w k a =
     map-append (λ (c : Conflict). c.asker) m.conflicts (refusal m (place m.tree s) c met ∷ [])
     ∙ ap (λ ns. ns ++ length m.tree ∷ []) k
@@ -68,11 +68,11 @@ asking_after r first m (finishes s dead) w k a = k
 asking_after r first m (joins f) w k a = k
 asking_after r first m (stops s) w k a = k
 
-record IsAskingState (first : List ℤ) (m : Machine) : Type 0 where
+record IsAskingState (first : List ℤ) (m : OpenMachine) : Type 0 where
   pub state : IsState first m
   pub asking : AreAsking m
 
-pub asking_states : (r : Rules) (first : List ℤ) (m : Machine) → Reached r first m → AreAsking m
+pub asking_states : (r : Rules) (first : List ℤ) (m : OpenMachine) → IsReachedBy r first m → AreAsking m
 asking_states r first m reached =
     (by_run r first (IsAskingState first) (record { state = state_opening first; asking = refl })
     (λ m e w a. record { state = state_after r first m e w.state a; asking = asking_after r first m e w.state w.asking a }) m reached).asking

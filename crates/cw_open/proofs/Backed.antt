@@ -12,7 +12,7 @@ use Rattle.cw_tree.specs.declared.conflict.Conflict.{Conflict}
 use Rattle.cw_tree.specs.Nodes.{passes, is_fork_kind, is_block_kind, is_pending_state, is_committed_state, number_in, all_nodes, parent_of, stamp_of, is_strand, is_fork, is_block, is_pending, is_committed, fresh_node}
 use Rattle.cw_tree.specs.Walks.{IsRooted, has, is_ancestor, is_above}
 use Rattle.cw_tree.specs.Series.{strand_of, place}
-use Rattle.cw_tree.specs.Refusals.{victim_of, is_victim, leads_back as tells_back}
+use Rattle.cw_tree.specs.Refusals.{victim_of, is_victim, names_victim as tells_back}
 use Rattle.cw_tree.specs.NextNodes.{IsPlace}
 use Rattle.cw_tree.specs.Shape.{IsTree}
 use Rattle.cw_tree.proofs.Lists.{In}
@@ -21,7 +21,7 @@ use Rattle.cw_tree.proofs.There.{node_there}
 use Rattle.cw_tree.proofs.Ancestors.{ancestor_le}
 use Rattle.cw_tree.proofs.Growing.{length_more, number_grown, above_new}
 use Rattle.cw_tree.proofs.NextPending.{end_of_place}
-use Rattle.cw_open.specs.Machine.{Machine, has_finished, finished_dead, is_running, is_dying}
+use Rattle.cw_open.specs.Machine.{OpenMachine, has_finished, finished_dead, is_running, is_dying}
 use Rattle.cw_open.specs.Steps.{Met, refusal}
 use Rattle.cw_open.proofs.Trees.{IsWell, stands_well}
 use Rattle.cw_open.proofs.Standing.{stands}
@@ -34,7 +34,7 @@ use Rattle.cw_open.proofs.Fell.{any_one}
 use Rattle.cw_open.proofs.Victims.{IsTold, IsToldState, told_new}
 use Rattle.cw_open.proofs.Backing.{Died, GoesBack, AllDied, one_more, back_grown, died_grown}
 
-pub record IsBacked (m : Machine) : Type 0 where
+pub record IsBacked (m : OpenMachine) : Type 0 where
   pub back : GoesBack m.tree m.conflicts
   pub died : AllDied m.tree m.conflicts (has_finished m) (finished_dead m)
 
@@ -51,7 +51,7 @@ fork_child t tree n some low fork =
       | inr z ↦ elim z [ inl q ↦ ap (is_strand t) q ∙ both.1 | inr none ↦ absurd none ]
     ]
 
-pub dead_finished : (m : Machine) (x : ℕ) → finished_dead m x ≡ true → has_finished m x ≡ true
+pub dead_finished : (m : OpenMachine) (x : ℕ) → finished_dead m x ≡ true → has_finished m x ≡ true
 dead_finished m x e = by m.finished e where
   by : (fs : List (ℕ × Bool)) → list_any (λ f. nat_eq f.0 x && f.1) fs ≡ true → list_any (λ f. nat_eq f.0 x) fs ≡ true
   by [] e = e
@@ -77,7 +77,7 @@ not_both t n = by (slice_get t n) where
 pub committed_block : (t : List Node) (n : ℕ) → is_committed t n ≡ true → is_block t n ≡ true
 committed_block t = at_node t (λ x. is_block_kind x.kind && is_committed_state x.state) (λ x. is_block_kind x.kind) (λ x e. (and_parts (is_block_kind x.kind) (is_committed_state x.state) e).0)
 
-module _ (first : List ℤ) (m : Machine) (w : IsToldState first m) (k : IsBacked m) where
+module _ (first : List ℤ) (m : OpenMachine) (w : IsToldState first m) (k : IsBacked m) where
   abbrev t : List Node
   t = m.tree
 

@@ -10,9 +10,9 @@ use Rattle.cw_tree.specs.Refusals.{is_victim}
 use Rattle.cw_tree.specs.Stacks.{access_kind}
 use Rattle.cw_tree.specs.NextNodes.{IsPlace, fork_nodes}
 use Rattle.cw_tree.proofs.NextPending.{end_of_place}
-use Rattle.cw_open.specs.Machine.{Machine, value_of, has_finished, finished_dead, is_running, in_block, is_dying, is_free, rolls_back}
-use Rattle.cw_open.specs.Steps.{Step, forks, begins, accesses, refuses, outputs, commits, undoes, aborts, finishes, joins, stops, after, opening}
-use Rattle.cw_open.specs.Runs.{Rules, Allowed, Reached, left_died}
+use Rattle.cw_open.specs.Machine.{OpenMachine, live_value, has_finished, finished_dead, is_running, in_block, is_dying, is_free, rolls_back}
+use Rattle.cw_open.specs.Steps.{Step, forks, begins, accesses, refuses, outputs, commits, undoes, aborts, finishes, joins, stops, after_open_step, first_machine}
+use Rattle.cw_open.specs.Runs.{Rules, Allowed, IsReachedBy, left_died}
 use Rattle.cw_open.proofs.Trees.{stands_well}
 use Rattle.cw_open.proofs.TreeSteps.{free_runs, rolls_runs}
 use Rattle.cw_open.proofs.States.{by_run}
@@ -22,7 +22,7 @@ use Rattle.cw_open.proofs.Backing.{GoesBack, AllDied}
 use Rattle.cw_open.proofs.BackedSteps.{committed, aborted, finished}
 use Rattle.cw_open.proofs.Backed.{IsBacked, come, refused_come}
 
-module _ (first : List ℤ) (m : Machine) (w : IsToldState first m) (k : IsBacked m) where
+module _ (first : List ℤ) (m : OpenMachine) (w : IsToldState first m) (k : IsBacked m) where
   -- what a strand needs to go on, taken apart
   lives_free : (s : ℕ) → is_free m s ≡ true → is_dying m s ≡ false
   lives_free s free = not-true (is_dying m s) (and_parts (is_running m s) (not (is_dying m s)) free).1
@@ -43,13 +43,13 @@ module _ (first : List ℤ) (m : Machine) (w : IsToldState first m) (k : IsBacke
     fork : (stamp : ℕ) → GoesBack (m.tree ++ fork_nodes (length m.tree) p stamp) m.conflicts × AllDied (m.tree ++ fork_nodes (length m.tree) p stamp) m.conflicts (has_finished m) (finished_dead m)
     fork stamp = come first m w k s running (lives_free s free) (m.tree ++ fork_nodes (length m.tree) p stamp) stamp (growth_fork m.tree w.state.well.sound.tree p at stamp)
 
-  pub backed_after : (rules : Rules) (e : Step) → Allowed rules m e → IsBacked (after m e)
+  pub backed_after : (rules : Rules) (e : Step) → Allowed rules m e → IsBacked (after_open_step m e)
   backed_after rules (forks s stamp) a = let z = fork s a.0 stamp in record { back = z.0; died = z.1 }
   backed_after rules (begins s stamp) a = let z = leaf s a.0 Block stamp in record { back = z.0; died = z.1 }
   backed_after rules (accesses s c write stamp) a =
       let y = and_parts (is_free m s && nat_lt c (length m.lists)) _ a.0 in
       let free = (and_parts (is_free m s) (nat_lt c (length m.lists)) y.0).0 in
-      let z = leaf s free (access_kind c write (value_of m c)) stamp in
+      let z = leaf s free (access_kind c write (live_value m c)) stamp in
       record { back = z.0; died = z.1 }
   backed_after rules (refuses s c write met) a =
       let free = (and_parts (is_free m s) (nat_lt c (length m.lists)) a.0).0 in
@@ -76,15 +76,15 @@ module _ (first : List ℤ) (m : Machine) (w : IsToldState first m) (k : IsBacke
 
 -- ## Every state
 
-pub record IsBackedState (first : List ℤ) (m : Machine) : Type 0 where
+pub record IsBackedState (first : List ℤ) (m : OpenMachine) : Type 0 where
   pub told : IsToldState first m
   pub backed : IsBacked m
 
-none_closed : (first : List ℤ) (n : ℕ) → (is_aborted (opening first).tree n ≡ false) × (is_committed (opening first).tree n ≡ false)
+none_closed : (first : List ℤ) (n : ℕ) → (is_aborted (first_machine first).tree n ≡ false) × (is_committed (first_machine first).tree n ≡ false)
 none_closed first zero = (refl, refl)
 none_closed first (suc n) = (refl, refl)
 
-backed_opening : (first : List ℤ) → IsBacked (opening first)
+backed_opening : (first : List ℤ) → IsBacked (first_machine first)
 backed_opening first = record {
   back = record {
     aborted = λ b e. absurd (cc (e, (none_closed first b).0));
@@ -95,7 +95,7 @@ backed_opening first = record {
   died = λ x some e. absurd (cc e);
 }
 
-pub backed_states : (r : Rules) (first : List ℤ) (m : Machine) → Reached r first m → IsBackedState first m
+pub backed_states : (r : Rules) (first : List ℤ) (m : OpenMachine) → IsReachedBy r first m → IsBackedState first m
 backed_states r first =
     by_run r first (IsBackedState first) (record { told = told_opening first; backed = backed_opening first })
     (λ m e w a. record { told = told_state_after r first m e w.told a; backed = backed_after first m w.told w.backed r e a })

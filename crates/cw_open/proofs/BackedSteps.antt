@@ -19,8 +19,8 @@ use Rattle.cw_tree.proofs.Kin.{ancestor_linear}
 use Rattle.cw_tree.proofs.Nearest.{above_from}
 use Rattle.cw_tree.proofs.Closing.{number_closed, state_closed}
 use Rattle.cw_tree.proofs.DepthFirst.{child_is}
-use Rattle.cw_open.specs.Machine.{Machine, has_finished, finished_dead, falls, is_running, in_block, is_dying, rolls_back}
-use Rattle.cw_open.specs.Steps.{finishes, after}
+use Rattle.cw_open.specs.Machine.{OpenMachine, has_finished, finished_dead, falls, is_running, in_block, is_dying, rolls_back}
+use Rattle.cw_open.specs.Steps.{finishes, after_open_step}
 use Rattle.cw_open.specs.Runs.{left_died}
 use Rattle.cw_open.specs.Open.{is_open}
 use Rattle.cw_open.proofs.NodeKinds.{pending_block, strand_no_block, fork_no_strand}
@@ -35,7 +35,7 @@ use Rattle.cw_open.proofs.Backing.{Died, GoesBack, AllDied, block_some, died_els
 use Rattle.cw_open.proofs.BackingCloses.{back_closed, died_closed}
 use Rattle.cw_open.proofs.Backed.{IsBacked, fork_child, dead_finished, not_both, committed_block}
 
-module _ (first : List ℤ) (m : Machine) (w : IsToldState first m) (k : IsBacked m) where
+module _ (first : List ℤ) (m : OpenMachine) (w : IsToldState first m) (k : IsBacked m) where
   abbrev t : List Node
   t = m.tree
 
@@ -96,8 +96,8 @@ module _ (first : List ℤ) (m : Machine) (w : IsToldState first m) (k : IsBacke
   -- ## A strand finishes
 
   module _ (x : ℕ) (dead : Bool) (running : is_running m x ≡ true) (outside : in_block m x ≡ false) (allowed : cond (is_dying m x) dead (not dead || left_died m x) ≡ true) where
-    abbrev z : Machine
-    z = after m (finishes x dead)
+    abbrev z : OpenMachine
+    z = after_open_step m (finishes x dead)
 
     own_place : place t x ≡ x
     own_place = eqb-true (place t x) x (not-false (nat_eq (place t x) x) outside)

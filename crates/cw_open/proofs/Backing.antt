@@ -9,12 +9,12 @@ use Rattle.cw_tree.specs.declared.conflict.Conflict.{Conflict}
 use Rattle.cw_tree.specs.Nodes.{passes, is_fork_kind, is_block_kind, is_committed_state, is_aborted_state, parent_of, stamp_of, is_strand, is_fork, is_block, is_committed, is_aborted}
 use Rattle.cw_tree.specs.Walks.{IsRooted, is_ancestor, is_above}
 use Rattle.cw_tree.specs.Series.{strand_of, place, has_later}
-use Rattle.cw_tree.specs.Refusals.{victim_of, is_victim, leads_back as tells_back}
+use Rattle.cw_tree.specs.Refusals.{victim_of, is_victim, names_victim as tells_back}
 use Rattle.cw_tree.specs.NextNodes.{IsPlace}
 use Rattle.cw_tree.proofs.There.{node_there}
 use Rattle.cw_tree.proofs.Ancestors.{ancestor_self, above_parent, ancestor_up}
 use Rattle.cw_tree.proofs.Strands.{strand_over, strand_of_other}
-use Rattle.cw_open.specs.Machine.{Machine, is_dying}
+use Rattle.cw_open.specs.Machine.{OpenMachine, is_dying}
 use Rattle.cw_open.proofs.NodeKinds.{at_node, strand_no_block}
 use Rattle.cw_open.proofs.Growth.{IsGrowth}
 use Rattle.cw_open.proofs.Staying.{Stays, grown_stays, strand_stays, later_grown}
@@ -82,7 +82,7 @@ victim_more t cs more b e =
 
 -- ## Nodes come at the place of a free strand
 
-module _ (m : Machine) (r : IsRooted m.tree) (root : is_strand m.tree 0 ≡ true) (told : All (IsTold m.tree) m.conflicts) (askers : AreAskers m.tree m.conflicts) (s : ℕ) where
+module _ (m : OpenMachine) (r : IsRooted m.tree) (root : is_strand m.tree 0 ≡ true) (told : All (IsTold m.tree) m.conflicts) (askers : AreAskers m.tree m.conflicts) (s : ℕ) where
   abbrev t : List Node
   t = m.tree
 

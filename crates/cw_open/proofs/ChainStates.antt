@@ -11,9 +11,9 @@ use Rattle.cw_tree.specs.Shape.{AreStamps}
 use Rattle.cw_tree.specs.Accesses.{HasAccess}
 use Rattle.cw_tree.specs.Stacks.{access_kind}
 use Rattle.cw_tree.specs.Newest.{newest}
-use Rattle.cw_open.specs.Machine.{Machine, live, value_of, in_block, is_free, rolls_back}
-use Rattle.cw_open.specs.Steps.{Step, forks, begins, accesses, refuses, outputs, commits, undoes, aborts, finishes, joins, stops, live_beside, after, opening}
-use Rattle.cw_open.specs.Runs.{Rules, Allowed, Reached, meets, at_any_time}
+use Rattle.cw_open.specs.Machine.{OpenMachine, live, live_value, in_block, is_free, rolls_back}
+use Rattle.cw_open.specs.Steps.{Step, forks, begins, accesses, refuses, outputs, commits, undoes, aborts, finishes, joins, stops, live_beside, after_open_step, first_machine}
+use Rattle.cw_open.specs.Runs.{Rules, Allowed, IsReachedBy, meets, at_any_time}
 use Rattle.cw_open.proofs.Trees.{stands_well}
 use Rattle.cw_open.proofs.TreeSteps.{free_runs, rolls_runs, place_pending}
 use Rattle.cw_open.proofs.Listing.{listed}
@@ -24,11 +24,11 @@ use Rattle.cw_open.proofs.States.{IsState, by_run, state_after, state_opening, e
 abbrev pub newest_alone : Rules
 newest_alone = at_any_time (λ t us w. newest us)
 
-abbrev pub AreChained : Machine → Type 0
+abbrev pub AreChained : OpenMachine → Type 0
 AreChained m = (c : ℕ) → IsChained m.tree c (live m c)
 
 -- the list of another cell than the one that was changed, and of that one
-by_cell : (m : Machine) (u : List Node) (c : ℕ) (l : List ℕ) → c < length m.lists → IsChained u c l → ((d : ℕ) → IsChained u d (live m d)) → (d : ℕ) → IsChained u d (listed (slice_set m.lists c l) d)
+by_cell : (m : OpenMachine) (u : List Node) (c : ℕ) (l : List ℕ) → c < length m.lists → IsChained u c l → ((d : ℕ) → IsChained u d (live m d)) → (d : ℕ) → IsChained u d (listed (slice_set m.lists c l) d)
 by_cell m u c l there here other d =
     elim (cases_eq d c) [
       | inl q ↦
@@ -42,22 +42,22 @@ pub access_touched : (c : ℕ) (write : Option ℤ) (v : ℤ) → touches_kind c
 access_touched c None v = eq-eqb c c refl
 access_touched c (Some w) v = eq-eqb c c refl
 
-module _ (first : List ℤ) (m : Machine) (s : IsState first m) (h : AreChained m) where
+module _ (first : List ℤ) (m : OpenMachine) (s : IsState first m) (h : AreChained m) where
   abbrev t : List Node
   t = m.tree
 
   grown : (xs : List Node) → AreStamps (t ++ xs) → (c : ℕ) → IsChained (t ++ xs) c (live m c)
   grown xs su c = chained_grown t s.well.sound.tree.rooted s.well.sound.stamps c (live m c) (s.listed.accesses c) (h c) xs su
 
-  pub chained_after : (e : Step) → Allowed newest_alone m e → IsState first (after m e) → AreChained (after m e)
+  pub chained_after : (e : Step) → Allowed newest_alone m e → IsState first (after_open_step m e) → AreChained (after_open_step m e)
   chained_after (forks x stamp) a z = grown _ z.well.sound.stamps
   chained_after (begins x stamp) a z = grown _ z.well.sound.stamps
   chained_after (accesses x c write stamp) a z =
       let y = and_parts (is_free m x && nat_lt c (length m.lists)) (not (meets t (newest (live m c)) (place t x))) a.0 in
       let q = and_parts (is_free m x) (nat_lt c (length m.lists)) y.0 in
-      let node = fresh_node (place t x) (access_kind c write (value_of m c)) stamp in
+      let node = fresh_node (place t x) (access_kind c write (live_value m c)) stamp in
       by_cell m (t ++ node ∷ []) c (live m c ++ stamp ∷ []) (ltb-true c (length m.lists) q.1)
-      (chained_more t s.well.sound.tree.rooted s.well.sound.stamps c (live m c) (s.listed.accesses c) (h c) (s.listed.lives c) node (stands_well m s.well x (free_runs m x q.0)) (access_touched c write (value_of m c)) a.1 (not-true _ y.1) a.2 z.well.sound.stamps)
+      (chained_more t s.well.sound.tree.rooted s.well.sound.stamps c (live m c) (s.listed.accesses c) (h c) (s.listed.lives c) node (stands_well m s.well x (free_runs m x q.0)) (access_touched c write (live_value m c)) a.1 (not-true _ y.1) a.2 z.well.sound.stamps)
       (grown (node ∷ []) z.well.sound.stamps)
   chained_after (refuses x c write met) a z = grown _ z.well.sound.stamps
   chained_after (outputs x v stamp) a z = grown _ z.well.sound.stamps
@@ -77,16 +77,16 @@ module _ (first : List ℤ) (m : Machine) (s : IsState first m) (h : AreChained 
   chained_after (joins f) a z = h
   chained_after (stops x) a z = h
 
-pub chained_opening : (first : List ℤ) → AreChained (opening first)
+pub chained_opening : (first : List ℤ) → AreChained (first_machine first)
 chained_opening first c =
-    let P : List ℕ → Type 0 = λ us. IsChained (opening first).tree c us in
-    subst P (sym (empty_lists first c)) (record { chain = record { accesses = All-nil (HasAccess (opening first).tree c); chain = tt }; ended = tt })
+    let P : List ℕ → Type 0 = λ us. IsChained (first_machine first).tree c us in
+    subst P (sym (empty_lists first c)) (record { chain = record { accesses = All-nil (HasAccess (first_machine first).tree c); chain = tt }; ended = tt })
 
-pub record IsChainState (first : List ℤ) (m : Machine) : Type 0 where
+pub record IsChainState (first : List ℤ) (m : OpenMachine) : Type 0 where
   pub state : IsState first m
   pub chained : AreChained m
 
-pub chain_states : (first : List ℤ) (m : Machine) → Reached newest_alone first m → IsChainState first m
+pub chain_states : (first : List ℤ) (m : OpenMachine) → IsReachedBy newest_alone first m → IsChainState first m
 chain_states first =
     by_run newest_alone first (IsChainState first) (record { state = state_opening first; chained = chained_opening first })
     (λ m e s a. let z = state_after newest_alone first m e s.state a in record { state = z; chained = chained_after first m s.state s.chained e a z })

@@ -13,7 +13,7 @@ use Rattle.cw_tree.specs.Series.{strand_of}
 use Rattle.cw_tree.specs.Refusals.{is_victim, victim_of}
 use Rattle.cw_tree.proofs.Lists.{any_in, any_from}
 use Rattle.cw_tree.proofs.Members.{in_below, below_in}
-use Rattle.cw_open.specs.Machine.{Machine, falls, is_dying, leads_back}
+use Rattle.cw_open.specs.Machine.{OpenMachine, falls, is_dying, leads_back}
 
 -- some of these passes, and so some of these and more, where each that passed still does
 pub any_kept : {X : Type 0} (P : X → Type 0) (p q : X → Bool) (xs ys : List X) → All P xs → ((x : X) → P x → p x ≡ true → q x ≡ true) → list_any p xs ≡ true → list_any q (xs ++ ys) ≡ true
@@ -33,7 +33,7 @@ any_weaker p q (x ∷ xs) f e =
     ]
 
 -- such a strand is dying
-pub back_dies : (m : Machine) (s b : ℕ) → leads_back m s b ≡ true → is_dying m s ≡ true
+pub back_dies : (m : OpenMachine) (s b : ℕ) → leads_back m s b ≡ true → is_dying m s ≡ true
 back_dies m s b e =
     any_weaker (λ c. is_above m.tree s c.asker && list_any (λ v. falls m c v && is_ancestor m.tree v b) (all_nodes m.tree)) (λ c. is_above m.tree s c.asker && list_any (falls m c) (all_nodes m.tree)) m.conflicts
     (λ c f.
@@ -54,7 +54,7 @@ pub record Holds (t u : List Node) (s b : ℕ) : Type 0 where
   pub blocks : (v : ℕ) → v < length t → is_block u v ≡ is_block t v
   pub stamps : (v : ℕ) → v < length t → stamp_of u v ≡ stamp_of t v
 
-module _ (m k : Machine) (more : List Conflict) (told : k.conflicts ≡ m.conflicts ++ more) (askers : AreAskers m.tree m.conflicts) (s b : ℕ) (h : Holds m.tree k.tree s b) where
+module _ (m k : OpenMachine) (more : List Conflict) (told : k.conflicts ≡ m.conflicts ++ more) (askers : AreAskers m.tree m.conflicts) (s b : ℕ) (h : Holds m.tree k.tree s b) where
   falls_kept : (c : Conflict) (v : ℕ) → v < length m.tree → is_ancestor m.tree v b ≡ true → falls m c v ≡ true → falls k c v ≡ true
   falls_kept c v low over e =
       let z = and_parts (is_pending m.tree v) (is_victim m.tree (c ∷ []) v) e in
@@ -82,7 +82,7 @@ module _ (m k : Machine) (more : List Conflict) (told : k.conflicts ≡ m.confli
       and_from (is_above k.tree s c.asker) (list_any (λ v. falls k c v && is_ancestor k.tree v b) (all_nodes k.tree)) (h.above c.asker low ∙ z.0) (falling c z.1)) e
 
 -- A live access that is not in its cell's list was undone: it stands beneath a pending block that its strand has to roll back.
-pub record IsGone (m : Machine) (n : ℕ) : Type 0 where
+pub record IsGone (m : OpenMachine) (n : ℕ) : Type 0 where
   pub block : ℕ
   pub pending : is_pending m.tree block ≡ true
   pub over : is_above m.tree block n ≡ true

@@ -9,7 +9,7 @@ use Rattle.cw_tree.specs.declared.node.Node.{Node}
 use Rattle.cw_tree.specs.declared.conflict.Conflict.{Conflict}
 use Rattle.cw_tree.specs.Nodes.{is_fork_kind, is_block_kind, parent_of, stamp_of, is_fork, is_block, is_pending, all_nodes}
 use Rattle.cw_tree.specs.Walks.{IsRooted, path, is_ancestor, is_above}
-use Rattle.cw_tree.specs.Refusals.{victim_of, is_victim, leads_back as tells_back}
+use Rattle.cw_tree.specs.Refusals.{victim_of, is_victim, names_victim as tells_back}
 use Rattle.cw_tree.specs.NextNodes.{IsPlace}
 use Rattle.cw_tree.proofs.Lists.{any_in, any_from}
 use Rattle.cw_tree.proofs.Members.{in_below, below_in}
@@ -17,7 +17,7 @@ use Rattle.cw_tree.proofs.There.{node_there}
 use Rattle.cw_tree.proofs.Kin.{ancestor_in}
 use Rattle.cw_tree.proofs.Ancestors.{ancestor_step, above_parent, ancestor_trans}
 use Rattle.cw_tree.proofs.Nearest.{above_from}
-use Rattle.cw_open.specs.Machine.{Machine, falls, is_dying, leads_back}
+use Rattle.cw_open.specs.Machine.{OpenMachine, falls, is_dying, leads_back}
 use Rattle.cw_open.proofs.NodeKinds.{fork_no_block_at}
 use Rattle.cw_open.proofs.Falling.{AreAskers, any_kept, any_weaker}
 use Rattle.cw_open.proofs.Staying.{Stays, above_stays, ancestor_stays}
@@ -107,7 +107,7 @@ fell_stays t u s cs more askers a b h =
 -- ## Who fell
 
 -- what leads back fell
-pub back_fell : (m : Machine) (s b : ℕ) → leads_back m s b ≡ true → fell m.tree m.conflicts s b ≡ true
+pub back_fell : (m : OpenMachine) (s b : ℕ) → leads_back m s b ≡ true → fell m.tree m.conflicts s b ≡ true
 back_fell m s b =
     any_weaker (λ c. is_above m.tree s c.asker && list_any (λ v. falls m c v && is_ancestor m.tree v b) (all_nodes m.tree)) (fell_for m.tree s b) m.conflicts
     (λ c e.
@@ -201,7 +201,7 @@ module _ (t : List Node) (r : IsRooted t) (cs : List Conflict) (told : All (IsTo
 
 -- ## A strand in what fell is dying
 
-module _ (m : Machine) (r : IsRooted m.tree) (told : All (IsTold m.tree) m.conflicts) where
+module _ (m : OpenMachine) (r : IsRooted m.tree) (told : All (IsTold m.tree) m.conflicts) where
   abbrev t : List Node
   t = m.tree
 

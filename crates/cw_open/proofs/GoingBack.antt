@@ -5,7 +5,7 @@ use Rattle.std.proofs.lemmas.Bool.{and_parts, not-true, cases_eq, eqb-true, eq-e
 use Rattle.cw_tree.specs.Nodes.{is_fork_kind, parent_of, is_strand, is_block, is_aborted}
 use Rattle.cw_tree.specs.Walks.{is_above, is_ancestor}
 use Rattle.cw_tree.specs.Series.{strand_of, place}
-use Rattle.cw_tree.specs.Refusals.{is_victim, victim_of, leads_back}
+use Rattle.cw_tree.specs.Refusals.{is_victim, victim_of, names_victim}
 use Rattle.cw_tree.proofs.There.{node_there}
 use Rattle.cw_tree.proofs.Ancestors.{ancestor_self, ancestor_up}
 use Rattle.cw_tree.proofs.Strands.{strand_over}
@@ -38,7 +38,7 @@ dying_back asked first m reached =
       aborted = λ n low e. (let z = and_parts (is_aborted m.tree n) (not (is_victim m.tree m.conflicts n)) e in w.backed.back.gone n z.0 (not-true (is_victim m.tree m.conflicts n) z.1));
     } where
       -- nothing is above the root, and so no victim
-      asker_some : (n : ℕ) → n < length m.tree → leads_back m.conflicts n ≡ true → 0 < n
+      asker_some : (n : ℕ) → n < length m.tree → names_victim m.conflicts n ≡ true → 0 < n
       asker_some n low e =
           let w = backed_states (at_any_time asked) first m reached in
           let o = any_one (IsTold m.tree) (λ c. nat_eq c.asker n && is_some (victim_of c)) m.conflicts w.told.told e in

@@ -12,7 +12,7 @@ use Rattle.cw_tree.proofs.Lists.{In, any_in, any_from}
 use Rattle.cw_tree.proofs.Members.{in_filter, below_in}
 use Rattle.cw_tree.proofs.Keys.{by_key_in}
 use Rattle.cw_tree.proofs.There.{node_there}
-use Rattle.cw_open.specs.Machine.{Machine, live}
+use Rattle.cw_open.specs.Machine.{OpenMachine, live}
 use Rattle.cw_open.specs.Steps.{Step, forks, begins, accesses, refuses, outputs, commits, undoes, aborts, finishes, joins, stops}
 use Rattle.cw_open.specs.Runs.{Allowed, at_once, at_any_time}
 use Rattle.cw_open.specs.Laws.{TreesAreSound, OpenAreNested, StrandsStandAtPlaces, ClocksAreLatest, CellsFit, ListsRise, ListsAreLive, ListsHaveAll, NoneUndone, ListsAreChains, BlocksHaveEnded, AtOnceIsAtAnyTime, RefusalsAreTold}
@@ -68,7 +68,7 @@ are_live asked first m r c s e =
     let P : ℕ → Type 0 = λ k. In k (live m c) in
     (a.0, a.1, a.2, l.lives c a.0 a.1 (subst P (sym a.2) i))
 
-module _ (first : List ℤ) (m : Machine) (s : IsState first m) (none : NoneUndone m) (c : ℕ) where
+module _ (first : List ℤ) (m : OpenMachine) (s : IsState first m) (none : NoneUndone m) (c : ℕ) where
   abbrev t : List Node
   t = m.tree
 
@@ -117,7 +117,7 @@ ended first m r c = ((chain_states first m r).chained c).ended
 
 -- ## Refused at once
 
-pub any_time : (m : Machine) (e : Step) → Allowed at_once m e → Allowed newest_alone m e
+pub any_time : (m : OpenMachine) (e : Step) → Allowed at_once m e → Allowed newest_alone m e
 any_time m (forks s stamp) a = a
 any_time m (begins s stamp) a = a
 any_time m (accesses s c w stamp) a = a

@@ -20,7 +20,7 @@ use Rattle.cw_tree.proofs.There.{node_there}
 use Rattle.cw_tree.proofs.Ancestors.{ancestor_above}
 use Rattle.cw_tree.proofs.Closing.{length_closed, node_closed, node_closed_other, number_closed, state_closed, ancestor_closed, is_above_closed, strand_of_closed}
 use Rattle.cw_tree.proofs.NextPending.{pending_stays}
-use Rattle.cw_open.specs.Machine.{Machine, live, leads_back}
+use Rattle.cw_open.specs.Machine.{OpenMachine, live, leads_back}
 use Rattle.cw_open.specs.Steps.{live_beside}
 use Rattle.cw_open.proofs.NodeKinds.{pending_block}
 use Rattle.cw_open.proofs.Filtered.{filter_in}
@@ -32,14 +32,14 @@ use Rattle.cw_open.proofs.Named.{access_named, live_tells, live_from, aborted_do
 
 -- ## The block at a place is closed
 
-module _ (m : Machine) (r : IsRooted m.tree) (a : AreListed m) (p : ℕ) (place : IsPlace m.tree p) (pending : is_pending m.tree p ≡ true) (state : BlockState) (end clock : ℕ) (finished : List (ℕ × Bool)) (joined stopped : List ℕ) where
+module _ (m : OpenMachine) (r : IsRooted m.tree) (a : AreListed m) (p : ℕ) (place : IsPlace m.tree p) (pending : is_pending m.tree p ≡ true) (state : BlockState) (end clock : ℕ) (finished : List (ℕ × Bool)) (joined stopped : List ℕ) where
   abbrev t : List Node
   t = m.tree
 
   abbrev v : List Node
   v = closed t p state end
 
-  abbrev k : Machine
+  abbrev k : OpenMachine
   k = with_parts m v m.lists clock m.conflicts finished joined stopped
 
   len : length v ≡ length t
@@ -140,14 +140,14 @@ module _ (m : Machine) (r : IsRooted m.tree) (a : AreListed m) (p : ℕ) (place 
 
 -- ## What a block did to a cell is undone
 
-module _ (m : Machine) (stamped : AreStamps m.tree) (a : AreListed m) (p c clock : ℕ) (there : c < length m.lists) (pending : is_pending m.tree p ≡ true) (back : leads_back m (strand_of m.tree p) p ≡ true) where
+module _ (m : OpenMachine) (stamped : AreStamps m.tree) (a : AreListed m) (p c clock : ℕ) (there : c < length m.lists) (pending : is_pending m.tree p ≡ true) (back : leads_back m (strand_of m.tree p) p ≡ true) where
   abbrev w : List Node
   w = m.tree
 
   abbrev ls : List (List ℕ)
   ls = slice_set m.lists c (live_beside m p c)
 
-  abbrev z : Machine
+  abbrev z : OpenMachine
   z = with_parts m w ls clock m.conflicts m.finished m.joined m.stopped
 
   abbrev beside : ℕ → Bool
@@ -205,7 +205,7 @@ module _ (m : Machine) (stamped : AreStamps m.tree) (a : AreListed m) (p c clock
 
 -- ## The lists and the tree stay
 
-pub same_listed : (m : Machine) (clock : ℕ) (finished : List (ℕ × Bool)) (joined stopped : List ℕ) → AreListed m → AreListed (with_parts m m.tree m.lists clock m.conflicts finished joined stopped)
+pub same_listed : (m : OpenMachine) (clock : ℕ) (finished : List (ℕ × Bool)) (joined stopped : List ℕ) → AreListed m → AreListed (with_parts m m.tree m.lists clock m.conflicts finished joined stopped)
 same_listed m clock finished joined stopped a = record {
   len = a.len;
   askers = a.askers;

@@ -18,7 +18,7 @@ use Rattle.cw_tree.proofs.Members.{in_append, append_in}
 use Rattle.cw_tree.proofs.There.{node_there}
 use Rattle.cw_tree.proofs.Growing.{length_more, node_new, number_new}
 use Rattle.cw_tree.proofs.Closing.{get_set_same, get_set_other}
-use Rattle.cw_open.specs.Machine.{Machine, live}
+use Rattle.cw_open.specs.Machine.{OpenMachine, live}
 use Rattle.cw_open.proofs.Rising.{Rises, rises_more}
 use Rattle.cw_open.proofs.Falling.{AreAskers}
 use Rattle.cw_open.proofs.Listing.{AreListed, listed, with_parts, listed_grown}
@@ -61,7 +61,7 @@ listed_other ls c d l ne = ap (λ o. unwrap_or o []) (get_set_other ls c d l ne)
 
 -- ## No access
 
-module _ (m : Machine) (r : IsRooted m.tree) (a : AreListed m) (xs : List Node) (clock : ℕ) (finished : List (ℕ × Bool)) (joined stopped : List ℕ) (quiet : (c : ℕ) → list_any (λ x. touches_kind c x.kind) xs ≡ false)
+module _ (m : OpenMachine) (r : IsRooted m.tree) (a : AreListed m) (xs : List Node) (clock : ℕ) (finished : List (ℕ × Bool)) (joined stopped : List ℕ) (quiet : (c : ℕ) → list_any (λ x. touches_kind c x.kind) xs ≡ false)
     (fits : list_all (λ x. fits_cells (length m.first) x.kind) xs ≡ true) where
   pub quiet_more : (cs more : List Conflict) → cs ≡ m.conflicts ++ more → AreAskers (m.tree ++ xs) more → AreListed (with_parts m (m.tree ++ xs) m.lists clock cs finished joined stopped)
   quiet_more cs more told askers =
@@ -82,7 +82,7 @@ access_fits : (c k : ℕ) (write : Option ℤ) (v : ℤ) → fits_cells k (acces
 access_fits c k None v = refl
 access_fits c k (Some w) v = refl
 
-module _ (m : Machine) (r : IsRooted m.tree) (a : AreListed m) (p c stamp : ℕ) (write : Option ℤ) (v : ℤ) (place : IsPlace m.tree p) (there : c < length m.lists) (next : IsNextStamp m.tree p stamp)
+module _ (m : OpenMachine) (r : IsRooted m.tree) (a : AreListed m) (p c stamp : ℕ) (write : Option ℤ) (v : ℤ) (place : IsPlace m.tree p) (there : c < length m.lists) (next : IsNextStamp m.tree p stamp)
     (last : (u : ℕ) → has (live m c) u ≡ true → u < stamp) where
   abbrev t : List Node
   t = m.tree

@@ -13,12 +13,12 @@ use Rattle.cw_tree.specs.Journals.{fits_cells, FitsCells}
 use Rattle.cw_tree.proofs.Lists.{In}
 use Rattle.cw_tree.proofs.There.{node_there}
 use Rattle.cw_tree.proofs.Growing.{node_grown, number_grown, ancestor_grown, is_above_grown, strand_of_grown}
-use Rattle.cw_open.specs.Machine.{Machine, live, leads_back}
+use Rattle.cw_open.specs.Machine.{OpenMachine, live, leads_back}
 use Rattle.cw_open.proofs.Rising.{Rises}
 use Rattle.cw_open.proofs.Falling.{AreAskers, Holds, IsGone, back_kept}
 use Rattle.cw_open.proofs.Named.{live_grown}
 
-pub record AreListed (m : Machine) : Type 0 where
+pub record AreListed (m : OpenMachine) : Type 0 where
   pub len : length m.lists ≡ length m.first
   pub askers : AreAskers m.tree m.conflicts
   -- each list has accesses of its cell, rises, and has live ones alone
@@ -34,7 +34,7 @@ abbrev pub listed : List (List ℕ) → ℕ → List ℕ
 listed ls c = unwrap_or (slice_get ls c) []
 
 -- a machine with other parts
-abbrev pub with_parts : Machine → List Node → List (List ℕ) → ℕ → List Conflict → List (ℕ × Bool) → (joined stopped : List ℕ) → Machine
+abbrev pub with_parts : OpenMachine → List Node → List (List ℕ) → ℕ → List Conflict → List (ℕ × Bool) → (joined stopped : List ℕ) → OpenMachine
 with_parts m t ls clock cs finished joined stopped = record { first = m.first; tree = t; lists = ls; clock = clock; conflicts = cs; finished = finished; joined = joined; stopped = stopped }
 
 -- an access stays one
@@ -43,7 +43,7 @@ has_more t s c x a =
     let there : a.0 < length t = node_there (λ y. touches_kind c y.kind) t a.0 a.1 in
     (a.0, node_grown t s (λ y. touches_kind c y.kind) a.0 there ∙ a.1, number_grown t s (λ y. y.stamp) a.0 there ∙ a.2)
 
-module _ (m : Machine) (r : IsRooted m.tree) (a : AreListed m) (xs : List Node) (ls : List (List ℕ)) (clock : ℕ) (cs more : List Conflict) (finished : List (ℕ × Bool)) (joined stopped : List ℕ) (told : cs ≡ m.conflicts ++ more)
+module _ (m : OpenMachine) (r : IsRooted m.tree) (a : AreListed m) (xs : List Node) (ls : List (List ℕ)) (clock : ℕ) (cs more : List Conflict) (finished : List (ℕ × Bool)) (joined stopped : List ℕ) (told : cs ≡ m.conflicts ++ more)
     (new_askers : AreAskers (m.tree ++ xs) more) where
   abbrev t : List Node
   t = m.tree
@@ -51,7 +51,7 @@ module _ (m : Machine) (r : IsRooted m.tree) (a : AreListed m) (xs : List Node) 
   abbrev u : List Node
   u = t ++ xs
 
-  abbrev k : Machine
+  abbrev k : OpenMachine
   k = with_parts m u ls clock cs finished joined stopped
 
   holds_grown : (s b : ℕ) → b < length t → Holds t u s b

@@ -12,8 +12,8 @@ use Rattle.cw_tree.specs.Series.{strand_of, place}
 use Rattle.cw_tree.specs.Stacks.{access_at}
 use Rattle.cw_tree.proofs.Lists.{In, all_in}
 use Rattle.cw_tree.proofs.Growing.{length_more}
-use Rattle.cw_open.specs.Machine.{Machine, value_of, is_running, in_block, is_dying, is_free, leads_back, rolls_back}
-use Rattle.cw_open.specs.Steps.{Step, forks, begins, accesses, refuses, outputs, commits, undoes, aborts, finishes, joins, stops, refusal, after}
+use Rattle.cw_open.specs.Machine.{OpenMachine, live_value, is_running, in_block, is_dying, is_free, leads_back, rolls_back}
+use Rattle.cw_open.specs.Steps.{Step, forks, begins, accesses, refuses, outputs, commits, undoes, aborts, finishes, joins, stops, refusal, after_open_step}
 use Rattle.cw_open.specs.Runs.{Rules, Allowed, is_undone}
 use Rattle.cw_open.proofs.Standing.{stands}
 use Rattle.cw_open.proofs.Trees.{IsWell, stands_well}
@@ -30,7 +30,7 @@ in_listed [] p c s e i = absurd i
 in_listed (l ∷ ls) p zero s e i = all_in p s l (and_parts (list_all p l) (list_all (list_all p) ls) e).0 i
 in_listed (l ∷ ls) p (suc c) s e i = in_listed ls p c s (and_parts (list_all p l) (list_all (list_all p) ls) e).1 i
 
-module _ (m : Machine) (w : IsWell m) (s : ℕ) (running : is_running m s ≡ true) where
+module _ (m : OpenMachine) (w : IsWell m) (s : ℕ) (running : is_running m s ≡ true) where
   abbrev p : ℕ
   p = place m.tree s
 
@@ -46,16 +46,16 @@ module _ (m : Machine) (w : IsWell m) (s : ℕ) (running : is_running m s ≡ tr
       subst P (sym same_strand) (and_parts (is_running m s && in_block m s) (leads_back m s p) e).1
 
 -- the strand of what is free is not dying
-free_lives : (m : Machine) (s : ℕ) → is_free m s ≡ true → is_dying m s ≡ false
+free_lives : (m : OpenMachine) (s : ℕ) → is_free m s ≡ true → is_dying m s ≡ false
 free_lives m s e = not-true (is_dying m s) (and_parts (is_running m s) (not (is_dying m s)) e).1
 
-pub listed_after : (r : Rules) (m : Machine) (e : Step) → IsWell m → AreListed m → Allowed r m e → AreListed (after m e)
+pub listed_after : (r : Rules) (m : OpenMachine) (e : Step) → IsWell m → AreListed m → Allowed r m e → AreListed (after_open_step m e)
 listed_after r m (forks s stamp) w a n = quiet_grown m w.sound.tree.rooted a _ _ m.finished m.joined m.stopped (λ c. refl) refl
 listed_after r m (begins s stamp) w a n = quiet_grown m w.sound.tree.rooted a _ _ m.finished m.joined m.stopped (λ c. refl) refl
 listed_after r m (accesses s c write stamp) w a n =
     let z = and_parts (is_free m s && nat_lt c (length m.lists)) _ n.0 in
     let y = and_parts (is_free m s) (nat_lt c (length m.lists)) z.0 in
-    access_listed m w.sound.tree.rooted a (place m.tree s) c stamp write (value_of m c) (stands_well m w s (free_runs m s y.0)) (ltb-true c (length m.lists) y.1) n.1 n.2.listed _ m.finished m.joined m.stopped
+    access_listed m w.sound.tree.rooted a (place m.tree s) c stamp write (live_value m c) (stands_well m w s (free_runs m s y.0)) (ltb-true c (length m.lists) y.1) n.1 n.2.listed _ m.finished m.joined m.stopped
 listed_after r m (refuses s c write met) w a n =
     quiet_more m w.sound.tree.rooted a (fresh_node (place m.tree s) (Tried c) 0 ∷ []) m.clock m.finished m.joined m.stopped (λ d. refl) refl (m.conflicts ++ refusal m (place m.tree s) c met ∷ []) (refusal m (place m.tree s) c met ∷ []) refl
     (All-cons (λ x. x.asker < length (m.tree ++ fresh_node (place m.tree s) (Tried c) 0 ∷ [])) (refusal m (place m.tree s) c met) [] (omega (arith, length_more m.tree (fresh_node (place m.tree s) (Tried c) 0)))

@@ -17,8 +17,8 @@ use Rattle.cw_tree.proofs.There.{node_there}
 use Rattle.cw_tree.proofs.Growing.{get_append, get_next, node_new, number_new}
 use Rattle.cw_tree.proofs.Closing.{node_closed, number_closed, same_closed}
 use Rattle.cw_tree.proofs.Stamps.{stamps_beneath}
-use Rattle.cw_open.specs.Machine.{Machine, live, value_of, is_free, rolls_back}
-use Rattle.cw_open.specs.Steps.{Step, forks, begins, accesses, refuses, outputs, commits, undoes, aborts, finishes, joins, stops, live_beside, after, opening}
+use Rattle.cw_open.specs.Machine.{OpenMachine, live, live_value, is_free, rolls_back}
+use Rattle.cw_open.specs.Steps.{Step, forks, begins, accesses, refuses, outputs, commits, undoes, aborts, finishes, joins, stops, live_beside, after_open_step, first_machine}
 use Rattle.cw_open.specs.Runs.{Allowed}
 use Rattle.cw_open.specs.Reads.{AreRead, ReadsAreMet}
 use Rattle.cw_open.proofs.TreeSteps.{rolls_runs, place_pending}
@@ -47,7 +47,7 @@ read_more : (t : List Node) (v : ℤ) (ns : List ℕ) (n : ℕ) → AreRead t v 
 read_more t v [] n a f = (f, tt)
 read_more t v (k ∷ ns) n a f = (a.0, read_more t (unwrap_or (written t k) v) ns n a.1 f)
 
-abbrev pub AreAllRead : Machine → Type 0
+abbrev pub AreAllRead : OpenMachine → Type 0
 AreAllRead m = (c : ℕ) (v : ℤ) → slice_get m.first c ≡ Some v → AreRead m.tree v (map (access_at m.tree) (live m c))
 
 in_map_access : (f : ℕ → ℕ) (us : List ℕ) (n : ℕ) → In n (map f us) → (s : ℕ) × In s us × (n ≡ f s)
@@ -59,7 +59,7 @@ read_access : (c : ℕ) (write : Option ℤ) (v w : ℤ) → read_kind (access_k
 read_access c None v w e = let same : v ≡ w = cc e in sym same
 read_access c (Some x) v w e = absurd (cc e)
 
-module _ (first : List ℤ) (m : Machine) (s : IsState first m) (h : AreAllRead m) where
+module _ (first : List ℤ) (m : OpenMachine) (s : IsState first m) (h : AreAllRead m) where
   abbrev t : List Node
   t = m.tree
 
@@ -105,7 +105,7 @@ map_same_written : (t u : List Node) (ns : List ℕ) → ((n : ℕ) → In n ns 
 map_same_written t u [] f = refl
 map_same_written t u (n ∷ ns) f = ap (λ w. w ∷ map (written u) ns) (f n (inl refl)) ∙ ap (λ ws. written t n ∷ ws) (map_same_written t u ns (λ k i. f k (inr i)))
 
-module _ (first : List ℤ) (m : Machine) (s : IsChainState first m) (h : AreAllRead m) where
+module _ (first : List ℤ) (m : OpenMachine) (s : IsChainState first m) (h : AreAllRead m) where
   abbrev now : List Node
   now = m.tree
 
@@ -113,12 +113,12 @@ module _ (first : List ℤ) (m : Machine) (s : IsChainState first m) (h : AreAll
   st = s.state
 
   -- a new access reads the value of its cell
-  accessed : (p c : ℕ) (write : Option ℤ) (stamp : ℕ) → AreStamps (now ++ fresh_node p (access_kind c write (value_of m c)) stamp ∷ [])
-      → (v : ℤ) → slice_get m.first c ≡ Some v → AreRead (now ++ fresh_node p (access_kind c write (value_of m c)) stamp ∷ []) v (map (access_at (now ++ fresh_node p (access_kind c write (value_of m c)) stamp ∷ [])) (live m c ++ stamp ∷ []))
+  accessed : (p c : ℕ) (write : Option ℤ) (stamp : ℕ) → AreStamps (now ++ fresh_node p (access_kind c write (live_value m c)) stamp ∷ [])
+      → (v : ℤ) → slice_get m.first c ≡ Some v → AreRead (now ++ fresh_node p (access_kind c write (live_value m c)) stamp ∷ []) v (map (access_at (now ++ fresh_node p (access_kind c write (live_value m c)) stamp ∷ [])) (live m c ++ stamp ∷ []))
   accessed p c write stamp su v e =
-      let x = fresh_node p (access_kind c write (value_of m c)) stamp in
+      let x = fresh_node p (access_kind c write (live_value m c)) stamp in
       let u = now ++ x ∷ [] in
-      let touched : touches u c (length now) ≡ true = node_new now x (λ y. touches_kind c y.kind) ∙ access_touched c write (value_of m c) in
+      let touched : touches u c (length now) ≡ true = node_new now x (λ y. touches_kind c y.kind) ∙ access_touched c write (live_value m c) in
       let new : access_at u stamp ≡ length now = ap (access_at u) (sym (number_new now x (λ y. y.stamp))) ∙ access_named u su c (length now) touched in
       let names = names_same now u st.well.sound.stamps su c (kept_grown now (x ∷ []) c) (live m c) (st.listed.accesses c) in
       let old = grown first m st h (x ∷ []) su c v e in
@@ -135,7 +135,7 @@ module _ (first : List ℤ) (m : Machine) (s : IsChainState first m) (h : AreAll
       subst P (sym (map-append (access_at u) (live m c) (stamp ∷ []) ∙ ap (λ k. map (access_at u) (live m c) ++ k ∷ []) new))
       (read_more u v (map (access_at u) (live m c)) (length now) old
       (λ w f.
-      read_access c write (value_of m c) w (sym (ap (value_in read_kind) (get_next now x [])) ∙ f)
+      read_access c write (live_value m c) w (sym (ap (value_in read_kind) (get_next now x [])) ∙ f)
       ∙ ap (λ o. cell_value (unwrap_or o (pos 0)) (map (λ s. written now (access_at now s)) (live m c))) e
       ∙ ap (cell_value v) (sym same_writes)))
 
@@ -148,13 +148,13 @@ module _ (first : List ℤ) (m : Machine) (s : IsChainState first m) (h : AreAll
       read_front now v (map (access_at now) kept) (map (access_at now) gone)
       (subst P (ap (map (access_at now)) (stamps_beneath now c p (live m c) st.well.sound.tree.rooted pending (s.chained c).chain) ∙ map-append (access_at now) kept gone) (h c v e))
 
-  read_after : (e : Step) → Allowed newest_alone m e → IsState first (after m e) → AreAllRead (after m e)
+  read_after : (e : Step) → Allowed newest_alone m e → IsState first (after_open_step m e) → AreAllRead (after_open_step m e)
   read_after (forks x stamp) a z = grown first m st h _ z.well.sound.stamps
   read_after (begins x stamp) a z = grown first m st h _ z.well.sound.stamps
   read_after (accesses x c write stamp) a z =
       let y = and_parts (is_free m x && nat_lt c (length m.lists)) _ a.0 in
       let q = and_parts (is_free m x) (nat_lt c (length m.lists)) y.0 in
-      let node = fresh_node (place now x) (access_kind c write (value_of m c)) stamp in
+      let node = fresh_node (place now x) (access_kind c write (live_value m c)) stamp in
       by_cell first m st h (now ++ node ∷ []) c (live m c ++ stamp ∷ []) (ltb-true c (length m.lists) q.1) (accessed (place now x) c write stamp z.well.sound.stamps) (grown first m st h (node ∷ []) z.well.sound.stamps)
   read_after (refuses x c write met) a z = grown first m st h _ z.well.sound.stamps
   read_after (outputs x v stamp) a z = grown first m st h _ z.well.sound.stamps
@@ -168,10 +168,10 @@ module _ (first : List ℤ) (m : Machine) (s : IsChainState first m) (h : AreAll
   read_after (joins f) a z = h
   read_after (stops x) a z = h
 
-read_opening : (first : List ℤ) → AreAllRead (opening first)
-read_opening first c v e = let P : List ℕ → Type 0 = λ us. AreRead (opening first).tree v (map (access_at (opening first).tree) us) in subst P (sym (empty_lists first c)) tt
+read_opening : (first : List ℤ) → AreAllRead (first_machine first)
+read_opening first c v e = let P : List ℕ → Type 0 = λ us. AreRead (first_machine first).tree v (map (access_at (first_machine first).tree) us) in subst P (sym (empty_lists first c)) tt
 
-record IsReadState (first : List ℤ) (m : Machine) : Type 0 where
+record IsReadState (first : List ℤ) (m : OpenMachine) : Type 0 where
   pub chained : IsChainState first m
   pub reads : AreAllRead m
 

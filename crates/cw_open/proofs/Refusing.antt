@@ -24,7 +24,7 @@ use Rattle.cw_tree.proofs.Kept.{find_path_kept}
 use Rattle.cw_tree.proofs.Growing.{length_more, node_grown, node_new, number_grown, number_new, ancestor_grown, is_above_grown, above_new, ancestor_new, keeps_grown, rooted_more}
 use Rattle.cw_tree.proofs.NextBefore.{new_before_at}
 use Rattle.cw_tree.proofs.NextPending.{end_of_place}
-use Rattle.cw_open.specs.Machine.{Machine, is_running}
+use Rattle.cw_open.specs.Machine.{OpenMachine, is_running}
 use Rattle.cw_open.specs.Steps.{Met, refuses, refusal}
 use Rattle.cw_open.specs.Runs.{IsMet}
 use Rattle.cw_open.specs.Times.{times_after, IsMetInTime, ClosedLater}
@@ -38,7 +38,7 @@ use Rattle.cw_open.proofs.Victims.{outermost_in}
 use Rattle.cw_open.proofs.Onward.{AreTimes, IsKept}
 use Rattle.cw_open.proofs.OnwardSteps.{before_grown, pending_grown, times_same, times_new}
 
-module _ (m : Machine) (w : IsWell m) (s : ℕ) (running : is_running m s ≡ true) (c : ℕ) (write : Option ℤ) (met : Met) (told : IsMet m.tree (place m.tree s) c met) (newest : IsNewest m.tree c met) (times : ℕ → ℕ) (in_time : IsMetInTime times m.tree (place m.tree s) met)
+module _ (m : OpenMachine) (w : IsWell m) (s : ℕ) (running : is_running m s ≡ true) (c : ℕ) (write : Option ℤ) (met : Met) (told : IsMet m.tree (place m.tree s) c met) (newest : IsNewest m.tree c met) (times : ℕ → ℕ) (in_time : IsMetInTime times m.tree (place m.tree s) met)
     (are : AreTimes times m.clock m.tree) where
   abbrev t : List Node
   t = m.tree

@@ -14,7 +14,7 @@ use Rattle.cw_tree.specs.Walks.{IsNumbered, above, is_above}
 use Rattle.cw_tree.specs.Series.{is_before, depth_first}
 use Rattle.cw_tree.specs.Accesses.{HasAccess}
 use Rattle.cw_tree.specs.Attempts.{attempt_of}
-use Rattle.cw_tree.specs.Refusals.{outermost_apart, victim_of, is_victim, leads_back, IsRefusal, IsRecorded}
+use Rattle.cw_tree.specs.Refusals.{outermost_apart, victim_of, is_victim, names_victim, IsRefusal, IsRecorded}
 use Rattle.cw_tree.specs.InOrder.{renamed, in_order, conflict_in_order, put_by_asker, by_asker, conflicts_in_order}
 use Rattle.cw_tree.proofs.Lists.{In}
 use Rattle.cw_tree.proofs.Members.{in_filter, in_below, below_in}
@@ -287,5 +287,5 @@ module _ (t : List Node) (w : IsNumbered t) (cs : List Conflict) (low_askers : A
       ∙ ap (λ k. is_block t b && k) (any_renamed (λ c. option_map_or (λ v. nat_eq v (stamp_of (in_order t) ((renamed t) b))) (victim_of c) false) (λ c. option_map_or (λ v. nat_eq v (stamp_of t b)) (victim_of c) false)
       (λ c l. ap (λ n. option_map_or (λ v. nat_eq v n) (victim_of c) false) (stamp_kept t w b h)))
 
-  pub leads_renamed : (n : ℕ) → n < length t → leads_back ds ((renamed t) n) ≡ leads_back cs n
+  pub leads_renamed : (n : ℕ) → n < length t → names_victim ds ((renamed t) n) ≡ names_victim cs n
   leads_renamed n h = any_renamed (λ c. nat_eq c.asker ((renamed t) n) && is_some (victim_of c)) (λ c. nat_eq c.asker n && is_some (victim_of c)) (λ c l. ap (λ b. b && is_some (victim_of c)) (same_number t w c.asker n l h))

@@ -15,7 +15,7 @@ use Rattle.cw_tree.specs.NextNodes.{IsSound}
 use Rattle.cw_tree.specs.declared.closed.Halt.TheVariants.{Fault, Budget, Memory}
 use Rattle.cw_tree.specs.Accesses.{is_live, live_accesses, written}
 use Rattle.cw_tree.specs.Journals.{AreEntries, AreJournals, EndedBetween, AllEndedBetween, JournalsEnded, fits_cells}
-use Rattle.cw_tree.specs.Refusals.{victim_of, is_victim, leads_back, IsRecorded, AreRefusals, RollsBack}
+use Rattle.cw_tree.specs.Refusals.{victim_of, is_victim, names_victim, IsRecorded, AreRefusals, RollsBack}
 use Rattle.cw_tree.specs.InOrder.{renamed, in_order, conflicts_in_order}
 use Rattle.cw_tree.proofs.Lists.{In}
 use Rattle.cw_tree.proofs.Members.{in_filter, in_below, below_in}
@@ -177,12 +177,12 @@ module _ (t : List Node) (w : IsNumbered t) (cs : List Conflict) (made : AreMade
   askers_low = All-weaker (IsRecorded t) (λ c. c.asker < length t) (λ c (x, b, q). node_there (λ y. tries_kind c.cell y.kind) t c.asker q.asker) cs made.recorded
 
   -- who tells that it leads back is a refused access
-  leads_some : (n : ℕ) → n < length t → leads_back cs n ≡ true → 0 < n
+  leads_some : (n : ℕ) → n < length t → names_victim cs n ≡ true → 0 < n
   leads_some n l e = by cs made.recorded e where
-    by : (xs : List Conflict) → All (IsRecorded t) xs → leads_back xs n ≡ true → 0 < n
+    by : (xs : List Conflict) → All (IsRecorded t) xs → names_victim xs n ≡ true → 0 < n
     by [] a e = absurd (cc e)
     by (c ∷ xs) a e =
-        elim (or_cases (nat_eq c.asker n && is_some (victim_of c)) (leads_back xs n) e) [
+        elim (or_cases (nat_eq c.asker n && is_some (victim_of c)) (names_victim xs n) e) [
           | inl z ↦
               (let (x, b, q) = All-head (IsRecorded t) c xs a in
               let at : c.asker ≡ n = eqb-true c.asker n (and_parts (nat_eq c.asker n) (is_some (victim_of c)) z).0 in
@@ -213,7 +213,7 @@ module _ (t : List Node) (w : IsNumbered t) (cs : List Conflict) (made : AreMade
   pub backs_renamed : RollsBack t cs → RollsBack moved ds
   backs_renamed back = record {
     tried =
-        each_number t w (λ n. leads_back ds n ≡ true → has_later moved n ≡ false)
+        each_number t w (λ n. names_victim ds n ≡ true → has_later moved n ≡ false)
         (λ n l e.
         let was = sym (leads_renamed t w cs askers_low made.each n l) ∙ e in
         later_renamed t w n (leads_some n l was) l ∙ back.tried n l was);

@@ -11,7 +11,7 @@ use Rattle.cw_tree.proofs.Ancestors.{ancestor_le}
 use Rattle.cw_tree.proofs.Strands.{strand_over, strand_of_le}
 use Rattle.cw_tree.proofs.Renumbered.{in_order_numbered}
 use Rattle.cw_tree.proofs.Renaming.{renamed_apart, ancestor_stays}
-use Rattle.cw_open.specs.Machine.{Machine, is_running}
+use Rattle.cw_open.specs.Machine.{OpenMachine, is_running}
 use Rattle.cw_open.proofs.NodeKinds.{pending_block, strand_no_block}
 use Rattle.cw_open.proofs.Standing.{IsLast, runs, stands}
 use Rattle.cw_open.proofs.Trees.{IsWell}
@@ -35,7 +35,7 @@ last_some p (suc k) b w = by (cases_eq b k) (λ v. last_some p k b v) where
 
 -- ## The place
 
-module _ (first : List ℤ) (m : Machine) (w : IsToldState first m) (n : IsNumbered m.tree) (x : ℕ) (running : is_running m x ≡ true) where
+module _ (first : List ℤ) (m : OpenMachine) (w : IsToldState first m) (n : IsNumbered m.tree) (x : ℕ) (running : is_running m x ≡ true) where
   abbrev t : List Node
   t = m.tree
 

@@ -30,9 +30,9 @@ use Rattle.cw_tree.proofs.Strands.{strand_over, strand_of_le, strand_of_other, s
 use Rattle.cw_tree.proofs.Renumbered.{new_length, in_order_numbered}
 use Rattle.cw_tree.proofs.Renaming.{renamed_apart, ancestor_stays}
 use Rattle.cw_tree.proofs.InOrderSound.{sound_stays}
-use Rattle.cw_open.specs.Machine.{Machine, has_finished}
+use Rattle.cw_open.specs.Machine.{OpenMachine, has_finished}
 use Rattle.cw_open.specs.Open.{is_open}
-use Rattle.cw_open.specs.Runs.{Reached, at_any_time}
+use Rattle.cw_open.specs.Runs.{IsReachedBy, at_any_time}
 use Rattle.cw_open.specs.Spent.{StandsStill, HasSpent, SpentAreInOrder}
 use Rattle.cw_open.proofs.NodeKinds.{not_at_node, pending_block, strand_no_block, fork_no_strand}
 use Rattle.cw_open.proofs.Standing.{IsLast, last_is, none_is, stands_at, open_over, open_block, pending_open}
@@ -115,7 +115,7 @@ all_tried t (c ∷ cs) ns e g =
     let h = subst P (sym e) g in
     All-cons (λ c. is_tried t c.asker ≡ true) c cs (h c.asker (inl refl)) (all_tried t cs (map (λ c. c.asker) cs) refl (λ n i. h n (inr i)))
 
-module _ (asked : List Node → List ℕ → Option ℤ → List ℕ) (first : List ℤ) (m : Machine) (reach : Reached (at_any_time asked) first m) (w : IsNumbered m.tree) where
+module _ (asked : List Node → List ℕ → Option ℤ → List ℕ) (first : List ℤ) (m : OpenMachine) (reach : IsReachedBy (at_any_time asked) first m) (w : IsNumbered m.tree) where
   abbrev t : List Node
   t = m.tree
 

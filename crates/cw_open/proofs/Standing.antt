@@ -16,7 +16,7 @@ use Rattle.cw_tree.proofs.Kin.{of_before, branch}
 use Rattle.cw_tree.proofs.Strands.{strand_of_root, strand_of_strand, strand_of_other}
 use Rattle.cw_tree.proofs.NextTrees.{no_fork}
 use Rattle.cw_tree.proofs.NextBefore.{above_less}
-use Rattle.cw_open.specs.Machine.{Machine, has_finished, waits, is_running}
+use Rattle.cw_open.specs.Machine.{OpenMachine, has_finished, waits, is_running}
 use Rattle.cw_open.specs.Open.{is_open, AreNested}
 use Rattle.cw_open.proofs.NodeKinds.{pending_block, strand_no_block, fork_no_strand, fork_no_block_at}
 
@@ -89,7 +89,7 @@ stands_at t r s e = by (last_below (begun_in t s) (length t)) refl where
 
 -- ## What an open node has around it
 
-module _ (m : Machine) (tree : IsTree m.tree) (w : AreNested m.tree (is_open m)) where
+module _ (m : OpenMachine) (tree : IsTree m.tree) (w : AreNested m.tree (is_open m)) where
   abbrev t : List Node
   t = m.tree
 

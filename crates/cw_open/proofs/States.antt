@@ -11,9 +11,9 @@ use Rattle.cw_tree.specs.Journals.{fits_cells}
 use Rattle.cw_tree.specs.NextNodes.{IsSound}
 use Rattle.cw_tree.proofs.Lists.{In}
 use Rattle.cw_tree.proofs.Checks.{is_tree, are_stamps, pending_last}
-use Rattle.cw_open.specs.Machine.{Machine, live}
-use Rattle.cw_open.specs.Steps.{Step, forks, begins, accesses, refuses, outputs, commits, undoes, aborts, finishes, joins, stops, after, after_all, opening}
-use Rattle.cw_open.specs.Runs.{Rules, Allowed, IsRun, Reached}
+use Rattle.cw_open.specs.Machine.{OpenMachine, live}
+use Rattle.cw_open.specs.Steps.{Step, forks, begins, accesses, refuses, outputs, commits, undoes, aborts, finishes, joins, stops, after_open_step, after_all, first_machine}
+use Rattle.cw_open.specs.Runs.{Rules, Allowed, IsRun, IsReachedBy}
 use Rattle.cw_open.proofs.Rising.{Rises}
 use Rattle.cw_open.proofs.Trees.{IsWell}
 use Rattle.cw_open.proofs.TreeSteps.{well_after}
@@ -23,18 +23,18 @@ use Rattle.cw_open.proofs.Lists.{listed_after}
 -- ## Induction
 
 -- what holds at the opening and is kept by each step that is allowed holds of each state that is reached
-pub by_run : (r : Rules) (first : List ℤ) (P : Machine → Type 0) → P (opening first) → ((m : Machine) (e : Step) → P m → Allowed r m e → P (after m e)) → (m : Machine) → Reached r first m → P m
-by_run r first P z s m reached = subst P reached.there (go (opening first) reached.steps z reached.run) where
-  go : (m : Machine) (es : List Step) → P m → IsRun r m es → P (after_all m es)
+pub by_run : (r : Rules) (first : List ℤ) (P : OpenMachine → Type 0) → P (first_machine first) → ((m : OpenMachine) (e : Step) → P m → Allowed r m e → P (after_open_step m e)) → (m : OpenMachine) → IsReachedBy r first m → P m
+by_run r first P z s m reached = subst P reached.there (go (first_machine first) reached.steps z reached.run) where
+  go : (m : OpenMachine) (es : List Step) → P m → IsRun r m es → P (after_all m es)
   go m [] p q = p
-  go m (e ∷ es) p q = go (after m e) es (s m e p q.0) q.1
+  go m (e ∷ es) p q = go (after_open_step m e) es (s m e p q.0) q.1
 
 -- where what one rule needs is needed by another, what is reached by the one is reached by the other
-pub by_rules : (r q : Rules) (first : List ℤ) → ((m : Machine) (e : Step) → Allowed r m e → Allowed q m e) → (m : Machine) → Reached r first m → Reached q first m
-by_rules r q first f m reached = record { steps = reached.steps; run = go (opening first) reached.steps reached.run; there = reached.there } where
-  go : (m : Machine) (es : List Step) → IsRun r m es → IsRun q m es
+pub by_rules : (r q : Rules) (first : List ℤ) → ((m : OpenMachine) (e : Step) → Allowed r m e → Allowed q m e) → (m : OpenMachine) → IsReachedBy r first m → IsReachedBy q first m
+by_rules r q first f m reached = record { steps = reached.steps; run = go (first_machine first) reached.steps reached.run; there = reached.there } where
+  go : (m : OpenMachine) (es : List Step) → IsRun r m es → IsRun q m es
   go m [] h = tt
-  go m (e ∷ es) h = (f m e h.0, go (after m e) es h.1)
+  go m (e ∷ es) h = (f m e h.0, go (after_open_step m e) es h.1)
 
 -- ## The opening
 
@@ -54,7 +54,7 @@ empty_lists (v ∷ vs) zero = refl
 empty_lists (v ∷ vs) (suc c) = empty_lists vs c
 
 module _ (first : List ℤ) where
-  well_opening : IsWell (opening first)
+  well_opening : IsWell (first_machine first)
   well_opening = record {
     sound = root_sound;
     nested = record { outer = λ n some h. absurd (omega arith); last = λ c d some less h. absurd (omega arith) };
@@ -63,14 +63,14 @@ module _ (first : List ℤ) where
     clock = λ n h. (let P : ℕ → Type 0 = λ n. (stamp_of root n ≤ 0) × (end_of root n ≤ 0) in subst P (let e : 0 ≡ n = omega arith in e) (omega arith, omega arith));
   }
 
-  none_listed : (c s : ℕ) → In s (live (opening first) c) → ⊥
+  none_listed : (c s : ℕ) → In s (live (first_machine first) c) → ⊥
   none_listed c s i = let P : List ℕ → Type 0 = λ us. In s us in subst P (empty_lists first c) i
 
   no_access : (c n : ℕ) → touches root c n ≡ false
   no_access c zero = refl
   no_access c (suc n) = refl
 
-  listed_opening : AreListed (opening first)
+  listed_opening : AreListed (first_machine first)
   listed_opening = record {
     len = length-map first (λ v. []);
     askers = All-nil (λ (c : Conflict). c.asker < 1);
@@ -83,12 +83,12 @@ module _ (first : List ℤ) where
 
 -- ## Every state
 
-pub record IsState (first : List ℤ) (m : Machine) : Type 0 where
+pub record IsState (first : List ℤ) (m : OpenMachine) : Type 0 where
   pub well : IsWell m
   pub listed : AreListed m
   pub values : m.first ≡ first
 
-same_first : (m : Machine) (e : Step) → (after m e).first ≡ m.first
+same_first : (m : OpenMachine) (e : Step) → (after_open_step m e).first ≡ m.first
 same_first m (forks s stamp) = refl
 same_first m (begins s stamp) = refl
 same_first m (accesses s c w stamp) = refl
@@ -101,11 +101,11 @@ same_first m (finishes s dead) = refl
 same_first m (joins f) = refl
 same_first m (stops s) = refl
 
-pub state_after : (r : Rules) (first : List ℤ) (m : Machine) (e : Step) → IsState first m → Allowed r m e → IsState first (after m e)
+pub state_after : (r : Rules) (first : List ℤ) (m : OpenMachine) (e : Step) → IsState first m → Allowed r m e → IsState first (after_open_step m e)
 state_after r first m e s a = record { well = well_after r m e s.well a; listed = listed_after r m e s.well s.listed a; values = same_first m e ∙ s.values }
 
-pub state_opening : (first : List ℤ) → IsState first (opening first)
+pub state_opening : (first : List ℤ) → IsState first (first_machine first)
 state_opening first = record { well = well_opening first; listed = listed_opening first; values = refl }
 
-pub states : (r : Rules) (first : List ℤ) (m : Machine) → Reached r first m → IsState first m
+pub states : (r : Rules) (first : List ℤ) (m : OpenMachine) → IsReachedBy r first m → IsState first m
 states r first = by_run r first (IsState first) (state_opening first) (state_after r first)

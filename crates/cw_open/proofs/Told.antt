@@ -15,9 +15,9 @@ use Rattle.cw_tree.proofs.There.{node_there}
 use Rattle.cw_tree.proofs.Ancestors.{above_ancestor, ancestor_above, ancestor_step, ancestor_le, ancestor_trans, ancestor_up}
 use Rattle.cw_tree.proofs.Kin.{of_before, before_of, branch, ancestor_linear}
 use Rattle.cw_tree.proofs.Parting.{series_or_parallel}
-use Rattle.cw_open.specs.Machine.{Machine, live, is_free}
+use Rattle.cw_open.specs.Machine.{OpenMachine, live, is_free}
 use Rattle.cw_open.specs.Steps.{Met, refuses}
-use Rattle.cw_open.specs.Runs.{IsMet, Allowed, at_once, Reached}
+use Rattle.cw_open.specs.Runs.{IsMet, Allowed, at_once, IsReachedBy}
 use Rattle.cw_open.proofs.NodeKinds.{pending_block}
 use Rattle.cw_open.proofs.Trees.{stands_well}
 use Rattle.cw_open.proofs.TreeSteps.{free_runs}
@@ -107,7 +107,7 @@ module _ (t : List Node) (s : IsSound t) (c u b p : ℕ) (access : touches t c u
       omega (arith, one, ap one_if e, ap one_if not_earlier, ap one_if (place.last u low)))
 
 -- what a refused access met
-pub met_is : (first : List ℤ) (m : Machine) (s c : ℕ) (write : Option ℤ) (met : Met) → IsState first m → Allowed at_once m (refuses s c write met) → IsMet m.tree (place m.tree s) c met
+pub met_is : (first : List ℤ) (m : OpenMachine) (s c : ℕ) (write : Option ℤ) (met : Met) → IsState first m → Allowed at_once m (refuses s c write met) → IsMet m.tree (place m.tree s) c met
 met_is first m s c write met state a =
     let well = state.well in
     let t = m.tree in
@@ -129,5 +129,5 @@ met_is first m s c write met state a =
       block = (b, and_from (is_block t b && is_above t b u) (not (is_ancestor t b p)) (and_from (is_block t b) (is_above t b u) (pending_block t b x.0) x.1) y.1, stamped);
     }
 
-pub told : (first : List ℤ) (m : Machine) (s c : ℕ) (write : Option ℤ) (met : Met) → Reached at_once first m → Allowed at_once m (refuses s c write met) → IsMet m.tree (place m.tree s) c met
+pub told : (first : List ℤ) (m : OpenMachine) (s c : ℕ) (write : Option ℤ) (met : Met) → IsReachedBy at_once first m → Allowed at_once m (refuses s c write met) → IsMet m.tree (place m.tree s) c met
 told first m s c write met reached a = met_is first m s c write met (states at_once first m reached) a

@@ -14,8 +14,8 @@ use Rattle.cw_tree.proofs.Lists.{In, all_in}
 use Rattle.cw_tree.proofs.Members.{below_in}
 use Rattle.cw_tree.proofs.There.{node_there}
 use Rattle.cw_tree.proofs.NextTrees.{is_child}
-use Rattle.cw_open.specs.Machine.{Machine, value_of, has_finished, is_running, in_block, is_dying, is_free, rolls_back}
-use Rattle.cw_open.specs.Steps.{Step, forks, begins, accesses, refuses, outputs, commits, undoes, aborts, finishes, joins, stops, after}
+use Rattle.cw_open.specs.Machine.{OpenMachine, live_value, has_finished, is_running, in_block, is_dying, is_free, rolls_back}
+use Rattle.cw_open.specs.Steps.{Step, forks, begins, accesses, refuses, outputs, commits, undoes, aborts, finishes, joins, stops, after_open_step}
 use Rattle.cw_open.specs.Runs.{Rules, Allowed}
 use Rattle.cw_open.specs.Open.{is_open}
 use Rattle.cw_open.proofs.Filtered.{filter_in}
@@ -26,18 +26,18 @@ use Rattle.cw_open.proofs.Trees.{IsWell, well_grows, well_refuses, well_forks, w
 
 -- ## What a step needs, taken apart
 
-pub free_runs : (m : Machine) (s : ℕ) → is_free m s ≡ true → is_running m s ≡ true
+pub free_runs : (m : OpenMachine) (s : ℕ) → is_free m s ≡ true → is_running m s ≡ true
 free_runs m s e = (and_parts (is_running m s) (not (is_dying m s)) e).0
 
-pub record RollsBack (m : Machine) (s : ℕ) : Type 0 where
+pub record RollsBack (m : OpenMachine) (s : ℕ) : Type 0 where
   pub running : is_running m s ≡ true
   pub within : in_block m s ≡ true
 
-pub rolls_runs : (m : Machine) (s : ℕ) → rolls_back m s ≡ true → RollsBack m s
+pub rolls_runs : (m : OpenMachine) (s : ℕ) → rolls_back m s ≡ true → RollsBack m s
 rolls_runs m s e = let z = and_parts (is_running m s && in_block m s) _ e in let y = and_parts (is_running m s) (in_block m s) z.0 in record { running = y.0; within = y.1 }
 
 -- a strand that stands in a block stands in a pending one
-pub place_pending : (m : Machine) (w : IsWell m) (s : ℕ) → is_running m s ≡ true → in_block m s ≡ true → is_pending m.tree (place m.tree s) ≡ true
+pub place_pending : (m : OpenMachine) (w : IsWell m) (s : ℕ) → is_running m s ≡ true → in_block m s ≡ true → is_pending m.tree (place m.tree s) ≡ true
 place_pending m w s running within =
     elim (stands m w.sound.tree w.nested s running).kind [
       | inl q ↦ absurd (cc (within, not_from_true _ (eq-eqb (place m.tree s) s q)))
@@ -46,13 +46,13 @@ place_pending m w s running within =
 
 -- ## A strand finishes, and a fork is joined
 
-module _ (m : Machine) (w : IsWell m) where
+module _ (m : OpenMachine) (w : IsWell m) where
   abbrev t : List Node
   t = m.tree
 
-  well_finishes : (s : ℕ) (dead : Bool) → is_running m s ≡ true → in_block m s ≡ false → IsWell (after m (finishes s dead))
+  well_finishes : (s : ℕ) (dead : Bool) → is_running m s ≡ true → in_block m s ≡ false → IsWell (after_open_step m (finishes s dead))
   well_finishes s dead running outside =
-      let z = after m (finishes s dead) in
+      let z = after_open_step m (finishes s dead) in
       let r = runs m w.sound.tree w.nested s running in
       let at : place t s ≡ s = eqb-true (place t s) s (not-false (nat_eq (place t s) s) outside) in
       let strand = r.strand in
@@ -77,9 +77,9 @@ module _ (m : Machine) (w : IsWell m) where
     in_children : In c (children t f)
     in_children = filter_in (is_child t f) c (all_nodes t) (below_in c (length t) h) (and_from (nat_lt 0 c) (nat_eq (parent_of t c) f) (lt-ltb 0 c some) (eq-eqb (parent_of t c) f up))
 
-  well_joins : (f : ℕ) → is_fork t f ≡ true → list_all (has_finished m) (children t f) ≡ true → IsWell (after m (joins f))
+  well_joins : (f : ℕ) → is_fork t f ≡ true → list_all (has_finished m) (children t f) ≡ true → IsWell (after_open_step m (joins f))
   well_joins f fork all =
-      let z = after m (joins f) in
+      let z = after_open_step m (joins f) in
       let there : f < length t = node_there (λ y. is_fork_kind y.kind) t f fork in
       record {
         sound = w.sound;
@@ -111,14 +111,14 @@ access_is : (c : ℕ) (write : Option ℤ) (v : ℤ)
 access_is c None v = (refl, refl, refl)
 access_is c (Some w) v = (refl, refl, refl)
 
-pub well_after : (r : Rules) (m : Machine) (e : Step) → IsWell m → Allowed r m e → IsWell (after m e)
+pub well_after : (r : Rules) (m : OpenMachine) (e : Step) → IsWell m → Allowed r m e → IsWell (after_open_step m e)
 well_after r m (forks s stamp) w a = well_forks m w s (free_runs m s a.0) stamp a.1
 well_after r m (begins s stamp) w a = well_grows m w s (free_runs m s a.0) Block stamp refl refl refl a.1
 well_after r m (accesses s c write stamp) w a =
     let z = and_parts (is_free m s && nat_lt c (length m.lists)) _ a.0 in
     let free = (and_parts (is_free m s) (nat_lt c (length m.lists)) z.0).0 in
-    let k = access_is c write (value_of m c) in
-    let g = well_grows m w s (free_runs m s free) (access_kind c write (value_of m c)) stamp k.0 k.1 k.2 a.1 in
+    let k = access_is c write (live_value m c) in
+    let g = well_grows m w s (free_runs m s free) (access_kind c write (live_value m c)) stamp k.0 k.1 k.2 a.1 in
     record { sound = g.sound; nested = g.nested; finished = g.finished; joined = g.joined; clock = g.clock }
 well_after r m (refuses s c write met) w a =
     let free = (and_parts (is_free m s) (nat_lt c (length m.lists)) a.0).0 in

@@ -14,14 +14,14 @@ use Rattle.cw_tree.proofs.Growing.{get_append, length_more, node_grown, node_new
 use Rattle.cw_tree.proofs.Closing.{length_closed, node_closed, number_closed, number_closed_other, end_closed}
 use Rattle.cw_tree.proofs.NextTrees.{each_more, in_turn, hung_one, hung_two}
 use Rattle.cw_tree.proofs.NextPending.{sound_grows, sound_refuses, sound_forks, sound_closes, pending_closed, pending_stays}
-use Rattle.cw_open.specs.Machine.{Machine, has_finished, is_running}
+use Rattle.cw_open.specs.Machine.{OpenMachine, has_finished, is_running}
 use Rattle.cw_open.specs.Steps.{adds, closes}
 use Rattle.cw_open.specs.Open.{is_open, AreNested}
 use Rattle.cw_open.proofs.NodeKinds.{pending_block, strand_no_block, fork_no_block_at}
 use Rattle.cw_open.proofs.Standing.{is_place, place_open, none_open}
 use Rattle.cw_open.proofs.Nesting.{nested_more, nested_shut}
 
-pub record IsWell (m : Machine) : Type 0 where
+pub record IsWell (m : OpenMachine) : Type 0 where
   pub sound : IsSound m.tree
   pub nested : AreNested m.tree (is_open m)
   -- what finished, and what was joined, is there
@@ -30,13 +30,13 @@ pub record IsWell (m : Machine) : Type 0 where
   pub clock : (n : ℕ) → n < length m.tree → (stamp_of m.tree n ≤ m.clock) × (end_of m.tree n ≤ m.clock)
 
 -- the tests of a node that tell whether it is open
-pub open_more : (m : Machine) (xs : List Node) (n : ℕ) → n < length m.tree → is_open (record m { tree = m.tree ++ xs }) n ≡ is_open m n
+pub open_more : (m : OpenMachine) (xs : List Node) (n : ℕ) → n < length m.tree → is_open (record m { tree = m.tree ++ xs }) n ≡ is_open m n
 open_more m xs n h =
     ap
     (λ o. (passes (λ y. is_strand_kind y.kind) o && not (has_finished m n)) || (passes (λ y. is_fork_kind y.kind) o && not (has m.joined n)) || passes (λ y. is_block_kind y.kind && is_pending_state y.state) o)
     (get_append m.tree xs n h)
 
-module _ (m : Machine) (w : IsWell m) (s : ℕ) (running : is_running m s ≡ true) where
+module _ (m : OpenMachine) (w : IsWell m) (s : ℕ) (running : is_running m s ≡ true) where
   abbrev t : List Node
   t = m.tree
 
@@ -96,13 +96,13 @@ module _ (m : Machine) (w : IsWell m) (s : ℕ) (running : is_running m s ≡ tr
     abbrev two : List Node
     two = one ++ b ∷ []
 
-    abbrev m_one : Machine
+    abbrev m_one : OpenMachine
     m_one = record m { tree = one }
 
-    abbrev m_two : Machine
+    abbrev m_two : OpenMachine
     m_two = record m { tree = two }
 
-    abbrev m_three : Machine
+    abbrev m_three : OpenMachine
     m_three = record m { tree = two ++ b ∷ [] }
 
     new_fork : is_fork one n ≡ true

@@ -27,9 +27,9 @@ use Rattle.cw_tree.proofs.Strands.{strand_over, strand_innermost}
 use Rattle.cw_tree.proofs.Growing.{length_more, node_grown, number_grown, is_above_grown, above_new}
 use Rattle.cw_tree.proofs.Closing.{length_closed, node_closed, number_closed, is_above_closed}
 use Rattle.cw_tree.proofs.NextBefore.{above_down}
-use Rattle.cw_open.specs.Machine.{Machine, has_finished, falls, is_running, in_block, is_dying, is_free, leads_back, rolls_back}
-use Rattle.cw_open.specs.Steps.{Met, Step, forks, begins, accesses, refuses, outputs, commits, undoes, aborts, finishes, joins, stops, refusal, after, opening}
-use Rattle.cw_open.specs.Runs.{Rules, Allowed, Reached, at_any_time}
+use Rattle.cw_open.specs.Machine.{OpenMachine, has_finished, falls, is_running, in_block, is_dying, is_free, leads_back, rolls_back}
+use Rattle.cw_open.specs.Steps.{Met, Step, forks, begins, accesses, refuses, outputs, commits, undoes, aborts, finishes, joins, stops, refusal, after_open_step, first_machine}
+use Rattle.cw_open.specs.Runs.{Rules, Allowed, IsReachedBy, at_any_time}
 use Rattle.cw_open.specs.Laws.{VictimsAreAbove, DyingRollBack, FreeAreSafe}
 use Rattle.cw_open.proofs.NodeKinds.{pending_block, fork_no_strand, fork_no_block_at}
 use Rattle.cw_open.proofs.Standing.{runs, stands, pending_open, open_over, open_last, place_open}
@@ -84,7 +84,7 @@ outermost_in q (n ∷ ns) b e = by (outermost q ns) (q n) refl e (outermost_in q
   by None false is f more = absurd (cc f)
 
 -- a new conflict
-pub told_new : (m : Machine) → IsRooted m.tree → (p : ℕ) → p < length m.tree → (c : ℕ) (met : Met) → IsTold (m.tree ++ fresh_node p (Tried c) 0 ∷ []) (refusal m p c met)
+pub told_new : (m : OpenMachine) → IsRooted m.tree → (p : ℕ) → p < length m.tree → (c : ℕ) (met : Met) → IsTold (m.tree ++ fresh_node p (Tried c) 0 ∷ []) (refusal m p c met)
 told_new m r p h c met =
     let t = m.tree in
     let x = fresh_node p (Tried c) 0 in
@@ -116,10 +116,10 @@ any_told {t} p q (c ∷ cs) all f e =
       | inr a ↦ or_right (q c) (list_any q cs) (any_told p q cs (All-tail (IsTold t) c cs all) f a)
     ]
 
-abbrev pub AreTold : Machine → Type 0
+abbrev pub AreTold : OpenMachine → Type 0
 AreTold m = All (IsTold m.tree) m.conflicts
 
-told_after : (r : Rules) (first : List ℤ) (m : Machine) (e : Step) → IsState first m → AreTold m → Allowed r m e → AreTold (after m e)
+told_after : (r : Rules) (first : List ℤ) (m : OpenMachine) (e : Step) → IsState first m → AreTold m → Allowed r m e → AreTold (after_open_step m e)
 told_after r first m (forks s stamp) w a n = All-weaker (IsTold m.tree) _ (told_grown m.tree _ w.well.sound.tree.rooted) m.conflicts a
 told_after r first m (begins s stamp) w a n = All-weaker (IsTold m.tree) _ (told_grown m.tree _ w.well.sound.tree.rooted) m.conflicts a
 told_after r first m (accesses s c write stamp) w a n = All-weaker (IsTold m.tree) _ (told_grown m.tree _ w.well.sound.tree.rooted) m.conflicts a
@@ -138,22 +138,22 @@ told_after r first m (finishes s dead) w a n = a
 told_after r first m (joins f) w a n = a
 told_after r first m (stops s) w a n = a
 
-pub record IsToldState (first : List ℤ) (m : Machine) : Type 0 where
+pub record IsToldState (first : List ℤ) (m : OpenMachine) : Type 0 where
   pub state : IsState first m
   pub told : AreTold m
 
-pub told_opening : (first : List ℤ) → IsToldState first (opening first)
+pub told_opening : (first : List ℤ) → IsToldState first (first_machine first)
 told_opening first = record { state = state_opening first; told = All-nil _ }
 
-pub told_state_after : (r : Rules) (first : List ℤ) (m : Machine) (e : Step) → IsToldState first m → Allowed r m e → IsToldState first (after m e)
+pub told_state_after : (r : Rules) (first : List ℤ) (m : OpenMachine) (e : Step) → IsToldState first m → Allowed r m e → IsToldState first (after_open_step m e)
 told_state_after r first m e w a = record { state = state_after r first m e w.state a; told = told_after r first m e w.state w.told a }
 
-pub told_states : (r : Rules) (first : List ℤ) (m : Machine) → Reached r first m → IsToldState first m
+pub told_states : (r : Rules) (first : List ℤ) (m : OpenMachine) → IsReachedBy r first m → IsToldState first m
 told_states r first = by_run r first (IsToldState first) (told_opening first) (told_state_after r first)
 
 -- ## What a victim is to a running strand
 
-module _ (first : List ℤ) (m : Machine) (w : IsToldState first m) where
+module _ (first : List ℤ) (m : OpenMachine) (w : IsToldState first m) where
   abbrev t : List Node
   t = m.tree
 

@@ -12,18 +12,18 @@ use Rattle.cw_tree.specs.Stacks.{access_at}
 use Rattle.cw_tree.specs.Refusals.{is_victim}
 use Rattle.cw_tree.specs.Newest.{newest}
 use Rattle.cw_tree.specs.NextNodes.{IsSound, IsPlace}
-use Rattle.cw_open.specs.Machine.{Machine, live, is_running, in_block, is_dying, is_free, rolls_back}
+use Rattle.cw_open.specs.Machine.{OpenMachine, live, is_running, in_block, is_dying, is_free, rolls_back}
 use Rattle.cw_open.specs.Steps.{Met, refuses}
-use Rattle.cw_open.specs.Runs.{IsMet, Allowed, Reached, at_once, at_any_time}
+use Rattle.cw_open.specs.Runs.{IsMet, Allowed, IsReachedBy, at_once, at_any_time}
 use Rattle.cw_open.specs.Open.{is_open, AreNested}
 
 -- what holds of every state to which a run over these first values leads, whichever accesses one may conflict with
-abbrev pub OfEachState : (List ℤ → Machine → Type 0) → Type 0
-OfEachState P = (asked : List Node → List ℕ → Option ℤ → List ℕ) (first : List ℤ) (m : Machine) → Reached (at_any_time asked) first m → P first m
+abbrev pub OfEachState : (List ℤ → OpenMachine → Type 0) → Type 0
+OfEachState P = (asked : List Node → List ℕ → Option ℤ → List ℕ) (first : List ℤ) (m : OpenMachine) → IsReachedBy (at_any_time asked) first m → P first m
 
 -- the same where one may conflict with the newest access alone
-abbrev pub OfEachWithNewest : (List ℤ → Machine → Type 0) → Type 0
-OfEachWithNewest P = (first : List ℤ) (m : Machine) → Reached (at_any_time (λ t us w. newest us)) first m → P first m
+abbrev pub OfEachWithNewest : (List ℤ → OpenMachine → Type 0) → Type 0
+OfEachWithNewest P = (first : List ℤ) (m : OpenMachine) → IsReachedBy (at_any_time (λ t us w. newest us)) first m → P first m
 
 -- ## The tree
 
@@ -57,7 +57,7 @@ abbrev pub ListsAreLive : Type 0
 ListsAreLive = OfEachState (λ first m. (c s : ℕ) → IsTrue (has (live m c) s) → (n : ℕ) × IsTrue (touches m.tree c n) × (stamp_of m.tree n ≡ s) × IsTrue (is_live m.tree n))
 
 -- no undo is under way: what is live beneath a pending block is in the list of its cell
-abbrev pub NoneUndone : Machine → Type 0
+abbrev pub NoneUndone : OpenMachine → Type 0
 NoneUndone m = (b c n : ℕ) → IsTrue (is_pending m.tree b) → IsTrue (is_above m.tree b n) → IsTrue (touches m.tree c n) → IsTrue (is_live m.tree n) → IsTrue (has (live m c) (stamp_of m.tree n))
 
 -- where none is, a list has just the live accesses of its cell
@@ -91,9 +91,9 @@ FreeAreSafe = OfEachState (λ first m. (s : ℕ) → IsTrue (is_free m s && in_b
 
 -- all that is so reached is reached where it may be refused at any time
 abbrev pub AtOnceIsAtAnyTime : Type 0
-AtOnceIsAtAnyTime = (first : List ℤ) (m : Machine) → Reached at_once first m → Reached (at_any_time (λ t us w. newest us)) first m
+AtOnceIsAtAnyTime = (first : List ℤ) (m : OpenMachine) → IsReachedBy at_once first m → IsReachedBy (at_any_time (λ t us w. newest us)) first m
 
 -- and what a refused access met is as a conflict tells it
 abbrev pub RefusalsAreTold : Type 0
 RefusalsAreTold =
-    (first : List ℤ) (m : Machine) (s c : ℕ) (write : Option ℤ) (met : Met) → Reached at_once first m → Allowed at_once m (refuses s c write met) → IsMet m.tree (place m.tree s) c met
+    (first : List ℤ) (m : OpenMachine) (s c : ℕ) (write : Option ℤ) (met : Met) → IsReachedBy at_once first m → Allowed at_once m (refuses s c write met) → IsMet m.tree (place m.tree s) c met

@@ -14,7 +14,7 @@ use Rattle.cw_tree.specs.Newest.{newest}
 use Rattle.cw_tree.specs.NextNodes.{IsSound}
 use Rattle.cw_tree.specs.Histories.{IsHistory}
 use Rattle.cw_tree.specs.InOrder.{in_order, conflicts_in_order}
-use Rattle.cw_open.specs.Machine.{Machine, live}
+use Rattle.cw_open.specs.Machine.{OpenMachine, live}
 use Rattle.cw_open.specs.Laws.{NoneUndone}
 use Rattle.cw_open.specs.Times.{ReachedInTime}
 use Rattle.cw_open.specs.Told.{as_told}
@@ -34,7 +34,7 @@ AreEntriesAt t v (s ∷ ss) [] = ⊥
 AreEntriesAt t v (s ∷ ss) (e ∷ es) = IsEntryAt t v s e × AreEntriesAt t (unwrap_or (written t (access_at t s)) v) ss es
 
 -- the entries of each cell's list
-pub record AreKept (m : Machine) (kept : List (List Entry)) : Type 0 where
+pub record AreKept (m : OpenMachine) (kept : List (List Entry)) : Type 0 where
   pub len : length kept ≡ length m.first
   pub each : (c : ℕ) (v : ℤ) (es : List Entry) → slice_get m.first c ≡ Some v → slice_get kept c ≡ Some es → AreEntriesAt m.tree v (live m c) es
 
@@ -58,11 +58,11 @@ pub record IsHistoryAsMade (t : List Node) (first : List ℤ) (kept : List (List
 -- where no undo is under way, this is what a run leaves
 abbrev pub HistoriesAreLeft : Type 0
 HistoriesAreLeft =
-    (first : List ℤ) (m : Machine) (kept : List (List Entry)) → ReachedInTime (as_told (λ t us w. newest us)) first m → NoneUndone m → AreKept m kept
+    (first : List ℤ) (m : OpenMachine) (kept : List (List Entry)) → ReachedInTime (as_told (λ t us w. newest us)) first m → NoneUndone m → AreKept m kept
     → IsHistoryAsMade m.tree first kept m.conflicts
 
 -- and in depth-first order, with the conflicts as that lists their askers, it is a history
 abbrev pub HistoriesAreInOrder : Type 0
 HistoriesAreInOrder =
-    (first : List ℤ) (m : Machine) (kept : List (List Entry)) → ReachedInTime (as_told (λ t us w. newest us)) first m → NoneUndone m → AreKept m kept → IsNumbered m.tree
+    (first : List ℤ) (m : OpenMachine) (kept : List (List Entry)) → ReachedInTime (as_told (λ t us w. newest us)) first m → NoneUndone m → AreKept m kept → IsNumbered m.tree
     → IsHistory (in_order m.tree) first kept (conflicts_in_order m.tree m.conflicts)

@@ -10,7 +10,7 @@ use Rattle.cw_tree.specs.Accesses.{written, cell_value}
 use Rattle.cw_tree.specs.Stacks.{access_at}
 use Rattle.cw_tree.specs.Refusals.{is_victim}
 
-pub record Machine : Type 0 where
+pub record OpenMachine : Type 0 where
   -- the cells' first values
   pub first : List ℤ
   pub tree : List Node
@@ -30,48 +30,48 @@ pub record Machine : Type 0 where
 -- ## Cells
 
 -- the live accesses of cell c
-abbrev pub live : Machine → ℕ → List ℕ
+abbrev pub live : OpenMachine → ℕ → List ℕ
 live m c = unwrap_or (slice_get m.lists c) []
 
 -- the value of cell c: what its live accesses left of its first one
-abbrev pub value_of : Machine → ℕ → ℤ
-value_of m c = cell_value (unwrap_or (slice_get m.first c) (pos 0)) (map (λ s. written m.tree (access_at m.tree s)) (live m c))
+abbrev pub live_value : OpenMachine → ℕ → ℤ
+live_value m c = cell_value (unwrap_or (slice_get m.first c) (pos 0)) (map (λ s. written m.tree (access_at m.tree s)) (live m c))
 
 -- ## Strands
 
-abbrev pub has_finished : Machine → ℕ → Bool
+abbrev pub has_finished : OpenMachine → ℕ → Bool
 has_finished m s = list_any (λ f. f.0 == s) m.finished
 
-abbrev pub finished_dead : Machine → ℕ → Bool
+abbrev pub finished_dead : OpenMachine → ℕ → Bool
 finished_dead m s = list_any (λ f. (f.0 == s) && f.1) m.finished
 
 -- a fork that strand s made was not joined
-abbrev pub waits : Machine → ℕ → Bool
+abbrev pub waits : OpenMachine → ℕ → Bool
 waits m s = list_any (λ f. is_fork m.tree f && (strand_of m.tree f == s) && not (has m.joined f)) (all_nodes m.tree)
 
-abbrev pub is_running : Machine → ℕ → Bool
+abbrev pub is_running : OpenMachine → ℕ → Bool
 is_running m s = is_strand m.tree s && not (has_finished m s) && not (waits m s) && not (has m.stopped s)
 
 -- the innermost pending block in which strand s stands was begun in it
-abbrev pub in_block : Machine → ℕ → Bool
+abbrev pub in_block : OpenMachine → ℕ → Bool
 in_block m s = not (place m.tree s == s)
 
 -- block b is pending, and is the victim of conflict c
-abbrev pub falls : Machine → Conflict → ℕ → Bool
+abbrev pub falls : OpenMachine → Conflict → ℕ → Bool
 falls m c b = is_pending m.tree b && is_victim m.tree (c ∷ []) b
 
 -- a strand is dying while a refused access beneath it has a victim that is still pending
-abbrev pub is_dying : Machine → ℕ → Bool
+abbrev pub is_dying : OpenMachine → ℕ → Bool
 is_dying m s = list_any (λ c. is_above m.tree s c.asker && list_any (falls m c) (all_nodes m.tree)) m.conflicts
 
 -- the strand may go on with its own work
-abbrev pub is_free : Machine → ℕ → Bool
+abbrev pub is_free : OpenMachine → ℕ → Bool
 is_free m s = is_running m s && not (is_dying m s)
 
 -- a refused access beneath strand s has a victim that is still pending, and that is block b or above it
-abbrev pub leads_back : Machine → ℕ → ℕ → Bool
+abbrev pub leads_back : OpenMachine → ℕ → ℕ → Bool
 leads_back m s b = list_any (λ c. is_above m.tree s c.asker && list_any (λ v. falls m c v && is_ancestor m.tree v b) (all_nodes m.tree)) m.conflicts
 
 -- strand s has to roll back the block in which it stands
-abbrev pub rolls_back : Machine → ℕ → Bool
+abbrev pub rolls_back : OpenMachine → ℕ → Bool
 rolls_back m s = is_running m s && in_block m s && leads_back m s (place m.tree s)

@@ -3,10 +3,10 @@ use Rattle.std.specs.Prelude.{◌≡◌, ℕ, ◌<◌, ◌&&◌, ◌||◌, Bool,
 use Rattle.cw_tree.specs.declared.node.Node.{Node}
 use Rattle.cw_tree.specs.Nodes.{parent_of, is_strand, is_fork, is_pending}
 use Rattle.cw_tree.specs.Walks.{has}
-use Rattle.cw_open.specs.Machine.{Machine, has_finished}
+use Rattle.cw_open.specs.Machine.{OpenMachine, has_finished}
 
 -- a strand that has not finished, a fork that was not joined, a pending block
-abbrev pub is_open : Machine → ℕ → Bool
+abbrev pub is_open : OpenMachine → ℕ → Bool
 is_open m n = (is_strand m.tree n && not (has_finished m n)) || (is_fork m.tree n && not (has m.joined n)) || is_pending m.tree n
 
 -- how open nodes stand in each other

@@ -1,17 +1,17 @@
 -- Small runs, and what the definitions say of the states that they lead to.
 use Rattle.std.specs.Prelude.{◌≡◌, [], ◌∷◌, Some, None, true, false, pos}
 use Rattle.cw_tree.specs.Series.{place}
-use Rattle.cw_open.specs.Machine.{Machine, live, value_of, waits, is_running, is_dying, is_free, rolls_back}
-use Rattle.cw_open.specs.Steps.{forks, begins, accesses, refuses, outputs, commits, undoes, aborts, finishes, joins, stops, after_all, opening}
+use Rattle.cw_open.specs.Machine.{OpenMachine, live, live_value, waits, is_running, is_dying, is_free, rolls_back}
+use Rattle.cw_open.specs.Steps.{forks, begins, accesses, refuses, outputs, commits, undoes, aborts, finishes, joins, stops, after_all, first_machine}
 use Rattle.cw_open.specs.Runs.{left_died, is_undone}
 
 -- ## A block forks; a block of the left strand writes, and the right strand is refused
 
-abbrev pub refused_inside : Machine
-refused_inside = after_all (opening (pos 0 ∷ [])) (begins 0 1 ∷ forks 0 2 ∷ begins 3 3 ∷ accesses 3 0 (Some (pos 1)) 4 ∷ refuses 4 0 None (record { last = 4; block = 3; chain = 4 ∷ [] }) ∷ [])
+abbrev pub refused_inside : OpenMachine
+refused_inside = after_all (first_machine (pos 0 ∷ [])) (begins 0 1 ∷ forks 0 2 ∷ begins 3 3 ∷ accesses 3 0 (Some (pos 1)) 4 ∷ refuses 4 0 None (record { last = 4; block = 3; chain = 4 ∷ [] }) ∷ [])
 
 -- the inner block is committed, and the right strand goes on
-abbrev pub went_on_inside : Machine
+abbrev pub went_on_inside : OpenMachine
 went_on_inside = after_all refused_inside (commits 3 5 ∷ finishes 3 false ∷ accesses 4 0 (Some (pos 2)) 6 ∷ finishes 4 false ∷ joins 2 ∷ commits 0 7 ∷ finishes 0 false ∷ [])
 
 pub record Inside : Type 0 where
@@ -20,19 +20,19 @@ pub record Inside : Type 0 where
   pub clock : refused_inside.clock ≡ 4
   pub waits : waits refused_inside 0 ≡ true
   pub goes_on : is_free refused_inside 4 ≡ true
-  pub value : value_of went_on_inside 0 ≡ pos 2
+  pub value : live_value went_on_inside 0 ≡ pos 2
   pub listed_then : live went_on_inside 0 ≡ 4 ∷ 6 ∷ []
 
 -- ## A block of the left strand writes, and the right strand is refused in the inner of two blocks
 
-abbrev pub refused_outer : Machine
-refused_outer = after_all (opening (pos 0 ∷ [])) (forks 0 1 ∷ begins 2 2 ∷ accesses 2 0 (Some (pos 1)) 3 ∷ begins 3 4 ∷ begins 3 5 ∷ refuses 3 0 (Some (pos 2)) (record { last = 3; block = 2; chain = 3 ∷ [] }) ∷ [])
+abbrev pub refused_outer : OpenMachine
+refused_outer = after_all (first_machine (pos 0 ∷ [])) (forks 0 1 ∷ begins 2 2 ∷ accesses 2 0 (Some (pos 1)) 3 ∷ begins 3 4 ∷ begins 3 5 ∷ refuses 3 0 (Some (pos 2)) (record { last = 3; block = 2; chain = 3 ∷ [] }) ∷ [])
 
 -- the first block is committed; the other two are rolled back, and done again
-abbrev pub rolled_back : Machine
+abbrev pub rolled_back : OpenMachine
 rolled_back = after_all refused_outer (commits 2 6 ∷ finishes 2 false ∷ undoes 3 0 ∷ aborts 3 7 ∷ aborts 3 8 ∷ [])
 
-abbrev pub done_again : Machine
+abbrev pub done_again : OpenMachine
 done_again = after_all rolled_back (begins 3 9 ∷ begins 3 10 ∷ accesses 3 0 (Some (pos 2)) 11 ∷ commits 3 12 ∷ commits 3 13 ∷ finishes 3 false ∷ joins 1 ∷ [])
 
 pub record Outer : Type 0 where
@@ -45,44 +45,44 @@ pub record Outer : Type 0 where
   pub back : place rolled_back.tree 3 ≡ 3
   pub clock : rolled_back.clock ≡ 8
   pub listed : live done_again 0 ≡ 3 ∷ 11 ∷ []
-  pub value : value_of done_again 0 ≡ pos 2
+  pub value : live_value done_again 0 ≡ pos 2
 
 -- ## An abort after the commit of an inner block: what that wrote goes too
 
-abbrev pub inner_committed : Machine
+abbrev pub inner_committed : OpenMachine
 inner_committed =
-    after_all (opening (pos 7 ∷ pos 8 ∷ pos 0 ∷ []))
+    after_all (first_machine (pos 7 ∷ pos 8 ∷ pos 0 ∷ []))
     (forks 0 1 ∷ begins 2 2 ∷ accesses 2 2 (Some (pos 1)) 3 ∷ begins 3 4 ∷ begins 3 5 ∷ accesses 3 0 None 6 ∷ accesses 3 0 (Some (pos 8)) 7 ∷ commits 3 8 ∷ accesses 3 1 None 9 ∷ accesses 3 1 (Some (pos 9)) 10
     ∷ refuses 3 2 (Some (pos 2)) (record { last = 3; block = 2; chain = 3 ∷ [] }) ∷ [])
 
-abbrev pub all_undone : Machine
+abbrev pub all_undone : OpenMachine
 all_undone = after_all inner_committed (undoes 3 1 ∷ undoes 3 0 ∷ aborts 3 11 ∷ [])
 
 pub record InnerCommitted : Type 0 where
   pub conflicts : inner_committed.conflicts ≡ record { cell = 2; last = 3; asker = 12; block = 2; victim = 4; attempt = 1; chain = 3 ∷ [] } ∷ []
-  pub first_before : value_of inner_committed 0 ≡ pos 8
-  pub second_before : value_of inner_committed 1 ≡ pos 9
+  pub first_before : live_value inner_committed 0 ≡ pos 8
+  pub second_before : live_value inner_committed 1 ≡ pos 9
   pub not_yet : is_undone inner_committed 6 ≡ false
-  pub first : value_of all_undone 0 ≡ pos 7
-  pub second : value_of all_undone 1 ≡ pos 8
-  pub third : value_of all_undone 2 ≡ pos 1
+  pub first : live_value all_undone 0 ≡ pos 7
+  pub second : live_value all_undone 1 ≡ pos 8
+  pub third : live_value all_undone 2 ≡ pos 1
   pub goes_on : is_free all_undone 3 ≡ true
 
 -- ## A strand is refused beneath a block that has to fall
 
-abbrev pub refused_beneath : Machine
+abbrev pub refused_beneath : OpenMachine
 refused_beneath =
-    after_all (opening (pos 0 ∷ []))
+    after_all (first_machine (pos 0 ∷ []))
     (forks 0 1 ∷ begins 2 2 ∷ accesses 2 0 (Some (pos 1)) 3 ∷ begins 3 4 ∷ forks 3 5 ∷ refuses 8 0 (Some (pos 2)) (record { last = 3; block = 2; chain = 3 ∷ [] }) ∷ [])
 
 -- it finishes dead, its right sibling dead without a step, and what forked them rolls back
-abbrev pub left_dead : Machine
+abbrev pub left_dead : OpenMachine
 left_dead = after_all refused_beneath (finishes 8 true ∷ [])
 
-abbrev pub both_dead : Machine
+abbrev pub both_dead : OpenMachine
 both_dead = after_all left_dead (finishes 9 true ∷ joins 7 ∷ [])
 
-abbrev pub parent_back : Machine
+abbrev pub parent_back : OpenMachine
 parent_back = after_all both_dead (aborts 3 6 ∷ [])
 
 pub record Beneath : Type 0 where
@@ -99,9 +99,9 @@ pub record Beneath : Type 0 where
 
 -- ## Attempts: a strand is refused twice at one access and a block twice; outputs; a strand that waits stops
 
-abbrev pub refused_twice : Machine
+abbrev pub refused_twice : OpenMachine
 refused_twice =
-    after_all (opening (pos 0 ∷ pos 0 ∷ []))
+    after_all (first_machine (pos 0 ∷ pos 0 ∷ []))
     (forks 0 1 ∷ begins 2 2 ∷ accesses 2 0 (Some (pos 1)) 3 ∷ refuses 3 0 None (record { last = 3; block = 2; chain = 3 ∷ [] }) ∷ accesses 2 0 None 4 ∷ refuses 3 0 None (record { last = 4; block = 2; chain = 3 ∷ 4 ∷ [] }) ∷ begins 3 5
     ∷ refuses 3 0 None (record { last = 4; block = 2; chain = 3 ∷ 4 ∷ [] }) ∷ aborts 3 6 ∷ begins 3 7 ∷ outputs 3 (pos 5) 8 ∷ refuses 3 0 None (record { last = 4; block = 2; chain = 3 ∷ 4 ∷ [] }) ∷ stops 0 ∷ [])
 

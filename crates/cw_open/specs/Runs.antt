@@ -10,8 +10,8 @@ use Rattle.cw_tree.specs.Stacks.{conflict_at, access_at}
 use Rattle.cw_tree.specs.Refusals.{is_victim}
 use Rattle.cw_tree.specs.NextNodes.{IsNextStamp, IsEndStamp}
 use Rattle.cw_tree.specs.Newest.{newest, last_eight}
-use Rattle.cw_open.specs.Machine.{Machine, live, has_finished, finished_dead, is_running, in_block, is_dying, is_free, rolls_back}
-use Rattle.cw_open.specs.Steps.{Met, Step, forks, begins, accesses, refuses, outputs, commits, undoes, aborts, finishes, joins, stops, after, after_all, opening}
+use Rattle.cw_open.specs.Machine.{OpenMachine, live, has_finished, finished_dead, is_running, in_block, is_dying, is_free, rolls_back}
+use Rattle.cw_open.specs.Steps.{Met, Step, forks, begins, accesses, refuses, outputs, commits, undoes, aborts, finishes, joins, stops, after_open_step, after_all, first_machine}
 
 -- ## What machines may do differently
 
@@ -19,7 +19,7 @@ pub record Rules : Type 1 where
   -- with which of a cell's live accesses one may conflict that reads, or writes a value
   pub asked : List Node → List ℕ → Option ℤ → List ℕ
   -- what has to be true where an access of a cell by a strand is refused
-  pub MayRefuse : Machine → (strand cell : ℕ) → Option ℤ → Met → Type 0
+  pub MayRefuse : OpenMachine → (strand cell : ℕ) → Option ℤ → Met → Type 0
 
 -- an access at place p conflicts with one of those
 abbrev pub meets : List Node → List ℕ → ℕ → Bool
@@ -32,7 +32,7 @@ pub record IsMet (t : List Node) (p c : ℕ) (met : Met) : Type 0 where
   pub block : (b : ℕ) × IsTrue (is_block t b && is_above t b (access_at t met.last) && not (is_ancestor t b p)) × (stamp_of t b ≡ met.block)
 
 -- Where an access is refused as soon as it conflicts with the newest one, it met that, and a block of it that is pending.
-pub record IsRefused (m : Machine) (s c : ℕ) (met : Met) : Type 0 where
+pub record IsRefused (m : OpenMachine) (s c : ℕ) (met : Met) : Type 0 where
   pub last : newest (live m c) ≡ met.last ∷ []
   pub conflicts : IsTrue (conflict_at m.tree (access_at m.tree met.last) (place m.tree s))
   pub block : (b : ℕ) × IsTrue (is_pending m.tree b && is_above m.tree b (access_at m.tree met.last) && not (is_ancestor m.tree b (place m.tree s))) × (stamp_of m.tree b ≡ met.block)
@@ -54,15 +54,15 @@ pub record ComesLast (t : List Node) (live asked : List ℕ) (p stamp : ℕ) : T
   pub ended : (u b : ℕ) → IsTrue (has asked u) → b < length t → IsTrue (is_closed t b && is_above t b (access_at t u) && not (is_ancestor t b p)) → end_of t b < stamp
 
 -- strand s is a right one that made no step, and its left one finished dead
-abbrev pub left_died : Machine → ℕ → Bool
+abbrev pub left_died : OpenMachine → ℕ → Bool
 left_died m s = (length (children m.tree s) == 0) && list_any (λ l. nat_lt l s && finished_dead m l) (children m.tree (parent_of m.tree s))
 
 -- no live access of any cell is beneath block b
-abbrev pub is_undone : Machine → ℕ → Bool
+abbrev pub is_undone : OpenMachine → ℕ → Bool
 is_undone m b = list_all (list_all (λ s. not (is_above m.tree b (access_at m.tree s)))) m.lists
 
 -- what a step needs
-abbrev pub Allowed : Rules → Machine → Step → Type 0
+abbrev pub Allowed : Rules → OpenMachine → Step → Type 0
 Allowed r m (forks s stamp) = IsTrue (is_free m s) × IsNextStamp m.tree (place m.tree s) stamp
 Allowed r m (begins s stamp) = IsTrue (is_free m s) × IsNextStamp m.tree (place m.tree s) stamp
 Allowed r m (accesses s c w stamp) =
@@ -83,12 +83,12 @@ Allowed r m (stops s) = IsTrue (is_strand m.tree s)
 -- ## Runs
 
 -- each step is allowed where it is made
-abbrev pub IsRun : Rules → Machine → List Step → Type 0
+abbrev pub IsRun : Rules → OpenMachine → List Step → Type 0
 IsRun r m [] = Unit {0}
-IsRun r m (e ∷ es) = Allowed r m e × IsRun r (after m e) es
+IsRun r m (e ∷ es) = Allowed r m e × IsRun r (after_open_step m e) es
 
 -- a run leads to this state
-pub record Reached (r : Rules) (first : List ℤ) (m : Machine) : Type 0 where
+pub record IsReachedBy (r : Rules) (first : List ℤ) (m : OpenMachine) : Type 0 where
   pub steps : List Step
-  pub run : IsRun r (opening first) steps
-  pub there : after_all (opening first) steps ≡ m
+  pub run : IsRun r (first_machine first) steps
+  pub there : after_all (first_machine first) steps ≡ m

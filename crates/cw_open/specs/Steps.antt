@@ -13,7 +13,7 @@ use Rattle.cw_tree.specs.Attempts.{attempt_of}
 use Rattle.cw_tree.specs.Stacks.{access_kind, access_at}
 use Rattle.cw_tree.specs.VictimsAt.{victim_at}
 use Rattle.cw_tree.specs.NextNodes.{fork_nodes}
-use Rattle.cw_open.specs.Machine.{Machine, live, value_of}
+use Rattle.cw_open.specs.Machine.{OpenMachine, live, live_value}
 
 -- what a refused access met: the last access of its cell and a pending block that stood in the way, by their stamps, and the newest accesses
 pub record Met : Type 0 where
@@ -37,15 +37,15 @@ pub data Step : Type 0 where
   stops : (strand : ℕ) → Step
 
 -- nodes come in, the first of them with a stamp
-abbrev pub adds : Machine → List Node → ℕ → Machine
+abbrev pub adds : OpenMachine → List Node → ℕ → OpenMachine
 adds m xs stamp = record m { tree = m.tree ++ xs; clock = max m.clock stamp }
 
 -- the block in which strand s stands is closed
-abbrev pub closes : Machine → ℕ → BlockState → ℕ → Machine
+abbrev pub closes : OpenMachine → ℕ → BlockState → ℕ → OpenMachine
 closes m s state end = record m { tree = closed m.tree (place m.tree s) state end; clock = max m.clock end }
 
 -- the conflict of an access of cell c that is refused at place p
-abbrev pub refusal : Machine → ℕ → ℕ → Met → Conflict
+abbrev pub refusal : OpenMachine → ℕ → ℕ → Met → Conflict
 refusal m p c met =
     let victim = victim_at m.tree (access_at m.tree met.last) p in
     record {
@@ -59,33 +59,33 @@ refusal m p c met =
     }
 
 -- the live accesses of cell c that are not beneath node b
-abbrev pub live_beside : Machine → ℕ → ℕ → List ℕ
+abbrev pub live_beside : OpenMachine → ℕ → ℕ → List ℕ
 live_beside m b c = filter (λ s. not (is_above m.tree b (access_at m.tree s))) (live m c)
 
 -- the state after a step
-abbrev pub after : Machine → Step → Machine
-after m (forks s stamp) = adds m (fork_nodes (length m.tree) (place m.tree s) stamp) stamp
-after m (begins s stamp) = adds m (fresh_node (place m.tree s) Block stamp ∷ []) stamp
-after m (accesses s c w stamp) =
-    record (adds m (fresh_node (place m.tree s) (access_kind c w (value_of m c)) stamp ∷ []) stamp) { lists = slice_set m.lists c (live m c ++ stamp ∷ []) }
-after m (refuses s c w met) =
+abbrev pub after_open_step : OpenMachine → Step → OpenMachine
+after_open_step m (forks s stamp) = adds m (fork_nodes (length m.tree) (place m.tree s) stamp) stamp
+after_open_step m (begins s stamp) = adds m (fresh_node (place m.tree s) Block stamp ∷ []) stamp
+after_open_step m (accesses s c w stamp) =
+    record (adds m (fresh_node (place m.tree s) (access_kind c w (live_value m c)) stamp ∷ []) stamp) { lists = slice_set m.lists c (live m c ++ stamp ∷ []) }
+after_open_step m (refuses s c w met) =
     record m { tree = m.tree ++ fresh_node (place m.tree s) (Tried c) 0 ∷ []; conflicts = m.conflicts ++ refusal m (place m.tree s) c met ∷ [] }
-after m (outputs s v stamp) = adds m (fresh_node (place m.tree s) (Out v) stamp ∷ []) stamp
-after m (commits s stamp) = closes m s Committed stamp
-after m (undoes s c) = record m { lists = slice_set m.lists c (live_beside m (place m.tree s) c) }
-after m (aborts s stamp) = closes m s Aborted stamp
-after m (finishes s dead) = record m { finished = (s, dead) ∷ m.finished }
-after m (joins f) = record m { joined = f ∷ m.joined }
-after m (stops s) = record m { stopped = s ∷ m.stopped }
+after_open_step m (outputs s v stamp) = adds m (fresh_node (place m.tree s) (Out v) stamp ∷ []) stamp
+after_open_step m (commits s stamp) = closes m s Committed stamp
+after_open_step m (undoes s c) = record m { lists = slice_set m.lists c (live_beside m (place m.tree s) c) }
+after_open_step m (aborts s stamp) = closes m s Aborted stamp
+after_open_step m (finishes s dead) = record m { finished = (s, dead) ∷ m.finished }
+after_open_step m (joins f) = record m { joined = f ∷ m.joined }
+after_open_step m (stops s) = record m { stopped = s ∷ m.stopped }
 
 -- the state after steps, one after another
-abbrev pub after_all : Machine → List Step → Machine
+abbrev pub after_all : OpenMachine → List Step → OpenMachine
 after_all m [] = m
-after_all m (e ∷ es) = after_all (after m e) es
+after_all m (e ∷ es) = after_all (after_open_step m e) es
 
 -- before the first step: the root strand alone
-abbrev pub opening : List ℤ → Machine
-opening first = record {
+abbrev pub first_machine : List ℤ → OpenMachine
+first_machine first = record {
   first = first;
   tree = fresh_node 0 Strand 0 ∷ [];
   lists = map (λ v. []) first;

@@ -9,9 +9,9 @@ use Rattle.cw_tree.specs.Series.{place, has_later}
 use Rattle.cw_tree.specs.Accesses.{HasAccess}
 use Rattle.cw_tree.specs.Refusals.{IsRecorded, is_victim, RollsBack}
 use Rattle.cw_tree.specs.Newest.{newest}
-use Rattle.cw_open.specs.Machine.{Machine, has_finished, finished_dead, is_running, is_dying}
-use Rattle.cw_open.specs.Steps.{Met, Step, opening}
-use Rattle.cw_open.specs.Runs.{Rules, IsMet, IsRun, Reached, at_once, at_any_time}
+use Rattle.cw_open.specs.Machine.{OpenMachine, has_finished, finished_dead, is_running, is_dying}
+use Rattle.cw_open.specs.Steps.{Met, Step, first_machine}
+use Rattle.cw_open.specs.Runs.{Rules, IsMet, IsRun, IsReachedBy, at_once, at_any_time}
 use Rattle.cw_open.specs.Times.{AreTimely, ReachedInTime, AreAhead}
 use Rattle.cw_open.specs.Laws.{OfEachState}
 
@@ -35,7 +35,7 @@ AskersAreTried = OfEachState (λ first m. map (λ c. c.asker) m.conflicts ≡ fi
 -- each conflict tells what was met when it was made, and does so ever after
 abbrev pub ConflictsAreRecorded : Type 0
 ConflictsAreRecorded =
-    (asked : List Node → List ℕ → Option ℤ → List ℕ) (first : List ℤ) (m : Machine) → ReachedInTime (as_told asked) first m → All (IsRecorded m.tree) m.conflicts
+    (asked : List Node → List ℕ → Option ℤ → List ℕ) (first : List ℤ) (m : OpenMachine) → ReachedInTime (as_told asked) first m → All (IsRecorded m.tree) m.conflicts
 
 -- ## Victims
 
@@ -55,7 +55,7 @@ DyingGoBack = OfEachState (λ first m. RollsBack m.tree m.conflicts)
 
 -- The fork of strand x, which died, stands beneath a victim, and is the last that was made in its place: there no block is committed, and no
 -- strand finishes but dead; a running strand that stands there is dying.
-pub record IsLeft (m : Machine) (x : ℕ) : Type 0 where
+pub record DiedBeneathVictim (m : OpenMachine) (x : ℕ) : Type 0 where
   pub victim : IsTrue (list_any (is_victim m.tree m.conflicts) (path m.tree (parent_of m.tree x)))
   pub last : has_later m.tree (parent_of m.tree x) ≡ false
   pub block : is_committed m.tree (parent_of m.tree (parent_of m.tree x)) ≡ false
@@ -63,31 +63,31 @@ pub record IsLeft (m : Machine) (x : ℕ) : Type 0 where
   pub dying : (s : ℕ) → IsTrue (is_running m s) → place m.tree s ≡ parent_of m.tree (parent_of m.tree x) → IsTrue (is_dying m s)
 
 abbrev pub DeadGoBack : Type 0
-DeadGoBack = OfEachState (λ first m. (x : ℕ) → 0 < x → IsTrue (finished_dead m x) → IsLeft m x)
+DeadGoBack = OfEachState (λ first m. (x : ℕ) → 0 < x → IsTrue (finished_dead m x) → DiedBeneathVictim m x)
 
 -- ## Told runs
 
 -- where an access is refused when its conflict can tell what it met, it may be refused at any time
 abbrev pub ToldIsAtAnyTime : Type 0
-ToldIsAtAnyTime = (asked : List Node → List ℕ → Option ℤ → List ℕ) (first : List ℤ) (m : Machine) → ReachedInTime (as_told asked) first m → Reached (at_any_time asked) first m
+ToldIsAtAnyTime = (asked : List Node → List ℕ → Option ℤ → List ℕ) (first : List ℤ) (m : OpenMachine) → ReachedInTime (as_told asked) first m → IsReachedBy (at_any_time asked) first m
 
 -- ## Where an access is refused as soon as it conflicts
 
 -- a conflict can tell what it met
 abbrev pub AtOnceIsTold : Type 0
-AtOnceIsTold = (first : List ℤ) (es : List Step) → IsRun at_once (opening first) es → IsRun (as_told (λ t us w. newest us)) (opening first) es
+AtOnceIsTold = (first : List ℤ) (es : List Step) → IsRun at_once (first_machine first) es → IsRun (as_told (λ t us w. newest us)) (first_machine first) es
 
 -- and where each stamp is drawn by the step that uses it, all are drawn in time
 abbrev pub AheadIsTimely : Type 0
-AheadIsTimely = (first : List ℤ) (es : List Step) → IsRun at_once (opening first) es → AreAhead (opening first) es → AreTimely (λ n. 0) (opening first) es
+AheadIsTimely = (first : List ℤ) (es : List Step) → IsRun at_once (first_machine first) es → AreAhead (first_machine first) es → AreTimely (λ n. 0) (first_machine first) es
 
 -- ## Strands that stopped
 
 -- the machine, with no strand stopped
-abbrev pub unstopped : Machine → Machine
+abbrev pub unstopped : OpenMachine → OpenMachine
 unstopped m = record m { stopped = [] }
 
 -- a run without its stops is a run
 abbrev pub StopsAreLeftOut : Type 0
 StopsAreLeftOut =
-    (asked : List Node → List ℕ → Option ℤ → List ℕ) (first : List ℤ) (m : Machine) → Reached (at_any_time asked) first m → Reached (at_any_time asked) first (unstopped m)
+    (asked : List Node → List ℕ → Option ℤ → List ℕ) (first : List ℤ) (m : OpenMachine) → IsReachedBy (at_any_time asked) first m → IsReachedBy (at_any_time asked) first (unstopped m)

@@ -10,7 +10,7 @@ use Rattle.cw_order.specs.declared.ring.Ring.{Ring}
 use Rattle.cw_order.specs.declared.ring.TheConstants.{END}
 use Rattle.cw_order.specs.declared.list.OrderList.TheInside.{Inside}
 use Rattle.cw_order.specs.Order.{put_after, placed_after}
-use Rattle.cw_order.specs.OrderList.{IsKept, free_of}
+use Rattle.cw_order.specs.OrderList.{IsListInMemory, free_of}
 use Rattle.cw_order.specs.Links.{walk, first_or, AreLinked, AreApart, Lacks, Rise}
 use Rattle.cw_order.specs.Ring.{IsRing, path, label_of, above_of, elements_of}
 use Rattle.cw_order.proofs.Apart.{lacks-contains, CutAt, cut_at, apart_parts, apart_across, disjoint_there, apart_out, apart_in, lacks_parts}
@@ -134,10 +134,10 @@ placed_path (Some a) e xs has l =
 
 -- an order list with a new element
 pub record HasInserted (a b : Inside) (at : Option ℕ) : Type 0 where
-  pub kept : IsKept b
+  pub kept : IsListInMemory b
   pub elements : elements_of b.ring b.count ≡ placed_after at a.free (elements_of a.ring a.count)
 
-pub inserted : (a b : Inside) (r : Ring) (at : Option ℕ) (place label : ℕ) → place ≡ unwrap_or at 0 → IsKept a → (a.count ≡ a.room → ⊥) → ForSome at (Contains (elements_of a.ring a.count))
+pub inserted : (a b : Inside) (r : Ring) (at : Option ℕ) (place label : ℕ) → place ≡ unwrap_or at 0 → IsListInMemory a → (a.count ≡ a.room → ⊥) → ForSome at (Contains (elements_of a.ring a.count))
     → r.next.items ≡ a.ring.next.items → IsRing r (elements_of a.ring a.count)
     → label_of r place < label → label < above_of r place
     → b.ring.next.items ≡ set (set r.next.items a.free (get_or r.next.items place 0)) place a.free

@@ -8,7 +8,7 @@ use Rattle.std.proofs.lemmas.List.Elements.{All-from_recursion, All-contains}
 use Rattle.cw_order.specs.declared.list.OrderList.TheInside.{Inside}
 use Rattle.cw_order.specs.declared.ring.Ring.{Ring}
 use Rattle.cw_order.specs.Order.{Order}
-use Rattle.cw_order.specs.OrderList.{order_of, IsKept}
+use Rattle.cw_order.specs.OrderList.{order_of_list, IsListInMemory}
 use Rattle.cw_order.specs.Links.{walk, AreLinked, AreApart}
 use Rattle.cw_order.specs.Ring.{IsRing, path, elements_of}
 use Rattle.cw_order.proofs.Apart.{lacks-contains, lacks_parts, apart_out, distinct_from_apart}
@@ -35,14 +35,14 @@ elements_are r xs count linked e =
     let all = walk-linked r.next.items r.previous.items (path xs) 0 linked in
     ap (λ n. elements_of r n) (sym e) ∙ ap (λ zs. drop 1 zs) all
 
-pub kept_distinct : (a : Inside) → IsKept a → IsDistinct nat_eq (elements_of a.ring a.count)
+pub kept_distinct : (a : Inside) → IsListInMemory a → IsDistinct nat_eq (elements_of a.ring a.count)
 kept_distinct a kept = distinct_from_apart (elements_of a.ring a.count) kept.ring.apart.1
 
 pub kept_length : (a : Inside) → length (elements_of a.ring a.count) ≡ a.count
 kept_length a = length-walk a.ring.next.items (get_or a.ring.next.items 0 0) a.count
 
 -- the first free place is in no use
-pub kept_new : (a : Inside) → IsKept a → (a.count ≡ a.room → ⊥) → Contains (elements_of a.ring a.count) a.free → ⊥
+pub kept_new : (a : Inside) → IsListInMemory a → (a.count ≡ a.room → ⊥) → Contains (elements_of a.ring a.count) a.free → ⊥
 kept_new a kept room has =
     let left : a.room - a.count ≡ suc (a.room - (a.count + 1)) = omega (arith, kept.few, room) in
     let fs = walk a.ring.next.items (get_or a.ring.next.items a.free 0) (a.room - (a.count + 1)) in
@@ -51,7 +51,7 @@ kept_new a kept room has =
     lacks-contains (elements_of a.ring a.count) a.free out.0.1 has
 
 -- a list that is not full has fewer elements than it can hold
-pub kept_below : (a : Inside) (o : Order) → order_of a ≡ o → IsKept a → (length o.elements ≡ o.room → false ≡ true) → a.count < a.room
+pub kept_below : (a : Inside) (o : Order) → order_of_list a ≡ o → IsListInMemory a → (length o.elements ≡ o.room → false ≡ true) → a.count < a.room
 kept_below a o view_is kept full =
     let there : a.count ≡ a.room → false ≡ true = λ e. full (subst (λ p. length p.elements ≡ p.room) view_is (kept_length a ∙ e)) in
     elim (cases_eq a.count a.room) [ inl e ↦ absurd (false≢true (there e)) | inr ne ↦ omega (arith, ne, kept.few) ]

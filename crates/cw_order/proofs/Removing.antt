@@ -8,7 +8,7 @@ use Rattle.cw_order.specs.declared.ring.Ring.{Ring}
 use Rattle.cw_order.specs.declared.ring.TheConstants.{END}
 use Rattle.cw_order.specs.declared.list.OrderList.TheInside.{Inside}
 use Rattle.cw_order.specs.Order.{without}
-use Rattle.cw_order.specs.OrderList.{IsKept, free_of}
+use Rattle.cw_order.specs.OrderList.{IsListInMemory, free_of}
 use Rattle.cw_order.specs.Links.{walk, first_or, AreLinked, AreApart, Lacks, Rise}
 use Rattle.cw_order.specs.Ring.{IsRing, path, elements_of}
 use Rattle.cw_order.proofs.Apart.{AreDisjoint, CutAt, cut_at, apart_parts, apart_across, apart_out, apart_in, disjoint_there, contains_there}
@@ -142,10 +142,10 @@ module _ (r r2 : Ring) (xs fs : List ℕ) (e other : ℕ) (ring : IsRing r xs) (
 
 -- an order list without an element
 pub record HasRemoved (a b : Inside) (e : ℕ) : Type 0 where
-  pub kept : IsKept b
+  pub kept : IsListInMemory b
   pub elements : elements_of b.ring b.count ≡ without e (elements_of a.ring a.count)
 
-pub removed : (a b : Inside) (e : ℕ) → IsKept a → Contains (elements_of a.ring a.count) e
+pub removed : (a b : Inside) (e : ℕ) → IsListInMemory a → Contains (elements_of a.ring a.count) e
     → b.ring.next.items ≡ set (set a.ring.next.items (get_or a.ring.previous.items e 0) (get_or a.ring.next.items e 0)) e a.free
     → b.ring.previous.items ≡ set a.ring.previous.items (get_or a.ring.next.items e 0) (get_or a.ring.previous.items e 0)
     → b.ring.labels.items ≡ a.ring.labels.items

@@ -28,11 +28,11 @@ impl Model for OrderList {
 
     ghost Value = { Order };
 
-    ghost use Rattle.cw_order.specs.OrderList.{order_of, IsKept};
+    ghost use Rattle.cw_order.specs.OrderList.{order_of_list, IsListInMemory};
 
-    ghost view = { order_of };
+    ghost view = { order_of_list };
 
-    ghost invariant = { IsKept };
+    ghost invariant = { IsListInMemory };
 }
 
 impl OrderList {

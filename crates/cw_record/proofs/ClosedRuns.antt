@@ -21,8 +21,8 @@ use Rattle.cw_tree.proofs.Lists.{In}
 use Rattle.cw_tree.proofs.There.{node_there}
 use Rattle.cw_tree.proofs.Ancestors.{above_ancestor, ancestor_trans}
 use Rattle.cw_tree.proofs.Strands.{strand_over, strand_of_le}
-use Rattle.cw_open.specs.Machine.{Machine, has_finished, finished_dead, is_running, is_dying, is_free}
-use Rattle.cw_open.specs.Runs.{Reached, at_any_time}
+use Rattle.cw_open.specs.Machine.{OpenMachine, has_finished, finished_dead, is_running, is_dying, is_free}
+use Rattle.cw_open.specs.Runs.{IsReachedBy, at_any_time}
 use Rattle.cw_open.specs.Told.{unstopped}
 use Rattle.cw_open.specs.Left.{IsHistoryAsMade}
 use Rattle.cw_open.proofs.Standing.{runs, stands}
@@ -41,7 +41,7 @@ use Rattle.cw_record.specs.ClosedRun.{IsClosedRun, end_after}
 use Rattle.cw_record.proofs.ClosedStrands.{follows, none_pending, live_ended, no_open_fork}
 use Rattle.cw_record.proofs.RenamedStrands.{moved, moved_at, last_renamed, last_is_child, follows_at, ended_at, joined_at}
 
-module _ {A : Type 0} (s : Strands A) (first : List ℤ) (budget : ℕ) (m : Machine) (kept : List (List Entry)) (memory outputs : List ℤ) (w : IsNumbered m.tree) (mem : IsMemory m.tree first memory) where
+module _ {A : Type 0} (s : Strands A) (first : List ℤ) (budget : ℕ) (m : OpenMachine) (kept : List (List Entry)) (memory outputs : List ℤ) (w : IsNumbered m.tree) (mem : IsMemory m.tree first memory) where
   abbrev t : List Node
   t = m.tree
 
@@ -58,7 +58,7 @@ module _ {A : Type 0} (s : Strands A) (first : List ℤ) (budget : ℕ) (m : Mac
   asked = λ t us w. newest us
 
   module _ (h : Option Halt) (spent : Bool) (c : IsClosedRun s first budget m kept h spent) where
-    any : Reached (at_any_time asked) first m
+    any : IsReachedBy (at_any_time asked) first m
     any = told_any_time asked first m c.reached
 
     made : IsHistoryAsMade t first kept m.conflicts
@@ -81,11 +81,11 @@ module _ {A : Type 0} (s : Strands A) (first : List ℤ) (budget : ℕ) (m : Mac
     }
 
   -- a strand that may go on, in depth-first order
-  module _ (x : ℕ) (reach : Reached (at_any_time asked) first m) (free : is_free (unstopped m) x ≡ true) where
-    abbrev k : Machine
+  module _ (x : ℕ) (reach : IsReachedBy (at_any_time asked) first m) (free : is_free (unstopped m) x ≡ true) where
+    abbrev k : OpenMachine
     k = unstopped m
 
-    goes : Reached (at_any_time asked) first k
+    goes : IsReachedBy (at_any_time asked) first k
     goes = stops_left_out asked first m reach
 
     running : is_running k x ≡ true

@@ -17,10 +17,10 @@ use Rattle.cw_tree.proofs.Children.{last_passes}
 use Rattle.cw_tree.proofs.Ancestors.{root_ancestor, above_parent}
 use Rattle.cw_tree.proofs.Kin.{in_ancestor}
 use Rattle.cw_tree.proofs.Strands.{strand_of_other}
-use Rattle.cw_open.specs.Machine.{Machine, has_finished, finished_dead, is_running, is_dying, is_free}
+use Rattle.cw_open.specs.Machine.{OpenMachine, has_finished, finished_dead, is_running, is_dying, is_free}
 use Rattle.cw_open.specs.Open.{is_open}
-use Rattle.cw_open.specs.Runs.{Reached, at_any_time}
-use Rattle.cw_open.specs.Told.{unstopped, IsLeft}
+use Rattle.cw_open.specs.Runs.{IsReachedBy, at_any_time}
+use Rattle.cw_open.specs.Told.{unstopped, DiedBeneathVictim}
 use Rattle.cw_open.proofs.NodeKinds.{pending_block, strand_no_block, fork_no_strand, fork_no_block_at}
 use Rattle.cw_open.proofs.Standing.{open_over, open_block, pending_open, runs, stands}
 use Rattle.cw_open.proofs.Trees.{IsWell}
@@ -35,14 +35,14 @@ use Rattle.cw_tree.specs.Links.{is_child, last_child}
 use Rattle.cw_record.specs.Coherent.{StrandEnded, alone, joined, IsJoined, HasNoOpenFork, Follows}
 use Rattle.cw_record.specs.ClosedRun.{AreStates}
 
-module _ {A : Type 0} (s : Strands A) (asked : List Node → List ℕ → Option ℤ → List ℕ) (first : List ℤ) (m : Machine) (reach : Reached (at_any_time asked) first m) (before after reached : ℕ → A) (st : AreStates s m before after reached) where
+module _ {A : Type 0} (s : Strands A) (asked : List Node → List ℕ → Option ℤ → List ℕ) (first : List ℤ) (m : OpenMachine) (reach : IsReachedBy (at_any_time asked) first m) (before after reached : ℕ → A) (st : AreStates s m before after reached) where
   abbrev t : List Node
   t = m.tree
 
   well : IsWell m
   well = (states (at_any_time asked) first m reach).well
 
-  left : (x : ℕ) → 0 < x → finished_dead m x ≡ true → IsLeft m x
+  left : (x : ℕ) → 0 < x → finished_dead m x ≡ true → DiedBeneathVictim m x
   left = dead_back asked first m reach
 
   -- ## What is not open
@@ -138,7 +138,7 @@ module _ {A : Type 0} (s : Strands A) (asked : List Node → List ℕ → Option
         }
 
   -- no strand died in a fork of which something is known that would not be so then
-  none_died : (f : ℕ) → ((x : ℕ) → IsChild t f x → IsLeft m x → ⊥) → (x : ℕ) → IsChild t f x → finished_dead m x ≡ false
+  none_died : (f : ℕ) → ((x : ℕ) → IsChild t f x → DiedBeneathVictim m x → ⊥) → (x : ℕ) → IsChild t f x → finished_dead m x ≡ false
   none_died f out x c = false_from_ne_true (finished_dead m x) (λ e. absurd (out x c (left x c.some e)))
 
   ended_by : (k x : ℕ) → length t ≤ x + k → is_strand t x ≡ true → has_finished m x ≡ true → finished_dead m x ≡ false → StrandEnded s t before after reached x
@@ -233,8 +233,8 @@ module _ {A : Type 0} (s : Strands A) (asked : List Node → List ℕ → Option
 
 -- ## Where a strand stands at a fault
 
-module _ {A : Type 0} (s : Strands A) (asked : List Node → List ℕ → Option ℤ → List ℕ) (first : List ℤ) (m : Machine) (reach : Reached (at_any_time asked) first m) (before after reached : ℕ → A) (st : AreStates s m before after reached) (x : ℕ) (free : is_free (unstopped m) x ≡ true) where
-  goes : Reached (at_any_time asked) first (unstopped m)
+module _ {A : Type 0} (s : Strands A) (asked : List Node → List ℕ → Option ℤ → List ℕ) (first : List ℤ) (m : OpenMachine) (reach : IsReachedBy (at_any_time asked) first m) (before after reached : ℕ → A) (st : AreStates s m before after reached) (x : ℕ) (free : is_free (unstopped m) x ≡ true) where
+  goes : IsReachedBy (at_any_time asked) first (unstopped m)
   goes = stops_left_out asked first m reach
 
   -- its forks are joined, and none of their strands died

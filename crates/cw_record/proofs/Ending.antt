@@ -12,12 +12,12 @@ use Rattle.cw_serial.specs.Jobs.{Job}
 use Rattle.cw_serial.specs.declared.ends.SerialEnd.{SerialEnd}
 use Rattle.cw_serial.specs.declared.ends.SerialEnd.TheVariants as last
 use Rattle.cw_serial.specs.StrandTree.{StrandTree, stands, waits, ended}
-use Rattle.cw_serial.specs.Machine.{Machine, turns, shown, has_ended}
+use Rattle.cw_serial.specs.Machine.{Machine, steps_down, machine_shows, has_ended}
 use Rattle.cw_serial.specs.DepthFirst.{leftmost}
-use Rattle.cw_serial.specs.Room.Strands.{StrandState, strands_of}
+use Rattle.cw_serial.specs.Room.Strands.{StrandState, strands_of_job}
 use Rattle.cw_record.specs.declared.record_end.RecordEnd.{RecordEnd}
 use Rattle.cw_record.specs.declared.record_end.RecordEnd.TheVariants.{Finished, Fault, Budget, Moves}
-use Rattle.cw_record.specs.Listed.{listed_names, number_of}
+use Rattle.cw_record.specs.Listed.{listed_names, strand_number}
 use Rattle.cw_record.specs.Order.{ending_strand, order_of}
 use Rattle.cw_record.specs.Replay.{SameEnd, IsSpent, Replays}
 use Rattle.cw_record.specs.Records.{HasEnded, StopsAt, IsWorkerRun}
@@ -33,26 +33,26 @@ module _ {A : Type 0} (s : Strands A) where
     by false e = refl
 
 module _ (job : Job) (t : List Node) (kept : List (List Entry)) (e : RecordEnd) (run : IsWorkerRun job t kept e) (budget : ℕ) where
-  strand_named : turns (listed_names t) (number_of t (ending_strand e)) ≡ Some (name_of t (ending_strand e))
+  strand_named : steps_down (listed_names t) (strand_number t (ending_strand e)) ≡ Some (name_of t (ending_strand e))
   strand_named = strand_turns t (run.coherent budget).history.tree.rooted (run.coherent budget).history.tree.root (ending_strand e) run.strand
 
-  shown_end : (e : RecordEnd) (m : Machine StrandState) (n k : ℕ) → turns (listed_names t) n ≡ Some (name_of t (ending_strand e)) → StopsAt job t e m → (r : SerialEnd) → r ≡ shown (strands_of job) m (listed_names t) n k → (o : Picks) → o.last ≡ n → SameEnd e o r
+  shown_end : (e : RecordEnd) (m : Machine StrandState) (n k : ℕ) → steps_down (listed_names t) n ≡ Some (name_of t (ending_strand e)) → StopsAt job t e m → (r : SerialEnd) → r ≡ machine_shows (strands_of_job job) m (listed_names t) n k → (o : Picks) → o.last ≡ n → SameEnd e o r
   shown_end (Finished memory outputs) m n k named stops r is o same = is ∙ (rw (stops.0) refl ∙ (ap (λ x. last.Finished x m.outputs) stops.1 ∙ ap (λ x. last.Finished memory x) stops.2))
   shown_end (Fault x kind) m n k named stops r is o same =
       let (a, stood, wanted) = stops.1 in
-      let standing : has_ended (strands_of job) m ≡ false = ap is_some (not_ended (strands_of job) m.strands (name_of t x) stops.0) in
+      let standing : has_ended (strands_of_job job) m ≡ false = ap is_some (not_ended (strands_of_job job) m.strands (name_of t x) stops.0) in
       is ∙ (rw (standing, named, stood, wanted) refl ∙ ap (λ y. last.Fault y kind) (sym same))
   shown_end (Budget x) m n k named stops r is o same = absurd stops
   shown_end Moves m n k named stops r is o same = absurd stops
 
   -- no run of one worker spends its budget
-  none_spent : (e : RecordEnd) (m : Machine StrandState) → HasEnded e → IsSpent (strands_of job) t [] budget e m
+  none_spent : (e : RecordEnd) (m : Machine StrandState) → HasEnded e → IsSpent (strands_of_job job) t [] budget e m
   none_spent (Finished memory outputs) m h = tt
   none_spent (Fault x kind) m h = tt
   none_spent (Budget x) m h = absurd h
   none_spent Moves m h = absurd h
 
-  pub replays : Replays (strands_of job) (first_memory job.program.cells) budget t [] (order_of t [] budget e) e
+  pub replays : Replays (strands_of_job job) (first_memory job.program.cells) budget t [] (order_of t [] budget e) e
   replays =
       let through = run.order budget in
       let order = order_of t [] budget e in
@@ -61,6 +61,6 @@ module _ (job : Job) (t : List Node) (kept : List (List Entry)) (e : RecordEnd) 
         order = refl;
         machine = through.machine;
         acts = through.acts;
-        end = shown_end e through.machine order.last (length order.list) strand_named through.stops (shown (strands_of job) through.machine order.names order.last (length order.list)) refl order refl;
+        end = shown_end e through.machine order.last (length order.list) strand_named through.stops (machine_shows (strands_of_job job) through.machine order.names order.last (length order.list)) refl order refl;
         spent = none_spent e through.machine run.ended;
       }

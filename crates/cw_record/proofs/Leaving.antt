@@ -5,7 +5,7 @@ use Rattle.std.proofs.lemmas.List.{length-replicate, length-append}
 use Rattle.cw_code.specs.declared.FaultKind.{FaultKind}
 use Rattle.cw_strand.specs.declared.want.Want.TheVariants as want
 use Rattle.cw_strand.specs.Names.{first_memory}
-use Rattle.cw_strand.specs.Strands.{Closes, is_over, is_fork}
+use Rattle.cw_strand.specs.Strands.{Closes, is_over, wants_fork}
 use Rattle.cw_tree.specs.declared.node.Node.{Node}
 use Rattle.cw_tree.specs.declared.node.Kind.TheVariants.{Strand}
 use Rattle.cw_tree.specs.declared.access.Entry.{Entry}
@@ -18,7 +18,7 @@ use Rattle.cw_tree.proofs.CellJournals.{HasJournals, journals_begin}
 use Rattle.cw_tree.proofs.Strands.{strand_of_le}
 use Rattle.cw_serial.specs.Jobs.{Job}
 use Rattle.cw_serial.specs.StrandTree.{at, ended, goes_on}
-use Rattle.cw_serial.specs.Room.Strands.{StrandState, state_of, strands_of}
+use Rattle.cw_serial.specs.Room.Strands.{StrandState, state_of, strands_of_job}
 use Rattle.cw_serial.specs.MachineOf.{machine_of}
 use Rattle.cw_serial.proofs.Branches.{Branch, way, plugged}
 use Rattle.cw_serial.proofs.Deep.{goes_over, ended_stands}
@@ -74,8 +74,8 @@ module _ (job : Job) where
       let first = first_memory job.program.cells in
       let root = fresh_node 0 Strand 0 ∷ [] in
       let empty = replicate (length first) [] in
-      let w : Working StrandState = record { memory = first; outputs = []; branches = []; forks = 0; blocks = 0; strand = (strands_of job).start } in
-      let I : List OrderItem → Type 0 = λ is. Plays (strands_of job) root (machine_of job) is (machine_at (strands_of job) w) in
+      let w : Working StrandState = record { memory = first; outputs = []; branches = []; forks = 0; blocks = 0; strand = (strands_of_job job).start } in
+      let I : List OrderItem → Type 0 = λ is. Plays (strands_of_job job) root (machine_of job) is (machine_at (strands_of_job job) w) in
       let draws : Draws job (blank (length first)) [] w = record {
         built = built_root;
         shape = shaped_root;
@@ -84,7 +84,7 @@ module _ (job : Job) where
         cells = fits_root (length first);
         branches = tt;
         place = descends_root;
-        states = known_root (strands_of job);
+        states = known_root (strands_of_job job);
         journals = journals_begin (fresh_node 0 Strand 0) first empty refl (length-replicate (length first) []) (λ c es h. all_empty (length first) c es h);
         played = subst I (sym root_items) refl;
       } in (
@@ -93,15 +93,15 @@ module _ (job : Job) where
           job_is = is;
           memory = memory;
           outputs = outputs;
-          strand = strand ∙ ap (λ j. (strands_of j).start) is;
-          work = starts_work (strands_of job) first;
+          strand = strand ∙ ap (λ j. (strands_of_job j).start) is;
+          work = starts_work (strands_of_job job) first;
           draws = draws_by (drawing ∙ ap (λ m. blank (length m)) memory) branches draws;
         },
       )
 
   -- ## The end
 
-  module _ (closes : Closes (strands_of job)) where
+  module _ (closes : Closes (strands_of_job job)) where
     no_branches : (xs : List Held) (c : List (Branch StrandState)) → xs ≡ [] → HoldsBranches xs c → c ≡ []
     no_branches [] [] e h = refl
     no_branches [] (y ∷ c) e h = absurd h
@@ -113,22 +113,22 @@ module _ (job : Job) where
     finished_run code memory outputs branches forks blocks a r over none =
         let t = code.drawing.tree in
         let w : Working StrandState = record { memory = memory; outputs = outputs; branches = branches; forks = forks; blocks = blocks; strand = a } in
-        let o : is_over ((strands_of job).want a) ≡ true = ap is_over (sym (wants_same job code w r)) ∙ over in
+        let o : is_over ((strands_of_job job).want a) ≡ true = ap is_over (sym (wants_same job code w r)) ∙ over in
         let empty : branches ≡ [] = no_branches code.branches branches none r.draws.branches in
-        let zeroed : blocks ≡ 0 = none_begun (strands_of job) closes w r.work o in
+        let zeroed : blocks ≡ 0 = none_begun (strands_of_job job) closes w r.work o in
         let DB : ℕ → Type 0 = λ b. Descends t code.drawing.place (crossings code.branches branches) b forks in
         let DX : List Held → Type 0 = λ xs. Descends t code.drawing.place (crossings xs branches) 0 forks in
         let DC : List (Branch StrandState) → Type 0 = λ c. Descends t code.drawing.place (crossings [] c) 0 forks in
         let at_root : code.drawing.place ≡ 0 = way_root t code.drawing.place forks (subst DC empty (subst DX none (subst DB zeroed r.draws.place))) in
-        let IP : ℕ → Type 0 = λ at. Plays (strands_of job) t (machine_of job) (open_items t at) (machine_at (strands_of job) w) in
+        let IP : ℕ → Type 0 = λ at. Plays (strands_of_job job) t (machine_of job) (open_items t at) (machine_at (strands_of_job job) w) in
         let played = subst IP at_root r.draws.played in
-        let m = machine_at (strands_of job) w in
-        let stands : ended (strands_of job) m.strands ≡ Some a =
-        ap (λ c. ended (strands_of job) (plugged (strands_of job) c (goes_on (strands_of job) forks a))) empty
-        ∙ (ap (ended (strands_of job)) (goes_over (strands_of job) forks a o) ∙ ended_stands (strands_of job) forks a o) in
+        let m = machine_at (strands_of_job job) w in
+        let stands : ended (strands_of_job job) m.strands ≡ Some a =
+        ap (λ c. ended (strands_of_job job) (plugged (strands_of_job job) c (goes_on (strands_of_job job) forks a))) empty
+        ∙ (ap (ended (strands_of_job job)) (goes_over (strands_of_job job) forks a o) ∙ ended_stands (strands_of_job job) forks a o) in
         let tree = tree_of_shape t (let S : List Held → Type 0 = λ xs. IsShaped t (unstarted xs) in subst S none r.draws.shape) in
         let x = r.draws.states.0 in
-        let known : Knows (strands_of job) t 0 code.branches a x = (let K : ℕ → Type 0 = λ at. Knows (strands_of job) t at code.branches a x in subst K at_root r.draws.states.1) in
+        let known : Knows (strands_of_job job) t 0 code.branches a x = (let K : ℕ → Type 0 = λ at. Knows (strands_of_job job) t at code.branches a x in subst K at_root r.draws.states.1) in
         let blocks = blocks_built t 0 code.drawing.clock (let B : ℕ → Type 0 = λ at. IsBuilt t at code.drawing.clock in subst B at_root r.draws.built) in
         record {
           ended = tt;
@@ -149,16 +149,16 @@ module _ (job : Job) where
             strands = (
               x.before,
               x.after,
-              reached (strands_of job) t x,
-              finished_follows (strands_of job) t tree code.branches a x known o,
-              (none_pending t tree.root blocks, (λ n l live. finished_ended (strands_of job) t tree code.branches a x known o n l (and_parts (is_strand t n) (is_live t n) live).0)),
+              reached (strands_of_job job) t x,
+              finished_follows (strands_of_job job) t tree code.branches a x known o,
+              (none_pending t tree.root blocks, (λ n l live. finished_ended (strands_of_job job) t tree code.branches a x known o n l (and_parts (is_strand t n) (is_live t n) live).0)),
             );
           };
-          outputs = λ budget. r.outputs ∙ items_shown (strands_of job) t (machine_of job) m 0 (length t) refl (does_all (strands_of job) t (machine_of job) m (open_items t 0) played);
+          outputs = λ budget. r.outputs ∙ items_shown (strands_of_job job) t (machine_of job) m 0 (length t) refl (does_all (strands_of_job job) t (machine_of job) m (open_items t 0) played);
           numbered = r.draws.built.numbered;
           blocks = blocks;
           strand = r.draws.built.root;
-          order = λ budget. record { machine = m; picks = goes_depth_first (strands_of job) t (machine_of job) m (open_items t 0) played; acts = does_all (strands_of job) t (machine_of job) m (open_items t 0) played; stops = (ap is_some stands, sym r.memory, sym r.outputs) };
+          order = λ budget. record { machine = m; picks = goes_depth_first (strands_of_job job) t (machine_of job) m (open_items t 0) played; acts = does_all (strands_of_job job) t (machine_of job) m (open_items t 0) played; stops = (ap is_some stands, sym r.memory, sym r.outputs) };
         }
 
     -- ## A fault
@@ -185,8 +185,8 @@ module _ (job : Job) where
         let u = with_strands old fs in
         let there = r.draws.built.there in
         let le : x ≤ place = strand_of_le old r.draws.built.rooted place there in
-        let wanted : (strands_of job).want w.strand ≡ want.Fault kind = sym (wants_same job code w r) ∙ is in
-        let m = machine_at (strands_of job) w in
+        let wanted : (strands_of_job job).want w.strand ≡ want.Fault kind = sym (wants_same job code w r) ∙ is in
+        let m = machine_at (strands_of_job job) w in
         let same : SameDoers old u = record {
           longer = longer old fs;
           doers = λ i h. (let sle : strand_of old (node_of i) ≤ node_of i = strand_of_le old r.draws.built.rooted (node_of i) h in
@@ -195,16 +195,16 @@ module _ (job : Job) where
         } in
         let named : name_of u x ≡ way w.branches = unstarted_name old r.draws.built.rooted fs low x (omega arith) ∙ runs_name job code w r in
         let listed = λ (budget : ℕ). unstarted_items old r.draws.built.rooted fs low r.draws.built.root [] budget x kind (omega arith) ∙ fault_items old place code.drawing.clock r.draws.built [] budget kind in
-        let played : Plays (strands_of job) u (machine_of job) (open_items old place) m = plays_kept (strands_of job) old u same (machine_of job) m (open_items old place) r.draws.played in
-        let played_at = λ (budget : ℕ). (let P : List OrderItem → Type 0 = λ is. Plays (strands_of job) u (machine_of job) is m in subst P (sym (listed budget)) played) in
+        let played : Plays (strands_of_job job) u (machine_of job) (open_items old place) m = plays_kept (strands_of_job job) old u same (machine_of job) m (open_items old place) r.draws.played in
+        let played_at = λ (budget : ℕ). (let P : List OrderItem → Type 0 = λ is. Plays (strands_of_job job) u (machine_of job) is m in subst P (sym (listed budget)) played) in
         let shape = shaped_strands fs old r.draws.shape in
         let blocks = blocks_at_fault old place code.drawing.clock r.draws.built fs low in
         let live = not_aborted old place code.drawing.clock r.draws.built in
         let strand : is_strand u x ≡ true = unstarted_strand old fs x (omega arith) ∙ strand_is old r.draws.built.rooted r.draws.built.root place there in
         let waiting = waiting_over old r.draws.built.rooted r.draws.built.root code.branches w.branches r.draws.branches place w.blocks w.forks there r.draws.place in
-        let stop = fault_stops (strands_of job) old place code.drawing.clock r.draws.built code.branches w.strand r.draws.states.0 r.draws.states.1 fs waiting r.draws.shape.to_come shape in
+        let stop = fault_stops (strands_of_job job) old place code.drawing.clock r.draws.built code.branches w.strand r.draws.states.0 r.draws.states.1 fs waiting r.draws.shape.to_come shape in
         let at_place : place_in u x ≡ place = place_at_fault old place code.drawing.clock r.draws.built fs low in
-        let Here : ℕ → Type 0 = λ q. ((strands_of job).want (reached (strands_of job) u stop.states q) ≡ want.Fault kind) × HasNoOpenFork (strands_of job) u stop.states.before stop.states.after (reached (strands_of job) u stop.states) q in
+        let Here : ℕ → Type 0 = λ q. ((strands_of_job job).want (reached (strands_of_job job) u stop.states q) ≡ want.Fault kind) × HasNoOpenFork (strands_of_job job) u stop.states.before stop.states.after (reached (strands_of_job job) u stop.states) q in
         let all : IsWorkerRun job u code.drawing.journals.items (Fault x kind) = record {
           ended = tt;
           coherent = λ budget. record {
@@ -221,7 +221,7 @@ module _ (job : Job) where
             faulted = and_from (is_strand u x) (is_live u x) strand (all_are_live u (none_aborted u (place_in u x) blocks) x);
             spent = tt;
             memory = tt;
-            strands = (stop.states.before, stop.states.after, reached (strands_of job) u stop.states, stop.follows, subst Here (sym at_place) (ap (strands_of job).want stop.here ∙ wanted, stop.none));
+            strands = (stop.states.before, stop.states.after, reached (strands_of_job job) u stop.states, stop.follows, subst Here (sym at_place) (ap (strands_of_job job).want stop.here ∙ wanted, stop.none));
           };
           outputs = λ budget. tt;
           numbered = numbered_at_fault old place code.drawing.clock r.draws.built fs waiting;
@@ -229,11 +229,11 @@ module _ (job : Job) where
           strand = strand;
           order = λ budget. record {
             machine = m;
-            picks = goes_depth_first (strands_of job) u (machine_of job) m (items u [] budget (Fault x kind)) (played_at budget);
-            acts = does_all (strands_of job) u (machine_of job) m (items u [] budget (Fault x kind)) (played_at budget);
+            picks = goes_depth_first (strands_of_job job) u (machine_of job) m (items u [] budget (Fault x kind)) (played_at budget);
+            acts = does_all (strands_of_job job) u (machine_of job) m (items u [] budget (Fault x kind)) (played_at budget);
             stops = (
-              leftmost_here (strands_of job) closes w r.work (ap is_fork wanted) (ap is_over wanted) ∙ ap Some (sym named),
-              (w.strand, ap (at (strands_of job) m.strands) named ∙ at_here (strands_of job) closes w (ap is_fork wanted) (ap is_over wanted), wanted),
+              leftmost_here (strands_of_job job) closes w r.work (ap wants_fork wanted) (ap is_over wanted) ∙ ap Some (sym named),
+              (w.strand, ap (at (strands_of_job job) m.strands) named ∙ at_here (strands_of_job job) closes w (ap wants_fork wanted) (ap is_over wanted), wanted),
             );
           };
         } in

@@ -19,7 +19,7 @@ use Rattle.cw_tree.specs.ForkCounts.{one_if}
 use Rattle.cw_tree.proofs.Lists.{length_map_below, get_map_below}
 use Rattle.cw_serial.proofs.Turns.{name_itself}
 use Rattle.cw_serial.specs.Machine.{same_name}
-use Rattle.cw_record.specs.Listed.{once, index_of, without_last, last_turn, names, listed_name, listed_names, number_of}
+use Rattle.cw_record.specs.Listed.{once, index_of, without_last, last_turn, names, listed_name, listed_names, strand_number}
 use Rattle.cw_record.specs.Walked.{first_named, place_in, AreFirsts}
 use Rattle.cw_tree.proofs.There.{node_there}
 use Rattle.cw_record.proofs.Names.{names_differ, name_strand, name_of_strand, root_strand, without_added, last_added}
@@ -166,11 +166,11 @@ same_length t same e = ap length e ∙ length_map_below (first_named t) (length 
 
 module _ (t : List Node) (r : IsRooted t) where
   -- the number of a node's strand is where its name stands
-  pub number_is : (n : ℕ) → n < length t → index_of (names t) (name_of t n) ≡ number_of t (strand_of t n)
+  pub number_is : (n : ℕ) → n < length t → index_of (names t) (name_of t n) ≡ strand_number t (strand_of t n)
   number_is n h = ap (index_of (names t)) (sym (name_of_strand t r n h))
 
   -- by the place of the name, or where it is not listed by how many are
-  pub number_read : (strands : List ℕ) (places : List (Option ℕ)) → AreFirsts t strands places → (n first : ℕ) → n < length t → first ≡ first_named t n → unwrap_or (get_or places first None) (length strands) ≡ number_of t (strand_of t n)
+  pub number_read : (strands : List ℕ) (places : List (Option ℕ)) → AreFirsts t strands places → (n first : ℕ) → n < length t → first ≡ first_named t n → unwrap_or (get_or places first None) (length strands) ≡ strand_number t (strand_of t n)
   number_read strands places w n first h e =
       ap (λ k. unwrap_or (get_or places k None) (length strands)) e
       ∙ ap (λ o. unwrap_or o (length strands)) (w.at n h)
@@ -178,12 +178,12 @@ module _ (t : List Node) (r : IsRooted t) where
       ∙ place_index (names t) (name_of t n)
       ∙ number_is n h
 
-module _ (t : List Node) (numbers : List ℕ) (all : numbers ≡ map (λ n. number_of t (strand_of t n)) (all_nodes t)) where
-  number_at : (n : ℕ) → n < length t → get_or numbers n 0 ≡ number_of t (strand_of t n)
-  number_at n h = ap (λ xs. get_or xs n 0) all ∙ get_map_below (λ m. number_of t (strand_of t m)) (length t) n 0 h
+module _ (t : List Node) (numbers : List ℕ) (all : numbers ≡ map (λ n. strand_number t (strand_of t n)) (all_nodes t)) where
+  number_at : (n : ℕ) → n < length t → get_or numbers n 0 ≡ strand_number t (strand_of t n)
+  number_at n h = ap (λ xs. get_or xs n 0) all ∙ get_map_below (λ m. strand_number t (strand_of t m)) (length t) n 0 h
 
   pub numbers_length : length numbers ≡ length t
-  numbers_length = ap length all ∙ length_map_below (λ m. number_of t (strand_of t m)) (length t)
+  numbers_length = ap length all ∙ length_map_below (λ m. strand_number t (strand_of t m)) (length t)
 
   pub listed_root : (s : ℕ) → s ≡ 0 → s < length t → (let x : Name = record { parent = get_or numbers 0 0; fork = 0; right = false } in x) ≡ listed_name (names t) (name_of t s)
   listed_root s e h =
@@ -218,6 +218,6 @@ module _ (t : List Node) (strands : List ℕ) (places : List (Option ℕ)) (w : 
       ∙ ap (map (listed_name (names t))) w.listed
 
 -- all numbers, from all nodes
-pub numbers_read : (t : List Node) (same : List ℕ) → same ≡ map (first_named t) (all_nodes t) → (i : ℕ) (xs : List ℕ) → length same ≤ i → i ≤ length same → xs ≡ map (λ n. number_of t (strand_of t n)) (below i)
-    → xs ≡ map (λ n. number_of t (strand_of t n)) (all_nodes t)
-numbers_read t same e i xs h g q = q ∙ ap (λ k. map (λ n. number_of t (strand_of t n)) (below k)) (let all : i ≡ length t = omega (arith, same_length t same e) in all)
+pub numbers_read : (t : List Node) (same : List ℕ) → same ≡ map (first_named t) (all_nodes t) → (i : ℕ) (xs : List ℕ) → length same ≤ i → i ≤ length same → xs ≡ map (λ n. strand_number t (strand_of t n)) (below i)
+    → xs ≡ map (λ n. strand_number t (strand_of t n)) (all_nodes t)
+numbers_read t same e i xs h g q = q ∙ ap (λ k. map (λ n. strand_number t (strand_of t n)) (below k)) (let all : i ≡ length t = omega (arith, same_length t same e) in all)

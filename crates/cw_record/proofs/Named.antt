@@ -16,9 +16,9 @@ use Rattle.cw_tree.specs.Names.{name_of, turn}
 use Rattle.cw_tree.proofs.Lists.{In}
 use Rattle.cw_tree.proofs.DepthFirst.{child_is, whole, walk_step}
 use Rattle.cw_tree.proofs.Visits.{all_come}
-use Rattle.cw_serial.specs.Machine.{parent_in, with_turn, turns_in, turns}
+use Rattle.cw_serial.specs.Machine.{parent_in, with_turn, turns_in, steps_down}
 use Rattle.cw_record.specs.declared.items.OrderItem.{OrderItem}
-use Rattle.cw_record.specs.Listed.{once, index_of, without_last, last_turn, names, listed_name, listed_names, number_of}
+use Rattle.cw_record.specs.Listed.{once, index_of, without_last, last_turn, names, listed_name, listed_names, strand_number}
 use Rattle.cw_record.specs.Order.{node_of, pick_of}
 use Rattle.cw_record.specs.Replay.{doer}
 use Rattle.cw_tree.proofs.There.{node_there}
@@ -49,7 +49,7 @@ module _ (qs : List (List Turn)) (on : EachAfter GoesOn ([] ∷ []) qs) where
       ∙ ap (λ b. cond b (Some (without_last p ++ last_turn p ∷ [])) None) (lt-ltb (index_of rooted (without_last p)) (suc i) earlier)
       ∙ ap Some (sym w.more)
 
-  turns_found : (p : List Turn) → IsIn p rooted → turns numbered (index_of rooted p) ≡ Some p
+  turns_found : (p : List Turn) → IsIn p rooted → steps_down numbered (index_of rooted p) ≡ Some p
   turns_found p h = turns_at (index_of rooted p) (index_of rooted p) p (omega arith) (is_found rooted p h).1
 
 -- ## The names of a tree
@@ -124,14 +124,14 @@ module _ (t : List Node) (r : IsRooted t) where
         ∙ ap (λ b. once [] (map (name_of t) (cond b (0 ∷ filter (is_strand t) (flat_map (whole t) (children t 0))) (filter (is_strand t) (flat_map (whole t) (children t 0)))))) root
 
     -- the number of a strand stands for its name
-    pub turns_of_strand : (s : ℕ) → s < length t → is_strand t s ≡ true → turns (listed_names t) (number_of t s) ≡ Some (name_of t s)
+    pub turns_of_strand : (s : ℕ) → s < length t → is_strand t s ≡ true → steps_down (listed_names t) (strand_number t s) ≡ Some (name_of t s)
     turns_of_strand s h e =
-        let P : List (List Turn) → Type 0 = λ ps. IsIn (name_of t s) ps → turns (map (listed_name ps) ps) (index_of ps (name_of t s)) ≡ Some (name_of t s) in
+        let P : List (List Turn) → Type 0 = λ ps. IsIn (name_of t s) ps → steps_down (map (listed_name ps) ps) (index_of ps (name_of t s)) ≡ Some (name_of t s) in
         (subst P (sym names_are) (turns_found rest rest_on (name_of t s))) (is_listed s h e)
 
     -- the same, of any strand of the tree and of the one that did an item
-    pub strand_turns : (s : ℕ) → is_strand t s ≡ true → turns (listed_names t) (number_of t s) ≡ Some (name_of t s)
+    pub strand_turns : (s : ℕ) → is_strand t s ≡ true → steps_down (listed_names t) (strand_number t s) ≡ Some (name_of t s)
     strand_turns s e = turns_of_strand s (node_there (λ x. is_strand_kind x.kind) t s e) e
 
-    pub item_turns : (i : OrderItem) → node_of i < length t → turns (listed_names t) (pick_of t i) ≡ Some (doer t i)
+    pub item_turns : (i : OrderItem) → node_of i < length t → steps_down (listed_names t) (pick_of t i) ≡ Some (doer t i)
     item_turns i h = strand_turns (strand_of t (node_of i)) (strand_is t r root (node_of i) h)

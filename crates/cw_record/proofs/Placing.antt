@@ -6,7 +6,7 @@ use Rattle.cw_tree.specs.declared.node.Node.{Node}
 use Rattle.cw_tree.specs.Nodes.{parent_of, is_strand, is_fork, is_block}
 use Rattle.cw_tree.specs.Walks.{is_ancestor}
 use Rattle.cw_tree.specs.Series.{strand_of, is_before}
-use Rattle.cw_tree.specs.Names.{counts, fork_number}
+use Rattle.cw_tree.specs.Names.{fork_counts_at, fork_number}
 use Rattle.cw_tree.proofs.Climbs.{by_parent}
 use Rattle.cw_tree.proofs.Ancestors.{ancestor_self, ancestor_step, ancestor_up, above_ancestor, ancestor_le, ancestor_root, root_ancestor}
 use Rattle.cw_tree.proofs.Strands.{strand_of_strand, strand_of_other, strand_of_le, strand_over}
@@ -144,9 +144,9 @@ module _ (t : List Node) (p clock : ℕ) (b : IsBuilt t p clock) (u : List Node)
     strand_of_added = strand_of_other u m.rooted g some low other ∙ ap (strand_of u) m.parent ∙ strand_of_same t u g m.agree b.rooted p b.there
 
     -- at the new node the forks of its strand count
-    forks_count : (n : ℕ) → n < g → counts u g n ≡ (is_fork t n && nat_eq (strand_of t n) (strand_of t p))
+    forks_count : (n : ℕ) → n < g → fork_counts_at u g n ≡ (is_fork t n && nat_eq (strand_of t n) (strand_of t p))
     forks_count n h =
-        same_truth (counts u g n) (is_fork t n && nat_eq (strand_of t n) (strand_of t p))
+        same_truth (fork_counts_at u g n) (is_fork t n && nat_eq (strand_of t n) (strand_of t p))
         (λ e.
         let s = of_counts u g n e in
         and_from (is_fork t n) (nat_eq (strand_of t n) (strand_of t p)) (sym (m.agree.forks n h) ∙ s.fork) (eq-eqb (strand_of t n) (strand_of t p) (sym (strand_of_same t u g m.agree b.rooted n h) ∙ s.strand ∙ strand_of_added)))
@@ -165,10 +165,10 @@ module _ (t : List Node) (p clock : ℕ) (b : IsBuilt t p clock) (u : List Node)
     -- the number of the new node, were it a fork
     pub number_added : fork_number u g ≡ suc (forks_of t (strand_of t p))
     number_added =
-        let all : count (counts u g) (length u) ≡ count (counts u g) g =
-        count_past (counts u g) g (length u) m.agree.there_too (λ n le h.
+        let all : count (fork_counts_at u g) (length u) ≡ count (fork_counts_at u g) g =
+        count_past (fork_counts_at u g) g (length u) m.agree.there_too (λ n le h.
         let same : g ≡ n = let len = m.len in omega arith in
-        let P : ℕ → Type 0 = λ x. counts u g x ≡ false in
-        subst P same (false_from_ne_true (counts u g g) (λ e. before_apart u m.rooted g g low (of_counts u g g e).before (ancestor_self u g)))) in
-        let old : count (counts u g) g ≡ forks_of t (strand_of t p) = count_same (counts u g) (λ n. is_fork t n && nat_eq (strand_of t n) (strand_of t p)) g forks_count in
+        let P : ℕ → Type 0 = λ x. fork_counts_at u g x ≡ false in
+        subst P same (false_from_ne_true (fork_counts_at u g g) (λ e. before_apart u m.rooted g g low (of_counts u g g e).before (ancestor_self u g)))) in
+        let old : count (fork_counts_at u g) g ≡ forks_of t (strand_of t p) = count_same (fork_counts_at u g) (λ n. is_fork t n && nat_eq (strand_of t n) (strand_of t p)) g forks_count in
         ap (λ k. k + 1) (all ∙ old) ∙ omega arith

@@ -10,7 +10,7 @@ use Rattle.cw_serial.specs.DepthFirst.{leftmost, GoesDepthFirst, here, picks}
 use Rattle.cw_record.specs.declared.items.OrderItem.{OrderItem}
 use Rattle.cw_record.specs.declared.items.OrderItem.TheVariants.{Begins, Does, Ends}
 use Rattle.cw_record.specs.Order.{node_of}
-use Rattle.cw_record.specs.Replay.{doer, IsAct, IsActOf, IsItem, DoesAll}
+use Rattle.cw_record.specs.Replay.{doer, IsAct, IsActOf, IsItemDone, DoesAll}
 
 -- what a node is
 abbrev pub kind_at : List Node → ℕ → Option Kind
@@ -28,10 +28,10 @@ module _ {A : Type 0} (s : Strands A) where
   Plays t m [] n = m ≡ n
   Plays t m (i ∷ is) n =
       (a : A) × (u : Machine A) × (node_of i < length t) × (leftmost s m.strands ≡ Some (doer t i)) × (at s m.strands (doer t i) ≡ Some a)
-      × IsItem t m (s.want a) i × (pick s m (doer t i) ≡ Some u) × Plays t u is n
+      × IsItemDone t m (s.want a) i × (pick s m (doer t i) ≡ Some u) × Plays t u is n
 
   pub plays_more : (t : List Node) (m n u : Machine A) (is : List OrderItem) (i : OrderItem) (a : A) → Plays t m is n → node_of i < length t → leftmost s n.strands ≡ Some (doer t i) → at s n.strands (doer t i) ≡ Some a
-      → IsItem t n (s.want a) i → pick s n (doer t i) ≡ Some u → Plays t m (is ++ i ∷ []) u
+      → IsItemDone t n (s.want a) i → pick s n (doer t i) ≡ Some u → Plays t m (is ++ i ∷ []) u
   plays_more t m n u [] i a h there left stands act picked =
       let P : Machine A → Type 0 = λ x. Plays t x (i ∷ []) u in subst P (sym h) (a, u, there, left, stands, act, picked, refl)
   plays_more t m n u (j ∷ is) i a (b, x, low, l, e, c, p, more) there left stands act picked =
@@ -46,7 +46,7 @@ module _ {A : Type 0} (s : Strands A) where
         let same : y.kind ≡ x.kind = cc e in
         let P : Kind → Type 0 = λ k. IsAct memory w k in subst P (sym same) h
 
-  item_kept : (t u : List Node) (same : SameDoers t u) (m : Machine A) (w : _) (i : OrderItem) → node_of i < length t → IsItem t m w i → IsItem u m w i
+  item_kept : (t u : List Node) (same : SameDoers t u) (m : Machine A) (w : _) (i : OrderItem) → node_of i < length t → IsItemDone t m w i → IsItemDone u m w i
   item_kept t u same m w (Begins n) there h = h
   item_kept t u same m w (Does n) there h = act_kept t u m.memory w n (same.kinds n there) h
   item_kept t u same m w (Ends n) there h = h

@@ -21,7 +21,7 @@ use Rattle.cw_record.specs.declared.items.OrderItem.{OrderItem}
 use Rattle.cw_record.specs.declared.items.OrderItem.TheVariants.{Begins, Does, Ends}
 use Rattle.cw_record.specs.Items.{is_act_kind}
 use Rattle.cw_record.specs.Order.{node_of}
-use Rattle.cw_record.specs.Replay.{doer, IsAct, IsItem, IsActOf}
+use Rattle.cw_record.specs.Replay.{doer, IsAct, IsItemDone, IsActOf}
 use Rattle.cw_record.specs.Drawn.{added}
 use Rattle.cw_record.proofs.Building.{IsBuilt, open_items}
 use Rattle.cw_record.proofs.GrowingItems.{leaf_items, begin_items, end_items}
@@ -36,7 +36,7 @@ act_no_strand _ e = refl
 module _ {A : Type 0} (s : Strands A) (closes : Closes s) where
   -- one item more, at a pick of the strand that is run
   one_more : (t u : List Node) (m : Machine A) (w : Worker A) (is : List OrderItem) (i : OrderItem) → IsAtWork s w → takes_answer (s.want w.strand) ≡ true → SameDoers t u → Plays s t m is (machine_at s w)
-      → node_of i < length u → doer u i ≡ way w.branches → IsItem u (machine_at s w) (s.want w.strand) i → Plays s u m (is ++ i ∷ []) (machine_at s (after_act s w))
+      → node_of i < length u → doer u i ≡ way w.branches → IsItemDone u (machine_at s w) (s.want w.strand) i → Plays s u m (is ++ i ∷ []) (machine_at s (after_act s w))
   one_more t u m w is i h d same played there name act =
       let (o, f) = stands_by s (s.want w.strand) d in
       plays_more s u m (machine_at s w) (machine_at s (after_act s w)) is i w.strand (plays_kept s t u same m (machine_at s w) is played) there

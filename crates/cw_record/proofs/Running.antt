@@ -8,7 +8,7 @@ use Rattle.cw_tree.specs.Shape.{AreStamps}
 use Rattle.cw_tree.specs.Journals.{FitsCells}
 use Rattle.cw_tree.proofs.CellJournals.{HasJournals}
 use Rattle.cw_serial.specs.Jobs.{Job}
-use Rattle.cw_serial.specs.Room.Strands.{StrandState, state_of, strands_of}
+use Rattle.cw_serial.specs.Room.Strands.{StrandState, state_of, strands_of_job}
 use Rattle.cw_serial.specs.MachineOf.{machine_of}
 use Rattle.cw_serial.proofs.Branches.{Branch, on_left, on_right, turn_at, blocks_at, way}
 use Rattle.cw_serial.proofs.Working.{Worker as Working, machine_at, IsAtWork}
@@ -67,8 +67,8 @@ pub record Draws (job : Job) (d : Drawn) (xs : List Held) (w : Working StrandSta
   pub branches : HoldsBranches xs w.branches
   pub place : Descends d.tree d.place (crossings xs w.branches) w.blocks w.forks
   pub journals : HasJournals d.tree (first_memory job.program.cells) w.memory d.journals
-  pub states : Known (strands_of job) d.tree d.place xs w.strand
-  pub played : Plays (strands_of job) d.tree (machine_of job) (open_items d.tree d.place) (machine_at (strands_of job) w)
+  pub states : Known (strands_of_job job) d.tree d.place xs w.strand
+  pub played : Plays (strands_of_job job) d.tree (machine_of job) (open_items d.tree d.place) (machine_at (strands_of_job job) w)
 
 -- the same, by equations
 pub draws_by : {job : Job} {d e : Drawn} {xs ys : List Held} {w : Working StrandState} → e ≡ d → ys ≡ xs → Draws job d xs w → Draws job e ys w
@@ -83,7 +83,7 @@ pub record Runs (job : Job) (code : Worker) (w : Working StrandState) : Type 0 w
   pub memory : code.memory.items ≡ w.memory
   pub outputs : code.outputs.items ≡ w.outputs
   pub strand : state_of code.strand ≡ w.strand
-  pub work : IsAtWork (strands_of job) w
+  pub work : IsAtWork (strands_of_job job) w
   pub draws : Draws job (drawn code.drawing) code.branches w
 
 -- the strand that is run has the name of the way to it
@@ -92,8 +92,8 @@ runs_name job code w r = (strand_down code.drawing.tree code.drawing.place code.
 
 module _ (job : Job) (code : Worker) (w : Working StrandState) (r : Runs job code w) where
   -- the strand in memory wants what this one wants
-  pub wants_same : want_of code ≡ (strands_of job).want w.strand
-  wants_same = ap (λ j. (strands_of j).want (state_of code.strand)) r.job_is ∙ ap (strands_of job).want r.strand
+  pub wants_same : want_of code ≡ (strands_of_job job).want w.strand
+  wants_same = ap (λ j. (strands_of_job j).want (state_of code.strand)) r.job_is ∙ ap (strands_of_job job).want r.strand
 
-  pub law_same : law_of code ≡ strands_of job
-  law_same = ap strands_of r.job_is
+  pub law_same : law_of code ≡ strands_of_job job
+  law_same = ap strands_of_job r.job_is

@@ -19,10 +19,10 @@ use Rattle.cw_serial.specs.Machine.{Machine, Begun, may_pick, same_name, pick_at
 use Rattle.cw_serial.specs.Wants.{answer_to, memory_after, outputs_after, blocks_after}
 use Rattle.cw_record.specs.declared.items.OrderItem.{OrderItem}
 use Rattle.cw_record.specs.declared.items.OrderItem.TheVariants.{Begins, Does, Ends}
-use Rattle.cw_record.specs.Coherent.{shown, shown_kind, shown_node}
+use Rattle.cw_record.specs.Coherent.{outputs_shown, shown_kind, shown_node}
 use Rattle.cw_record.specs.Items.{is_right_in, key, members, open_member, as_items, last_open, items_in}
 use Rattle.cw_record.specs.Order.{node_of}
-use Rattle.cw_record.specs.Replay.{doer, IsAct, IsActOf, IsItem, DoesAll}
+use Rattle.cw_record.specs.Replay.{doer, IsAct, IsActOf, IsItemDone, DoesAll}
 use Rattle.cw_record.proofs.Lists.{find_passes}
 use Rattle.cw_record.proofs.NodeKinds.{pending_block}
 
@@ -91,18 +91,18 @@ module _ {A : Type 0} (s : Strands A) where
         by true (Some blocks) e = sym (ap (λ x. x.outputs) (same_Some (after blocks) n e))
 
   module _ (t : List Node) where
-    item_shows : (m : Machine A) (w : Want) (i : OrderItem) → OfBlock t i → IsItem t m w i → outputs_after w m.outputs ≡ m.outputs ++ shown_node (slice_get t (node_of i))
+    item_shows : (m : Machine A) (w : Want) (i : OrderItem) → OfBlock t i → IsItemDone t m w i → outputs_after w m.outputs ≡ m.outputs ++ shown_node (slice_get t (node_of i))
     item_shows m w (Begins n) b h = ap (λ x. outputs_after x m.outputs) h ∙ (sym (append-nil m.outputs) ∙ ap (λ vs. m.outputs ++ vs) (sym (block_shows (slice_get t n) b)))
     item_shows m w (Does n) b h = act_of_shows m.memory m.outputs w (slice_get t n) h
     item_shows m w (Ends n) b h = ap (λ x. outputs_after x m.outputs) h ∙ (sym (append-nil m.outputs) ∙ ap (λ vs. m.outputs ++ vs) (sym (block_shows (slice_get t n) b)))
 
-    all_shown : (m n : Machine A) (is : List OrderItem) → All (OfBlock t) is → DoesAll s t m is n → n.outputs ≡ m.outputs ++ shown t is
+    all_shown : (m n : Machine A) (is : List OrderItem) → All (OfBlock t) is → DoesAll s t m is n → n.outputs ≡ m.outputs ++ outputs_shown t is
     all_shown m n [] all h = sym (ap (λ x. x.outputs) h) ∙ sym (append-nil m.outputs)
     all_shown m n (i ∷ is) all (a, u, stands, item, picked, more) =
         all_shown u n is (All-tail (OfBlock t) i is all) more
-        ∙ ap (λ vs. vs ++ shown t is) (picked_outputs m u (doer t i) a stands picked ∙ item_shows m (s.want a) i (All-head (OfBlock t) i is all) item)
-        ∙ append_assoc m.outputs (shown_node (slice_get t (node_of i))) (shown t is)
+        ∙ ap (λ vs. vs ++ outputs_shown t is) (picked_outputs m u (doer t i) a stands picked ∙ item_shows m (s.want a) i (All-head (OfBlock t) i is all) item)
+        ∙ append_assoc m.outputs (shown_node (slice_get t (node_of i))) (outputs_shown t is)
 
     -- the outputs of the machine behind all items of a run, at whatever place it came to its end
-    pub items_shown : (m n : Machine A) (p k : ℕ) → m.outputs ≡ [] → DoesAll s t m (items_in t p k None) n → n.outputs ≡ shown t (items_in t p k None)
-    items_shown m n p k none h = all_shown m n (items_in t p k None) (items_blocks t p k None) h ∙ ap (λ vs. vs ++ shown t (items_in t p k None)) none
+    pub items_shown : (m n : Machine A) (p k : ℕ) → m.outputs ≡ [] → DoesAll s t m (items_in t p k None) n → n.outputs ≡ outputs_shown t (items_in t p k None)
+    items_shown m n p k none h = all_shown m n (items_in t p k None) (items_blocks t p k None) h ∙ ap (λ vs. vs ++ outputs_shown t (items_in t p k None)) none

@@ -12,7 +12,7 @@ use Rattle.cw_tree.specs.Series.{strand_of}
 use Rattle.std.proofs.lemmas.List.Elements.{All-head}
 use Rattle.cw_serial.specs.Jobs.{Job}
 use Rattle.cw_serial.specs.declared.standing.Standing.{Standing as Written}
-use Rattle.cw_serial.specs.Room.Strands.{StrandState, state_of, strands_of}
+use Rattle.cw_serial.specs.Room.Strands.{StrandState, state_of, strands_of_job}
 use Rattle.cw_serial.proofs.Branches.{Branch, on_left, on_right}
 use Rattle.cw_serial.proofs.Room.Lawful.{deep_of}
 use Rattle.cw_serial.proofs.Room.Elements.{WantsThere}
@@ -65,20 +65,20 @@ module _ {job : Job} {code : Worker} {w : Working StrandState} (r : Runs job cod
   first_fork_there {y = y} {rest} was is = first_there y rest (was ∙ ap (λ b. b ∷ rest) is)
 
   -- where blocks close, and strands want only elements that are there
-  module _ (closes : Closes (strands_of job)) (there : WantsThere job) where
-    deep : IsDeep (strands_of job)
+  module _ (closes : Closes (strands_of_job job)) (there : WantsThere job) where
+    deep : IsDeep (strands_of_job job)
     deep = deep_of job
 
     -- ## A step
 
     pub act_run : (new : Worker) → takes_answer (want_of code) ≡ true → Acted code new → StillRuns job code new
-    act_run new answered acted = ((after_act (strands_of job) w, acts_on job closes there code new w r answered acted), act_leaves_less job closes there deep code new w r answered acted)
+    act_run new answered acted = ((after_act (strands_of_job job) w, acts_on job closes there code new w r answered acted), act_leaves_less job closes there deep code new w r answered acted)
 
     pub fork_run : {new : Worker} → SwitchesStrand code new → want_of code ≡ want.Fork → drawn new.drawing ≡ after_fork (drawn code.drawing) → state_of new.strand ≡ (law_of code).left (state_of code.strand)
         → WaitsOnLeft code.branches new.branches (length code.drawing.tree) ((law_of code).right (state_of code.strand)) → StillRuns job code new
     fork_run {new} stays wanted drawing left right =
         let (runs, less) = forks_on job deep closes code new w r stays wanted drawing left right in
-        ((worker_after_fork (strands_of job) w, runs), less)
+        ((worker_after_fork (strands_of_job job) w, runs), less)
 
     -- from the end of a strand to the branch that was taken
     module _ {x : Held} {rest : List Held} (taken : code.branches ≡ x ∷ rest) {new : Worker} (over : is_over (want_of code) ≡ true) (keeps : SwitchesStrand (record code { branches = rest }) new) where
@@ -107,8 +107,8 @@ module _ {job : Job} {code : Worker} {w : Working StrandState} (r : Runs job cod
     -- a block is ended where the place is in it
     pub end_at_block : want_of code ≡ want.End → IsTrue (is_block code.drawing.tree code.drawing.place)
     end_at_block e =
-        let wanted : (strands_of job).want w.strand ≡ want.End = sym (wants_same job code w r) ∙ e in
-        let (n, is) = end_blocks w.branches w.blocks (subst (λ (v : Want). MayWant v (own_in w.branches w.blocks)) wanted (closes _ _ (reached (strands_of job) r.work))) in
+        let wanted : (strands_of_job job).want w.strand ≡ want.End = sym (wants_same job code w r) ∙ e in
+        let (n, is) = end_blocks w.branches w.blocks (subst (λ (v : Want). MayWant v (own_in w.branches w.blocks)) wanted (closes _ _ (reached (strands_of_job job) r.work))) in
         let P : ℕ → Type 0 = λ b. Descends code.drawing.tree code.drawing.place (crossings code.branches w.branches) b w.forks in
         way_block code.drawing.tree code.drawing.place (crossings code.branches w.branches) n w.forks (subst P is r.draws.place)
 

@@ -7,7 +7,7 @@ use Rattle.cw_tree.specs.Accesses.{is_live, live_accesses, written, cell_value}
 use Rattle.cw_tree.specs.WorkedRun.{two_blocks}
 use Rattle.cw_tree.proofs.KeptRuns.{holds}
 use Rattle.cw_record.specs.declared.record_end.RecordEnd.TheVariants.{Finished}
-use Rattle.cw_record.specs.Coherent.{StrandEnded, alone, joined, Follows, StandsAt, IsMemory}
+use Rattle.cw_record.specs.Coherent.{StrandEnded, alone, joined, Follows, EndStands, IsMemory}
 use Rattle.cw_record.specs.WorkedRecord.{Writer, whole, left, right, both, writers, Coherent}
 use Rattle.cw_record.proofs.WorkedLaw.{lawful}
 use Rattle.cw_record.proofs.WorkedParts.{state_in, AllBelow, each, follows}
@@ -53,7 +53,7 @@ did =
     (tt, ((refl, (refl, refl)), (tt, ((refl, (refl, refl)), ((refl, refl), (tt, ((refl, refl), ((refl, refl), ((refl, refl), ((refl, (refl, refl)), ((refl, (refl, refl)), ((refl, refl), tt))))))))))))
     refl
 
-stands : StandsAt writers two_blocks before after reached (Finished (pos 2 ∷ []) [])
+stands : EndStands writers two_blocks before after reached (Finished (pos 2 ∷ []) [])
 stands = (holds.none_pending, each Over 12 over)
 
 value : (c : ℕ) (v : ℤ) → slice_get (pos 0 ∷ []) c ≡ Some v → slice_get (pos 2 ∷ []) c ≡ Some (cell_value v (map (written two_blocks) (live_accesses two_blocks c)))

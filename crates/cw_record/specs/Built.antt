@@ -10,13 +10,13 @@ use Rattle.cw_tree.specs.declared.closed.Halt.TheVariants as stop
 use Rattle.cw_tree.specs.Nodes.{is_strand}
 use Rattle.cw_tree.specs.Walks.{IsNumbered}
 use Rattle.cw_tree.specs.InOrder.{in_order, conflicts_in_order, halt_in_order}
-use Rattle.cw_open.specs.Machine.{Machine}
+use Rattle.cw_open.specs.Machine.{OpenMachine}
 use Rattle.cw_serial.specs.Jobs.{Job}
-use Rattle.cw_serial.specs.Room.Strands.{strands_of}
+use Rattle.cw_serial.specs.Room.Strands.{strands_of_job}
 use Rattle.cw_record.specs.declared.record_end.RecordEnd.{RecordEnd}
 use Rattle.cw_record.specs.declared.record_end.RecordEnd.TheVariants.{Finished}
 use Rattle.cw_record.specs.Items.{items}
-use Rattle.cw_record.specs.Coherent.{shown}
+use Rattle.cw_record.specs.Coherent.{outputs_shown}
 use Rattle.cw_record.specs.ClosedRun.{IsClosedRun, end_after}
 
 -- A run that stopped for want of memory has no record. A strand at which a run stopped is one of its tree.
@@ -39,16 +39,16 @@ memory_left (v ∷ vs) (es ∷ kept) = value_left v es ∷ memory_left vs kept
 
 -- the outputs of a run that finished: those of its output nodes, in its order
 abbrev pub outputs_left : List Node → List Conflict → (budget : ℕ) → List ℤ
-outputs_left t cs budget = shown t (items t cs budget (Finished [] []))
+outputs_left t cs budget = outputs_shown t (items t cs budget (Finished [] []))
 
 -- how a closed run ended, and what it left where it finished
 abbrev pub end_left : (first : List ℤ) → (budget : ℕ) → Closed → (spent : Bool) → RecordEnd
 end_left first budget c spent = end_after c.halt spent (memory_left first c.journals) (outputs_left c.tree c.conflicts budget)
 
 -- In depth-first order, this is what a closed run of this job leaves, whose machine and halt were these.
-pub record IsLeftBy (job : Job) (spent : Bool) (m : Machine) (h : Option Halt) (c : Closed) : Type 0 where
+pub record IsLeftBy (job : Job) (spent : Bool) (m : OpenMachine) (h : Option Halt) (c : Closed) : Type 0 where
   pub numbered : IsNumbered m.tree
   pub tree : c.tree ≡ in_order m.tree
   pub conflicts : c.conflicts ≡ conflicts_in_order m.tree m.conflicts
   pub halt : c.halt ≡ halt_in_order m.tree h
-  pub run : IsClosedRun (strands_of job) (first_memory job.program.cells) job.limits.aborts m c.journals h spent
+  pub run : IsClosedRun (strands_of_job job) (first_memory job.program.cells) job.limits.aborts m c.journals h spent

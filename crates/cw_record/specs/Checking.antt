@@ -14,7 +14,7 @@ use Rattle.cw_record.specs.declared.record_end.RecordEnd.TheVariants.{Finished, 
 use Rattle.cw_record.specs.declared.record.Record.{Record}
 use Rattle.cw_record.specs.declared.checking.Checked.{Checked}
 use Rattle.cw_record.specs.declared.checking.Checked.TheVariants.{Agrees, Disagree}
-use Rattle.cw_record.specs.Records.{IsReplayed, job_of}
+use Rattle.cw_record.specs.Records.{IsReplayed, job_of_record}
 
 -- the first place at which two lists differ, of those that both have
 abbrev pub first_difference : (kept replayed : List ℤ) → Option ℕ
@@ -55,4 +55,4 @@ difference cells kept e = Disagree cells (pos (variant kept)) (pos (other_varian
 abbrev pub IsCheckOf : Record → Checked → Type 0
 IsCheckOf r Agrees = IsReplayed r
 IsCheckOf r (Disagree cell kept replayed) =
-    (IsReplayed r → ⊥) × (Disagree cell kept replayed ≡ difference (length (first_memory r.program.cells)) r.end (end_under (job_of r) r.order))
+    (IsReplayed r → ⊥) × (Disagree cell kept replayed ≡ difference (length (first_memory r.program.cells)) r.end (end_under (job_of_record r) r.order))

@@ -11,7 +11,7 @@ use Rattle.cw_tree.specs.Walks.{has, IsNumbered}
 use Rattle.cw_tree.specs.Series.{children, place}
 use Rattle.cw_tree.specs.Newest.{newest}
 use Rattle.cw_tree.specs.InOrder.{in_order, conflicts_in_order, halt_in_order}
-use Rattle.cw_open.specs.Machine.{Machine, has_finished, finished_dead, is_free}
+use Rattle.cw_open.specs.Machine.{OpenMachine, has_finished, finished_dead, is_free}
 use Rattle.cw_open.specs.Laws.{NoneUndone}
 use Rattle.cw_open.specs.Times.{ReachedInTime}
 use Rattle.cw_open.specs.Told.{as_told, unstopped}
@@ -25,7 +25,7 @@ use Rattle.cw_record.specs.Coherent.{InSeries, IsWanted, entered, IsMemory, IsCo
 
 -- As in a coherent record, each node has the state of its strand before it and the one after it, and a strand or block also the one that
 -- was reached in it.
-module _ {A : Type 0} (s : Strands A) (m : Machine) (before after reached : ℕ → A) where
+module _ {A : Type 0} (s : Strands A) (m : OpenMachine) (before after reached : ℕ → A) where
   pub record AreStates : Type 0 where
     pub start : before 0 ≡ s.start
     pub series : (n : ℕ) → n < length m.tree → IsTrue (is_strand m.tree n || is_block m.tree n) → InSeries before after (entered s m.tree before after reached n) (children m.tree n) (reached n)
@@ -49,7 +49,7 @@ module _ {A : Type 0} (s : Strands A) (m : Machine) (before after reached : ℕ 
 
 -- a run of these strands over a memory with these first values, in which a strand may have that many attempts, was left in this state, with
 -- these entries of its cells
-pub record IsClosedRun {A : Type 0} (s : Strands A) (first : List ℤ) (budget : ℕ) (m : Machine) (kept : List (List Entry)) (h : Option Halt) (spent : Bool) : Type 0 where
+pub record IsClosedRun {A : Type 0} (s : Strands A) (first : List ℤ) (budget : ℕ) (m : OpenMachine) (kept : List (List Entry)) (h : Option Halt) (spent : Bool) : Type 0 where
   pub reached : ReachedInTime (as_told (λ t us w. newest us)) first m
   -- no undo is under way
   pub complete : NoneUndone m
@@ -67,6 +67,6 @@ end_after None false memory outputs = Finished memory outputs
 -- The tree of a closed run in depth-first order, with its journals and conflicts, is coherent, whatever its end.
 abbrev pub ClosedAreCoherent : Type 0 → Type 0
 ClosedAreCoherent A =
-    (s : Strands A) (first : List ℤ) (budget : ℕ) (m : Machine) (kept : List (List Entry)) (h : Option Halt) (spent : Bool) (memory outputs : List ℤ)
+    (s : Strands A) (first : List ℤ) (budget : ℕ) (m : OpenMachine) (kept : List (List Entry)) (h : Option Halt) (spent : Bool) (memory outputs : List ℤ)
     → IsNumbered m.tree → IsClosedRun s first budget m kept h spent → IsMemory m.tree first memory
     → IsCoherent s first budget (in_order m.tree) kept (conflicts_in_order m.tree m.conflicts) (end_after (halt_in_order m.tree h) spent memory outputs)

@@ -92,11 +92,11 @@ module _ {A : Type 0} (s : Strands A) (t : List Node) (before after reached : �
 
   -- The strand of a fault stands at it. A finished run has no live strand that has not ended. Where a budget is spent the strand stands at
   -- what was refused, as it fits; where the moves are, anywhere.
-  abbrev pub StandsAt : RecordEnd → Type 0
-  StandsAt (Finished memory outputs) = NonePending t × ((x : ℕ) → x < length t → IsTrue (is_strand t x && is_live t x) → StrandEnded x)
-  StandsAt (Fault x kind) = (s.want (reached (place t x)) ≡ want.Fault kind) × HasNoOpenFork (place t x)
-  StandsAt (Budget x) = Unit {0}
-  StandsAt Moves = Unit {0}
+  abbrev pub EndStands : RecordEnd → Type 0
+  EndStands (Finished memory outputs) = NonePending t × ((x : ℕ) → x < length t → IsTrue (is_strand t x && is_live t x) → StrandEnded x)
+  EndStands (Fault x kind) = (s.want (reached (place t x)) ≡ want.Fault kind) × HasNoOpenFork (place t x)
+  EndStands (Budget x) = Unit {0}
+  EndStands Moves = Unit {0}
 
 -- ## What a finished run leaves
 
@@ -114,8 +114,8 @@ shown_node None = []
 shown_node (Some x) = shown_kind x.kind
 
 -- the outputs among these items; the begin and the end of a block are none
-abbrev pub shown : List Node → List OrderItem → List ℤ
-shown t = flat_map (λ i. shown_node (slice_get t (node_of i)))
+abbrev pub outputs_shown : List Node → List OrderItem → List ℤ
+outputs_shown t = flat_map (λ i. shown_node (slice_get t (node_of i)))
 
 -- A run that finished leaves this memory.
 abbrev pub HasMemory : List Node → (first : List ℤ) → RecordEnd → Type 0
@@ -124,7 +124,7 @@ HasMemory t first e = Unit {0}
 
 -- The outputs of a run that finished are those of its output nodes, in its order. This is no part of coherence.
 abbrev pub HasOutputs : List Node → List Conflict → ℕ → RecordEnd → Type 0
-HasOutputs t cs budget (Finished memory outputs) = outputs ≡ shown t (items t cs budget (Finished memory outputs))
+HasOutputs t cs budget (Finished memory outputs) = outputs ≡ outputs_shown t (items t cs budget (Finished memory outputs))
 HasOutputs t cs budget e = Unit {0}
 
 -- ## Records
@@ -142,4 +142,4 @@ pub record IsCoherent {A : Type 0} (s : Strands A) (first : List ℤ) (budget : 
   pub faulted : MayFault t (halt_of e)
   pub spent : MaySpend t cs budget (halt_of e)
   pub memory : HasMemory t first e
-  pub strands : (before after reached : ℕ → A) × Follows s t before after reached × StandsAt s t before after reached e
+  pub strands : (before after reached : ℕ → A) × Follows s t before after reached × EndStands s t before after reached e

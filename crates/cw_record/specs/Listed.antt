@@ -42,5 +42,5 @@ abbrev pub listed_names : List Node → List Name
 listed_names t = let ps = names t in map (listed_name ps) ps
 
 -- the number of strand s among them
-abbrev pub number_of : List Node → ℕ → ℕ
-number_of t s = index_of (names t) (name_of t s)
+abbrev pub strand_number : List Node → ℕ → ℕ
+strand_number t s = index_of (names t) (name_of t s)

@@ -9,7 +9,7 @@ use Rattle.cw_record.specs.declared.record_end.RecordEnd.TheVariants.{Fault, Bud
 use Rattle.cw_record.specs.declared.items.OrderItem.{OrderItem}
 use Rattle.cw_record.specs.declared.items.OrderItem.TheVariants.{Begins, Does, Ends}
 use Rattle.cw_record.specs.Items.{items}
-use Rattle.cw_record.specs.Listed.{listed_names, number_of}
+use Rattle.cw_record.specs.Listed.{listed_names, strand_number}
 
 abbrev pub node_of : OrderItem → ℕ
 node_of (Begins n) = n
@@ -24,11 +24,11 @@ ending_strand _ = 0
 
 -- the pick of an item: the number of the strand that did it
 abbrev pub pick_of : List Node → OrderItem → ℕ
-pick_of t i = number_of t (strand_of t (node_of i))
+pick_of t i = strand_number t (strand_of t (node_of i))
 
 abbrev pub order_of : List Node → List Conflict → ℕ → RecordEnd → Picks
 order_of t cs budget e = record {
   names = listed_names t;
   list = map (pick_of t) (items t cs budget e);
-  last = number_of t (ending_strand e);
+  last = strand_number t (ending_strand e);
 }

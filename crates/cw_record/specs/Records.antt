@@ -8,8 +8,8 @@ use Rattle.cw_tree.specs.declared.access.Entry.{Entry}
 use Rattle.cw_tree.specs.Nodes.{parent_of, is_strand, is_block, is_pending, is_committed}
 use Rattle.cw_tree.specs.Walks.{is_ancestor}
 use Rattle.cw_tree.specs.Names.{name_of}
-use Rattle.cw_serial.specs.Jobs.{Job, Takes}
-use Rattle.cw_serial.specs.Room.Strands.{StrandState, strands_of}
+use Rattle.cw_serial.specs.Jobs.{Job, TakesWords}
+use Rattle.cw_serial.specs.Room.Strands.{StrandState, strands_of_job}
 use Rattle.cw_serial.specs.Machine.{Machine, has_ended}
 use Rattle.cw_serial.specs.StrandTree.{at}
 use Rattle.cw_serial.specs.DepthFirst.{leftmost, GoesDepthFirst}
@@ -24,21 +24,21 @@ use Rattle.cw_record.specs.Replay.{doer, DoesAll, Replays}
 use Rattle.cw_record.specs.Coherent.{IsCoherent, HasOutputs}
 
 -- what a record is a run of
-abbrev pub job_of : Record → Job
-job_of r = record { program = r.program; words = r.words; limits = r.limits }
+abbrev pub job_of_record : Record → Job
+job_of_record r = record { program = r.program; words = r.words; limits = r.limits }
 
 -- One memory, in the order of the record, does what the record says, and comes to its end.
 abbrev pub IsReplayed : Record → Type 0
-IsReplayed r = Replays (strands_of (job_of r)) (first_memory r.program.cells) r.limits.aborts r.tree r.conflicts r.order r.end
+IsReplayed r = Replays (strands_of_job (job_of_record r)) (first_memory r.program.cells) r.limits.aborts r.tree r.conflicts r.order r.end
 
 -- what a record keeps is coherent for the strands of its program
 abbrev pub IsCoherentRun : Record → Type 0
-IsCoherentRun r = IsCoherent (strands_of (job_of r)) (first_memory r.program.cells) r.limits.aborts r.tree r.journals r.conflicts r.end
+IsCoherentRun r = IsCoherent (strands_of_job (job_of_record r)) (first_memory r.program.cells) r.limits.aborts r.tree r.journals r.conflicts r.end
 
 -- A record is coherent for the strands of its program, which is a compiled one, and has as many words as main has parameters.
 pub record IsCoherentRecord (r : Record) : Type 0 where
   pub program : IsCompiled r.program
-  pub words : Takes r.program (length r.words)
+  pub words : TakesWords r.program (length r.words)
   pub coherent : IsCoherentRun r
 
 -- the outputs of a record are those of its output nodes, in its order
@@ -54,22 +54,22 @@ HasEnded Moves = ⊥
 
 -- Nothing is left to do in main, or the leftmost strand, of this name, stands at a fault.
 abbrev pub StopsAt : Job → List Node → RecordEnd → Machine StrandState → Type 0
-StopsAt job t (Finished memory outputs) m = (has_ended (strands_of job) m ≡ true) × (m.memory ≡ memory) × (m.outputs ≡ outputs)
+StopsAt job t (Finished memory outputs) m = (has_ended (strands_of_job job) m ≡ true) × (m.memory ≡ memory) × (m.outputs ≡ outputs)
 StopsAt job t (Fault x kind) m =
-    (leftmost (strands_of job) m.strands ≡ Some (name_of t x))
-    × ((a : StrandState) × (at (strands_of job) m.strands (name_of t x) ≡ Some a) × ((strands_of job).want a ≡ AFault kind))
+    (leftmost (strands_of_job job) m.strands ≡ Some (name_of t x))
+    × ((a : StrandState) × (at (strands_of_job job) m.strands (name_of t x) ≡ Some a) × ((strands_of_job job).want a ≡ AFault kind))
 StopsAt job t e m = ⊥
 
 -- The order of these items is the depth-first one, in which the leftmost strand is picked, until there is none, or it stands at a fault;
 -- and at each pick the machine does what the tree has there.
 pub record GoesThrough (job : Job) (t : List Node) (is : List OrderItem) (e : RecordEnd) : Type 0 where
   pub machine : Machine StrandState
-  pub picks : GoesDepthFirst (strands_of job) (machine_of job) (map (doer t) is) machine
-  pub acts : DoesAll (strands_of job) t (machine_of job) is machine
+  pub picks : GoesDepthFirst (strands_of_job job) (machine_of job) (map (doer t) is) machine
+  pub acts : DoesAll (strands_of_job job) t (machine_of job) is machine
   pub stops : StopsAt job t e machine
 
 abbrev pub IsDepthFirst : Record → Type 0
-IsDepthFirst r = GoesThrough (job_of r) r.tree (items r.tree r.conflicts r.limits.aborts r.end) r.end
+IsDepthFirst r = GoesThrough (job_of_record r) r.tree (items r.tree r.conflicts r.limits.aborts r.end) r.end
 
 -- Numbers are depth first: each node hangs from the one before it, or from a node above that one.
 abbrev pub IsNumberedDepthFirst : List Node → Type 0
@@ -87,7 +87,7 @@ BlocksEnded t e = BlocksAround t (place_of_end t [] 0 e)
 -- What one worker leaves: its tree, its journals and its end. It is coherent and has its outputs, whatever the budget.
 pub record IsWorkerRun (job : Job) (t : List Node) (kept : List (List Entry)) (e : RecordEnd) : Type 0 where
   pub ended : HasEnded e
-  pub coherent : (budget : ℕ) → IsCoherent (strands_of job) (first_memory job.program.cells) budget t kept [] e
+  pub coherent : (budget : ℕ) → IsCoherent (strands_of_job job) (first_memory job.program.cells) budget t kept [] e
   pub outputs : (budget : ℕ) → HasOutputs t [] budget e
   pub numbered : IsNumberedDepthFirst t
   pub blocks : BlocksEnded t e

@@ -16,7 +16,7 @@ use Rattle.cw_tree.specs.Refusals.{victim_of, telling}
 use Rattle.cw_serial.specs.declared.ends.SerialEnd.{SerialEnd}
 use Rattle.cw_serial.specs.declared.ends.SerialEnd.TheVariants as last
 use Rattle.cw_serial.specs.StrandTree.{at}
-use Rattle.cw_serial.specs.Machine.{Machine, pick, shown, initial}
+use Rattle.cw_serial.specs.Machine.{Machine, pick, machine_shows, initial}
 use Rattle.cw_serial.specs.Wants.{value_at}
 use Rattle.cw_record.specs.declared.record_end.RecordEnd.{RecordEnd}
 use Rattle.cw_record.specs.declared.record_end.RecordEnd.TheVariants.{Finished, Fault, Budget, Moves}
@@ -41,10 +41,10 @@ IsActOf memory w None = ⊥
 IsActOf memory w (Some x) = IsAct memory w x.kind
 
 -- the want, which this machine answers, is what the tree has there
-abbrev pub IsItem : {A : Type 0} → List Node → Machine A → Want → OrderItem → Type 0
-IsItem t m w (Begins b) = w ≡ want.Begin
-IsItem t m w (Does n) = IsActOf m.memory w (slice_get t n)
-IsItem t m w (Ends b) = w ≡ want.End
+abbrev pub IsItemDone : {A : Type 0} → List Node → Machine A → Want → OrderItem → Type 0
+IsItemDone t m w (Begins b) = w ≡ want.Begin
+IsItemDone t m w (Does n) = IsActOf m.memory w (slice_get t n)
+IsItemDone t m w (Ends b) = w ≡ want.End
 
 -- the want is a load or a store of cell c
 abbrev pub IsAccessOf : ℕ → Want → Type 0
@@ -57,8 +57,8 @@ IsRefusedBy cell None w = IsAccessOf cell w
 IsRefusedBy cell (Some v) w = w ≡ want.Begin
 
 -- what the conflict refused is wanted again: the victim's begin, or the access itself where there is no victim
-abbrev pub IsRefused : Conflict → Want → Type 0
-IsRefused c = IsRefusedBy c.cell (victim_of c)
+abbrev pub WantsAgain : Conflict → Want → Type 0
+WantsAgain c = IsRefusedBy c.cell (victim_of c)
 
 -- A run's end and the machine's end under the run's order are the same.
 abbrev pub SameEnd : RecordEnd → Picks → SerialEnd → Type 0
@@ -72,12 +72,12 @@ module _ {A : Type 0} (s : Strands A) where
   -- From the one machine to the other: item by item the machine does what the tree has there.
   abbrev pub DoesAll : List Node → Machine A → List OrderItem → Machine A → Type 0
   DoesAll t m [] n = m ≡ n
-  DoesAll t m (i ∷ is) n = (a : A) × (o : Machine A) × (at s m.strands (doer t i) ≡ Some a) × IsItem t m (s.want a) i × (pick s m (doer t i) ≡ Some o) × DoesAll t o is n
+  DoesAll t m (i ∷ is) n = (a : A) × (o : Machine A) × (at s m.strands (doer t i) ≡ Some a) × IsItemDone t m (s.want a) i × (pick s m (doer t i) ≡ Some o) × DoesAll t o is n
 
   -- the strand of that name stands at what the conflict refused
   abbrev pub StandsRefused : Option Conflict → Machine A → List Turn → Type 0
   StandsRefused None m p = ⊥
-  StandsRefused (Some c) m p = (a : A) × (at s m.strands p ≡ Some a) × IsRefused c (s.want a)
+  StandsRefused (Some c) m p = (a : A) × (at s m.strands p ≡ Some a) × WantsAgain c (s.want a)
 
   -- a strand that spent its budget stands at what the conflict that tells so refused
   abbrev pub IsSpent : List Node → List Conflict → ℕ → RecordEnd → Machine A → Type 0
@@ -94,5 +94,5 @@ module _ {A : Type 0} (s : Strands A) where
     -- the machine behind the last pick
     pub machine : Machine A
     pub acts : DoesAll t (initial s first) (items t cs budget e) machine
-    pub end : SameEnd e picks (shown s machine picks.names picks.last (length picks.list))
+    pub end : SameEnd e picks (machine_shows s machine picks.names picks.last (length picks.list))
     pub spent : IsSpent t cs budget e machine

@@ -19,10 +19,10 @@ place_in [] p = None
 place_in (q ∷ qs) p = if same_name q p then Some 0 else option_map suc (place_in qs p)
 
 -- a name by the first node with the name that it goes on from, and its last turn
-abbrev pub Step : Type 0
-Step = ℕ × ℕ × Bool
+abbrev pub NameStep : Type 0
+NameStep = ℕ × ℕ × Bool
 
-abbrev pub step_cmp : Step → Step → Ordering
+abbrev pub step_cmp : NameStep → NameStep → Ordering
 step_cmp a b = ordering_then (ordering_then (nat_cmp a.0 b.0) (nat_cmp a.1 b.1)) (bool_cmp a.2 b.2)
 
 -- strands with all names, each once, and for each node that is the first with its name the place of that name among them

@@ -4,7 +4,7 @@ use Rattle.cw_strand.specs.declared.want.Want.{Want}
 use Rattle.cw_strand.specs.Strands.{Strands}
 use Rattle.cw_serial.specs.Wants.{memory_after, outputs_after}
 use Rattle.cw_serial.specs.Jobs.{Job}
-use Rattle.cw_serial.specs.Room.Strands.{StrandState, IsOf, state_of, strands_of}
+use Rattle.cw_serial.specs.Room.Strands.{StrandState, IsOf, state_of, strands_of_job}
 use Rattle.cw_code.specs.declared.program.Program.{Program}
 use Rattle.cw_record.specs.declared.worker.Task.{Task}
 use Rattle.cw_record.specs.declared.worker.Branch.{Branch}
@@ -18,7 +18,7 @@ job_of t = record { program = t.program.now; words = t.words.now; limits = t.lim
 
 -- the law of the strands that it runs
 abbrev pub law_of : Worker → Strands StrandState
-law_of w = strands_of (job_of w.task)
+law_of w = strands_of_job (job_of w.task)
 
 -- what the strand that it runs wants
 abbrev pub want_of : Worker → Want

@@ -1,11 +1,11 @@
 ghost use Rattle.std.specs.Prelude.{◌≡◌, ◌↔◌, pos, length, IfOk, IsTrue};
-ghost use Rattle.cw_serial.specs.Jobs.{Takes};
+ghost use Rattle.cw_serial.specs.Jobs.{TakesWords};
 ghost use Rattle.cw_tree.specs.Nodes.{is_strand};
 ghost use Rattle.cw_serial.specs.Wants.{value_at};
 ghost use Rattle.cw_serial.specs.MachineOf.{end_under};
 ghost use Rattle.cw_record.specs.Order.{ending_strand};
 ghost use Rattle.cw_record.specs.Replay.{SameEnd};
-ghost use Rattle.cw_record.specs.Records.{IsReplayed, job_of};
+ghost use Rattle.cw_record.specs.Records.{IsReplayed, job_of_record};
 ghost use Rattle.cw_record.specs.declared.checking.Checked.TheVariants.{Disagree};
 ghost use Rattle.cw_record.specs.Checking.{IsCheckOf, difference, first_difference, other_variant, variant};
 
@@ -30,7 +30,7 @@ pub enum Checked {
 /// the machine does at each pick what the tree has there, and comes to the same end. More than 4,294,967,295 cells, strands or picks
 /// are answered as want of memory.
 pub fn check(alloc: Global, kept: &Record) -> Result<Checked, OutOfMemory>
-    requires { Takes kept.now.program (length kept.now.words) }
+    requires { TakesWords kept.now.program (length kept.now.words) }
     ensures { IfOk result (λ c. IsCheckOf kept.now c) }
 {
     let program = &kept.program;
@@ -53,8 +53,8 @@ pub fn check(alloc: Global, kept: &Record) -> Result<Checked, OutOfMemory>
 
 /// Whether a record replays, where this is the machine's end under its order.
 fn replays(alloc: Global, kept: &Record, end: &SerialEnd) -> Result<bool, OutOfMemory>
-    requires words { Takes kept.now.program (length kept.now.words) }
-    requires end { end.now ≡ end_under (job_of kept.now) kept.now.order }
+    requires words { TakesWords kept.now.program (length kept.now.words) }
+    requires end { end.now ≡ end_under (job_of_record kept.now) kept.now.order }
     ensures { IfOk result (λ b. IsTrue b ↔ IsReplayed kept.now) }
 {
     // a hint to the prover: the root is a strand, and each other node has a smaller parent

@@ -5,8 +5,8 @@ ghost use Rattle.std.specs.BTreeMap.{get};
 ghost use Rattle.cw_tree.specs.Nodes.{all_nodes, is_strand};
 ghost use Rattle.cw_tree.specs.Series.{strand_of};
 ghost use Rattle.cw_tree.specs.Names.{fork_number, is_right, turn, name_of};
-ghost use Rattle.cw_record.specs.Listed.{names, listed_name, listed_names, number_of};
-ghost use Rattle.cw_record.specs.Walked.{Step, step_cmp, first_named, AreFirsts};
+ghost use Rattle.cw_record.specs.Listed.{names, listed_name, listed_names, strand_number};
+ghost use Rattle.cw_record.specs.Walked.{NameStep, step_cmp, first_named, AreFirsts};
 
 use crate::strands::strands;
 use cw_base::OutOfMemory;
@@ -24,7 +24,7 @@ pub(crate) struct Listed {
 impl Listed {
     pub(crate) fn of_tree(alloc: Global, tree: &Tree) -> Result<Listed, OutOfMemory>
         ensures names { IfOk result (λ l. l.names.items ≡ listed_names tree.now) }
-        ensures numbers { IfOk result (λ l. l.numbers.items ≡ map (λ n. number_of tree.now (strand_of tree.now n)) (all_nodes tree.now)) }
+        ensures numbers { IfOk result (λ l. l.numbers.items ≡ map (λ n. strand_number tree.now (strand_of tree.now n)) (all_nodes tree.now)) }
     {
         let turns = Turns::of_tree(tree)?;
         let same = turns.same_names(alloc, tree)?;
@@ -42,7 +42,7 @@ impl Listed {
 }
 
 // A name by the first node with the name that it goes on from, and its last turn.
-type Step = (u32, u32, bool);
+type NameStep = (u32, u32, bool);
 
 /// The numbers of forks and the sides of strands, by their nodes.
 #[derive(Drop)]
@@ -82,7 +82,7 @@ impl Turns {
         requires forks { self.now.forks.items ≡ map (fork_number tree.now) (all_nodes tree.now) }
         requires sides { self.now.sides.items ≡ map (is_right tree.now) (all_nodes tree.now) }
         requires strand { IsTrue (is_strand tree.now strand) }
-        requires numbers { numbers.now ≡ map (λ n. number_of tree.now (strand_of tree.now n)) (all_nodes tree.now) }
+        requires numbers { numbers.now ≡ map (λ n. strand_number tree.now (strand_of tree.now n)) (all_nodes tree.now) }
         ensures { result ≡ listed_name (names tree.now) (name_of tree.now strand) }
     {
         if strand == 0 {
@@ -122,9 +122,9 @@ impl Turns {
 }
 
 // The first strand that was put at a step, which is this one where there was none.
-fn first_at(strands: &mut BTreeMap<Step, u32>, step: Step, strand: u32) -> Result<u32, OutOfMemory>
+fn first_at(strands: &mut BTreeMap<NameStep, u32>, step: NameStep, strand: u32) -> Result<u32, OutOfMemory>
     ensures found { IfOk result (λ first. Some first ≡ option_or (get step_cmp strands.old step) (Some strand)) }
-    ensures kept { OnOk result ((s : Step) → get step_cmp strands.new s ≡ option_or (get step_cmp strands.old s) (if is_eq (step_cmp step s) then Some strand else None)) }
+    ensures kept { OnOk result ((s : NameStep) → get step_cmp strands.new s ≡ option_or (get step_cmp strands.old s) (if is_eq (step_cmp step s) then Some strand else None)) }
 {
     if let Some(first) = strands.get(&step) {
         return Ok(*first);

@@ -1,7 +1,7 @@
 ghost use Rattle.std.specs.Prelude.{◌≡◌, ◌<◌, All, IfOk, IsTrue, length, map};
 ghost use Rattle.cw_tree.specs.Nodes.{all_nodes, is_strand};
 ghost use Rattle.cw_tree.specs.Series.{strand_of};
-ghost use Rattle.cw_record.specs.Listed.{number_of};
+ghost use Rattle.cw_record.specs.Listed.{strand_number};
 ghost use Rattle.cw_record.specs.Order.{ending_strand, node_of, order_of, pick_of};
 
 use crate::RecordEnd;
@@ -56,7 +56,7 @@ fn picks(
     items: &[OrderItem],
 ) -> Result<Seq<u32>, OutOfMemory>
     requires numbers { listed.now.numbers.items
-        ≡ map (λ n. number_of tree.now (strand_of tree.now n)) (all_nodes tree.now) }
+        ≡ map (λ n. strand_number tree.now (strand_of tree.now n)) (all_nodes tree.now) }
     requires there { All (λ i. node_of i < length tree.now) items.now }
     ensures { IfOk result (λ list. list ≡ map (pick_of tree.now) items.now) }
 {

@@ -5,8 +5,8 @@ ghost use Rattle.cw_tree.specs.declared.node.Node.{Node};
 ghost use Rattle.cw_tree.specs.declared.closed.Halt.{Halt};
 ghost use Rattle.cw_tree.specs.InOrder.{in_order};
 ghost use Rattle.cw_tree.specs.Walks.{IsNumbered};
-ghost use Rattle.cw_open.specs.Machine.{Machine};
-ghost use Rattle.cw_serial.specs.Jobs.{Takes};
+ghost use Rattle.cw_open.specs.Machine.{OpenMachine};
+ghost use Rattle.cw_serial.specs.Jobs.{TakesWords};
 ghost use Rattle.cw_record.specs.Built.{HasRecord, IsLeftBy, end_left};
 ghost use Rattle.cw_record.specs.Order.{order_of};
 ghost use Rattle.cw_record.specs.Records.{BlocksEnded, HasEnded, HasItsOutputs, IsCoherentRun, IsReplayed, IsDepthFirst, IsNumberedDepthFirst};
@@ -43,7 +43,7 @@ pub fn depth_first(
     limits: Limits,
 ) -> Result<Record, OutOfMemory>
     requires compiled { IsCompiled program }
-    requires words { Takes program (length words) }
+    requires words { TakesWords program (length words) }
     ensures program { IfOk result (λ r. r.program ≡ program) }
     ensures words { IfOk result (λ r. r.words ≡ words) }
     ensures limits { IfOk result (λ r. r.limits ≡ limits) }
@@ -103,7 +103,7 @@ pub fn build(
     ensures outputs { IfOk result (λ r. HasItsOutputs r) }
 
     // what a closed run of the program's strands left in depth-first order is coherent, and so numbered
-    ensures coherent { IfOk result (λ r. (m : Machine) (h : Option Halt) →
+    ensures coherent { IfOk result (λ r. (m : OpenMachine) (h : Option Halt) →
         IsLeftBy (record { program = program; words = words; limits = limits }) spent m h closed → IsCoherentRun r) }
     ensures numbered { IfOk result (λ r. (t : List Node) →
         IsNumbered t → closed.tree ≡ in_order t → IsNumberedDepthFirst r.tree) }

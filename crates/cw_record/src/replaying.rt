@@ -1,10 +1,10 @@
 ghost use Rattle.std.specs.Prelude.{◌≡◌, ◌↔◌, ◌<◌, IfOk, IsSomeAnd, IsTrue, length};
 ghost use Rattle.cw_tree.specs.Nodes.{is_strand};
-ghost use Rattle.cw_serial.specs.Jobs.{Takes};
+ghost use Rattle.cw_serial.specs.Jobs.{TakesWords};
 ghost use Rattle.cw_serial.specs.Machine.{Machine};
 ghost use Rattle.cw_serial.specs.Room.Strands.{StrandState};
 ghost use Rattle.cw_record.specs.Order.{ending_strand, node_of, order_of};
-ghost use Rattle.cw_record.specs.Replay.{IsAct, IsItem, IsRefused};
+ghost use Rattle.cw_record.specs.Replay.{IsAct, IsItemDone, WantsAgain};
 ghost use Rattle.cw_record.specs.Replaying.{ItemsAreDone, WantsRefused};
 
 use crate::items::{OrderItem, items};
@@ -18,7 +18,7 @@ use std::alloc::Global;
 
 /// Whether the machine does at each pick what the tree has there, and then a strand that spent its budget stands at what was refused.
 pub(crate) fn does_all(alloc: Global, kept: &Record) -> Result<bool, OutOfMemory>
-    requires words { Takes kept.now.program (length kept.now.words) }
+    requires words { TakesWords kept.now.program (length kept.now.words) }
     requires strand { IsTrue (is_strand kept.now.tree (ending_strand kept.now.end)) }
     requires order { kept.now.order ≡ order_of kept.now.tree kept.now.conflicts kept.now.limits.aborts kept.now.end }
     ensures { IfOk result (λ b. IsTrue b ↔ ItemsAreDone kept.now) }
@@ -53,7 +53,7 @@ pub(crate) fn does_all(alloc: Global, kept: &Record) -> Result<bool, OutOfMemory
 /// Whether a want is what the tree has at an item, where the machine has this memory.
 fn is_item(tree: &Tree, memory: &[i64], want: Option<Want>, item: OrderItem) -> bool
     requires { node_of item < length tree.now }
-    ensures { (m : Machine StrandState) → m.memory ≡ memory.now → IsTrue result ↔ IsSomeAnd want (λ w. IsItem tree.now m w item) }
+    ensures { (m : Machine StrandState) → m.memory ≡ memory.now → IsTrue result ↔ IsSomeAnd want (λ w. IsItemDone tree.now m w item) }
 {
     match item {
         OrderItem::Begins(_) => want == Some(Want::Begin),
@@ -95,7 +95,7 @@ fn is_spent(alloc: Global, kept: &Record, want: Option<Want>) -> Result<bool, Ou
 
 /// Whether a want is what a conflict refused.
 fn is_refused(conflict: &Conflict, want: Option<Want>) -> bool
-    ensures { IsTrue result ↔ IsSomeAnd want (IsRefused conflict.now) }
+    ensures { IsTrue result ↔ IsSomeAnd want (WantsAgain conflict.now) }
 {
     match want {
         Some(Want::Begin) => conflict.victim != 0,

@@ -6,7 +6,7 @@ ghost use Rattle.cw_tree.specs.Nodes.{fresh_node, is_block};
 ghost use Rattle.cw_tree.specs.Series.{strand_of};
 ghost use Rattle.cw_tree.specs.declared.node.Kind.TheVariants.{Strand as AStrand};
 ghost use Rattle.cw_strand.specs.Programs.{IsCompiled};
-ghost use Rattle.cw_serial.specs.Jobs.{Takes};
+ghost use Rattle.cw_serial.specs.Jobs.{TakesWords};
 ghost use Rattle.cw_serial.specs.Room.Strands.{IsOf, state_of};
 ghost use Rattle.cw_serial.specs.Wants.{answer_to};
 ghost use Rattle.cw_record.specs.Drawn.{after_fork, after_join, after_start, blank, drawn};
@@ -67,7 +67,7 @@ impl<'a> Worker<'a> {
         words: &'a [i64],
         limits: Limits,
     ) -> Result<Worker<'a>, OutOfMemory>
-        requires { Takes program.now (length words.now) }
+        requires { TakesWords program.now (length words.now) }
         ensures job { IfOk result (λ w. job_of w.task ≡ record { program = program.now; words = words.now; limits = limits }) }
         ensures memory { IfOk result (λ w. w.memory.items ≡ first_memory program.now.cells) }
         ensures outputs { IfOk result (λ w. w.outputs.items ≡ []) }
@@ -102,7 +102,7 @@ impl<'a> Worker<'a> {
         limits: Limits,
     ) -> Result<Run, OutOfMemory>
         requires compiled { IsCompiled program.now }
-        requires words { Takes program.now (length words.now) }
+        requires words { TakesWords program.now (length words.now) }
         ensures { IfOk result (λ r. IsWorkerRun (record { program = program.now; words = words.now; limits = limits })
             r.drawing.tree r.drawing.journals.items r.end) }
     {

@@ -18,7 +18,7 @@ use Rattle.cw_serial.specs.Machine.{Machine, Begun, same_name, may_pick, does, p
 use Rattle.cw_record.specs.declared.items.OrderItem.{OrderItem}
 use Rattle.cw_record.specs.declared.items.OrderItem.TheVariants.{Begins, Does, Ends}
 use Rattle.cw_record.specs.Order.{node_of}
-use Rattle.cw_record.specs.Replay.{doer, IsAct, IsActOf, IsItem, DoesAll}
+use Rattle.cw_record.specs.Replay.{doer, IsAct, IsActOf, IsItemDone, DoesAll}
 use Rattle.cw_replay.proofs.Work.{Doing, Way}
 use Rattle.cw_replay.proofs.Ways.{Stops, threads, at_step, put_step}
 use Rattle.cw_replay.proofs.Next.{Next}
@@ -153,7 +153,7 @@ module _ (t : List Node) (memory : List ℤ) where
     by (Some x) h = stops_kind s memory x.kind h
   stops_item s (Ends n) h = (refl, refl)
 
-  item_of : {A : Type 0} (m : Machine A) (w : Want) (i : OrderItem) → m.memory ≡ memory → HasItem t memory i → w ≡ wanted_item t i → IsItem t m w i
+  item_of : {A : Type 0} (m : Machine A) (w : Want) (i : OrderItem) → m.memory ≡ memory → HasItem t memory i → w ≡ wanted_item t i → IsItemDone t m w i
   item_of m w (Begins n) f h e = e
   item_of m w (Does n) f h e = let P : List ℤ → Type 0 = λ x. IsActOf x w (slice_get t n) in subst P (sym f) (by (slice_get t n) h e) where
     by : (o : Option Node) → HasNode memory o → w ≡ wanted_node o → IsActOf memory w o

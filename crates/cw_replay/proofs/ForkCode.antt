@@ -13,7 +13,7 @@ use Rattle.cw_code.specs.declared.effects.Operator.TheVariants as op
 use Rattle.cw_code.specs.Table.{effect_at}
 use Rattle.cw_strand.specs.Names.{cells_of}
 use Rattle.cw_strand.specs.Meaning.{cell_of, lifted, joining}
-use Rattle.cw_strand.specs.Compilation.{Slots, slot_of, slots_after, with_params, number_of, lift_code, join_code, reads, writes, loads_at, stores_at, term_code, terms_code, statement_code, block_code, function_code, function_names, instrs_from, code_of}
+use Rattle.cw_strand.specs.Compilation.{Slots, slot_of, slots_after, slots_with_params, operator_number, lift_code, join_code, reads, writes, loads_at, stores_at, term_code, terms_code, statement_code, block_code, function_code, function_names, instrs_from, code_of}
 use Rattle.cw_replay.specs.Spawning.{statement_spawns, block_spawns, any_spawns}
 
 abbrev pub is_forking : Option Effect → Bool
@@ -36,7 +36,7 @@ both (i ∷ is) js a b = (a.0, both is js a.1 b)
 
 -- ## Expressions
 
-operator_none : (o : Operator) → is_forking (effect_at (number_of o)) ≡ false
+operator_none : (o : Operator) → is_forking (effect_at (operator_number o)) ≡ false
 operator_none op.Add = refl
 operator_none op.Sub = refl
 operator_none op.Mul = refl
@@ -116,7 +116,7 @@ module _ (cells : List CellInfo) (functions : List (List ℕ)) where
   -- ## Programs
 
   function_none : (p : ℕ) (params : List Word) (b : Block) → block_spawns b ≡ false → NoFork (function_code cells functions p params b)
-  function_none p params b h = both _ _ (block_none (with_params params []) p b h) (refl, (refl, (refl, tt)))
+  function_none p params b h = both _ _ (block_none (slots_with_params params []) p b h) (refl, (refl, (refl, tt)))
 
   instrs_none : (ds : List Declaration) (p : ℕ) → any_spawns ds ≡ false → NoFork (instrs_from cells functions p ds)
   instrs_none [] p h = tt

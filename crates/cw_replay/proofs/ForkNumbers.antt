@@ -8,7 +8,7 @@ use Rattle.std.proofs.lemmas.Bool.{and_parts, and_from, lt-ltb, le-leb, ltb-true
 use Rattle.cw_tree.specs.declared.node.Node.{Node}
 use Rattle.cw_tree.specs.Nodes.{parent_of, below, is_strand, is_fork, is_block, is_aborted}
 use Rattle.cw_tree.specs.Series.{children}
-use Rattle.cw_tree.specs.Names.{counts}
+use Rattle.cw_tree.specs.Names.{fork_counts_at}
 use Rattle.cw_tree.specs.ForkCounts.{lets_out, one_if}
 use Rattle.cw_tree.specs.Shape.{IsTree}
 use Rattle.cw_tree.specs.Links.{is_child}
@@ -28,7 +28,7 @@ in_series_append before after a b c (n ∷ ns) ms l m = (l.0, in_series_append b
 
 module _ (t : List Node) where
   abbrev pub forks_before_node : ℕ → ℕ
-  forks_before_node n = count (counts t n) (length t)
+  forks_before_node n = count (fork_counts_at t n) (length t)
 
   abbrev pub forks_behind : ℕ → ℕ
   forks_behind n = forks_before_node n + forks_to t (is_same n)

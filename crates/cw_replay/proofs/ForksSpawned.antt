@@ -15,10 +15,10 @@ use Rattle.cw_tree.specs.Nodes.{parent_of, passes, is_strand, is_fork, is_block,
 use Rattle.cw_tree.specs.Series.{children}
 use Rattle.cw_tree.specs.Shape.{IsTree}
 use Rattle.cw_tree.proofs.There.{node_there}
-use Rattle.cw_serial.specs.Room.Strands.{strands_of}
+use Rattle.cw_serial.specs.Room.Strands.{strands_of_job}
 use Rattle.cw_serial.proofs.Numbers.{get_some}
 use Rattle.cw_record.specs.Coherent.{InSeries, IsWanted, Follows, entered}
-use Rattle.cw_record.specs.Records.{job_of}
+use Rattle.cw_record.specs.Records.{job_of_record}
 use Rattle.cw_replay.specs.OverSource.{ForksNeedSpawns}
 use Rattle.cw_replay.specs.Spawning.{any_spawns}
 use Rattle.cw_replay.proofs.Lists.{In}
@@ -29,7 +29,7 @@ use Rattle.cw_replay.proofs.NeverForking.{NeverForks, never_forks}
 module _ {A : Type 0} (s : Strands A) (never : NeverForks s) (t : List Node) (tree : IsTree t) (before after reached : ℕ → A) (follows : Follows s t before after reached) where
   -- no fork is wanted here
   abbrev Plain : A → Type 0
-  Plain a = strands.is_fork (s.want a) ≡ false
+  Plain a = strands.wants_fork (s.want a) ≡ false
 
   -- a node before which no fork is wanted is none
   no_fork : (f : ℕ) → Plain (before f) → is_fork t f ≡ true → ⊥
@@ -38,7 +38,7 @@ module _ {A : Type 0} (s : Strands A) (never : NeverForks s) (t : List Node) (tr
       by x.0.kind x.0.state (sym (ap (passes (λ x. is_fork_kind x.kind)) x.1) ∙ e) (follows.fits f x.0 x.1)
     where
       by : (k : Kind) (z : BlockState) → is_fork_kind k ≡ true → IsWanted s t before after reached f k z → ⊥
-      by Fork z e w = absurd (cc (plain, ap strands.is_fork w.0))
+      by Fork z e w = absurd (cc (plain, ap strands.wants_fork w.0))
       by _ z e w = absurd (cc e)
 
   -- behind a node that is no strand none is wanted, where none was before it
@@ -49,7 +49,7 @@ module _ {A : Type 0} (s : Strands A) (never : NeverForks s) (t : List Node) (tr
     where
       by : (k : Kind) (z : BlockState) → is_strand_kind k ≡ false → IsWanted s t before after reached c k z → Plain (after c)
       by Strand z e w = absurd (cc e)
-      by Fork z e w = absurd (cc (plain, ap strands.is_fork w.0))
+      by Fork z e w = absurd (cc (plain, ap strands.wants_fork w.0))
       by Block Pending e w = subst Plain (sym w.1) plain
       by Block Committed e w = let ends = w.1 in subst Plain (sym ends.1) (never.answer (reached c) Nothing)
       by Block Aborted e w = subst Plain (sym w.1) plain
@@ -92,7 +92,7 @@ module _ {A : Type 0} (s : Strands A) (never : NeverForks s) (t : List Node) (tr
   none_forked f e = no_fork f (plain_below (suc f) f (omega arith) (node_there (λ x. is_fork_kind x.kind) t f e)) e
 
 pub forks_need_spawns : ForksNeedSpawns
-unfolding strands_of
+unfolding strands_of_job
 forks_need_spawns ds r is coherent f fork = by_spawns (any_spawns ds) refl
   where
     by_spawns : (b : Bool) → any_spawns ds ≡ b → IsTrue b
@@ -100,4 +100,4 @@ forks_need_spawns ds r is coherent f fork = by_spawns (any_spawns ds) refl
     by_spawns false e =
         let none : NoFork r.program.code.instrs = subst (λ (c : Code). NoFork c.instrs) (sym is.code) (code_none ds e) in
         let (before, after, reached, follows, stands) = coherent.strands in
-        absurd (none_forked (strands_of (job_of r)) (never_forks r.program.code none r.program.main r.words r.limits) r.tree coherent.history.tree before after reached follows f fork)
+        absurd (none_forked (strands_of_job (job_of_record r)) (never_forks r.program.code none r.program.main r.words r.limits) r.tree coherent.history.tree before after reached follows f fork)

@@ -2,14 +2,14 @@
 use Rattle.std.proofs.Common.{sym, subst}
 use Rattle.cw_strand.specs.Names.{first_memory}
 use Rattle.cw_tree.specs.declared.picks.Picks.{Picks}
-use Rattle.cw_serial.specs.Room.Strands.{strands_of}
+use Rattle.cw_serial.specs.Room.Strands.{strands_of_job}
 use Rattle.cw_serial.proofs.Room.Lawful.{deep_of}
-use Rattle.cw_record.specs.Records.{job_of}
+use Rattle.cw_record.specs.Records.{job_of_record}
 use Rattle.cw_record.specs.Replay.{Replays}
 use Rattle.cw_replay.specs.Replays.{KeptRecordsReplay}
 use Rattle.cw_replay.proofs.Theorem.{replays}
 
 pub kept_records_replay : KeptRecordsReplay
 kept_records_replay r co outputs order =
-    let P : Picks → Type 0 = λ picks. Replays (strands_of (job_of r)) (first_memory r.program.cells) r.limits.aborts r.tree r.conflicts picks r.end in
-    subst P (sym order) (replays (strands_of (job_of r)) (deep_of (job_of r)) (first_memory r.program.cells) r.limits.aborts r.tree r.journals r.conflicts r.end co.coherent outputs)
+    let P : Picks → Type 0 = λ picks. Replays (strands_of_job (job_of_record r)) (first_memory r.program.cells) r.limits.aborts r.tree r.conflicts picks r.end in
+    subst P (sym order) (replays (strands_of_job (job_of_record r)) (deep_of (job_of_record r)) (first_memory r.program.cells) r.limits.aborts r.tree r.journals r.conflicts r.end co.coherent outputs)

@@ -16,42 +16,42 @@ use Rattle.cw_strand.specs.Arithmetic.{one, two}
 use Rattle.cw_strand.specs.Strands as strands
 use Rattle.cw_strand.specs.Strands.{Strands}
 use Rattle.cw_strand.specs.Running as running
-use Rattle.cw_strand.specs.Running.{Running, Standing, Step, on, wants, stuck}
+use Rattle.cw_strand.specs.Running.{Running, Standing, LocalStep, on, wants, stuck}
 use Rattle.cw_strand.specs.Coded as coded
 use Rattle.cw_strand.specs.Coded.{State, Frame}
 use Rattle.cw_replay.proofs.ForkCode.{NoFork, is_forking, no_fork_at}
 
 -- no strand ever wants a fork
 pub record NeverForks {A : Type 0} (s : Strands A) : Type 0 where
-  pub start : strands.is_fork (s.want s.start) ≡ false
-  pub answer : (a : A) (given : Given) → strands.is_fork (s.want (s.answer a given)) ≡ false
+  pub start : strands.wants_fork (s.want s.start) ≡ false
+  pub answer : (a : A) (given : Given) → strands.wants_fork (s.want (s.answer a given)) ≡ false
 
 -- ## Steps
 
 -- a step that wants no fork
-abbrev Plain : Step State → Type 0
+abbrev Plain : LocalStep State → Type 0
 Plain (on t) = Unit {0}
-Plain (wants w t) = strands.is_fork w ≡ false
+Plain (wants w t) = strands.wants_fork w ≡ false
 Plain stuck = Unit {0}
 
-by_test : (b : Bool) (x y : Step State) → Plain x → Plain y → Plain (if b then x else y)
+by_test : (b : Bool) (x y : LocalStep State) → Plain x → Plain y → Plain (if b then x else y)
 by_test true x y h k = h
 by_test false x y h k = k
 
-counted_plain : (s : State) (go : State → Step State) → ((t : State) → Plain (go t)) → Plain (coded.counted s go)
+counted_plain : (s : State) (go : State → LocalStep State) → ((t : State) → Plain (go t)) → Plain (coded.counted s go)
 counted_plain s go h = by_test (nat_le s.limits.size s.size) _ _ refl (h _)
 
-counts_plain : (w : Want) (s : State) → strands.is_fork w ≡ false → Plain (coded.counts w s)
+counts_plain : (w : Want) (s : State) → strands.wants_fork w ≡ false → Plain (coded.counts w s)
 counts_plain w s h = counted_plain s (λ t. wants w t) (λ t. h)
 
-spends_plain : (s : State) (go : State → Step State) → ((t : State) → Plain (go t)) → Plain (coded.spends s go)
+spends_plain : (s : State) (go : State → LocalStep State) → ((t : State) → Plain (go t)) → Plain (coded.spends s go)
 spends_plain s go h = by_test (nat_le s.limits.fuel s.fuel) _ _ refl (h _)
 
 result_plain : (x : Result ℤ FaultKind) (p : ℕ) (vs : List ℤ) (s : State) → Plain (coded.result x p vs s)
 result_plain (Ok v) p vs s = tt
 result_plain (Err k) p vs s = refl
 
-range_plain : (len : ℕ) (n : ℤ) (s : State) (go : Step State) → Plain go → Plain (coded.in_range len n s go)
+range_plain : (len : ℕ) (n : ℤ) (s : State) (go : LocalStep State) → Plain go → Plain (coded.in_range len n s go)
 range_plain len (pos n) s go h = by_test (nat_lt n len) _ _ h refl
 range_plain len (negsuc n) s go h = refl
 
@@ -132,14 +132,14 @@ module _ (code : Code) where
       abbrev r : Running State
       r = coded.runs code main words limits
 
-      by_step : (s : State) (x : Step State) (go : State → Standing State) → Plain x → ((t : State) → strands.is_fork (go t).want ≡ false) → strands.is_fork (running.stand_by r s x go).want ≡ false
+      by_step : (s : State) (x : LocalStep State) (go : State → Standing State) → Plain x → ((t : State) → strands.wants_fork (go t).want ≡ false) → strands.wants_fork (running.stand_by r s x go).want ≡ false
       by_step s (on t) go h k = k t
       by_step s (wants w t) go h k = h
       by_step s stuck go h k = refl
 
-      stands : (n : ℕ) (s : State) → strands.is_fork (running.stand_within r n s).want ≡ false
+      stands : (n : ℕ) (s : State) → strands.wants_fork (running.stand_within r n s).want ≡ false
       stands zero s = by_step s (coded.step code s) _ (step_plain s) (λ t. refl)
       stands (suc n) s = by_step s (coded.step code s) _ (step_plain s) (λ t. stands n t)
 
-      pub never_forks : NeverForks (coded.strands_of code main words limits)
+      pub never_forks : NeverForks (coded.strands_of_code code main words limits)
       never_forks = record { start = stands (r.bound r.first) r.first; answer = λ a given. let t = r.answered given a.state in stands (r.bound t) t }

@@ -3,7 +3,7 @@ use Rattle.std.proofs.Common.{◌≡◌, ℕ, zero, suc, ◌+◌, refl, ap, sym,
 use Rattle.std.specs.Prelude.{◌==◌}
 use Rattle.cw_strand.specs.declared.want.Want.TheVariants.{Fork}
 use Rattle.cw_strand.specs.declared.want.Given.{Given}
-use Rattle.cw_strand.specs.Strands.{Strands, IsAnswer, IsDeep, is_over, is_fork}
+use Rattle.cw_strand.specs.Strands.{Strands, IsAnswer, IsDeep, is_over, wants_fork}
 use Rattle.cw_strand.specs.Pasts.{Past, answered, left_of, right_of, joined_of, became, CanBe, WantTheSame}
 use Rattle.cw_tree.specs.declared.picks.Turn.{Turn}
 use Rattle.cw_serial.specs.StrandTree.{StrandTree, stands, waits, side_by, ended, meet, run_on, goes_on, at, put}
@@ -124,9 +124,9 @@ module _ {A B : Type 0} (s : Strands A) (t : Strands B) where
     -- one level of forks more
     level_alike : (n : ℕ) → GoAlike (run_on s n) (run_on t n) → GoAlike (run_on s (suc n)) (run_on t (suc n))
     level_alike n more k a b h =
-        subst (λ w. AreAlike (run_on s (suc n) k a) (elim (is_fork w) [ false ↦ stands k b | true ↦ meet t (run_on t n) (suc k) (run_on t n 0 (t.left b)) (run_on t n 0 (t.right b)) ])) (want_same a b h)
-        (by (is_fork (s.want a)) refl) where
-          by : (c : Bool) → is_fork (s.want a) ≡ c
+        subst (λ w. AreAlike (run_on s (suc n) k a) (elim (wants_fork w) [ false ↦ stands k b | true ↦ meet t (run_on t n) (suc k) (run_on t n 0 (t.left b)) (run_on t n 0 (t.right b)) ])) (want_same a b h)
+        (by (wants_fork (s.want a)) refl) where
+          by : (c : Bool) → wants_fork (s.want a) ≡ c
               → AreAlike (elim c [ false ↦ stands k a | true ↦ meet s (run_on s n) (suc k) (run_on s n 0 (s.left a)) (run_on s n 0 (s.right a)) ])
               (elim c [ false ↦ stands k b | true ↦ meet t (run_on t n) (suc k) (run_on t n 0 (t.left b)) (run_on t n 0 (t.right b)) ])
           by false e = (refl, h)

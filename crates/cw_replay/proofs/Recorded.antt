@@ -16,7 +16,7 @@ use Rattle.cw_tree.specs.Walks.{above, is_above, is_ancestor, lca}
 use Rattle.cw_tree.specs.Attempts.{elders, tried_cell, tried_cell_in, same_cell, block_attempt, access_attempt, attempt_of}
 use Rattle.cw_tree.specs.Accesses.{is_live}
 use Rattle.cw_tree.specs.Histories.{IsHistory}
-use Rattle.cw_tree.specs.Refusals.{IsRecorded, Spent, is_victim, is_refused_in, leads_back, may_be_last, refused, telling, tells, outermost_apart, victim_of}
+use Rattle.cw_tree.specs.Refusals.{IsRecorded, Spent, is_victim, is_refused_in, names_victim, may_be_last, refused, telling, tells, outermost_apart, victim_of}
 use Rattle.cw_tree.specs.Links.{is_child}
 use Rattle.cw_tree.proofs.Lists.{In, any_from, at_or_before}
 use Rattle.cw_tree.proofs.Members.{below_none, filter_same, in_below}
@@ -215,7 +215,7 @@ module _ (t : List Node) (first : List ℤ) (kept : List (List Entry)) (cs : Lis
         let low = node_there (λ x. is_tried_kind x.kind) t m tried in
         let P : List ℕ → Type 0 = In m in
         let (c, has, same) = map_contains (λ c. c.asker) cs m (subst P (sym h.refusals.each) (filter_in (is_tried t) m (depth_first t) (walked m low) tried)) in
-        let stays = false_from_ne_true (leads_back cs m) (λ e. absurd (cc (later, h.rolls_back.tried m low e))) in
+        let stays = false_from_ne_true (names_victim cs m) (λ e. absurd (cc (later, h.rolls_back.tried m low e))) in
         let apart = none_contained (λ c. nat_eq c.asker m && is_some (victim_of c)) cs stays c has in
         (c, has, same, told_alone (victim_of c) (sym (ap (λ b. b && is_some (victim_of c)) (eq-eqb c.asker m same)) ∙ apart))
 

@@ -1,7 +1,7 @@
 -- The machine with one memory does all that the order of a run has.
 use Rattle.std.proofs.Common.{◌≡◌, ℕ, ℤ, ◌<◌, List, [], ◌∷◌, ◌++◌, length, refl, ap, sym, ◌∙◌, arith, true, false, Option, Some, None, inl, inr, map, append_assoc, append-nil}
 use Rattle.std.specs.Prelude.{slice_get, unwrap_or, pos}
-use Rattle.cw_strand.specs.Strands.{Strands, IsDeep, is_fork}
+use Rattle.cw_strand.specs.Strands.{Strands, IsDeep, wants_fork}
 use Rattle.cw_tree.specs.declared.node.Node.{Node}
 use Rattle.cw_tree.specs.declared.node.Kind.{Kind}
 use Rattle.cw_tree.specs.declared.node.Kind.TheVariants.{Out}
@@ -16,7 +16,7 @@ use Rattle.cw_serial.proofs.Numbers.{get_some}
 use Rattle.cw_record.specs.declared.items.OrderItem.{OrderItem}
 use Rattle.cw_record.specs.declared.items.OrderItem.TheVariants.{Begins, Does, Ends}
 use Rattle.cw_record.specs.Order.{node_of}
-use Rattle.cw_record.specs.Coherent.{shown, shown_node, shown_kind}
+use Rattle.cw_record.specs.Coherent.{outputs_shown, shown_node, shown_kind}
 use Rattle.cw_record.specs.Replay.{DoesAll}
 use Rattle.cw_record.proofs.ShownItems.{block_shows}
 use Rattle.cw_replay.proofs.Orders.{SeenAfter, way_after}
@@ -46,10 +46,10 @@ module _ (t : List Node) where
     by (Some x) = kind_shows outputs x.kind
   item_shows outputs (Ends n) e = sym (ap (λ x. outputs ++ x) (block_shows (slice_get t n) (committed_sort t n e).block) ∙ append-nil outputs)
 
-  all_shown : (outputs : List ℤ) (is : List OrderItem) → ((i : OrderItem) → In i is → IsOfNode t i) → outputs_all t outputs is ≡ outputs ++ shown t is
+  all_shown : (outputs : List ℤ) (is : List OrderItem) → ((i : OrderItem) → In i is → IsOfNode t i) → outputs_all t outputs is ≡ outputs ++ outputs_shown t is
   all_shown outputs [] h = sym (append-nil outputs)
   all_shown outputs (i ∷ is) h =
-      ap (λ x. outputs_all t x is) (item_shows outputs i (h i (inl refl))) ∙ all_shown (outputs ++ shown_node (slice_get t (node_of i))) is (λ j g. h j (inr g)) ∙ append_assoc outputs (shown_node (slice_get t (node_of i))) (shown t is)
+      ap (λ x. outputs_all t x is) (item_shows outputs i (h i (inl refl))) ∙ all_shown (outputs ++ shown_node (slice_get t (node_of i))) is (λ j g. h j (inr g)) ∙ append_assoc outputs (shown_node (slice_get t (node_of i))) (outputs_shown t is)
 
 -- ## The machine
 
@@ -91,7 +91,7 @@ module _ {A : Type 0} (s : Strands A) (deep : IsDeep s) (t : List Node) (p : ℕ
   last_strands = threads_after s deep t r.account.stop.wants (Order t p r.laid) (start s t p r deep) (initial s first) refl (order_plays s t p r deep) (order_picks t p r.laid) order_remembers
 
   -- where a strand stopped, it stands at what it wants
-  pub stands_stopped : (n : ℕ) → r.account.stop.at n ≡ true → is_fork r.account.stop.wants ≡ false → (b : A) × (at s last_machine.strands (act_name t (stop n)) ≡ Some b) × (s.want b ≡ r.account.stop.wants)
+  pub stands_stopped : (n : ℕ) → r.account.stop.at n ≡ true → wants_fork r.account.stop.wants ≡ false → (b : A) × (at s last_machine.strands (act_name t (stop n)) ≡ Some b) × (s.want b ≡ r.account.stop.wants)
   stands_stopped n e f =
       let z = stop_next s t p r deep n e in
       (z.state, ap (λ x. at s x (act_name t (stop n))) last_strands ∙ here_at s deep t r.account.stop.wants (way_after (deeds s t p r deep) (start s t p r deep) (Items s t p r) (order_plays s t p r deep)) (stop n) z (r.account.not_over, f), z.wants)
@@ -102,7 +102,7 @@ module _ {A : Type 0} (s : Strands A) (deep : IsDeep s) (t : List Node) (p : ℕ
   pub last_memory : last_machine.memory ≡ memory_all t first (Order t p r.laid)
   last_memory = memory_of s deep t r.account.stop.wants (Order t p r.laid) (initial s first) (start s t p r deep) (order_plays s t p r deep) (order_picks t p r.laid)
 
-  pub last_outputs : last_machine.outputs ≡ shown t (Order t p r.laid)
+  pub last_outputs : last_machine.outputs ≡ outputs_shown t (Order t p r.laid)
   last_outputs =
       outputs_of s deep t r.account.stop.wants (Order t p r.laid) (initial s first) (start s t p r deep) (order_plays s t p r deep) (order_picks t p r.laid)
       ∙ all_shown t [] (Order t p r.laid) (λ i g. (placed t p r.laid (length t) None i g).proper)

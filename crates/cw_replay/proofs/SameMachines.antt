@@ -16,15 +16,15 @@ use Rattle.cw_tree.specs.Refusals.{telling}
 use Rattle.cw_serial.specs.declared.ends.SerialEnd.TheVariants as last
 use Rattle.cw_serial.specs.StrandTree.{at, put, ended}
 use Rattle.cw_serial.specs.Wants.{answer_to, memory_after, outputs_after, blocks_after}
-use Rattle.cw_serial.specs.Machine.{Begun, Machine, same_name, may_pick, does, pick_at, pick, initial, has_ended, turns, stands_at, end_of_strand, end_of_named, shown, play}
+use Rattle.cw_serial.specs.Machine.{Begun, Machine, same_name, may_pick, does, pick_at, pick, initial, has_ended, steps_down, stands_at, end_of_strand, end_of_named, machine_shows, play}
 use Rattle.cw_serial.proofs.Working.{is_answer}
 use Rattle.cw_record.specs.declared.record_end.RecordEnd.{RecordEnd}
 use Rattle.cw_record.specs.declared.record_end.RecordEnd.TheVariants.{Finished, Fault, Budget, Moves}
 use Rattle.cw_record.specs.declared.items.OrderItem.{OrderItem}
 use Rattle.cw_record.specs.declared.items.OrderItem.TheVariants.{Begins, Does, Ends}
 use Rattle.cw_record.specs.Items.{items}
-use Rattle.cw_record.specs.Replay.{doer, DoesAll, IsActOf, IsItem, IsRefused, IsSpent, Replays, SameEnd, StandsRefused}
-use Rattle.cw_replay.specs.SameMachines.{BothOrNeither, AreTheSame, SameMachines, SameEnds, SameReplays, wanted, after}
+use Rattle.cw_record.specs.Replay.{doer, DoesAll, IsActOf, IsItemDone, WantsAgain, IsSpent, Replays, SameEnd, StandsRefused}
+use Rattle.cw_replay.specs.SameMachines.{BothOrNeither, AreTheSame, SameMachines, SameEnds, SameReplays, wanted, after_picks}
 use Rattle.cw_replay.proofs.OnePast.{HaveOnePast, AreAlike, answered_so, at_alike, both_chosen, both_some, ended_alike, goes_alike, put_alike, want_same}
 
 -- a want that is done takes an answer
@@ -128,12 +128,12 @@ module _ {A B : Type 0} (s : Strands A) (t : Strands B) (same : WantTheSame s t)
   are_the_same : (m : Machine A) (n : Machine B) → HoldTheSame m n → AreTheSame s t m n
   are_the_same m n h = record { memory = h.memory; outputs = h.outputs; begun = h.begun; wants = same_wanted m n h; ended = same_ended m n h }
 
-  after_alike : (ps : List (List Turn)) (m : Machine A) (n : Machine B) → HoldTheSame m n → BothOrNeither (AreTheSame s t) (after s m ps) (after t n ps)
+  after_alike : (ps : List (List Turn)) (m : Machine A) (n : Machine B) → HoldTheSame m n → BothOrNeither (AreTheSame s t) (after_picks s m ps) (after_picks t n ps)
   after_alike [] m n h = are_the_same m n h
   after_alike (p ∷ ps) m n h = by (pick s m p) (pick t n p) (pick_alike m n h p) (after_alike ps) where
     by : (o : Option (Machine A)) (u : Option (Machine B)) → BothOrNeither HoldTheSame o u
-        → ((m : Machine A) (n : Machine B) → HoldTheSame m n → BothOrNeither (AreTheSame s t) (after s m ps) (after t n ps))
-        → BothOrNeither (AreTheSame s t) (option_and_then (λ x. after s x ps) o) (option_and_then (λ x. after t x ps) u)
+        → ((m : Machine A) (n : Machine B) → HoldTheSame m n → BothOrNeither (AreTheSame s t) (after_picks s m ps) (after_picks t n ps))
+        → BothOrNeither (AreTheSame s t) (option_and_then (λ x. after_picks s x ps) o) (option_and_then (λ x. after_picks t x ps) u)
     by None None one more = tt
     by (Some x) (Some y) one more = more x y one
     by None (Some y) one more = absurd one
@@ -156,13 +156,13 @@ module _ {A B : Type 0} (s : Strands A) (t : Strands B) (same : WantTheSame s t)
     by None (Some b) one = absurd one
     by (Some a) None one = absurd one
 
-  shown_alike : (m : Machine A) (n : Machine B) → HoldTheSame m n → (names : List Name) (name place : ℕ) → shown s m names name place ≡ shown t n names name place
+  shown_alike : (m : Machine A) (n : Machine B) → HoldTheSame m n → (names : List Name) (name place : ℕ) → machine_shows s m names name place ≡ machine_shows t n names name place
   shown_alike m n h names name place =
       let e = same_ended m n h in
-      let f = same_end m n h name (turns names name) in
-      ap (λ c. cond c (last.Finished m.memory m.outputs) (unwrap_or (end_of_named s m name (turns names name)) (last.Stuck place))) e
-      ∙ ap (λ x. cond (has_ended t n) (last.Finished x m.outputs) (unwrap_or (end_of_named s m name (turns names name)) (last.Stuck place))) h.memory
-      ∙ ap (λ x. cond (has_ended t n) (last.Finished n.memory x) (unwrap_or (end_of_named s m name (turns names name)) (last.Stuck place))) h.outputs
+      let f = same_end m n h name (steps_down names name) in
+      ap (λ c. cond c (last.Finished m.memory m.outputs) (unwrap_or (end_of_named s m name (steps_down names name)) (last.Stuck place))) e
+      ∙ ap (λ x. cond (has_ended t n) (last.Finished x m.outputs) (unwrap_or (end_of_named s m name (steps_down names name)) (last.Stuck place))) h.memory
+      ∙ ap (λ x. cond (has_ended t n) (last.Finished n.memory x) (unwrap_or (end_of_named s m name (steps_down names name)) (last.Stuck place))) h.outputs
       ∙ ap (λ o. cond (has_ended t n) (last.Finished n.memory n.outputs) (unwrap_or o (last.Stuck place))) f
 
   module _ (names : List Name) (name : ℕ) where
@@ -170,15 +170,15 @@ module _ {A B : Type 0} (s : Strands A) (t : Strands B) (same : WantTheSame s t)
     PlayAlike ns = (m : Machine A) (n : Machine B) → HoldTheSame m n → (place : ℕ) → play s m names ns name place ≡ play t n names ns name place
 
     next_play : (x : ℕ) (ns : List ℕ) → PlayAlike ns → PlayAlike (x ∷ ns)
-    next_play x ns more m n h place = by_name (turns names x) refl where
-      by_pick : (p : List Turn) → turns names x ≡ Some p → (o : Option (Machine A)) (u : Option (Machine B)) → BothOrNeither HoldTheSame o u → pick s m p ≡ o → pick t n p ≡ u
+    next_play x ns more m n h place = by_name (steps_down names x) refl where
+      by_pick : (p : List Turn) → steps_down names x ≡ Some p → (o : Option (Machine A)) (u : Option (Machine B)) → BothOrNeither HoldTheSame o u → pick s m p ≡ o → pick t n p ≡ u
           → play s m names (x ∷ ns) name place ≡ play t n names (x ∷ ns) name place
       by_pick p e None None one f g = rw (e, f, g) refl
       by_pick p e (Some y) (Some z) one f g = rw (e, f, g) (more y z one (suc place))
       by_pick p e None (Some z) one f g = absurd one
       by_pick p e (Some y) None one f g = absurd one
 
-      by_name : (o : Option (List Turn)) → turns names x ≡ o → play s m names (x ∷ ns) name place ≡ play t n names (x ∷ ns) name place
+      by_name : (o : Option (List Turn)) → steps_down names x ≡ o → play s m names (x ∷ ns) name place ≡ play t n names (x ∷ ns) name place
       by_name None e = rw e refl
       by_name (Some p) e = by_pick p e (pick s m p) (pick t n p) (pick_alike m n h p) refl refl
 
@@ -192,7 +192,7 @@ module _ {A B : Type 0} (s : Strands A) (t : Strands B) (same : WantTheSame s t)
   -- ## Records
 
   module _ (nodes : List Node) where
-    item_alike : (m : Machine A) (n : Machine B) → m.memory ≡ n.memory → (v w : Want) → v ≡ w → (i : OrderItem) → IsItem nodes m v i → IsItem nodes n w i
+    item_alike : (m : Machine A) (n : Machine B) → m.memory ≡ n.memory → (v w : Want) → v ≡ w → (i : OrderItem) → IsItemDone nodes m v i → IsItemDone nodes n w i
     item_alike m n e v w f (Begins b) h = sym f ∙ h
     item_alike m n e v w f (Does k) h = subst (λ x. IsActOf x w (slice_get nodes k)) e (subst (λ x. IsActOf m.memory x (slice_get nodes k)) f h)
     item_alike m n e v w f (Ends b) h = sym f ∙ h
@@ -211,7 +211,7 @@ module _ {A B : Type 0} (s : Strands A) (t : Strands B) (same : WantTheSame s t)
     refused_alike m n h None p r = r
     refused_alike m n h (Some c) p (a, stood, refused) =
         let (b, stands, one) = both_some (HaveOnePast s t) (at s m.strands p) (at t n.strands p) (there m n h p) a stood in
-        (b, stands, subst (IsRefused c) (want_same s t same a b one) refused)
+        (b, stands, subst (WantsAgain c) (want_same s t same a b one) refused)
 
     spent_alike : (m : Machine A) (n : Machine B) → HoldTheSame m n → (cs : List Conflict) (budget : ℕ) (e : RecordEnd) → IsSpent s nodes cs budget e m → IsSpent t nodes cs budget e n
     spent_alike m n h cs budget (Finished memory outputs) r = tt

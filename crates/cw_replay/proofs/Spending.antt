@@ -6,7 +6,7 @@ use Rattle.std.proofs.lemmas.Bool.{and_parts, or_cases, cases_lt, cases_eq, eqb-
 use Rattle.std.proofs.lemmas.List.Elements.{All-contains}
 use Rattle.cw_strand.specs.declared.want.Want.{Want}
 use Rattle.cw_strand.specs.declared.want.Want.TheVariants as want
-use Rattle.cw_strand.specs.Strands.{Strands, is_over, is_fork}
+use Rattle.cw_strand.specs.Strands.{Strands, is_over, wants_fork}
 use Rattle.cw_tree.specs.declared.node.Node.{Node}
 use Rattle.cw_tree.specs.declared.node.Kind.{Kind}
 use Rattle.cw_tree.specs.declared.node.Kind.TheVariants.{Tried}
@@ -27,7 +27,7 @@ use Rattle.cw_serial.specs.declared.ends.SerialEnd.TheVariants as last
 use Rattle.cw_serial.specs.Machine.{stands_at}
 use Rattle.cw_record.specs.Coherent.{Follows, InSeries}
 use Rattle.cw_record.specs.Items.{place_of_refused}
-use Rattle.cw_record.specs.Replay.{IsAccessOf, IsRefusedBy, IsRefused}
+use Rattle.cw_record.specs.Replay.{IsAccessOf, IsRefusedBy, WantsAgain}
 use Rattle.cw_record.proofs.NodeKinds.{other_some}
 use Rattle.cw_record.proofs.Lists.{find_passes}
 use Rattle.cw_replay.proofs.Found.{find_contains}
@@ -56,7 +56,7 @@ abbrev may_be : List Node → ℕ → Bool
 may_be t n = is_live t n && (is_tried t n || is_pending t n)
 
 -- an access that is wanted is no end and no fork
-access_stops : (cell : ℕ) (w : Want) → IsAccessOf cell w → (is_over w ≡ false) × (is_fork w ≡ false)
+access_stops : (cell : ℕ) (w : Want) → IsAccessOf cell w → (is_over w ≡ false) × (wants_fork w ≡ false)
 access_stops cell (want.Load d) e = (refl, refl)
 access_stops cell (want.Store d v) e = (refl, refl)
 access_stops cell _ e = absurd e
@@ -137,8 +137,8 @@ module _ {A : Type 0} (s : Strands A) (t : List Node) (first : List ℤ) (kept :
   -- what a conflict refused
   pub record Refuses (x p : ℕ) (c : Conflict) : Type 0 where
     pub want : Want
-    pub is : IsRefused c want
-    pub no_fork : is_fork want ≡ false
+    pub is : WantsAgain c want
+    pub no_fork : wants_fork want ≡ false
     pub shows : (name : ℕ) → stands_at s name want ≡ Some (last.At name)
     pub stopped : Stopped s t first kept cs h before after reached follows x p want
 

@@ -6,7 +6,7 @@ use Rattle.std.proofs.lemmas.Bool.{and_parts, and_from}
 use Rattle.cw_code.specs.declared.FaultKind.{FaultKind}
 use Rattle.cw_strand.specs.declared.want.Want.{Want}
 use Rattle.cw_strand.specs.declared.want.Want.TheVariants as want
-use Rattle.cw_strand.specs.Strands.{Strands, IsDeep, is_over, is_fork}
+use Rattle.cw_strand.specs.Strands.{Strands, IsDeep, is_over, wants_fork}
 use Rattle.cw_tree.specs.declared.node.Node.{Node}
 use Rattle.cw_tree.specs.declared.access.Entry.{Entry}
 use Rattle.cw_tree.specs.declared.conflict.Conflict.{Conflict}
@@ -23,16 +23,16 @@ use Rattle.cw_tree.proofs.Ancestors.{ancestor_le, root_ancestor}
 use Rattle.cw_serial.specs.declared.ends.SerialEnd.{SerialEnd}
 use Rattle.cw_serial.specs.declared.ends.SerialEnd.TheVariants as last
 use Rattle.cw_serial.specs.StrandTree.{ended, at}
-use Rattle.cw_serial.specs.Machine.{Machine, has_ended, shown, stands_at, end_of_strand, end_of_named, turns}
+use Rattle.cw_serial.specs.Machine.{Machine, has_ended, machine_shows, stands_at, end_of_strand, end_of_named, steps_down}
 use Rattle.cw_serial.proofs.Numbers.{get_some}
 use Rattle.cw_record.specs.declared.record_end.RecordEnd.{RecordEnd}
 use Rattle.cw_record.specs.declared.record_end.RecordEnd.TheVariants.{Finished, Fault, Budget, Moves}
 use Rattle.cw_record.specs.declared.items.OrderItem.TheVariants.{Does}
 use Rattle.cw_record.specs.Items.{place_of_end, place_of_refused}
-use Rattle.cw_record.specs.Listed.{listed_names, number_of}
+use Rattle.cw_record.specs.Listed.{listed_names, strand_number}
 use Rattle.cw_record.specs.Order.{node_of, order_of}
 use Rattle.cw_record.specs.Coherent.{IsCoherent, HasOutputs, Follows, StrandEnded, IsMemory, HasNoOpenFork}
-use Rattle.cw_record.specs.Replay.{Replays, StandsRefused, IsRefused}
+use Rattle.cw_record.specs.Replay.{Replays, StandsRefused, WantsAgain}
 use Rattle.cw_record.proofs.Named.{strand_turns}
 use Rattle.cw_replay.specs.Replays.{RecordsReplay}
 use Rattle.cw_replay.proofs.Work.{Has}
@@ -75,20 +75,20 @@ module _ {A : Type 0} (s : Strands A) (m : Machine A) (names : List Name) (name 
   stuck_named place k (Some p) e = stuck_strand place k (at s m.strands p) e
 
   -- it shows that it is stuck at no other place
-  stuck_here : (k : ℕ) → shown s m names name place ≡ last.Stuck k → place ≡ k
+  stuck_here : (k : ℕ) → machine_shows s m names name place ≡ last.Stuck k → place ≡ k
   stuck_here k e = by (has_ended s m) e where
-    by : (b : Bool) → shown_by b (unwrap_or (end_of_named s m name (turns names name)) (last.Stuck place)) ≡ last.Stuck k → place ≡ k
+    by : (b : Bool) → shown_by b (unwrap_or (end_of_named s m name (steps_down names name)) (last.Stuck place)) ≡ last.Stuck k → place ≡ k
     by true e = absurd (cc e)
-    by false e = stuck_named k place (turns names name) e
+    by false e = stuck_named k place (steps_down names name) e
 
   -- where its strands have ended, it has finished
-  shows_finished : (a : A) → ended s m.strands ≡ Some a → shown s m names name place ≡ last.Finished m.memory m.outputs
-  shows_finished a e = ap (λ o. shown_by (is_some o) (unwrap_or (end_of_named s m name (turns names name)) (last.Stuck place))) e
+  shows_finished : (a : A) → ended s m.strands ≡ Some a → machine_shows s m names name place ≡ last.Finished m.memory m.outputs
+  shows_finished a e = ap (λ o. shown_by (is_some o) (unwrap_or (end_of_named s m name (steps_down names name)) (last.Stuck place))) e
 
   -- and else it shows where the strand of the last name stands
-  shows_strand : (p : List Turn) (b : A) (e : SerialEnd) → turns names name ≡ Some p → at s m.strands p ≡ Some b → is_over (s.want b) ≡ false → stands_at s name (s.want b) ≡ Some e → shown s m names name place ≡ e
+  shows_strand : (p : List Turn) (b : A) (e : SerialEnd) → steps_down names name ≡ Some p → at s m.strands p ≡ Some b → is_over (s.want b) ≡ false → stands_at s name (s.want b) ≡ Some e → machine_shows s m names name place ≡ e
   shows_strand p b e n here no_end stands =
-      ap (λ o. shown_by (is_some o) (unwrap_or (end_of_named s m name (turns names name)) (last.Stuck place))) (not_ended s m.strands p b here no_end)
+      ap (λ o. shown_by (is_some o) (unwrap_or (end_of_named s m name (steps_down names name)) (last.Stuck place))) (not_ended s m.strands p b here no_end)
       ∙ ap (λ o. unwrap_or (end_of_named s m name o) (last.Stuck place)) n
       ∙ ap (λ o. unwrap_or (end_of_strand s name o) (last.Stuck place)) here
       ∙ ap (λ o. unwrap_or o (last.Stuck place)) stands
@@ -152,7 +152,7 @@ module _ {A : Type 0} (s : Strands A) (deep : IsDeep s) (first : List ℤ) (budg
       order = refl;
       machine = done;
       acts = order_done s deep t 0 done_run first kept cs h;
-      end = shows_finished s done (listed_names t) (number_of t 0) (length (order_of t cs budget (Finished memory outputs)).list) strands_ended.0 strands_ended.1
+      end = shows_finished s done (listed_names t) (strand_number t 0) (length (order_of t cs budget (Finished memory outputs)).list) strands_ended.0 strands_ended.1
           ∙ ap (λ x. last.Finished x done.outputs) (memory_same is)
           ∙ ap (last.Finished memory) (last_outputs s deep t 0 done_run first kept cs h ∙ sym shows);
       spent = tt;
@@ -166,26 +166,26 @@ module _ {A : Type 0} (s : Strands A) (deep : IsDeep s) (first : List ℤ) (budg
     order = refl;
     machine = done;
     acts = order_done s deep t 0 done_run first kept cs h;
-    end = λ k e. let same = stuck_here s done (listed_names t) (number_of t 0) (length (order_of t cs budget Moves).list) k e in omega arith;
+    end = λ k e. let same = stuck_here s done (listed_names t) (strand_number t 0) (length (order_of t cs budget Moves).list) k e in omega arith;
     spent = tt;
   }
 
   -- ## A run in which a strand stopped
 
-  module _ (x p : ℕ) (v : Want) (strand : is_strand t x ≡ true) (st : Stopped s t first kept cs h before after reached follows x p v) (no_fork : is_fork v ≡ false) where
+  module _ (x p : ℕ) (v : Want) (strand : is_strand t x ≡ true) (st : Stopped s t first kept cs h before after reached follows x p v) (no_fork : wants_fork v ≡ false) where
     abbrev halted : Machine A
     halted = last_machine s deep t p st.run first kept cs h
 
     pub stands_there : (b : A) × (at s halted.strands (name_of t x) ≡ Some b) × (s.want b ≡ v)
     stands_there =
-        let z = stands_stopped s deep t p st.run first kept cs h st.node st.at (ap is_fork st.wants ∙ no_fork) in
+        let z = stands_stopped s deep t p st.run first kept cs h st.node st.at (ap wants_fork st.wants ∙ no_fork) in
         (z.0, ap (λ y. at s halted.strands (name_of t y)) (sym st.strand) ∙ z.1, z.2 ∙ st.wants)
 
-    pub shows_there : (place : ℕ) (e : SerialEnd) → stands_at s (number_of t x) v ≡ Some e → shown s halted (listed_names t) (number_of t x) place ≡ e
+    pub shows_there : (place : ℕ) (e : SerialEnd) → stands_at s (strand_number t x) v ≡ Some e → machine_shows s halted (listed_names t) (strand_number t x) place ≡ e
     shows_there place e stands =
         let z = stands_there in
-        shows_strand s halted (listed_names t) (number_of t x) place (name_of t x) z.0 e (strand_turns t h.tree.rooted h.tree.root x strand) z.1
-        (ap is_over (z.2 ∙ sym st.wants) ∙ st.run.account.not_over) (ap (stands_at s (number_of t x)) z.2 ∙ stands)
+        shows_strand s halted (listed_names t) (strand_number t x) place (name_of t x) z.0 e (strand_turns t h.tree.rooted h.tree.root x strand) z.1
+        (ap is_over (z.2 ∙ sym st.wants) ∙ st.run.account.not_over) (ap (stands_at s (strand_number t x)) z.2 ∙ stands)
 
   fault : (x : ℕ) (kind : FaultKind) → IsTrue (is_strand t x && is_live t x) → (s.want (reached (place t x)) ≡ want.Fault kind) × HasNoOpenFork s t before after reached (place t x)
       → Replays s first budget t cs (order_of t cs budget (Fault x kind)) (Fault x kind)
@@ -197,7 +197,7 @@ module _ {A : Type 0} (s : Strands A) (deep : IsDeep s) (first : List ℤ) (budg
         order = refl;
         machine = halted x (place t x) (want.Fault kind) strand st refl;
         acts = order_done s deep t (place t x) st.run first kept cs h;
-        end = shows_there x (place t x) (want.Fault kind) strand st refl (length (order_of t cs budget (Fault x kind)).list) (last.Fault (number_of t x) kind) refl;
+        end = shows_there x (place t x) (want.Fault kind) strand st refl (length (order_of t cs budget (Fault x kind)).list) (last.Fault (strand_number t x) kind) refl;
         spent = tt;
       }
 
@@ -211,13 +211,13 @@ module _ {A : Type 0} (s : Strands A) (deep : IsDeep s) (first : List ℤ) (budg
       let st = subst P (sym here) y.stopped in
       let at_end = stands_there x p y.want spent.strand st y.no_fork in
       let Q : Option Conflict → Type 0 = λ o. StandsRefused s o (halted x p y.want spent.strand st y.no_fork) (name_of t x) in
-      let R : Want → Type 0 = λ w. IsRefused z.conflict w in
+      let R : Want → Type 0 = λ w. WantsAgain z.conflict w in
       record {
         strand = spent.strand;
         order = refl;
         machine = halted x p y.want spent.strand st y.no_fork;
         acts = order_done s deep t p st.run first kept cs h;
-        end = shows_there x p y.want spent.strand st y.no_fork (length (order_of t cs budget (Budget x)).list) (last.At (number_of t x)) (y.shows (number_of t x));
+        end = shows_there x p y.want spent.strand st y.no_fork (length (order_of t cs budget (Budget x)).list) (last.At (strand_number t x)) (y.shows (strand_number t x));
         spent = subst Q (sym z.is) (at_end.0, at_end.1, subst R (sym at_end.2) y.is);
       }
 

@@ -3,7 +3,7 @@ use Rattle.std.proofs.Common.{◌≡◌, ℕ, suc, List, [], ◌∷◌, ◌++◌
 use Rattle.std.specs.Prelude.{◌⊎◌}
 use Rattle.cw_strand.specs.declared.want.Want.{Want}
 use Rattle.cw_strand.specs.declared.want.Want.TheVariants as want
-use Rattle.cw_strand.specs.Strands.{Strands, IsDeep, is_over, is_fork}
+use Rattle.cw_strand.specs.Strands.{Strands, IsDeep, is_over, wants_fork}
 use Rattle.cw_tree.specs.declared.picks.Turn.{Turn}
 use Rattle.cw_serial.specs.Spots.{turn_to}
 use Rattle.cw_serial.specs.StrandTree.{StrandTree, stands, waits, ended, meet, goes_on, at, put}
@@ -14,7 +14,7 @@ use Rattle.cw_replay.proofs.Work.{Work, act, split, More, Doing, fold, Over, Fit
 module _ {A : Type 0} (s : Strands A) where
   -- not at an end and not at a fork
   abbrev pub Stops : Want → Type 0
-  Stops w = (is_over w ≡ false) × (is_fork w ≡ false)
+  Stops w = (is_over w ≡ false) × (wants_fork w ≡ false)
 
   -- where a strand of a tree stands at a want, that tree has not ended
   pub not_ended : (x : StrandTree A) (p : List Turn) (b : A) → at s x p ≡ Some b → is_over (s.want b) ≡ false → ended s x ≡ None

@@ -2,7 +2,7 @@
 use Rattle.std.specs.Prelude.{◌↔◌, ℕ, IsTrue, List, length}
 use Rattle.cw_text.specs.Syntax.{Declaration}
 use Rattle.cw_strand.specs.Names.{cells_of, first_memory}
-use Rattle.cw_strand.specs.Meaning.{MainTakes, strands_of}
+use Rattle.cw_strand.specs.Meaning.{MainTakes, strands_of_syntax}
 use Rattle.cw_strand.specs.Programs.{IsProgramOf}
 use Rattle.cw_tree.specs.Nodes.{is_fork}
 use Rattle.cw_record.specs.declared.record.Record.{Record}
@@ -12,7 +12,7 @@ use Rattle.cw_replay.specs.Spawning.{any_spawns}
 
 -- One memory that runs the strands of this tree, in the order of the record, does what the record says, and comes to its end.
 abbrev pub IsReplayedOver : List Declaration → Record → Type 0
-IsReplayedOver ds r = Replays (strands_of ds r.words r.limits) (first_memory (cells_of ds)) r.limits.aborts r.tree r.conflicts r.order r.end
+IsReplayedOver ds r = Replays (strands_of_syntax ds r.words r.limits) (first_memory (cells_of ds)) r.limits.aborts r.tree r.conflicts r.order r.end
 
 -- Where its program is the compilation of a tree, and its words are as many as main has parameters there, a record replays over the code
 -- exactly where it replays over the tree.

@@ -23,9 +23,9 @@ module _ {A : Type 0} (s : Strands A) where
   wanted m p = option_map s.want (at s m.strands p)
 
   -- the machine after picks of these names, one after another, or none where one of them cannot be picked
-  abbrev pub after : Machine A → List (List Turn) → Option (Machine A)
-  after m [] = Some m
-  after m (p ∷ ps) = option_and_then (λ n. after n ps) (pick s m p)
+  abbrev pub after_picks : Machine A → List (List Turn) → Option (Machine A)
+  after_picks m [] = Some m
+  after_picks m (p ∷ ps) = option_and_then (λ n. after_picks n ps) (pick s m p)
 
 module _ {A B : Type 0} (s : Strands A) (t : Strands B) where
   -- The machines are the same in all but what their strands are made of.
@@ -39,7 +39,7 @@ module _ {A B : Type 0} (s : Strands A) (t : Strands B) where
 
   -- From the same first memory, the same picks can be made of both, and lead to machines that are the same.
   abbrev pub SameMachines : Type 0
-  SameMachines = (first : List ℤ) (ps : List (List Turn)) → BothOrNeither AreTheSame (after s (initial s first) ps) (after t (initial t first) ps)
+  SameMachines = (first : List ℤ) (ps : List (List Turn)) → BothOrNeither AreTheSame (after_picks s (initial s first) ps) (after_picks t (initial t first) ps)
 
   -- Under the same picks both come to the same end.
   abbrev pub SameEnds : Type 0

@@ -1,13 +1,13 @@
 -- Once all strands were looked at, the tree has settled.
 use Rattle.std.proofs.Common.{◌≡◌, ℕ, refl, ap, sym, ◌∙◌, arith, subst, Bool, true, false, ◌⊎◌, inl, inr, Some, List, [], ◌∷◌, ◌++◌, length, Contains, append_assoc, append-nil}
-use Rattle.cw_strand.specs.Strands.{Strands, IsDeep, is_over, is_fork}
+use Rattle.cw_strand.specs.Strands.{Strands, IsDeep, is_over, wants_fork}
 use Rattle.cw_tree.specs.declared.picks.Name.{Name}
 use Rattle.cw_tree.specs.declared.picks.Turn.{Turn}
 use Rattle.cw_serial.specs.declared.table.Table.{Table}
 use Rattle.cw_serial.specs.StrandTree.{StrandTree}
-use Rattle.cw_serial.specs.Machine.{turns}
+use Rattle.cw_serial.specs.Machine.{steps_down}
 use Rattle.cw_serial.specs.Spots.{turn_to, standing, waiting, spot, IsSettled}
-use Rattle.cw_serial.specs.Held.{IsPlace, Holds, want_at, over_at, Moves, forks, joins, rests, Quiet, SettlesTo, IsFront}
+use Rattle.cw_serial.specs.Held.{IsSpotAt, Holds, want_at, over_at, Moves, forks, joins, rests, Quiet, SettlesTo, IsFront}
 use Rattle.cw_serial.proofs.Deep.{fork_want}
 use Rattle.cw_serial.proofs.Settled.{settled_stays}
 use Rattle.cw_serial.proofs.Replaced.{NoForks, NoJoins, settled_by}
@@ -30,22 +30,22 @@ front_trans a b c (r, e) (q, f) = (r ++ q, f ∙ (ap (λ xs. xs ++ q) e ∙ appe
 module _ {S A : Type 0} (s : Strands A) (state : S → A) where
   module _ (table : Table S) (tree : StrandTree A) (holds : Holds state table tree) where
     -- the strand at a name, by its number
-    pub number_at : (i : ℕ) (q : List Turn) (k : ℕ) (a : A) → turns table.names.items i ≡ Some q → spot tree q ≡ Some (standing k a) → want_at s state table.rows.items i ≡ Some (s.want a)
+    pub number_at : (i : ℕ) (q : List Turn) (k : ℕ) (a : A) → steps_down table.names.items i ≡ Some q → spot tree q ≡ Some (standing k a) → want_at s state table.rows.items i ≡ Some (s.want a)
     number_at i q k a up h =
         let (row, here) = row_named state table tree holds i q up in
-        let st = at_stand state row.place (length row.forks.items) k a (subst (IsPlace state row.place (length row.forks.items)) h (holds.places i q row up here)) in
+        let st = at_stand state row.place (length row.forks.items) k a (subst (IsSpotAt state row.place (length row.forks.items)) h (holds.places i q row up here)) in
         want_here s state table.rows.items i row st.strand here st.stands ∙ ap (λ b. Some (s.want b)) st.is
 
-    over_number : (i : ℕ) (q : List Turn) (k : ℕ) (a : A) → turns table.names.items i ≡ Some q → spot tree q ≡ Some (standing k a) → is_over (s.want a) ≡ true → over_at s state table.rows.items i ≡ true
+    over_number : (i : ℕ) (q : List Turn) (k : ℕ) (a : A) → steps_down table.names.items i ≡ Some q → spot tree q ≡ Some (standing k a) → is_over (s.want a) ≡ true → over_at s state table.rows.items i ≡ true
     over_number i q k a up h over =
         let (row, here) = row_named state table tree holds i q up in
-        let st = at_stand state row.place (length row.forks.items) k a (subst (IsPlace state row.place (length row.forks.items)) h (holds.places i q row up here)) in
+        let st = at_stand state row.place (length row.forks.items) k a (subst (IsSpotAt state row.place (length row.forks.items)) h (holds.places i q row up here)) in
         over_here s state table.rows.items i row st.strand here st.stands ∙ (ap (λ b. is_over (s.want b)) st.is ∙ over)
 
     module _ (quiet : Quiet s state table.rows.items []) where
       no_forks : NoForks s tree
-      no_forks q k a h = by (is_fork (s.want a)) refl where
-        by : (b : Bool) → is_fork (s.want a) ≡ b → is_fork (s.want a) ≡ false
+      no_forks q k a h = by (wants_fork (s.want a)) refl where
+        by : (b : Bool) → wants_fork (s.want a) ≡ b → wants_fork (s.want a) ≡ false
         by false e = e
         by true e =
             let (i, up) = listed state table tree holds q (standing k a) h in

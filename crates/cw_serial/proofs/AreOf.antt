@@ -10,7 +10,7 @@ use Rattle.cw_serial.specs.declared.table.Sides.{Sides}
 use Rattle.cw_serial.specs.declared.table.Row.{Row}
 use Rattle.cw_serial.specs.declared.table.Table.{Table}
 use Rattle.cw_serial.specs.declared.standing.Standing.{Standing}
-use Rattle.cw_serial.specs.Held.{strand_in, strand_of, Starts, Puts, Notes}
+use Rattle.cw_serial.specs.Held.{strand_in, strand_in_row, Starts, Puts, Notes}
 use Rattle.cw_serial.specs.Room.Strands.{IsOf}
 use Rattle.cw_serial.specs.AreOf.{AreOf}
 use Rattle.cw_serial.proofs.Numbered.{set_cases}
@@ -23,7 +23,7 @@ last_cases (y ∷ xs) zero a x h = inl h
 last_cases (y ∷ xs) (suc i) a x h = last_cases xs i a x h
 
 -- where a strand stands there is its row
-row_there : {S : Type 0} (o : Option (Row S)) (x : S) → strand_of o ≡ Some x → (r : Row S) × ((o ≡ Some r) × (strand_in r.place ≡ Some x))
+row_there : {S : Type 0} (o : Option (Row S)) (x : S) → strand_in_row o ≡ Some x → (r : Row S) × ((o ≡ Some r) × (strand_in r.place ≡ Some x))
 row_there None x h = absurd cc
 row_there (Some r) x h = (r, (refl, h))
 
@@ -33,7 +33,7 @@ module _ (program : Program) where
   PlaceIsOf place = (x : Standing) → strand_in place ≡ Some x → IsOf program x
 
   row_is_of : (rows : List (Row Standing)) (i : ℕ) (r : Row Standing) → AreOf program rows → slice_get rows i ≡ Some r → PlaceIsOf r.place
-  row_is_of rows i r all here x h = all i x (ap strand_of here ∙ h)
+  row_is_of rows i r all here x h = all i x (ap strand_in_row here ∙ h)
 
   -- the strand that was there is one of the program
   pub stood_is_of : (old new : Table Standing) (i : ℕ) (place : Place Standing) (x : Standing) → AreOf program old.rows.items → Puts old i place (Stands x) new → IsOf program x

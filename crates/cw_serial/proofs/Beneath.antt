@@ -5,8 +5,8 @@ use Rattle.std.proofs.lemmas.Bool.{and_parts, eq-eqb, ne_eqb, cases_eq}
 use Rattle.cw_tree.specs.declared.picks.Name.{Name}
 use Rattle.cw_tree.specs.declared.picks.Turn.{Turn}
 use Rattle.cw_serial.specs.declared.table.Row.{Row}
-use Rattle.cw_serial.specs.Machine.{same_turn, is_beneath, turns}
-use Rattle.cw_serial.specs.Held.{IsNumbered}
+use Rattle.cw_serial.specs.Machine.{same_turn, is_beneath, steps_down}
+use Rattle.cw_serial.specs.Held.{StrandsAreNumbered}
 use Rattle.cw_serial.proofs.Turns.{turn_true, beneath_more}
 use Rattle.cw_serial.proofs.Numbers.{get_some, snoc_same, snoc_cases, turn_of, turns_last, turns_down}
 use Rattle.cw_serial.proofs.Numbered.{turns_unique, turns_within, parent_low}
@@ -41,7 +41,7 @@ beneath_up q y x ne = by (is_beneath q (y ++ x ∷ [])) (is_beneath q y) refl re
 module _ {S : Type 0} (names : List Name) (rows : List (Row S)) where
   -- on the way up from a strand, which is beneath the other one as the one here is
   pub record Climbs (above number here : ℕ) : Type 0 where
-    pub same : IsNumbered names rows → (q z : List Turn) → turns names above ≡ Some q → turns names number ≡ Some z → (y : List Turn) × (turns names here ≡ Some y) × (is_beneath q z ≡ is_beneath q y)
+    pub same : StrandsAreNumbered names rows → (q z : List Turn) → steps_down names above ≡ Some q → steps_down names number ≡ Some z → (y : List Turn) × (steps_down names here ≡ Some y) × (is_beneath q z ≡ is_beneath q y)
 
   pub climb_up : (above number here : ℕ) (n : Name) → above < here → slice_get names here ≡ Some n → Climbs above number here → Climbs above number n.parent
   climb_up above number zero n low there c = absurd (omega arith)
@@ -51,11 +51,11 @@ module _ {S : Type 0} (names : List Name) (rows : List (Row S)) where
         let l = turns_last names k y uy in
         let ln : l.name ≡ n = (let e : Some l.name ≡ Some n = sym l.here ∙ there in cc) in
         let ne : q ≡ l.above ++ turn_of l.name ∷ [] → ⊥ = λ e. absurd (let equal : above ≡ suc k = turns_unique names rows ok above (suc k) q up (uy ∙ ap (λ v. Some v) (l.same ∙ sym e)) in omega arith) in
-        (l.above, ap (λ (v : Name). turns names v.parent) (sym ln) ∙ l.up, same ∙ (ap (is_beneath q) l.same ∙ beneath_up q l.above (turn_of l.name) ne));
+        (l.above, ap (λ (v : Name). steps_down names v.parent) (sym ln) ∙ l.up, same ∙ (ap (is_beneath q) l.same ∙ beneath_up q l.above (turn_of l.name) ne));
   }
 
-  module _ (ok : IsNumbered names rows) (above number here : ℕ) (q z : List Turn) (up : turns names above ≡ Some q) (uz : turns names number ≡ Some z) (c : Climbs above number here) where
-    reached : (y : List Turn) → turns names here ≡ Some y → is_beneath q y ≡ true → above ≤ here
+  module _ (ok : StrandsAreNumbered names rows) (above number here : ℕ) (q z : List Turn) (up : steps_down names above ≡ Some q) (uz : steps_down names number ≡ Some z) (c : Climbs above number here) where
+    reached : (y : List Turn) → steps_down names here ≡ Some y → is_beneath q y ≡ true → above ≤ here
     reached y uy e = by (beneath_leads q y e) where
       by : (r : List Turn) × (y ≡ q ++ r) → above ≤ here
       by ([], same) = omega (arith, turns_unique names rows ok above here q up (uy ∙ ap (λ v. Some v) (same ∙ append-nil q)))
@@ -66,9 +66,9 @@ module _ {S : Type 0} (names : List Name) (rows : List (Row S)) where
           let within = d.within in
           omega arith
 
-    at_end : (y : List Turn) → turns names here ≡ Some y → here ≤ above → (here ≡ above) ⊎ (here ≡ above → ⊥) → eqb here above ≡ is_beneath q y
+    at_end : (y : List Turn) → steps_down names here ≡ Some y → here ≤ above → (here ≡ above) ⊎ (here ≡ above → ⊥) → eqb here above ≡ is_beneath q y
     at_end y uy low (inl e) =
-        let same : y ≡ q = (let f : Some y ≡ Some q = sym uy ∙ (ap (turns names) e ∙ up) in cc) in
+        let same : y ≡ q = (let f : Some y ≡ Some q = sym uy ∙ (ap (steps_down names) e ∙ up) in cc) in
         eq-eqb here above e ∙ sym (ap (is_beneath q) (same ∙ sym (append-nil q)) ∙ beneath_more q [])
     at_end y uy low (inr ne) = ne_eqb here above ne ∙ by (is_beneath q y) refl where
       by : (b : Bool) → is_beneath q y ≡ b → false ≡ is_beneath q y

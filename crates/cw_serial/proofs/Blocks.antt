@@ -8,8 +8,8 @@ use Rattle.cw_tree.specs.declared.picks.Turn.{Turn}
 use Rattle.cw_serial.specs.declared.machine.Begun.{Begun as Block}
 use Rattle.cw_serial.specs.declared.table.Row.{Row}
 use Rattle.cw_serial.specs.Wants.{blocks_after}
-use Rattle.cw_serial.specs.Machine.{Begun, same_name, turns}
-use Rattle.cw_serial.specs.Held.{IsFront, IsNumbered}
+use Rattle.cw_serial.specs.Machine.{Begun, same_name, steps_down}
+use Rattle.cw_serial.specs.Held.{IsFront, StrandsAreNumbered}
 use Rattle.cw_serial.specs.InMemory.{AreBegun, begun_after}
 use Rattle.cw_serial.proofs.Numbers.{turns_more}
 use Rattle.cw_serial.proofs.Numbered.{turns_unique}
@@ -20,7 +20,7 @@ pub begun_more : (names more : List Name) (bs : List Block) (cs : List Begun) �
 begun_more names more [] [] front h = tt
 begun_more names more [] (c ∷ cs) front h = h
 begun_more names more (b ∷ bs) [] front h = h
-begun_more names more (b ∷ bs) (c ∷ cs) (rest, e) h = (ap (λ v. turns v b.strand) e ∙ turns_more names rest b.strand c.strand h.0, begun_more names more bs cs (rest, e) h.1)
+begun_more names more (b ∷ bs) (c ∷ cs) (rest, e) h = (ap (λ v. steps_down v b.strand) e ∙ turns_more names rest b.strand c.strand h.0, begun_more names more bs cs (rest, e) h.1)
 
 -- the begun blocks, or none
 abbrev pub AreAlike : List Name → Option (List Block) → Option (List Begun) → Type 0
@@ -36,12 +36,12 @@ pub alike_some : (names : List Name) (bs : List Block) (o : Option (List Begun))
 alike_some names bs None h = absurd h
 alike_some names bs (Some cs) h = (cs, refl, h)
 
-module _ {S : Type 0} (names : List Name) (rows : List (Row S)) (ok : IsNumbered names rows) (n : ℕ) (q : List Turn) (up : turns names n ≡ Some q) where
+module _ {S : Type 0} (names : List Name) (rows : List (Row S)) (ok : StrandsAreNumbered names rows) (n : ℕ) (q : List Turn) (up : steps_down names n ≡ Some q) where
   -- a strand has that number where it has that name
-  same_strand : (m : ℕ) (z : List Turn) → turns names m ≡ Some z → (m == n) ≡ same_name z q
+  same_strand : (m : ℕ) (z : List Turn) → steps_down names m ≡ Some z → (m == n) ≡ same_name z q
   same_strand m z uz = by (eqb_tells m n) (same_name z q) refl where
     by : (((m == n) ≡ true) × (m ≡ n)) ⊎ (((m == n) ≡ false) × (m ≡ n → ⊥)) → (b : Bool) → same_name z q ≡ b → (m == n) ≡ same_name z q
-    by (inl (t, e)) b f = let same : z ≡ q = (let g : Some z ≡ Some q = sym uz ∙ (ap (turns names) e ∙ up) in cc) in t ∙ sym (ap (λ v. same_name v q) same ∙ name_itself q)
+    by (inl (t, e)) b f = let same : z ≡ q = (let g : Some z ≡ Some q = sym uz ∙ (ap (steps_down names) e ∙ up) in cc) in t ∙ sym (ap (λ v. same_name v q) same ∙ name_itself q)
     by (inr (t, ne)) false f = t ∙ sym f
     by (inr (t, ne)) true f = absurd (ne (turns_unique names rows ok m n z uz (up ∙ ap (λ v. Some v) (sym (name_true z q f)))))
 

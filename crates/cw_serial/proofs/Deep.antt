@@ -2,15 +2,15 @@
 use Rattle.std.proofs.Common.{◌≡◌, ℕ, zero, suc, ◌<◌, ◌≤◌, refl, ap, sym, ◌∙◌, arith, Bool, true, false, cond, Option, Some, None}
 use Rattle.cw_strand.specs.declared.want.Want.{Want}
 use Rattle.cw_strand.specs.declared.want.Want.TheVariants.{Fork}
-use Rattle.cw_strand.specs.Strands.{Strands, IsDeep, is_over, is_fork}
+use Rattle.cw_strand.specs.Strands.{Strands, IsDeep, is_over, wants_fork}
 use Rattle.cw_serial.specs.StrandTree.{StrandTree, stands, waits, ended, meet, run_on, goes_on}
 
-pub fork_want : (w : Want) → is_fork w ≡ true → w ≡ Fork
+pub fork_want : (w : Want) → wants_fork w ≡ true → w ≡ Fork
 fork_want Fork e = refl
 fork_want _ e = absurd (cc e)
 
 -- a strand at its end wants no fork
-pub over_no_fork : (w : Want) → is_over w ≡ true → is_fork w ≡ false
+pub over_no_fork : (w : Want) → is_over w ≡ true → wants_fork w ≡ false
 over_no_fork Fork e = absurd (cc e)
 over_no_fork _ e = refl
 
@@ -55,12 +55,12 @@ module _ {A : Type 0} (s : Strands A) where
 
   -- ## Levels
 
-  pub run_stays : (n k : ℕ) (a : A) → is_fork (s.want a) ≡ false → run_on s n k a ≡ stands k a
+  pub run_stays : (n k : ℕ) (a : A) → wants_fork (s.want a) ≡ false → run_on s n k a ≡ stands k a
   run_stays zero k a e = refl
   run_stays (suc n) k a e = ap (λ b. elim b [ false ↦ stands k a | true ↦ meet s (run_on s n) (suc k) (run_on s n 0 (s.left a)) (run_on s n 0 (s.right a)) ]) e
 
   run_forks : (n k : ℕ) (a : A) → s.want a ≡ Fork → run_on s (suc n) k a ≡ meet s (run_on s n) (suc k) (run_on s n 0 (s.left a)) (run_on s n 0 (s.right a))
-  run_forks n k a e = ap (λ b. elim b [ false ↦ stands k a | true ↦ meet s (run_on s n) (suc k) (run_on s n 0 (s.left a)) (run_on s n 0 (s.right a)) ]) (ap is_fork e)
+  run_forks n k a e = ap (λ b. elim b [ false ↦ stands k a | true ↦ meet s (run_on s n) (suc k) (run_on s n 0 (s.left a)) (run_on s n 0 (s.right a)) ]) (ap wants_fork e)
 
   pub ended_stands : (k : ℕ) (a : A) → is_over (s.want a) ≡ true → ended s (stands k a) ≡ Some a
   ended_stands k a e = ap (λ b. cond b (Some a) None) e
@@ -74,7 +74,7 @@ module _ {A : Type 0} (s : Strands A) where
   ended_itself k a y e = ended_by (is_over (s.want a)) a y e
 
   -- a strand that wants no fork goes nowhere
-  pub goes_nowhere : (k : ℕ) (a : A) → is_fork (s.want a) ≡ false → goes_on s k a ≡ stands k a
+  pub goes_nowhere : (k : ℕ) (a : A) → wants_fork (s.want a) ≡ false → goes_on s k a ≡ stands k a
   goes_nowhere k a e = run_stays (s.depth a) k a e
 
   pub goes_over : (k : ℕ) (a : A) → is_over (s.want a) ≡ true → goes_on s k a ≡ stands k a
@@ -95,8 +95,8 @@ module _ {A : Type 0} (s : Strands A) where
 
     ended_below : (n k : ℕ) (a y : A) → ended s (run_on s n k a) ≡ Some y → s.depth y ≤ s.depth a
     ended_below zero k a y e = omega (arith, ap s.depth (ended_itself k a y e))
-    ended_below (suc n) k a y e = by (is_fork (s.want a)) refl (λ k b y e. ended_below n k b y e) where
-      by : (b : Bool) → is_fork (s.want a) ≡ b → ((k : ℕ) (b y : A) → ended s (run_on s n k b) ≡ Some y → s.depth y ≤ s.depth b) → s.depth y ≤ s.depth a
+    ended_below (suc n) k a y e = by (wants_fork (s.want a)) refl (λ k b y e. ended_below n k b y e) where
+      by : (b : Bool) → wants_fork (s.want a) ≡ b → ((k : ℕ) (b y : A) → ended s (run_on s n k b) ≡ Some y → s.depth y ≤ s.depth b) → s.depth y ≤ s.depth a
       by false q more = omega (arith, ap s.depth (ended_itself k a y (sym (ap (ended s) (run_stays (suc n) k a q)) ∙ e)))
       by true q more =
           let w = fork_want (s.want a) q in
@@ -107,9 +107,9 @@ module _ {A : Type 0} (s : Strands A) where
     pub ended_depth : (k : ℕ) (a y : A) → ended s (goes_on s k a) ≡ Some y → s.depth y ≤ s.depth a
     ended_depth k a y e = ended_below (s.depth a) k a y e
 
-    no_fork : (a : A) → s.depth a ≤ 0 → is_fork (s.want a) ≡ false
-    no_fork a h = by (is_fork (s.want a)) refl where
-      by : (b : Bool) → is_fork (s.want a) ≡ b → b ≡ false
+    no_fork : (a : A) → s.depth a ≤ 0 → wants_fork (s.want a) ≡ false
+    no_fork a h = by (wants_fork (s.want a)) refl where
+      by : (b : Bool) → wants_fork (s.want a) ≡ b → b ≡ false
       by false q = refl
       by true q = absurd (let less : s.depth (s.left a) < s.depth a = deep.left a (fork_want (s.want a) q) in omega arith)
 
@@ -117,8 +117,8 @@ module _ {A : Type 0} (s : Strands A) where
     pub same_levels : (n m k : ℕ) (a : A) → s.depth a ≤ n → s.depth a ≤ m → run_on s n k a ≡ run_on s m k a
     same_levels zero m k a h i = sym (run_stays m k a (no_fork a h))
     same_levels (suc n) zero k a h i = run_stays (suc n) k a (no_fork a i)
-    same_levels (suc n) (suc m) k a h i = by (is_fork (s.want a)) refl (λ k b h i. same_levels n m k b h i) where
-      by : (b : Bool) → is_fork (s.want a) ≡ b → ((k : ℕ) (b : A) → s.depth b ≤ n → s.depth b ≤ m → run_on s n k b ≡ run_on s m k b) → run_on s (suc n) k a ≡ run_on s (suc m) k a
+    same_levels (suc n) (suc m) k a h i = by (wants_fork (s.want a)) refl (λ k b h i. same_levels n m k b h i) where
+      by : (b : Bool) → wants_fork (s.want a) ≡ b → ((k : ℕ) (b : A) → s.depth b ≤ n → s.depth b ≤ m → run_on s n k b ≡ run_on s m k b) → run_on s (suc n) k a ≡ run_on s (suc m) k a
       by false q more = run_stays (suc n) k a q ∙ sym (run_stays (suc m) k a q)
       by true q more =
           let w = fork_want (s.want a) q in

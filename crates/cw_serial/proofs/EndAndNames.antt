@@ -9,9 +9,9 @@ use Rattle.cw_tree.specs.declared.picks.Name.{Name}
 use Rattle.cw_tree.specs.declared.picks.Turn.{Turn}
 use Rattle.cw_serial.specs.declared.table.Table.{Table}
 use Rattle.cw_serial.specs.StrandTree.{StrandTree, stands, waits, ended, at}
-use Rattle.cw_serial.specs.Machine.{turns}
+use Rattle.cw_serial.specs.Machine.{steps_down}
 use Rattle.cw_serial.specs.Spots.{Spot, standing, waiting, spot}
-use Rattle.cw_serial.specs.Held.{left_name, right_name, IsPlace, Holds, strand_in, strand_of, want_of, over_by, over_at}
+use Rattle.cw_serial.specs.Held.{left_name, right_name, IsSpotAt, Holds, strand_in, strand_in_row, want_of, over_by, over_at}
 use Rattle.cw_serial.specs.InMemory.{AreNames}
 use Rattle.cw_serial.proofs.Replaced.{at_spot, at_is}
 use Rattle.cw_serial.proofs.Numbers.{get_some}
@@ -20,7 +20,7 @@ use Rattle.cw_serial.proofs.Waiting.{over_here}
 use Rattle.cw_serial.proofs.Holding.{at_stand, at_wait, row_named, listed}
 
 module _ {S A : Type 0} (s : Strands A) (state : S → A) (table : Table S) (tree : StrandTree A) (holds : Holds state table tree) where
-  root_named : turns table.names.items 0 ≡ Some []
+  root_named : steps_down table.names.items 0 ≡ Some []
   root_named = rw holds.numbered.first refl
 
   over_some : (b : Bool) (a : A) → b ≡ is_some (if b then Some a else None)
@@ -31,13 +31,13 @@ module _ {S A : Type 0} (s : Strands A) (state : S → A) (table : Table S) (tre
   root_by (stands k a) e =
       let (row, here) = row_named state table tree holds 0 [] root_named in
       let n = length row.forks.items in
-      let st = at_stand state row.place n k a (subst (IsPlace state row.place n) (ap (λ t. spot t []) e) (holds.places 0 [] row root_named here)) in
+      let st = at_stand state row.place n k a (subst (IsSpotAt state row.place n) (ap (λ t. spot t []) e) (holds.places 0 [] row root_named here)) in
       over_here s state table.rows.items 0 row st.strand here st.stands ∙ (ap (λ b. is_over (s.want b)) st.is ∙ over_some (is_over (s.want a)) a)
   root_by (waits k l r) e =
       let (row, here) = row_named state table tree holds 0 [] root_named in
       let n = length row.forks.items in
-      let (place, rest, more) = at_wait state row.place n k (subst (IsPlace state row.place n) (ap (λ t. spot t []) e) (holds.places 0 [] row root_named here)) in
-      ap (λ o. over_by (want_of s state (strand_of o))) here ∙ ap (λ pl. over_by (want_of s state (strand_in pl))) place
+      let (place, rest, more) = at_wait state row.place n k (subst (IsSpotAt state row.place n) (ap (λ t. spot t []) e) (holds.places 0 [] row root_named here)) in
+      ap (λ o. over_by (want_of s state (strand_in_row o))) here ∙ ap (λ pl. over_by (want_of s state (strand_in pl))) place
 
   -- the root has ended in memory where it has in the tree
   pub root_ended : over_at s state table.rows.items 0 ≡ is_some (ended s tree)
@@ -52,7 +52,7 @@ module _ {S A : Type 0} (s : Strands A) (state : S → A) (table : Table S) (tre
       let (l, r, hl, hr) = holds.numbered.forked n.parent g t y there at in
       (y.left, y.right, hl, hr)
 
-  listed_by : (q : List Turn) (a : A) (o : Option (Spot A)) → spot tree q ≡ o → at_spot s o ≡ Some a → (i : ℕ) × (turns table.names.items i ≡ Some q)
+  listed_by : (q : List Turn) (a : A) (o : Option (Spot A)) → spot tree q ≡ o → at_spot s o ≡ Some a → (i : ℕ) × (steps_down table.names.items i ≡ Some q)
   listed_by q a None e h = absurd cc
   listed_by q a (Some (waiting k)) e h = absurd cc
   listed_by q a (Some (standing k b)) e h = listed state table tree holds q (standing k b) e

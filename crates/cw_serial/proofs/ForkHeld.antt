@@ -11,9 +11,9 @@ use Rattle.cw_serial.specs.declared.table.Sides.{Sides}
 use Rattle.cw_serial.specs.declared.table.Row.{Row}
 use Rattle.cw_serial.specs.declared.table.Table.{Table}
 use Rattle.cw_serial.specs.StrandTree.{StrandTree, stands, waits}
-use Rattle.cw_serial.specs.Machine.{turns}
+use Rattle.cw_serial.specs.Machine.{steps_down}
 use Rattle.cw_serial.specs.Spots.{turn_to, standing, waiting, spot, settle}
-use Rattle.cw_serial.specs.Held.{left_name, right_name, IsPlace, Holds, Forks}
+use Rattle.cw_serial.specs.Held.{left_name, right_name, IsSpotAt, Holds, Forks}
 use Rattle.cw_serial.proofs.Settled.{settle_fork}
 use Rattle.cw_serial.proofs.Sides.{side_none}
 use Rattle.cw_serial.proofs.Replaced.{Beside, replaced, replaced_itself, spot_left, spot_right, spot_beneath, spot_beside, spot_under, settle_replaced}
@@ -32,14 +32,14 @@ module _ {S A : Type 0} (s : Strands A) (state : S → A) (deep : IsDeep s) (old
 
   record Forked : Type 0 where
     path : List Turn
-    named : turns old.names.items i ≡ Some path
+    named : steps_down old.names.items i ≡ Some path
     here : spot tree path ≡ Some (standing k (state f.strand))
 
   forked : Forked
   forked =
       let there = was_here s state old new i x f in
       let (path, named) = turns_total old.names.items old.rows.items holds.numbered i (let same = holds.numbered.same in let within = slice_get_within old.rows.items i it there in omega arith) in
-      let here = from_stand state f.strand k (spot tree path) (subst (λ pl. IsPlace state pl k (spot tree path)) (was_stands s state old new i x f) (holds.places i path it named there)) in
+      let here = from_stand state f.strand k (spot tree path) (subst (λ pl. IsSpotAt state pl k (spot tree path)) (was_stands s state old new i x f) (holds.places i path it named there)) in
       record { path = path; named = named; here = here }
 
   module _ (m : Forked) where
@@ -73,7 +73,7 @@ module _ {S A : Type 0} (s : Strands A) (state : S → A) (deep : IsDeep s) (old
     right_now = under_here (turn_to (suc k) true ∷ []) ∙ spot_right (suc k) (stands 0 (state f.left)) (stands 0 (state f.right)) []
 
     -- the strands that were started before are where they were
-    same_spot : (j : ℕ) (z : List Turn) → turns old.names.items j ≡ Some z → (i ≡ j → ⊥) → spot forked_tree z ≡ spot tree z
+    same_spot : (j : ℕ) (z : List Turn) → steps_down old.names.items j ≡ Some z → (i ≡ j → ⊥) → spot forked_tree z ≡ spot tree z
     unfolding forked_tree grown
     same_spot j z up ne = by (beneath m.path z) where
       by : ((r : List Turn) × (z ≡ m.path ++ r)) ⊎ Beside m.path z → spot (replaced tree m.path grown) z ≡ spot tree z
@@ -86,38 +86,38 @@ module _ {S A : Type 0} (s : Strands A) (state : S → A) (deep : IsDeep s) (old
           ∙ (side_none y (suc k) (spot (stands 0 (state f.left)) r) (spot (stands 0 (state f.right)) r) None (ne_eqb y.fork (suc k) (λ same. absurd (omega arith)))
           ∙ (sym (spot_under tree m.path k (state f.strand) y r m.here) ∙ ap (spot tree) (sym e))))
 
-    old_name : (j : ℕ) (z : List Turn) (row : Row S) → slice_get old.rows.items j ≡ Some row → turns new.names.items j ≡ Some z → turns old.names.items j ≡ Some z
+    old_name : (j : ℕ) (z : List Turn) (row : Row S) → slice_get old.rows.items j ≡ Some row → steps_down new.names.items j ≡ Some z → steps_down old.names.items j ≡ Some z
     old_name j z row there up =
         let (y, was) = turns_total old.names.items old.rows.items holds.numbered j (let same = holds.numbered.same in let within = slice_get_within old.rows.items j row there in omega arith) in
-        let more : turns new.names.items j ≡ Some y = ap (λ ns. turns ns j) (names_now s state old new i x f) ∙ turns_more old.names.items (left_name i f.fork ∷ right_name i f.fork ∷ []) j y was in
+        let more : steps_down new.names.items j ≡ Some y = ap (λ ns. steps_down ns j) (names_now s state old new i x f) ∙ turns_more old.names.items (left_name i f.fork ∷ right_name i f.fork ∷ []) j y was in
         let same : y ≡ z = (let e : Some y ≡ Some z = sym more ∙ up in cc) in
         was ∙ ap (λ v. Some v) same
 
-    path_now : turns new.names.items i ≡ Some m.path
-    path_now = ap (λ ns. turns ns i) (names_now s state old new i x f) ∙ turns_more old.names.items (left_name i f.fork ∷ right_name i f.fork ∷ []) i m.path m.named
+    path_now : steps_down new.names.items i ≡ Some m.path
+    path_now = ap (λ ns. steps_down ns i) (names_now s state old new i x f) ∙ turns_more old.names.items (left_name i f.fork ∷ right_name i f.fork ∷ []) i m.path m.named
 
     low : i < length old.names.items
     low = let same = holds.numbered.same in let within = slice_get_within old.rows.items i it (was_here s state old new i x f) in omega arith
 
-    side_name : (n : ℕ) (b : Bool) → i < n → slice_get new.names.items n ≡ Some (record { parent = i; fork = f.fork; right = b }) → turns new.names.items n ≡ Some (m.path ++ turn_to (suc k) b ∷ [])
+    side_name : (n : ℕ) (b : Bool) → i < n → slice_get new.names.items n ≡ Some (record { parent = i; fork = f.fork; right = b }) → steps_down new.names.items n ≡ Some (m.path ++ turn_to (suc k) b ∷ [])
     side_name zero b less here = absurd (omega arith)
     side_name (suc n) b less here = turns_step new.names.items n (record { parent = i; fork = f.fork; right = b }) m.path here less path_now ∙ ap (λ v. Some (m.path ++ turn_to v b ∷ [])) (fork_number s state old new i x f)
 
-    at_place : (j : ℕ) (z : List Turn) (row : Row S) → turns new.names.items j ≡ Some z → Which s state old new i x f holds.numbered j row → IsPlace state row.place (length row.forks.items) (spot forked_tree z)
+    at_place : (j : ℕ) (z : List Turn) (row : Row S) → steps_down new.names.items j ≡ Some z → Which s state old new i x f holds.numbered j row → IsSpotAt state row.place (length row.forks.items) (spot forked_tree z)
     at_place j z row up (other ne there) =
         let before = old_name j z row there up in
         place_is state row.place row.place (length row.forks.items) (length row.forks.items) (spot forked_tree z) (spot tree z) refl refl (same_spot j z before ne) (holds.places j z row before there)
     at_place j z row up (itself e same) =
-        let path : z ≡ m.path = (let g : Some z ≡ Some m.path = sym up ∙ (ap (turns new.names.items) (sym e) ∙ path_now) in cc) in
+        let path : z ≡ m.path = (let g : Some z ≡ Some m.path = sym up ∙ (ap (steps_down new.names.items) (sym e) ∙ path_now) in cc) in
         let many : length row.forks.items ≡ suc k = ap (λ (t : Row S). length t.forks.items) (sym same) ∙ (ap length (now_forks s state old new i x f) ∙ (length_push it.forks.items x ∙ omega arith)) in
         place_is state row.place Waits (length row.forks.items) (suc k) (spot forked_tree z) (Some (waiting (suc k))) (ap (λ (t : Row S). t.place) (sym same) ∙ now_waits s state old new i x f) many (ap (spot forked_tree) path ∙ here_now) (refl, omega arith)
     at_place j z row up (on_left e same) =
         let less : i < x.left = (let l = f.left_number in let low = low in omega arith) in
-        let path : z ≡ m.path ++ turn_to (suc k) false ∷ [] = (let g : Some z ≡ Some (m.path ++ turn_to (suc k) false ∷ []) = sym up ∙ (ap (turns new.names.items) e ∙ side_name x.left false less (left_here s state old new i x f holds.numbered)) in cc) in
+        let path : z ≡ m.path ++ turn_to (suc k) false ∷ [] = (let g : Some z ≡ Some (m.path ++ turn_to (suc k) false ∷ []) = sym up ∙ (ap (steps_down new.names.items) e ∙ side_name x.left false less (left_here s state old new i x f holds.numbered)) in cc) in
         place_is state row.place (Stands f.left) (length row.forks.items) 0 (spot forked_tree z) (Some (standing 0 (state f.left))) (ap (λ (t : Row S). t.place) (sym same) ∙ f.starts_left.place) (ap (λ (t : Row S). length t.forks.items) (sym same) ∙ ap length f.starts_left.forks) (ap (spot forked_tree) path ∙ left_now) (refl, refl)
     at_place j z row up (on_right e same) =
         let less : i < x.right = (let l = f.right_number in let low = low in omega arith) in
-        let path : z ≡ m.path ++ turn_to (suc k) true ∷ [] = (let g : Some z ≡ Some (m.path ++ turn_to (suc k) true ∷ []) = sym up ∙ (ap (turns new.names.items) e ∙ side_name x.right true less (right_here s state old new i x f holds.numbered)) in cc) in
+        let path : z ≡ m.path ++ turn_to (suc k) true ∷ [] = (let g : Some z ≡ Some (m.path ++ turn_to (suc k) true ∷ []) = sym up ∙ (ap (steps_down new.names.items) e ∙ side_name x.right true less (right_here s state old new i x f holds.numbered)) in cc) in
         place_is state row.place (Stands f.right) (length row.forks.items) 0 (spot forked_tree z) (Some (standing 0 (state f.right))) (ap (λ (t : Row S). t.place) (sym same) ∙ f.starts_right.place) (ap (λ (t : Row S). length t.forks.items) (sym same) ∙ ap length f.starts_right.forks) (ap (spot forked_tree) path ∙ right_now) (refl, refl)
 
     after_forked : After s state tree new

@@ -10,7 +10,7 @@ use Rattle.cw_serial.specs.declared.table.Place.TheVariants.{Stands, Waits}
 use Rattle.cw_serial.specs.declared.table.Sides.{Sides}
 use Rattle.cw_serial.specs.declared.table.Row.{Row}
 use Rattle.cw_serial.specs.declared.table.Table.{Table}
-use Rattle.cw_serial.specs.Held.{left_name, right_name, number_of, IsNumbered, Forks}
+use Rattle.cw_serial.specs.Held.{left_name, right_name, number_of, StrandsAreNumbered, Forks}
 use Rattle.cw_serial.proofs.Numbers.{front_get, get_beyond}
 use Rattle.cw_serial.proofs.Numbered.{set_here, set_elsewhere, pair_cases}
 use Rattle.cw_serial.proofs.Waiting.{puts_here}
@@ -89,7 +89,7 @@ module _ {S A : Type 0} (s : Strands A) (state : S → A) (old new : Table S) (i
 
   -- ## Numbers
 
-  module _ (ok : IsNumbered old.names.items old.rows.items) where
+  module _ (ok : StrandsAreNumbered old.names.items old.rows.items) where
     lengths : length middle ≡ n
     unfolding n
     lengths = middle_length ∙ sym ok.same
@@ -201,7 +201,7 @@ module _ {S A : Type 0} (s : Strands A) (state : S → A) (old new : Table S) (i
         subst (λ (v : Name). (t : Row S) × (g : ℕ) × (y : Sides) × (slice_get new.rows.items v.parent ≡ Some t) × (v.fork ≡ suc g) × (slice_get t.forks.items g ≡ Some y) × (number_of y v.right ≡ suc j)) same
         (now, length was.forks.items, x, new_there, fork_number, newest_there, f.right_number ∙ sym e)
 
-    pub fork_numbered : IsNumbered new.names.items new.rows.items
+    pub fork_numbered : StrandsAreNumbered new.names.items new.rows.items
     unfolding Forked Named
     fork_numbered = record {
       same = ap length names_now ∙ (length-append old.names.items (left_name i f.fork ∷ right_name i f.fork ∷ []) ∙ (ap (λ m. m + 2) (ok.same ∙ sym middle_length) ∙ (sym (length-append middle (left_row ∷ right_row ∷ [])) ∙ ap length (sym rows_now))));

@@ -9,9 +9,9 @@ use Rattle.cw_serial.specs.declared.table.Sides.{Sides}
 use Rattle.cw_serial.specs.declared.table.Row.{Row}
 use Rattle.cw_serial.specs.declared.table.Table.{Table}
 use Rattle.cw_serial.specs.StrandTree.{StrandTree, stands, waits}
-use Rattle.cw_serial.specs.Machine.{turns}
+use Rattle.cw_serial.specs.Machine.{steps_down}
 use Rattle.cw_serial.specs.Spots.{turn_to, Spot, standing, waiting, spot}
-use Rattle.cw_serial.specs.Held.{IsPlace, Holds}
+use Rattle.cw_serial.specs.Held.{IsSpotAt, Holds}
 use Rattle.cw_serial.proofs.Sides.{turn_is}
 use Rattle.cw_serial.proofs.Numbers.{get_some}
 use Rattle.cw_serial.proofs.Numbered.{turns_within, turns_of_left, turns_of_right}
@@ -53,28 +53,28 @@ module _ {S A : Type 0} (state : S → A) where
     pub many : forks ≡ k
     pub is : state strand ≡ a
 
-  pub at_stand : (place : Place S) (forks k : ℕ) (a : A) → IsPlace state place forks (Some (standing k a)) → AtStand place forks k a
+  pub at_stand : (place : Place S) (forks k : ℕ) (a : A) → IsSpotAt state place forks (Some (standing k a)) → AtStand place forks k a
   at_stand (Stands st) forks k a h = record { strand = st; stands = refl; many = h.0; is = h.1 }
   at_stand Waits forks k a h = absurd h
   at_stand Gone forks k a h = absurd h
 
-  pub at_wait : (place : Place S) (forks k : ℕ) → IsPlace state place forks (Some (waiting k)) → (place ≡ Waits) × (forks ≡ k) × (0 < k)
+  pub at_wait : (place : Place S) (forks k : ℕ) → IsSpotAt state place forks (Some (waiting k)) → (place ≡ Waits) × (forks ≡ k) × (0 < k)
   at_wait Waits forks k h = (refl, h.0, h.1)
   at_wait (Stands st) forks k h = absurd h
   at_wait Gone forks k h = absurd h
 
-  pub from_stand : (st : S) (forks : ℕ) (o : Option (Spot A)) → IsPlace state (Stands st) forks o → o ≡ Some (standing forks (state st))
+  pub from_stand : (st : S) (forks : ℕ) (o : Option (Spot A)) → IsSpotAt state (Stands st) forks o → o ≡ Some (standing forks (state st))
   from_stand st forks None h = absurd h
   from_stand st forks (Some (waiting k)) h = absurd h
   from_stand st forks (Some (standing k a)) h = ap (λ m. Some (standing m a)) (sym h.0) ∙ ap (λ b. Some (standing forks b)) (sym h.1)
 
-  pub from_wait : (forks : ℕ) (o : Option (Spot A)) → IsPlace state Waits forks o → (o ≡ Some (waiting forks)) × (0 < forks)
+  pub from_wait : (forks : ℕ) (o : Option (Spot A)) → IsSpotAt state Waits forks o → (o ≡ Some (waiting forks)) × (0 < forks)
   from_wait forks None h = absurd h
   from_wait forks (Some (standing k a)) h = absurd h
   from_wait forks (Some (waiting k)) h = (ap (λ m. Some (waiting m)) (sym h.0), let many : forks ≡ k = h.0 in let some : 0 < k = h.1 in omega arith)
 
   module _ (table : Table S) (tree : StrandTree A) (holds : Holds state table tree) where
-    pub row_named : (i : ℕ) (p : List Turn) → turns table.names.items i ≡ Some p → (row : Row S) × (slice_get table.rows.items i ≡ Some row)
+    pub row_named : (i : ℕ) (p : List Turn) → steps_down table.names.items i ≡ Some p → (row : Row S) × (slice_get table.rows.items i ≡ Some row)
     row_named i p up = get_some table.rows.items i (let same = holds.numbered.same in let within = turns_within table.names.items table.rows.items holds.numbered i p up in omega arith)
 
     -- a strand that waits, with the strands of its fork
@@ -84,13 +84,13 @@ module _ {S A : Type 0} (state : S → A) where
       pub here : slice_get table.rows.items i ≡ Some row
       pub place : row.place ≡ Waits
       pub newest : slice_get row.forks.items (length row.forks.items - 1) ≡ Some sides
-      pub left : turns table.names.items sides.left ≡ Some (q ++ turn_to k false ∷ [])
-      pub right : turns table.names.items sides.right ≡ Some (q ++ turn_to k true ∷ [])
+      pub left : steps_down table.names.items sides.left ≡ Some (q ++ turn_to k false ∷ [])
+      pub right : steps_down table.names.items sides.right ≡ Some (q ++ turn_to k true ∷ [])
 
-    pub waits_for : (i : ℕ) (q : List Turn) (k : ℕ) → turns table.names.items i ≡ Some q → spot tree q ≡ Some (waiting k) → WaitsFor i q k
+    pub waits_for : (i : ℕ) (q : List Turn) (k : ℕ) → steps_down table.names.items i ≡ Some q → spot tree q ≡ Some (waiting k) → WaitsFor i q k
     waits_for i q k up h =
         let (row, here) = row_named i q up in
-        let (place, many, some) = at_wait row.place (length row.forks.items) k (subst (IsPlace state row.place (length row.forks.items)) h (holds.places i q row up here)) in
+        let (place, many, some) = at_wait row.place (length row.forks.items) k (subst (IsSpotAt state row.place (length row.forks.items)) h (holds.places i q row up here)) in
         let (x, newest) = get_some row.forks.items (length row.forks.items - 1) (omega arith) in
         let number : suc (length row.forks.items - 1) ≡ k = omega arith in
         record {
@@ -107,13 +107,13 @@ module _ {S A : Type 0} (state : S → A) where
     step_down q r x y e = append_assoc q (y ∷ []) r ∙ ap (λ z. q ++ z ∷ r) (sym e)
 
     -- each strand of the tree has a number
-    listed_below : (u : StrandTree A) (q r : List Turn) (i : ℕ) (v : Spot A) → turns table.names.items i ≡ Some q → ((z : List Turn) → spot tree (q ++ z) ≡ spot u z) → spot u r ≡ Some v → (j : ℕ) × (turns table.names.items j ≡ Some (q ++ r))
+    listed_below : (u : StrandTree A) (q r : List Turn) (i : ℕ) (v : Spot A) → steps_down table.names.items i ≡ Some q → ((z : List Turn) → spot tree (q ++ z) ≡ spot u z) → spot u r ≡ Some v → (j : ℕ) × (steps_down table.names.items j ≡ Some (q ++ r))
     listed_below u q [] i v up same h = (i, up ∙ ap (λ z. Some z) (sym (append-nil q)))
     listed_below (stands k a) q (x ∷ r) i v up same h = absurd cc
     listed_below (waits k l m) q (x ∷ r) i v up same h =
         let here : spot tree q ≡ Some (waiting k) = ap (spot tree) (sym (append-nil q)) ∙ same [] in
         let w = waits_for i q k up here in
-        spot_side k l m x r ((j : ℕ) × (turns table.names.items j ≡ Some (q ++ x ∷ r))) v h
+        spot_side k l m x r ((j : ℕ) × (steps_down table.names.items j ≡ Some (q ++ x ∷ r))) v h
         (λ e f.
         let y = turn_to k false in
         let (j, found) = listed_below l (q ++ y ∷ []) r w.sides.left v w.left (λ z. ap (spot tree) (append_assoc q (y ∷ []) z) ∙ (same (y ∷ z) ∙ spot_left k l m z)) f in
@@ -123,5 +123,5 @@ module _ {S A : Type 0} (state : S → A) where
         let (j, found) = listed_below m (q ++ y ∷ []) r w.sides.right v w.right (λ z. ap (spot tree) (append_assoc q (y ∷ []) z) ∙ (same (y ∷ z) ∙ spot_right k l m z)) f in
         (j, found ∙ ap (λ z. Some z) (step_down q r x y e)))
 
-    pub listed : (p : List Turn) (v : Spot A) → spot tree p ≡ Some v → (j : ℕ) × (turns table.names.items j ≡ Some p)
+    pub listed : (p : List Turn) (v : Spot A) → spot tree p ≡ Some v → (j : ℕ) × (steps_down table.names.items j ≡ Some p)
     listed p v h = listed_below tree [] p 0 v (rw holds.numbered.first refl) (λ z. refl) h

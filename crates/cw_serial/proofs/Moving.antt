@@ -14,7 +14,7 @@ use Rattle.cw_serial.specs.declared.table.Sides.{Sides}
 use Rattle.cw_serial.specs.declared.table.Row.{Row}
 use Rattle.cw_serial.specs.declared.table.Table.{Table}
 use Rattle.cw_serial.specs.StrandTree.{StrandTree}
-use Rattle.cw_serial.specs.Held.{left_name, right_name, IsNumbered, want_at, over_at, awaited_at, Forks, Joins, Rests, Moves, forks, joins, rests, Quiet, SettlesTo}
+use Rattle.cw_serial.specs.Held.{left_name, right_name, StrandsAreNumbered, want_at, over_at, awaited_at, Forks, Joins, Rests, Moves, forks, joins, rests, Quiet, SettlesTo}
 use Rattle.cw_serial.proofs.Numbers.{get_beyond}
 use Rattle.cw_serial.proofs.Waiting.{Standing, want_there, want_here, over_there, over_row, over_here, over_wants_none, Awaiting, awaited_there, awaited_here, puts_here, puts_elsewhere}
 use Rattle.cw_serial.proofs.ForkMade.{was, now_waits, now_forks, Which, other, itself, on_left, on_right, which}
@@ -28,7 +28,7 @@ newest_is xs x y h =
     let e : Some x ≡ Some y = sym (get_beyond xs (x ∷ []) 0) ∙ (ap (slice_get (xs ++ x ∷ [])) (omega (arith, length_push xs x)) ∙ h) in
     cc
 
-module _ {S : Type 0} (names : List Name) (rows : List (Row S)) (ok : IsNumbered names rows) where
+module _ {S : Type 0} (names : List Name) (rows : List (Row S)) (ok : StrandsAreNumbered names rows) where
   -- the two strands for which one waits are named so
   awaited_names : (i : ℕ) (x : Sides) → awaited_at rows i ≡ Some x
       → (f : ℕ) × (slice_get names x.left ≡ Some (left_name i f)) × (slice_get names x.right ≡ Some (right_name i f))
@@ -48,7 +48,7 @@ module _ {S A : Type 0} (s : Strands A) (state : S → A) where
 
   -- ## Forks
 
-  module _ (old new : Table S) (i : ℕ) (x : Sides) (f : Forks s state old i new x) (ok : IsNumbered old.names.items old.rows.items) (todo : List ℕ) (quiet : Quiet s state old.rows.items (todo ++ i ∷ [])) where
+  module _ (old new : Table S) (i : ℕ) (x : Sides) (f : Forks s state old i new x) (ok : StrandsAreNumbered old.names.items old.rows.items) (todo : List ℕ) (quiet : Quiet s state old.rows.items (todo ++ i ∷ [])) where
     more : List ℕ
     more = todo ++ x.left ∷ x.right ∷ []
 
@@ -126,7 +126,7 @@ module _ {S A : Type 0} (s : Strands A) (state : S → A) where
 
   -- ## Joins
 
-  module _ (old new : Table S) (n : ℕ) (name : Name) (j : Joins s state old name.parent new) (ok : IsNumbered old.names.items old.rows.items) (named : slice_get old.names.items n ≡ Some name) (over : over_at s state old.rows.items n ≡ true) (todo : List ℕ) (quiet : Quiet s state old.rows.items (todo ++ n ∷ [])) where
+  module _ (old new : Table S) (n : ℕ) (name : Name) (j : Joins s state old name.parent new) (ok : StrandsAreNumbered old.names.items old.rows.items) (named : slice_get old.names.items n ≡ Some name) (over : over_at s state old.rows.items n ≡ true) (todo : List ℕ) (quiet : Quiet s state old.rows.items (todo ++ n ∷ [])) where
     i : ℕ
     i = name.parent
 
@@ -212,7 +212,7 @@ module _ {S A : Type 0} (s : Strands A) (state : S → A) where
 
   -- ## Where nothing can be done
 
-  quiet_rest : (old : Table S) (n : ℕ) (todo : List ℕ) → IsNumbered old.names.items old.rows.items → Rests s state old n → Quiet s state old.rows.items (todo ++ n ∷ []) → Quiet s state old.rows.items todo
+  quiet_rest : (old : Table S) (n : ℕ) (todo : List ℕ) → StrandsAreNumbered old.names.items old.rows.items → Rests s state old n → Quiet s state old.rows.items (todo ++ n ∷ []) → Quiet s state old.rows.items todo
   quiet_rest old n todo ok r quiet = record {
     fork = λ j h. fork_by j h (Contains-push_cases todo n j (quiet.fork j h));
     join = λ j y h left right. join_by j y h left right (quiet.join j y h left right) (awaited_names old.names.items old.rows.items ok j y h);

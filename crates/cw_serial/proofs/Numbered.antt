@@ -8,9 +8,9 @@ use Rattle.cw_tree.specs.declared.picks.Name.{Name}
 use Rattle.cw_tree.specs.declared.picks.Turn.{Turn}
 use Rattle.cw_serial.specs.declared.table.Sides.{Sides}
 use Rattle.cw_serial.specs.declared.table.Row.{Row}
-use Rattle.cw_serial.specs.Machine.{turns}
+use Rattle.cw_serial.specs.Machine.{steps_down}
 use Rattle.cw_serial.specs.Spots.{turn_to}
-use Rattle.cw_serial.specs.Held.{root, left_name, right_name, number_of, IsNumbered}
+use Rattle.cw_serial.specs.Held.{root, left_name, right_name, number_of, StrandsAreNumbered}
 use Rattle.cw_serial.proofs.Numbers.{get_some, no_snoc, snoc_same, turn_of, turns_first, turns_last, turns_step, turns_down}
 
 -- ## Lists in which one element is another one
@@ -48,7 +48,7 @@ pair_cases {X = X} (y ∷ xs) (suc i) a b x h = by (pair_cases xs i a b x h) whe
 
 -- ## Names and numbers
 
-module _ {S : Type 0} (names : List Name) (rows : List (Row S)) (ok : IsNumbered names rows) where
+module _ {S : Type 0} (names : List Name) (rows : List (Row S)) (ok : StrandsAreNumbered names rows) where
   sides_low : (i j : ℕ) (x : Sides) (right : Bool) → i < x.left → i < x.right → number_of x right ≡ j → i < j
   sides_low i j x true l r e = omega arith
   sides_low i j x false l r e = omega arith
@@ -60,7 +60,7 @@ module _ {S : Type 0} (names : List Name) (rows : List (Row S)) (ok : IsNumbered
       let (l, r, hl, hr) = ok.forked n.parent f t x there here in
       sides_low n.parent (suc j) x n.right l r number
 
-  total_below : (n i : ℕ) → i < n → i < length names → (p : List Turn) × (turns names i ≡ Some p)
+  total_below : (n i : ℕ) → i < n → i < length names → (p : List Turn) × (steps_down names i ≡ Some p)
   total_below zero i low h = absurd (omega arith)
   total_below (suc n) zero low h = ([], rw ok.first refl)
   total_below (suc n) (suc j) low h =
@@ -70,7 +70,7 @@ module _ {S : Type 0} (names : List Name) (rows : List (Row S)) (ok : IsNumbered
       (p ++ turn_of x ∷ [], turns_step names j x p here less up)
 
   -- each number is that of a name
-  pub turns_total : (i : ℕ) → i < length names → (p : List Turn) × (turns names i ≡ Some p)
+  pub turns_total : (i : ℕ) → i < length names → (p : List Turn) × (steps_down names i ≡ Some p)
   turns_total i h = total_below (suc i) i (omega arith) h
 
   same_number : (i j : ℕ) (n m : Name) → slice_get names (suc i) ≡ Some n → slice_get names (suc j) ≡ Some m → n.parent ≡ m.parent → n.fork ≡ m.fork → n.right ≡ m.right → i ≡ j
@@ -83,7 +83,7 @@ module _ {S : Type 0} (names : List Name) (rows : List (Row S)) (ok : IsNumbered
       let e : suc i ≡ suc j = sym number ∙ (ap (number_of x) right ∙ (ap (λ v. number_of v m.right) xy ∙ other)) in
       omega arith
 
-  unique_below : (n i j : ℕ) (p : List Turn) → i < n → turns names i ≡ Some p → turns names j ≡ Some p → i ≡ j
+  unique_below : (n i j : ℕ) (p : List Turn) → i < n → steps_down names i ≡ Some p → steps_down names j ≡ Some p → i ≡ j
   unique_below zero i j p low hi hj = absurd (omega arith)
   unique_below (suc n) zero zero p low hi hj = refl
   unique_below (suc n) zero (suc j) p low hi hj = let l = turns_last names j p hj in absurd (no_snoc l.above (turn_of l.name) (sym (turns_first names p hi) ∙ l.same))
@@ -97,30 +97,30 @@ module _ {S : Type 0} (names : List Name) (rows : List (Row S)) (ok : IsNumbered
       ap suc (same_number i j l.name m.name l.here m.here parents (ap (λ (x : Turn). x.fork) turn) (ap (λ (x : Turn). x.right) turn))
 
   -- a name is that of one number
-  pub turns_unique : (i j : ℕ) (p : List Turn) → turns names i ≡ Some p → turns names j ≡ Some p → i ≡ j
+  pub turns_unique : (i j : ℕ) (p : List Turn) → steps_down names i ≡ Some p → steps_down names j ≡ Some p → i ≡ j
   turns_unique i j p hi hj = unique_below (suc i) i j p (omega arith) hi hj
 
-  pub turns_within : (i : ℕ) (p : List Turn) → turns names i ≡ Some p → i < length names
+  pub turns_within : (i : ℕ) (p : List Turn) → steps_down names i ≡ Some p → i < length names
   turns_within zero p h = slice_get_within names 0 root ok.first
   turns_within (suc i) p h = let l = turns_last names i p h in slice_get_within names (suc i) l.name l.here
 
   -- the strands of a fork
-  left_turns : (i f : ℕ) (t : Row S) (x : Sides) (p : List Turn) → slice_get rows i ≡ Some t → slice_get t.forks.items f ≡ Some x → turns names i ≡ Some p → (m : ℕ) → x.left ≡ m → turns names m ≡ Some (p ++ turn_to (suc f) false ∷ [])
+  left_turns : (i f : ℕ) (t : Row S) (x : Sides) (p : List Turn) → slice_get rows i ≡ Some t → slice_get t.forks.items f ≡ Some x → steps_down names i ≡ Some p → (m : ℕ) → x.left ≡ m → steps_down names m ≡ Some (p ++ turn_to (suc f) false ∷ [])
   left_turns i f t x p there here up zero e = let (l, r, hl, hr) = ok.forked i f t x there here in absurd (omega arith)
   left_turns i f t x p there here up (suc m) e = let (l, r, hl, hr) = ok.forked i f t x there here in turns_step names m (left_name i (suc f)) p (ap (slice_get names) (sym e) ∙ hl) (omega arith) up
 
-  right_turns : (i f : ℕ) (t : Row S) (x : Sides) (p : List Turn) → slice_get rows i ≡ Some t → slice_get t.forks.items f ≡ Some x → turns names i ≡ Some p → (m : ℕ) → x.right ≡ m → turns names m ≡ Some (p ++ turn_to (suc f) true ∷ [])
+  right_turns : (i f : ℕ) (t : Row S) (x : Sides) (p : List Turn) → slice_get rows i ≡ Some t → slice_get t.forks.items f ≡ Some x → steps_down names i ≡ Some p → (m : ℕ) → x.right ≡ m → steps_down names m ≡ Some (p ++ turn_to (suc f) true ∷ [])
   right_turns i f t x p there here up zero e = let (l, r, hl, hr) = ok.forked i f t x there here in absurd (omega arith)
   right_turns i f t x p there here up (suc m) e = let (l, r, hl, hr) = ok.forked i f t x there here in turns_step names m (right_name i (suc f)) p (ap (slice_get names) (sym e) ∙ hr) (omega arith) up
 
-  pub turns_of_left : (i f : ℕ) (t : Row S) (x : Sides) (p : List Turn) → slice_get rows i ≡ Some t → slice_get t.forks.items f ≡ Some x → turns names i ≡ Some p → turns names x.left ≡ Some (p ++ turn_to (suc f) false ∷ [])
+  pub turns_of_left : (i f : ℕ) (t : Row S) (x : Sides) (p : List Turn) → slice_get rows i ≡ Some t → slice_get t.forks.items f ≡ Some x → steps_down names i ≡ Some p → steps_down names x.left ≡ Some (p ++ turn_to (suc f) false ∷ [])
   turns_of_left i f t x p there here up = left_turns i f t x p there here up x.left refl
 
-  pub turns_of_right : (i f : ℕ) (t : Row S) (x : Sides) (p : List Turn) → slice_get rows i ≡ Some t → slice_get t.forks.items f ≡ Some x → turns names i ≡ Some p → turns names x.right ≡ Some (p ++ turn_to (suc f) true ∷ [])
+  pub turns_of_right : (i f : ℕ) (t : Row S) (x : Sides) (p : List Turn) → slice_get rows i ≡ Some t → slice_get t.forks.items f ≡ Some x → steps_down names i ≡ Some p → steps_down names x.right ≡ Some (p ++ turn_to (suc f) true ∷ [])
   turns_of_right i f t x p there here up = right_turns i f t x p there here up x.right refl
 
   -- beneath a name only strands of the forks that its strand made
-  pub down_within : (i j : ℕ) (t : Row S) (p r : List Turn) (x : Turn) → slice_get rows i ≡ Some t → turns names i ≡ Some p → turns names j ≡ Some (p ++ x ∷ r) → x.fork ≤ length t.forks.items
+  pub down_within : (i j : ℕ) (t : Row S) (p r : List Turn) (x : Turn) → slice_get rows i ≡ Some t → steps_down names i ≡ Some p → steps_down names j ≡ Some (p ++ x ∷ r) → x.fork ≤ length t.forks.items
   down_within i j t p r x there hi hj =
       let d = turns_down names j p r x hj in
       let (u, f, y, yonder, fork, at, number) = ok.named d.number d.name d.here in
@@ -139,7 +139,7 @@ module _ {S : Type 0} where
     pub there : (i : ℕ) (t : Row S) → slice_get old i ≡ Some t → (u : Row S) × (slice_get new i ≡ Some u) × (u.forks ≡ t.forks)
     pub back : (i : ℕ) (u : Row S) → slice_get new i ≡ Some u → (t : Row S) × (slice_get old i ≡ Some t) × (u.forks ≡ t.forks)
 
-  pub numbered_same : (names : List Name) (old new : List (Row S)) → SameForks old new → IsNumbered names old → IsNumbered names new
+  pub numbered_same : (names : List Name) (old new : List (Row S)) → SameForks old new → StrandsAreNumbered names old → StrandsAreNumbered names new
   numbered_same names old new s ok = record {
     same = ok.same ∙ sym s.same;
     first = ok.first;

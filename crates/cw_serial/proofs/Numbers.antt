@@ -5,7 +5,7 @@ use Rattle.std.specs.List.{slice_get}
 use Rattle.std.proofs.lemmas.Bool.{ltb-true, lt-ltb}
 use Rattle.cw_tree.specs.declared.picks.Name.{Name}
 use Rattle.cw_tree.specs.declared.picks.Turn.{Turn}
-use Rattle.cw_serial.specs.Machine.{turns, turns_in, with_turn, parent_in, root_turns, is_root}
+use Rattle.cw_serial.specs.Machine.{steps_down, turns_in, with_turn, parent_in, root_turns, is_root}
 use Rattle.cw_serial.specs.Spots.{turn_to}
 
 -- ## Lists
@@ -58,7 +58,7 @@ pub record Last (names : List Name) (n : ℕ) (p : List Turn) : Type 0 where
   pub above : List Turn
   pub here : slice_get names n ≡ Some name
   pub low : name.parent < n
-  pub up : turns names name.parent ≡ Some above
+  pub up : steps_down names name.parent ≡ Some above
   pub same : p ≡ above ++ turn_of name ∷ []
 
 -- the strand that was started from this name by this step, with a number of at most j
@@ -69,7 +69,7 @@ pub record Down (names : List Name) (p : List Turn) (x : Turn) (j : ℕ) : Type 
   pub turn : turn_of name ≡ x
   pub low : name.parent < suc number
   pub within : suc number ≤ j
-  pub up : turns names name.parent ≡ Some p
+  pub up : steps_down names name.parent ≡ Some p
 
 module _ (names : List Name) where
   with_late : (n : ℕ) (x : Name) (p : Option (List Turn)) → nat_lt x.parent n ≡ false → with_turn n (Some x) p ≡ None
@@ -93,13 +93,13 @@ module _ (names : List Name) where
       test false e = with_late (suc n) x (turns_in names j x.parent) e ∙ sym (with_late (suc n) x (turns_in names k x.parent) e)
 
   -- a strand that another one started
-  pub turns_step : (n : ℕ) (x : Name) (p : List Turn) → slice_get names (suc n) ≡ Some x → x.parent < suc n → turns names x.parent ≡ Some p → turns names (suc n) ≡ Some (p ++ turn_of x ∷ [])
+  pub turns_step : (n : ℕ) (x : Name) (p : List Turn) → slice_get names (suc n) ≡ Some x → x.parent < suc n → steps_down names x.parent ≡ Some p → steps_down names (suc n) ≡ Some (p ++ turn_of x ∷ [])
   turns_step n x p h low e =
       ap (λ o. with_turn (suc n) o (turns_in names n (parent_in o))) h
       ∙ (ap (with_turn (suc n) (Some x)) (same_turns n x.parent x.parent (omega arith) (omega arith) ∙ e)
       ∙ with_early (suc n) x p low)
 
-  pub turns_first : (p : List Turn) → turns names 0 ≡ Some p → p ≡ []
+  pub turns_first : (p : List Turn) → steps_down names 0 ≡ Some p → p ≡ []
   turns_first p h = by (slice_get names 0) h where
     by : (o : Option Name) → root_turns o ≡ Some p → p ≡ []
     by None e = absurd cc
@@ -109,7 +109,7 @@ module _ (names : List Name) where
       test false f = absurd cc
 
   -- what a number stands for that is not the root's
-  pub turns_last : (n : ℕ) (p : List Turn) → turns names (suc n) ≡ Some p
+  pub turns_last : (n : ℕ) (p : List Turn) → steps_down names (suc n) ≡ Some p
       → Last names (suc n) p
   turns_last n p h = by (slice_get names (suc n)) refl h where
     by : (o : Option Name) → slice_get names (suc n) ≡ o → with_turn (suc n) o (turns_in names n (parent_in o)) ≡ Some p
@@ -134,13 +134,13 @@ module _ (names : List Name) where
   start_past (y ∷ q) r x e = cc
 
   -- a name that leads further than another one: the strand beneath was started there
-  down_below : (n j : ℕ) (p r : List Turn) (x : Turn) → j < n → turns names j ≡ Some (p ++ x ∷ r) → Down names p x j
+  down_below : (n j : ℕ) (p r : List Turn) (x : Turn) → j < n → steps_down names j ≡ Some (p ++ x ∷ r) → Down names p x j
   down_below zero j p r x low h = absurd (omega arith)
   down_below (suc n) zero p r x low h = absurd (start_past p r x (turns_first (p ++ x ∷ r) h))
   down_below (suc n) (suc j) p r x low h =
       let last = turns_last j (p ++ x ∷ r) h in
       by last (snoc_cases r) (λ r h. down_below n last.name.parent p r x (let less = last.low in omega arith) h) where
-        by : (l : Last names (suc j) (p ++ x ∷ r)) → (r ≡ []) ⊎ ((q : List Turn) × (z : Turn) × (r ≡ q ++ z ∷ [])) → ((r : List Turn) → turns names l.name.parent ≡ Some (p ++ x ∷ r) → Down names p x l.name.parent) → Down names p x (suc j)
+        by : (l : Last names (suc j) (p ++ x ∷ r)) → (r ≡ []) ⊎ ((q : List Turn) × (z : Turn) × (r ≡ q ++ z ∷ [])) → ((r : List Turn) → steps_down names l.name.parent ≡ Some (p ++ x ∷ r) → Down names p x l.name.parent) → Down names p x (suc j)
         by l (inl e) more =
             let (same, turn) = snoc_same p l.above x (turn_of l.name) (ap (λ v. p ++ x ∷ v) (sym e) ∙ l.same) in
             record { number = j; name = l.name; here = l.here; turn = sym turn; low = l.low; within = omega arith; up = l.up ∙ ap (λ v. Some v) (sym same) }
@@ -150,13 +150,13 @@ module _ (names : List Name) where
             let less : l.name.parent < suc j = l.low in
             record { number = d.number; name = d.name; here = d.here; turn = d.turn; low = d.low; within = (let most : suc d.number ≤ l.name.parent = d.within in omega arith); up = d.up }
 
-  pub turns_down : (j : ℕ) (p r : List Turn) (x : Turn) → turns names j ≡ Some (p ++ x ∷ r) → Down names p x j
+  pub turns_down : (j : ℕ) (p r : List Turn) (x : Turn) → steps_down names j ≡ Some (p ++ x ∷ r) → Down names p x j
   turns_down j p r x h = down_below (suc j) j p r x (omega arith) h
 
 -- ## More names
 
 -- what a number stands for, it stands for among more names too
-more_below : (names more : List Name) (n j : ℕ) (p : List Turn) → j < n → turns names j ≡ Some p → turns (names ++ more) j ≡ Some p
+more_below : (names more : List Name) (n j : ℕ) (p : List Turn) → j < n → steps_down names j ≡ Some p → steps_down (names ++ more) j ≡ Some p
 more_below names more zero j p low h = absurd (omega arith)
 more_below names more (suc n) zero p low h = by (slice_get names 0) refl h where
   by : (o : Option Name) → slice_get names 0 ≡ o → root_turns o ≡ Some p → root_turns (slice_get (names ++ more) 0) ≡ Some p
@@ -167,5 +167,5 @@ more_below names more (suc n) (suc j) p low h =
     let less : l.name.parent < suc j = l.low in
     turns_step (names ++ more) j l.name l.above (front_get names more (suc j) l.name l.here) l.low (more_below names more n l.name.parent l.above (omega arith) l.up) ∙ ap (λ v. Some v) (sym l.same)
 
-pub turns_more : (names more : List Name) (j : ℕ) (p : List Turn) → turns names j ≡ Some p → turns (names ++ more) j ≡ Some p
+pub turns_more : (names more : List Name) (j : ℕ) (p : List Turn) → steps_down names j ≡ Some p → steps_down (names ++ more) j ≡ Some p
 turns_more names more j p h = more_below names more (suc j) j p (omega arith) h

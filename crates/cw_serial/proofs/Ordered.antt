@@ -10,10 +10,10 @@ use Rattle.cw_serial.specs.declared.standing.Standing.{Standing}
 use Rattle.cw_serial.specs.declared.table.Sides.{Sides}
 use Rattle.cw_serial.specs.declared.table.Row.{Row}
 use Rattle.cw_serial.specs.StrandTree.{at}
-use Rattle.cw_serial.specs.Machine.{turns, root_turns, is_root}
-use Rattle.cw_serial.specs.Room.Strands.{StrandState, state_of, strands_of}
+use Rattle.cw_serial.specs.Machine.{steps_down, root_turns, is_root}
+use Rattle.cw_serial.specs.Room.Strands.{StrandState, state_of, strands_of_job}
 use Rattle.cw_serial.specs.Spots.{turn_to, Spot, spot}
-use Rattle.cw_serial.specs.Held.{IsNumbered, number_of, side_of, started_of, started_at}
+use Rattle.cw_serial.specs.Held.{StrandsAreNumbered, number_of, side_of, started_of, started_at}
 use Rattle.cw_serial.specs.Orders.{SameStrand, AreKnown, root_number, known_at, parent_number, LeadDown, StandsNowhere}
 use Rattle.cw_serial.proofs.Numbers.{turn_of, turns_last, turns_step, turns_down}
 use Rattle.cw_serial.proofs.Numbered.{set_here, set_elsewhere, turns_unique, turns_of_left, turns_of_right}
@@ -24,19 +24,19 @@ use Rattle.cw_serial.proofs.Holding.{listed}
 
 module _ (order : List Name) where
   -- where a name is a strand's, so is each one on the way down to it
-  way_up : (from n : ℕ) (todo : List ℕ) (q : List Turn) → LeadDown order from todo n → turns order n ≡ Some q → (z : List Turn) × (turns order from ≡ Some z)
-  way_up from n [] q e up = (q, ap (turns order) e ∙ up)
+  way_up : (from n : ℕ) (todo : List ℕ) (q : List Turn) → LeadDown order from todo n → steps_down order n ≡ Some q → (z : List Turn) × (steps_down order from ≡ Some z)
+  way_up from n [] q e up = (q, ap (steps_down order) e ∙ up)
   way_up from n (a ∷ rest) q (x, here, parent, low, down) up =
       let (z, uz) = way_up a n rest q down up in
       above a z low here uz where
-        above : (b : ℕ) (z : List Turn) → from < b → slice_get order b ≡ Some x → turns order b ≡ Some z → (y : List Turn) × (turns order from ≡ Some y)
+        above : (b : ℕ) (z : List Turn) → from < b → slice_get order b ≡ Some x → steps_down order b ≡ Some z → (y : List Turn) × (steps_down order from ≡ Some y)
         above zero z low here uz = absurd (omega arith)
         above (suc b) z low here uz =
             let l = turns_last order b z uz in
             let same : l.name ≡ x = (let e : Some l.name ≡ Some x = sym l.here ∙ here in cc) in
-            (l.above, ap (turns order) (sym (ap (λ (v : Name). v.parent) same ∙ parent)) ∙ l.up)
+            (l.above, ap (steps_down order) (sym (ap (λ (v : Name). v.parent) same ∙ parent)) ∙ l.up)
 
-  root_known : (numbers : List (Option ℕ)) (q : List Turn) → turns order 0 ≡ Some q → (i : ℕ) × (known_at order numbers 0 ≡ Some i)
+  root_known : (numbers : List (Option ℕ)) (q : List Turn) → steps_down order 0 ≡ Some q → (i : ℕ) × (known_at order numbers 0 ≡ Some i)
   root_known numbers q h = by (slice_get order 0) h where
     by : (o : Option Name) → root_turns o ≡ Some q → (i : ℕ) × (root_number o ≡ Some i)
     by None e = absurd cc
@@ -45,11 +45,11 @@ module _ (order : List Name) where
       test true f = (0, refl)
       test false f = absurd cc
 
-  pub up_none : (numbers : List (Option ℕ)) (from n : ℕ) (todo : List ℕ) → known_at order numbers from ≡ None → parent_number (slice_get order from) from ≡ None → LeadDown order from todo n → (q : List Turn) → turns order n ≡ Some q → ⊥
+  pub up_none : (numbers : List (Option ℕ)) (from n : ℕ) (todo : List ℕ) → known_at order numbers from ≡ None → parent_number (slice_get order from) from ≡ None → LeadDown order from todo n → (q : List Turn) → steps_down order n ≡ Some q → ⊥
   up_none numbers from n todo unknown no_parent down q up =
       let (z, uz) = way_up from n todo q down up in
       by from z unknown no_parent uz where
-        by : (b : ℕ) (z : List Turn) → known_at order numbers b ≡ None → parent_number (slice_get order b) b ≡ None → turns order b ≡ Some z → ⊥
+        by : (b : ℕ) (z : List Turn) → known_at order numbers b ≡ None → parent_number (slice_get order b) b ≡ None → steps_down order b ≡ Some z → ⊥
         by zero z unknown no_parent uz = let (i, known) = root_known numbers z uz in let e : Some i ≡ None = sym known ∙ unknown in cc
         by (suc b) z unknown no_parent uz =
             let l = turns_last order b z uz in
@@ -58,28 +58,28 @@ module _ (order : List Name) where
 
 -- ## Down
 
-module _ {S : Type 0} (names : List Name) (rows : List (Row S)) (ok : IsNumbered names rows) where
+module _ {S : Type 0} (names : List Name) (rows : List (Row S)) (ok : StrandsAreNumbered names rows) where
   -- the strand of a fork that was started
-  started_turns : (i : ℕ) (n : Name) (j : ℕ) (q : List Turn) → turns names i ≡ Some q → started_at rows (record n { parent = i }) ≡ Some j → turns names j ≡ Some (q ++ turn_of n ∷ [])
+  started_turns : (i : ℕ) (n : Name) (j : ℕ) (q : List Turn) → steps_down names i ≡ Some q → started_at rows (record n { parent = i }) ≡ Some j → steps_down names j ≡ Some (q ++ turn_of n ∷ [])
   started_turns i n j q up h = by (slice_get rows i) refl h where
-    side : (right : Bool) (f : ℕ) (t : Row S) (x : Sides) → slice_get rows i ≡ Some t → slice_get t.forks.items f ≡ Some x → number_of x right ≡ j → turns names j ≡ Some (q ++ turn_to (suc f) right ∷ [])
-    side true f t x there here e = ap (turns names) (sym e) ∙ turns_of_right names rows ok i f t x q there here up
-    side false f t x there here e = ap (turns names) (sym e) ∙ turns_of_left names rows ok i f t x q there here up
+    side : (right : Bool) (f : ℕ) (t : Row S) (x : Sides) → slice_get rows i ≡ Some t → slice_get t.forks.items f ≡ Some x → number_of x right ≡ j → steps_down names j ≡ Some (q ++ turn_to (suc f) right ∷ [])
+    side true f t x there here e = ap (steps_down names) (sym e) ∙ turns_of_right names rows ok i f t x q there here up
+    side false f t x there here e = ap (steps_down names) (sym e) ∙ turns_of_left names rows ok i f t x q there here up
 
-    fork : (right : Bool) (f : ℕ) (t : Row S) → slice_get rows i ≡ Some t → (o : Option Sides) → slice_get t.forks.items f ≡ o → side_of right o ≡ Some j → turns names j ≡ Some (q ++ turn_to (suc f) right ∷ [])
+    fork : (right : Bool) (f : ℕ) (t : Row S) → slice_get rows i ≡ Some t → (o : Option Sides) → slice_get t.forks.items f ≡ o → side_of right o ≡ Some j → steps_down names j ≡ Some (q ++ turn_to (suc f) right ∷ [])
     fork right f t there None here e = absurd cc
     fork right f t there (Some x) here e = side right f t x there here cc
 
-    row : (t : Row S) (g : ℕ) (right : Bool) → slice_get rows i ≡ Some t → started_of (Some t) g right ≡ Some j → turns names j ≡ Some (q ++ turn_to g right ∷ [])
+    row : (t : Row S) (g : ℕ) (right : Bool) → slice_get rows i ≡ Some t → started_of (Some t) g right ≡ Some j → steps_down names j ≡ Some (q ++ turn_to g right ∷ [])
     row t zero right there e = absurd cc
     row t (suc f) right there e = fork right f t there (slice_get t.forks.items f) refl e
 
-    by : (o : Option (Row S)) → slice_get rows i ≡ o → started_of o n.fork n.right ≡ Some j → turns names j ≡ Some (q ++ turn_of n ∷ [])
+    by : (o : Option (Row S)) → slice_get rows i ≡ o → started_of o n.fork n.right ≡ Some j → steps_down names j ≡ Some (q ++ turn_of n ∷ [])
     by None there e = absurd cc
     by (Some t) there e = row t n.fork n.right there e
 
   -- beneath a fork that was not started is no strand
-  not_started : (i : ℕ) (n : Name) (j : ℕ) (q r : List Turn) → turns names i ≡ Some q → started_at rows (record n { parent = i }) ≡ None → turns names j ≡ Some (q ++ turn_of n ∷ r) → ⊥
+  not_started : (i : ℕ) (n : Name) (j : ℕ) (q r : List Turn) → steps_down names i ≡ Some q → started_at rows (record n { parent = i }) ≡ None → steps_down names j ≡ Some (q ++ turn_of n ∷ r) → ⊥
   not_started i n j q r up h uj =
       let d = turns_down names j q r (turn_of n) uj in
       let (t, f, x, there, fork, here, number) = ok.named d.number d.name d.here in
@@ -106,40 +106,40 @@ module _ (code : Code) where
   abbrev rows : List (Row Standing)
   rows = code.strands.rows.items
 
-  nowhere_by : (order : List Name) (n i : ℕ) (x : Name) (q r : List Turn) → turns names i ≡ Some q → started_at rows (record x { parent = i }) ≡ None → turns order n ≡ Some (q ++ turn_of x ∷ r) → StandsNowhere order n code
+  nowhere_by : (order : List Name) (n i : ℕ) (x : Name) (q r : List Turn) → steps_down names i ≡ Some q → started_at rows (record x { parent = i }) ≡ None → steps_down order n ≡ Some (q ++ turn_of x ∷ r) → StandsNowhere order n code
   nowhere_by order n i x q r up none named job m z is uz =
-      at_is (strands_of job) m.strands z ∙ by (spot m.strands z) refl where
+      at_is (strands_of_job job) m.strands z ∙ by (spot m.strands z) refl where
         same : z ≡ q ++ turn_of x ∷ r
         same = let e : Some z ≡ Some (q ++ turn_of x ∷ r) = sym uz ∙ named in cc
 
-        by : (o : Option (Spot StrandState)) → spot m.strands z ≡ o → at_spot (strands_of job) (spot m.strands z) ≡ None
-        by None e = ap (at_spot (strands_of job)) e
+        by : (o : Option (Spot StrandState)) → spot m.strands z ≡ o → at_spot (strands_of_job job) (spot m.strands z) ≡ None
+        by None e = ap (at_spot (strands_of_job job)) e
         by (Some v) e =
             let (j, uj) = listed state_of code.strands m.strands is.strands z v e in
             absurd (not_started names rows is.strands.numbered i x j q r up none (uj ∙ ap (λ y. Some y) same))
 
   -- a name that is led down to, from one beneath which is this one
-  down_path : (order : List Name) (from n : ℕ) (todo : List ℕ) (q : List Turn) → LeadDown order from todo n → turns order from ≡ Some q → (r : List Turn) × (turns order n ≡ Some (q ++ r))
-  down_path order from n [] q e up = ([], ap (turns order) (sym e) ∙ (up ∙ ap (λ v. Some v) (sym (append-nil q))))
+  down_path : (order : List Name) (from n : ℕ) (todo : List ℕ) (q : List Turn) → LeadDown order from todo n → steps_down order from ≡ Some q → (r : List Turn) × (steps_down order n ≡ Some (q ++ r))
+  down_path order from n [] q e up = ([], ap (steps_down order) (sym e) ∙ (up ∙ ap (λ v. Some v) (sym (append-nil q))))
   down_path order from n (a ∷ rest) q (x, here, parent, low, down) up =
       let (r, un) = down_path order a n rest (q ++ turn_of x ∷ []) down (step a low here) in
       (turn_of x ∷ r, un ∙ ap (λ v. Some v) (append_assoc q (turn_of x ∷ []) r)) where
-        step : (b : ℕ) → from < b → slice_get order b ≡ Some x → turns order b ≡ Some (q ++ turn_of x ∷ [])
+        step : (b : ℕ) → from < b → slice_get order b ≡ Some x → steps_down order b ≡ Some (q ++ turn_of x ∷ [])
         step zero low here = absurd (omega arith)
-        step (suc b) low here = turns_step order b x q here (omega arith) (ap (turns order) parent ∙ up)
+        step (suc b) low here = turns_step order b x q here (omega arith) (ap (steps_down order) parent ∙ up)
 
   pub record Descends (old : Known) (number : ℕ) (todo : List ℕ) (now : Known) (above : ℕ) (left : List ℕ) : Type 0 where
     pub order : now.order.now ≡ old.order.now
-    pub down : IsNumbered names rows → (from n : ℕ) → LeadDown old.order.now from todo n → SameStrand old.order.now names from number → AreKnown old.order.now old.numbers.items names
+    pub down : StrandsAreNumbered names rows → (from n : ℕ) → LeadDown old.order.now from todo n → SameStrand old.order.now names from number → AreKnown old.order.now old.numbers.items names
         → (at : ℕ) × LeadDown old.order.now at left n × SameStrand old.order.now names at above × AreKnown old.order.now now.numbers.items names
 
   -- a name of the order that is led down by
   first_name : (order : List Name) (at a n : ℕ) (rest : List ℕ) → LeadDown order at (a ∷ rest) n → (x : Name) × (slice_get order a ≡ Some x) × (x.parent ≡ at) × (at < a) × LeadDown order a rest n
   first_name order at a n rest h = h
 
-  child_turns : (order : List Name) (at a : ℕ) (x : Name) (q : List Turn) → slice_get order a ≡ Some x → x.parent ≡ at → at < a → turns order at ≡ Some q → turns order a ≡ Some (q ++ turn_of x ∷ [])
+  child_turns : (order : List Name) (at a : ℕ) (x : Name) (q : List Turn) → slice_get order a ≡ Some x → x.parent ≡ at → at < a → steps_down order at ≡ Some q → steps_down order a ≡ Some (q ++ turn_of x ∷ [])
   child_turns order at zero x q here parent low up = absurd (omega arith)
-  child_turns order at (suc a) x q here parent low up = turns_step order a x q here (omega arith) (ap (turns order) parent ∙ up)
+  child_turns order at (suc a) x q here parent low up = turns_step order a x q here (omega arith) (ap (steps_down order) parent ∙ up)
 
   note_known : (order : List Name) (numbers : List (Option ℕ)) (a j : ℕ) → AreKnown order numbers names → SameStrand order names a j → AreKnown order (set numbers a (Some j)) names
   note_known order numbers a j known same n i h = by (cases_eq a n) where
@@ -169,7 +169,7 @@ module _ (code : Code) where
 
     -- where the next strand was not started, none of those beneath it stands
     pub descends_none : (x : Name) → slice_get mid.order.now a ≡ Some x → started_at rows (record x { parent = above }) ≡ None
-        → IsNumbered names rows → (from n : ℕ) → LeadDown old.order.now from todo n → SameStrand old.order.now names from number → AreKnown old.order.now old.numbers.items names → StandsNowhere old.order.now n code × AreKnown old.order.now mid.numbers.items names
+        → StrandsAreNumbered names rows → (from n : ℕ) → LeadDown old.order.now from todo n → SameStrand old.order.now names from number → AreKnown old.order.now old.numbers.items names → StandsNowhere old.order.now n code × AreKnown old.order.now mid.numbers.items names
     descends_none x here none ok from n lead same known =
         let (at, lead_now, here_now, all) = d.down ok from n lead same known in
         let (y, yonder, parent, low, further) = first_name old.order.now at a n rest (subst (λ l. LeadDown old.order.now at l n) popped lead_now) in
@@ -179,7 +179,7 @@ module _ (code : Code) where
 
     -- each name that leads down is one of the order
     pub descends_named : slice_get mid.order.now a ≡ None
-        → IsNumbered names rows → (from n : ℕ) → LeadDown old.order.now from todo n → SameStrand old.order.now names from number → AreKnown old.order.now old.numbers.items names → StandsNowhere old.order.now n code × AreKnown old.order.now mid.numbers.items names
+        → StrandsAreNumbered names rows → (from n : ℕ) → LeadDown old.order.now from todo n → SameStrand old.order.now names from number → AreKnown old.order.now old.numbers.items names → StandsNowhere old.order.now n code × AreKnown old.order.now mid.numbers.items names
     descends_named none ok from n lead same known =
         let (at, lead_now, here_now, all) = d.down ok from n lead same known in
         let (y, yonder, parent, low, further) = first_name old.order.now at a n rest (subst (λ l. LeadDown old.order.now at l n) popped lead_now) in

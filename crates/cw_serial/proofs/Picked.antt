@@ -10,20 +10,20 @@ use Rattle.cw_serial.specs.declared.standing.Standing.{Standing}
 use Rattle.cw_serial.specs.declared.machine.Machine.{Machine as Code}
 use Rattle.cw_serial.specs.declared.table.Table.{Table}
 use Rattle.cw_serial.specs.Jobs.{Job}
-use Rattle.cw_serial.specs.Room.Strands.{StrandState, state_of, strands_of}
+use Rattle.cw_serial.specs.Room.Strands.{StrandState, state_of, strands_of_job}
 use Rattle.cw_serial.specs.StrandTree.{StrandTree, put}
 use Rattle.cw_serial.specs.Wants.{answer_to, memory_after, outputs_after, blocks_after}
-use Rattle.cw_serial.specs.Machine.{Begun, Machine, same_name, turns, may_pick, pick_at, pick}
+use Rattle.cw_serial.specs.Machine.{Begun, Machine, same_name, steps_down, may_pick, pick_at, pick}
 use Rattle.cw_serial.specs.Spots.{IsSettled}
-use Rattle.cw_serial.specs.Held.{Holds, IsFront, Answers, SettlesTo, strand_of, want_of, want_at}
+use Rattle.cw_serial.specs.Held.{Holds, IsFront, Answers, SettlesTo, strand_in_row, want_of, want_at}
 use Rattle.cw_serial.specs.InMemory.{AreBegun, begun_after, IsMachine, IsDone, DoesWant, Picks}
 use Rattle.cw_serial.proofs.Replaced.{at_is, at_spot}
 use Rattle.cw_serial.proofs.Answered.{StandsAt, stands_at, nobody_at, strand_is, answered_comes}
 use Rattle.cw_serial.proofs.Blocks.{AreAlike, begun_more, alike_none, alike_some, blocks_alike}
 
-module _ (job : Job) (old : Code) (m : Machine StrandState) (is : IsMachine job old m) (n : ℕ) (q : List Turn) (up : turns old.strands.names.items n ≡ Some q) where
+module _ (job : Job) (old : Code) (m : Machine StrandState) (is : IsMachine job old m) (n : ℕ) (q : List Turn) (up : steps_down old.strands.names.items n ≡ Some q) where
   abbrev s : Strands StrandState
-  s = strands_of job
+  s = strands_of_job job
 
   module _ (w : Want) (wants : want_at s state_of old.strands.rows.items n ≡ Some w) where
     here : StandsAt s state_of old.strands m.strands is.strands n q w
@@ -94,5 +94,5 @@ module _ (job : Job) (old : Code) (m : Machine StrandState) (is : IsMachine job 
   none_stands none = subst (λ o. Picks job m o false old) (sym (ap (pick_at s m q) (nobody_at s state_of old.strands m.strands is.strands n q up none))) is
 
 -- a number that no strand has wants nothing
-pub unknown_wants : (job : Job) (code : Code) (m : Machine StrandState) → IsMachine job code m → (i : ℕ) → length code.strands.names.items ≤ i → want_at (strands_of job) state_of code.strands.rows.items i ≡ None
-unknown_wants job code m is i past = ap (λ o. want_of (strands_of job) state_of (strand_of o)) (slice_get_past code.strands.rows.items i (omega (arith, past, is.strands.numbered.same)))
+pub unknown_wants : (job : Job) (code : Code) (m : Machine StrandState) → IsMachine job code m → (i : ℕ) → length code.strands.names.items ≤ i → want_at (strands_of_job job) state_of code.strands.rows.items i ≡ None
+unknown_wants job code m is i past = ap (λ o. want_of (strands_of_job job) state_of (strand_in_row o)) (slice_get_past code.strands.rows.items i (omega (arith, past, is.strands.numbered.same)))

@@ -1,7 +1,7 @@
 -- A tree of strands in which one strand is replaced by a tree.
 use Rattle.std.proofs.Common.{◌≡◌, ℕ, ◌==◌, refl, ap, sym, ◌∙◌, if◌then◌else◌, Bool, true, false, Option, Some, None, List, [], ◌∷◌, ◌++◌}
 use Rattle.cw_tree.specs.declared.picks.Turn.{Turn}
-use Rattle.cw_strand.specs.Strands.{Strands, is_over, is_fork}
+use Rattle.cw_strand.specs.Strands.{Strands, is_over, wants_fork}
 use Rattle.cw_serial.specs.StrandTree.{StrandTree, stands, waits, side_by, ended, meet, goes_on, at, put}
 use Rattle.cw_serial.specs.Spots.{turn_to, Spot, standing, waiting, spot, settle, Apart, IsSettled}
 use Rattle.cw_serial.proofs.Sides.{side_same, side_left, side_right, side_none, Way, to_left, to_right, nowhere, way}
@@ -174,7 +174,7 @@ module _ {A : Type 0} (s : Strands A) where
 
   -- no standing strand wants a fork, and no two at their ends wait for a join
   abbrev pub NoForks : StrandTree A → Type 0
-  NoForks t = (p : List Turn) (k : ℕ) (a : A) → spot t p ≡ Some (standing k a) → is_fork (s.want a) ≡ false
+  NoForks t = (p : List Turn) (k : ℕ) (a : A) → spot t p ≡ Some (standing k a) → wants_fork (s.want a) ≡ false
 
   abbrev pub NoJoins : StrandTree A → Type 0
   NoJoins t = (p : List Turn) (k i j : ℕ) (x y : A) → spot t p ≡ Some (waiting k) → spot t (p ++ turn_to k false ∷ []) ≡ Some (standing i x) → spot t (p ++ turn_to k true ∷ []) ≡ Some (standing j y)
@@ -204,10 +204,10 @@ module _ {A : Type 0} (s : Strands A) where
   )
 
   pub settled_no_forks : (t : StrandTree A) → IsSettled s t → NoForks t
-  settled_no_forks (stands n b) d [] k a h = let e : b ≡ a = cc in ap (λ z. is_fork (s.want z)) (sym e) ∙ d
+  settled_no_forks (stands n b) d [] k a h = let e : b ≡ a = cc in ap (λ z. wants_fork (s.want z)) (sym e) ∙ d
   settled_no_forks (stands n b) d (x ∷ p) k a h = absurd cc
   settled_no_forks (waits n l r) d [] k a h = absurd cc
-  settled_no_forks (waits n l r) d (x ∷ p) k a h = spot_side n l r x p (is_fork (s.want a) ≡ false) (standing k a) h (λ e f. settled_no_forks l d.0 p k a f) (λ e f. settled_no_forks r d.1 p k a f)
+  settled_no_forks (waits n l r) d (x ∷ p) k a h = spot_side n l r x p (wants_fork (s.want a) ≡ false) (standing k a) h (λ e f. settled_no_forks l d.0 p k a f) (λ e f. settled_no_forks r d.1 p k a f)
 
   ended_here : (t : StrandTree A) (i : ℕ) (x : A) → spot t [] ≡ Some (standing i x) → is_over (s.want x) ≡ true → ended s t ≡ Some x
   ended_here (waits k l r) i x h o = absurd cc

@@ -10,9 +10,9 @@ use Rattle.cw_serial.specs.declared.table.Sides.{Sides}
 use Rattle.cw_serial.specs.declared.table.Row.{Row}
 use Rattle.cw_serial.specs.declared.table.Table.{Table}
 use Rattle.cw_serial.specs.StrandTree.{stands, goes_on}
-use Rattle.cw_serial.specs.Machine.{turns}
+use Rattle.cw_serial.specs.Machine.{steps_down}
 use Rattle.cw_serial.specs.Spots.{standing, spot}
-use Rattle.cw_serial.specs.Held.{root, IsPlace, Starts, SettlesTo, want_at, awaited_at}
+use Rattle.cw_serial.specs.Held.{root, IsSpotAt, Starts, SettlesTo, want_at, awaited_at}
 use Rattle.cw_serial.proofs.Numbers.{turns_first}
 use Rattle.cw_serial.proofs.Waiting.{want_there, awaited_there}
 use Rattle.cw_serial.proofs.Joining.{place_is}
@@ -40,10 +40,10 @@ module _ {S A : Type 0} (s : Strands A) (state : S → A) (old new : Table S) (s
   no_names_more : (j : ℕ) (n : Name) → slice_get new.names.items (suc j) ≡ Some n → ⊥
   no_names_more j n h = let e : None ≡ Some n = ap (λ ns. slice_get ns (suc j)) (sym names_are) ∙ h in cc
 
-  at_place : (i : ℕ) (z : List Turn) (row : Row S) → turns new.names.items i ≡ Some z → slice_get new.rows.items i ≡ Some row → IsPlace state row.place (length row.forks.items) (spot (stands 0 a) z)
+  at_place : (i : ℕ) (z : List Turn) (row : Row S) → steps_down new.names.items i ≡ Some z → slice_get new.rows.items i ≡ Some row → IsSpotAt state row.place (length row.forks.items) (spot (stands 0 a) z)
   at_place i z row up here =
       let (e, same) = row_alone i row here in
-      let path : z ≡ [] = turns_first new.names.items z (ap (turns new.names.items) (sym e) ∙ up) in
+      let path : z ≡ [] = turns_first new.names.items z (ap (steps_down new.names.items) (sym e) ∙ up) in
       place_is state row.place (Stands strand) (length row.forks.items) 0 (spot (stands 0 a) z) (Some (standing 0 a)) (ap (λ (v : Row S). v.place) (sym same) ∙ starts.place) (ap (λ (v : Row S). length v.forks.items) (sym same) ∙ ap length starts.forks) (ap (spot (stands 0 a)) path) (refl, is)
 
   only_root : (i : ℕ) → want_at s state new.rows.items i ≡ Some Fork → Contains (0 ∷ []) i

@@ -10,7 +10,7 @@ use Rattle.cw_serial.specs.declared.table.Place.TheVariants.{Stands, Waits, Gone
 use Rattle.cw_serial.specs.declared.table.Sides.{Sides}
 use Rattle.cw_serial.specs.declared.table.Row.{Row}
 use Rattle.cw_serial.specs.declared.table.Table.{Table}
-use Rattle.cw_serial.specs.Held.{strand_in, strand_of, want_of, want_at, over_by, over_at, awaited_in, awaited_of, awaited_at, Puts, Joins}
+use Rattle.cw_serial.specs.Held.{strand_in, strand_in_row, want_of, want_at, over_by, over_at, awaited_in, awaited_of, awaited_at, Puts, Joins}
 use Rattle.cw_serial.proofs.Numbered.{set_here, set_elsewhere}
 
 -- a strand at its end wants no fork
@@ -74,7 +74,7 @@ module _ {S A : Type 0} (s : Strands A) (state : S → A) where
   module _ (rows : List (Row S)) (i : ℕ) where
     -- what is wanted where a strand stands
     pub want_here : (row : Row S) (st : S) → slice_get rows i ≡ Some row → row.place ≡ Stands st → want_at s state rows i ≡ Some (s.want (state st))
-    want_here row st here stands = ap (λ o. want_of s state (strand_of o)) here ∙ ap (λ pl. want_of s state (strand_in pl)) stands
+    want_here row st here stands = ap (λ o. want_of s state (strand_in_row o)) here ∙ ap (λ pl. want_of s state (strand_in pl)) stands
 
     pub record Standing (w : Want) : Type 0 where
       pub row : Row S
@@ -90,7 +90,7 @@ module _ {S A : Type 0} (s : Strands A) (state : S → A) where
       at_place row Waits here stands e = absurd cc
       at_place row Gone here stands e = absurd cc
 
-      by : (o : Option (Row S)) → slice_get rows i ≡ o → want_of s state (strand_of o) ≡ Some w → Standing w
+      by : (o : Option (Row S)) → slice_get rows i ≡ o → want_of s state (strand_in_row o) ≡ Some w → Standing w
       by None here e = absurd cc
       by (Some row) here e = at_place row row.place here refl e
 
@@ -125,7 +125,7 @@ module _ {S A : Type 0} (s : Strands A) (state : S → A) where
 
   -- the right strand of a fork is at its end, though the left one has gone
   pub over_still : (old new : Table S) (x : Sides) (former : Place S) → over_at s state old.rows.items x.right ≡ true → Puts old x.left Gone former new → over_at s state new.rows.items x.right ≡ true
-  over_still old new x former over puts = ap (λ o. over_by (want_of s state (strand_of o))) (puts_elsewhere old new x.left x.right Gone former puts (sides_apart x)) ∙ over
+  over_still old new x former over puts = ap (λ o. over_by (want_of s state (strand_in_row o))) (puts_elsewhere old new x.left x.right Gone former puts (sides_apart x)) ∙ over
 
   pub join_made : (old one two new : Table S) (i : ℕ) (x : Sides) (left right joined : S) (former : Place S) → awaited_at old.rows.items i ≡ Some x
       → over_at s state old.rows.items x.left ≡ true → over_at s state old.rows.items x.right ≡ true

@@ -3,7 +3,7 @@ use Rattle.std.proofs.Common.{◌≡◌, ℕ, ℤ, zero, suc, List, [], ◌∷�
 use Rattle.std.specs.Prelude.{option_map}
 use Rattle.cw_strand.specs.declared.want.Want.{Want}
 use Rattle.cw_strand.specs.declared.want.Want.TheVariants.{Begin, End, Fork, Sync, Done, Fault}
-use Rattle.cw_strand.specs.Strands.{Strands, IsDeep, is_over, is_fork, takes_answer, IsAnswer, own_after, MayWant, GoesTo, stays, answered, joins, Reached, of_main, of_left, of_right, Closes}
+use Rattle.cw_strand.specs.Strands.{Strands, IsDeep, is_over, wants_fork, takes_answer, IsAnswer, own_after, MayWant, GoesTo, stays, answered, joins, Reached, of_main, of_left, of_right, Closes}
 use Rattle.cw_serial.specs.StrandTree.{stands, ended, meet, goes_on, at, put}
 use Rattle.cw_serial.specs.Wants.{answer_to, memory_after, outputs_after, blocks_after}
 use Rattle.cw_serial.specs.Machine.{Begun, Machine, same_name, does, pick_at, pick}
@@ -113,7 +113,7 @@ module _ {A : Type 0} (s : Strands A) where
   own_after_act (Fault k) c b d m = absurd (cc d)
   own_after_act _ c b d m = refl
 
-  pub stands_by : (w : Want) → takes_answer w ≡ true → (is_over w ≡ false) × (is_fork w ≡ false)
+  pub stands_by : (w : Want) → takes_answer w ≡ true → (is_over w ≡ false) × (wants_fork w ≡ false)
   stands_by Fork d = absurd (cc d)
   stands_by Sync d = absurd (cc d)
   stands_by Done d = absurd (cc d)
@@ -143,21 +143,21 @@ module _ {A : Type 0} (s : Strands A) where
         record { runs = subst P (own_after_act v w.branches w.blocks d (closes _ _ (reached h))) (goes_beneath w.branches _ _ _ _ (λ from first g. answered g (answer_to v w.memory) (is_answer v w.memory d)) h.runs) }
 
     -- where the strand that is run stands
-    stands_here : (w : Worker A) → is_fork (s.want w.strand) ≡ false → is_over (s.want w.strand) ≡ false → ended s (goes_on s w.forks w.strand) ≡ None
+    stands_here : (w : Worker A) → wants_fork (s.want w.strand) ≡ false → is_over (s.want w.strand) ≡ false → ended s (goes_on s w.forks w.strand) ≡ None
     stands_here w f o = ap (ended s) (goes_nowhere s w.forks w.strand f) ∙ ap (λ b. cond b (Some w.strand) None) o
 
-    pub at_here : (w : Worker A) → is_fork (s.want w.strand) ≡ false → is_over (s.want w.strand) ≡ false → at s (machine_at w).strands (way w.branches) ≡ Some w.strand
+    pub at_here : (w : Worker A) → wants_fork (s.want w.strand) ≡ false → is_over (s.want w.strand) ≡ false → at s (machine_at w).strands (way w.branches) ≡ Some w.strand
     at_here w f o =
         ap (at s (plugged s w.branches (goes_on s w.forks w.strand))) (sym (append-nil (way w.branches)))
         ∙ (at_plugged s w.branches (goes_on s w.forks w.strand) [] (stands_here w f o)
         ∙ ap (λ t. at s t []) (goes_nowhere s w.forks w.strand f))
 
-    pub leftmost_here : (w : Worker A) → IsAtWork w → is_fork (s.want w.strand) ≡ false → is_over (s.want w.strand) ≡ false → leftmost s (machine_at w).strands ≡ Some (way w.branches)
+    pub leftmost_here : (w : Worker A) → IsAtWork w → wants_fork (s.want w.strand) ≡ false → is_over (s.want w.strand) ≡ false → leftmost s (machine_at w).strands ≡ Some (way w.branches)
     leftmost_here w h f o =
         leftmost_plugged s w.branches (goes_on s w.forks w.strand) [] (has_passed w.branches _ _ h.runs) (stands_here w f o) (ap (leftmost s) (goes_nowhere s w.forks w.strand f) ∙ ap (λ b. cond b None (Some [])) o)
         ∙ ap Some (append-nil (way w.branches))
 
-    put_here : (w : Worker A) (b : A) → is_fork (s.want w.strand) ≡ false → is_over (s.want w.strand) ≡ false → put s (plugged s w.branches (goes_on s w.forks w.strand)) (way w.branches) b ≡ plugged s w.branches (goes_on s w.forks b)
+    put_here : (w : Worker A) (b : A) → wants_fork (s.want w.strand) ≡ false → is_over (s.want w.strand) ≡ false → put s (plugged s w.branches (goes_on s w.forks w.strand)) (way w.branches) b ≡ plugged s w.branches (goes_on s w.forks b)
     put_here w b f o =
         ap (λ p. put s (plugged s w.branches (goes_on s w.forks w.strand)) p b) (sym (append-nil (way w.branches)))
         ∙ (put_plugged s w.branches (goes_on s w.forks w.strand) [] b (stands_here w f o)

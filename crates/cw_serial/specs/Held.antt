@@ -12,7 +12,7 @@ use Rattle.cw_serial.specs.declared.table.Sides.{Sides}
 use Rattle.cw_serial.specs.declared.table.Row.{Row}
 use Rattle.cw_serial.specs.declared.table.Table.{Table}
 use Rattle.cw_serial.specs.StrandTree.{StrandTree}
-use Rattle.cw_serial.specs.Machine.{turns}
+use Rattle.cw_serial.specs.Machine.{steps_down}
 use Rattle.cw_serial.specs.Spots.{Spot, standing, waiting, spot, settle}
 
 -- ## The strands of a tree
@@ -52,7 +52,7 @@ answers_by (Some w) = takes_answer w
 module _ {S : Type 0} where
   -- The root is number 0. Each other strand is one of the two of a fork of the strand that its name gives, whose number is smaller; and
   -- the strands of each fork are numbered.
-  pub record IsNumbered (names : List Name) (rows : List (Row S)) : Type 0 where
+  pub record StrandsAreNumbered (names : List Name) (rows : List (Row S)) : Type 0 where
     pub same : length names ≡ length rows
     pub first : slice_get names 0 ≡ Some root
     pub forked : (i f : ℕ) (r : Row S) (x : Sides) → slice_get rows i ≡ Some r → slice_get r.forks.items f ≡ Some x
@@ -64,13 +64,13 @@ module _ {S : Type 0} where
   strand_in (Stands x) = Some x
   strand_in place = None
 
-  abbrev pub strand_of : Option (Row S) → Option S
-  strand_of None = None
-  strand_of (Some r) = strand_in r.place
+  abbrev pub strand_in_row : Option (Row S) → Option S
+  strand_in_row None = None
+  strand_in_row (Some r) = strand_in r.place
 
   -- the strand that stands there
   abbrev pub strand_at : List (Row S) → ℕ → Option S
-  strand_at rows i = strand_of (slice_get rows i)
+  strand_at rows i = strand_in_row (slice_get rows i)
 
   abbrev pub awaited_in : Place S → List Sides → Option Sides
   awaited_in Waits forks = slice_get forks (length forks - 1)
@@ -124,17 +124,17 @@ module _ {S : Type 0} where
 
 module _ {S A : Type 0} (state : S → A) where
   -- A strand of so many forks is at this spot of the tree.
-  abbrev pub IsPlace : Place S → ℕ → Option (Spot A) → Type 0
-  IsPlace (Stands x) forks (Some (standing k a)) = (forks ≡ k) × (state x ≡ a)
-  IsPlace Waits forks (Some (waiting k)) = (forks ≡ k) × (0 < k)
-  IsPlace Gone forks None = Unit {0}
-  IsPlace place forks at_name = ⊥
+  abbrev pub IsSpotAt : Place S → ℕ → Option (Spot A) → Type 0
+  IsSpotAt (Stands x) forks (Some (standing k a)) = (forks ≡ k) × (state x ≡ a)
+  IsSpotAt Waits forks (Some (waiting k)) = (forks ≡ k) × (0 < k)
+  IsSpotAt Gone forks None = Unit {0}
+  IsSpotAt place forks at_name = ⊥
 
   -- The strands in memory are those of the tree, by their names.
   pub record Holds (table : Table S) (t : StrandTree A) : Type 0 where
-    pub numbered : IsNumbered table.names.items table.rows.items
-    pub places : (i : ℕ) (p : List Turn) (r : Row S) → turns table.names.items i ≡ Some p → slice_get table.rows.items i ≡ Some r
-        → IsPlace r.place (length r.forks.items) (spot t p)
+    pub numbered : StrandsAreNumbered table.names.items table.rows.items
+    pub places : (i : ℕ) (p : List Turn) (r : Row S) → steps_down table.names.items i ≡ Some p → slice_get table.rows.items i ≡ Some r
+        → IsSpotAt r.place (length r.forks.items) (spot t p)
 
 -- ## What strands in memory want, and what becomes of them
 

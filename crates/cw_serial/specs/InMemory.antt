@@ -10,10 +10,10 @@ use Rattle.cw_serial.specs.declared.machine.Begun.{Begun as Block}
 use Rattle.cw_serial.specs.Jobs.{Job}
 use Rattle.cw_code.specs.declared.program.Program.{Program}
 use Rattle.cw_serial.specs.AreOf.{AreOf}
-use Rattle.cw_serial.specs.Room.Strands.{StrandState, state_of, strands_of}
+use Rattle.cw_serial.specs.Room.Strands.{StrandState, state_of, strands_of_job}
 use Rattle.cw_serial.specs.StrandTree.{StrandTree, at}
 use Rattle.cw_serial.specs.Wants.{answer_to, memory_after, outputs_after, blocks_after}
-use Rattle.cw_serial.specs.Machine.{Begun, Machine, turns}
+use Rattle.cw_serial.specs.Machine.{Begun, Machine, steps_down}
 use Rattle.cw_serial.specs.Spots.{IsSettled}
 use Rattle.cw_serial.specs.Held.{root, left_name, right_name, Holds}
 
@@ -24,7 +24,7 @@ names_in code = code.strands.names.items
 -- these blocks were begun by the strands of these names
 abbrev pub AreBegun : List Name → List Block → List Begun → Type 0
 AreBegun names [] [] = Unit {0}
-AreBegun names (n ∷ ns) (q ∷ qs) = (turns names n.strand ≡ Some q.strand) × AreBegun names ns qs
+AreBegun names (n ∷ ns) (q ∷ qs) = (steps_down names n.strand ≡ Some q.strand) × AreBegun names ns qs
 AreBegun names ns qs = ⊥
 
 -- The machine of the job is in this state.
@@ -32,7 +32,7 @@ pub record IsMachine (job : Job) (code : Code) (m : Machine StrandState) : Type 
   pub memory : m.memory ≡ code.memory.items
   pub outputs : m.outputs ≡ code.outputs.items
   pub strands : Holds state_of code.strands m.strands
-  pub settled : IsSettled (strands_of job) m.strands
+  pub settled : IsSettled (strands_of_job job) m.strands
   pub begun : AreBegun (names_in code) code.begun m.begun
 
 -- The strands of the machine are those of this program.
@@ -45,11 +45,11 @@ Runs program code = AreOf program code.strands.rows.items
 pub record AreNames {A : Type 0} (s : Strands A) (names : List Name) (t : StrandTree A) : Type 0 where
   pub first : slice_get names 0 ≡ Some root
   pub parents : (j : ℕ) (n : Name) → slice_get names (suc j) ≡ Some n → n.parent < suc j
-  pub named : (i : ℕ) → i < length names → (q : List Turn) × (turns names i ≡ Some q)
-  pub apart : (i j : ℕ) (q : List Turn) → turns names i ≡ Some q → turns names j ≡ Some q → i ≡ j
+  pub named : (i : ℕ) → i < length names → (q : List Turn) × (steps_down names i ≡ Some q)
+  pub apart : (i j : ℕ) (q : List Turn) → steps_down names i ≡ Some q → steps_down names j ≡ Some q → i ≡ j
   pub forks : (j : ℕ) (n : Name) (f : ℕ) → slice_get names (suc j) ≡ Some n → 0 < f → f ≤ n.fork
       → (l : ℕ) × (r : ℕ) × (slice_get names l ≡ Some (left_name n.parent f)) × (slice_get names r ≡ Some (right_name n.parent f))
-  pub listed : (q : List Turn) (a : A) → at s t q ≡ Some a → (i : ℕ) × (turns names i ≡ Some q)
+  pub listed : (q : List Turn) (a : A) → at s t q ≡ Some a → (i : ℕ) × (steps_down names i ≡ Some q)
 
 -- a want, unless it is an end
 abbrev pub before_end : Option Want → Option Want

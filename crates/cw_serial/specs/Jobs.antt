@@ -11,8 +11,8 @@ pub record Job : Type 0 where
   pub limits : Limits
 
 -- the program's main has so many parameters
-abbrev pub Takes : Program → ℕ → Type 0
-Takes program n = MainTakes program.code program.main n
+abbrev pub TakesWords : Program → ℕ → Type 0
+TakesWords program n = MainTakes program.code program.main n
 
 -- The program as a job without words, and with limits of 0. What a strand of a program wants, and what becomes of it, is the same in
 -- each job of that program.

@@ -98,8 +98,8 @@ turns_in names zero (suc n) = None
 turns_in names (suc k) (suc n) = with_turn (suc n) (slice_get names (suc n)) (turns_in names k (parent_in (slice_get names (suc n))))
 
 -- the name that a number stands for, or none
-abbrev pub turns : List Name → ℕ → Option (List Turn)
-turns names n = turns_in names n n
+abbrev pub steps_down : List Name → ℕ → Option (List Turn)
+steps_down names n = turns_in names n n
 
 -- ## The end
 
@@ -124,13 +124,13 @@ module _ {A : Type 0} (s : Strands A) where
   end_of_named m name (Some p) = end_of_strand name (at s m.strands p)
 
   -- What the machine shows of itself where the picks are used up, so many of them, and the last of these names is that number.
-  abbrev pub shown : Machine A → List Name → (name place : ℕ) → SerialEnd
-  shown m names name place = if has_ended s m then last.Finished m.memory m.outputs else unwrap_or (end_of_named m name (turns names name)) (last.Stuck place)
+  abbrev pub machine_shows : Machine A → List Name → (name place : ℕ) → SerialEnd
+  machine_shows m names name place = if has_ended s m then last.Finished m.memory m.outputs else unwrap_or (end_of_named m name (steps_down names name)) (last.Stuck place)
 
   -- the end under the picks from one place on
   abbrev pub play : Machine A → List Name → List ℕ → (name place : ℕ) → SerialEnd
-  play m names [] name place = shown m names name place
-  play m names (n ∷ ns) name place = then_play (pick_named m (turns names n)) (λ t. play t names ns name (suc place)) where
+  play m names [] name place = machine_shows m names name place
+  play m names (n ∷ ns) name place = then_play (pick_named m (steps_down names n)) (λ t. play t names ns name (suc place)) where
     then_play : Option (Machine A) → (Machine A → SerialEnd) → SerialEnd
     then_play None go = last.Stuck place
     then_play (Some t) go = go t

@@ -9,16 +9,16 @@ use Rattle.cw_serial.specs.declared.play.Play.{Play}
 use Rattle.cw_serial.specs.declared.ends.SerialEnd.{SerialEnd}
 use Rattle.cw_serial.specs.declared.ends.SerialEnd.TheVariants as last
 use Rattle.cw_serial.specs.StrandTree.{at}
-use Rattle.cw_serial.specs.Machine.{Machine, turns, is_root}
+use Rattle.cw_serial.specs.Machine.{Machine, steps_down, is_root}
 use Rattle.cw_serial.specs.Jobs.{Job}
-use Rattle.cw_serial.specs.Room.Strands.{StrandState, strands_of}
+use Rattle.cw_serial.specs.Room.Strands.{StrandState, strands_of_job}
 use Rattle.cw_serial.specs.InMemory.{IsMachine, names_in}
 
 -- name n of an order is that of strand i
 pub record SameStrand (order names : List Name) (n i : ℕ) : Type 0 where
   pub path : List Turn
-  pub here : turns order n ≡ Some path
-  pub there : turns names i ≡ Some path
+  pub here : steps_down order n ≡ Some path
+  pub there : steps_down names i ≡ Some path
 
 -- each number that is known is that of the strand of that name
 abbrev pub AreKnown : (order : List Name) → (numbers : List (Option ℕ)) → (names : List Name) → Type 0
@@ -48,12 +48,12 @@ LeadDown order from (a ∷ rest) n = (x : Name) × (slice_get order a ≡ Some x
 
 -- a name leads up to one whose strand is known; or it is none
 abbrev pub LeadsUp : List Name → List (Option ℕ) → ℕ → Option ℕ → List ℕ → Type 0
-LeadsUp order numbers n None todo = (q : List Turn) → turns order n ≡ Some q → ⊥
+LeadsUp order numbers n None todo = (q : List Turn) → steps_down order n ≡ Some q → ⊥
 LeadsUp order numbers n (Some i) todo = (from : ℕ) × (known_at order numbers from ≡ Some i) × LeadDown order from todo n
 
 -- no strand of that name stands in the machine
 abbrev pub StandsNowhere : List Name → ℕ → Code → Type 0
-StandsNowhere order n code = (job : Job) (m : Machine StrandState) (q : List Turn) → IsMachine job code m → turns order n ≡ Some q → at (strands_of job) m.strands q ≡ None
+StandsNowhere order n code = (job : Job) (m : Machine StrandState) (q : List Turn) → IsMachine job code m → steps_down order n ≡ Some q → at (strands_of_job job) m.strands q ≡ None
 
 -- what is found of a name: the number of its strand, or that none stands
 abbrev pub Finds : List Name → ℕ → Code → Option ℕ → Type 0
@@ -63,13 +63,13 @@ Finds order n code (Some i) = SameStrand order (names_in code) n i
 -- the strand of that number, where there is one, is that of the name; or none of the name stands
 abbrev pub IsNamed : Job → Machine StrandState → Code → Option ℕ → Option (List Turn) → Type 0
 IsNamed job m code None None = Unit {0}
-IsNamed job m code None (Some q) = at (strands_of job) m.strands q ≡ None
-IsNamed job m code (Some i) (Some q) = turns (names_in code) i ≡ Some q
+IsNamed job m code None (Some q) = at (strands_of_job job) m.strands q ≡ None
+IsNamed job m code (Some i) (Some q) = steps_down (names_in code) i ≡ Some q
 IsNamed job m code (Some i) None = ⊥
 
 abbrev pub at_named : Job → Machine StrandState → Option (List Turn) → Option StrandState
 at_named job m None = None
-at_named job m (Some q) = at (strands_of job) m.strands q
+at_named job m (Some q) = at (strands_of_job job) m.strands q
 
 -- ## A machine that is driven by the names of an order
 

@@ -1,7 +1,7 @@
 -- A tree of strands, seen at one name; and what it comes to once the forks and joins that can be made are made.
 use Rattle.std.specs.Prelude.{◌≡◌, ℕ, Bool, false, List, [], ◌∷◌, Option, Some, None}
 use Rattle.cw_tree.specs.declared.picks.Turn.{Turn}
-use Rattle.cw_strand.specs.Strands.{Strands, is_fork}
+use Rattle.cw_strand.specs.Strands.{Strands, wants_fork}
 use Rattle.cw_serial.specs.StrandTree.{StrandTree, stands, waits, side_by, ended, meet, goes_on}
 
 -- the step to the left strand or the right one of a k-th fork
@@ -32,5 +32,5 @@ module _ {A : Type 0} (s : Strands A) where
 
   -- No fork can be made and no join.
   abbrev pub IsSettled : StrandTree A → Type 0
-  IsSettled (stands k a) = is_fork (s.want a) ≡ false
+  IsSettled (stands k a) = wants_fork (s.want a) ≡ false
   IsSettled (waits k l r) = IsSettled l × IsSettled r × Apart (ended s l) (ended s r)

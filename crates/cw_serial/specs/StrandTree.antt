@@ -4,7 +4,7 @@
 -- A strand is named by the steps down to it from the root.
 use Rattle.std.specs.Prelude.{ℕ, zero, suc, ◌==◌, true, false, List, [], ◌∷◌, Option, Some, None, if◌then◌else◌}
 use Rattle.cw_tree.specs.declared.picks.Turn.{Turn}
-use Rattle.cw_strand.specs.Strands.{Strands, is_over, is_fork}
+use Rattle.cw_strand.specs.Strands.{Strands, is_over, wants_fork}
 
 pub data StrandTree (A : Type 0) : Type 0 where
   -- a strand that made so many forks, at a want
@@ -29,7 +29,7 @@ module _ {A : Type 0} (s : Strands A) where
   -- a strand that made k forks makes its next ones, n levels of them
   abbrev pub run_on : ℕ → ℕ → A → StrandTree A
   run_on zero k a = stands k a
-  run_on (suc n) k a = elim (is_fork (s.want a)) [ false ↦ stands k a | true ↦ meet (run_on n) (suc k) (run_on n 0 (s.left a)) (run_on n 0 (s.right a)) ]
+  run_on (suc n) k a = elim (wants_fork (s.want a)) [ false ↦ stands k a | true ↦ meet (run_on n) (suc k) (run_on n 0 (s.left a)) (run_on n 0 (s.right a)) ]
 
   -- all of them
   abbrev pub goes_on : ℕ → A → StrandTree A

@@ -8,7 +8,7 @@
 
 ghost use Rattle.cw_serial.specs.Forks.{ForksAreMade};
 ghost use Rattle.cw_serial.specs.Jobs.{Job};
-ghost use Rattle.cw_serial.specs.Room.Strands.{strands_of};
+ghost use Rattle.cw_serial.specs.Room.Strands.{strands_of_job};
 ghost use Rattle.cw_serial.specs.Room.Rows.{Ends, StrandEnds};
 ghost use Rattle.cw_serial.specs.Rows.{CrossingEnds};
 
@@ -41,5 +41,5 @@ pub fn worked_runs()
 /// A strand that wants a fork makes it at once, and where both its strands have ended the strand that forked goes on, however many
 /// forks and joins follow each other.
 pub fn forks_are_made()
-    ensures { (job : Job) → ForksAreMade (strands_of job) }
+    ensures { (job : Job) → ForksAreMade (strands_of_job job) }
 {}

@@ -30,10 +30,10 @@ pub struct Machine {
 impl Machine {
     ghost use Rattle.std.specs.Prelude.{List, Option, MatchOption, unwrap_or, if◌then◌else◌};
     ghost use Rattle.cw_serial.specs.declared.ends.SerialEnd.TheVariants as last;
-    ghost use Rattle.cw_serial.specs.Jobs.{Job, Takes};
-    ghost use Rattle.cw_serial.specs.Room.Strands.{StrandState, strands_of};
+    ghost use Rattle.cw_serial.specs.Jobs.{Job, TakesWords};
+    ghost use Rattle.cw_serial.specs.Room.Strands.{StrandState, strands_of_job};
     ghost use Rattle.cw_serial.specs.StrandTree.{at};
-    ghost use Rattle.cw_serial.specs.Machine.{Machine as State_of, turns, pick, may_pick, has_ended, end_of_named};
+    ghost use Rattle.cw_serial.specs.Machine.{Machine as State_of, steps_down, pick, may_pick, has_ended, end_of_named};
     ghost use Rattle.cw_serial.specs.MachineOf.{machine_of};
     ghost use Rattle.cw_serial.specs.Held.{IsFront, started_at};
     ghost use Rattle.cw_serial.specs.Orders.{IsNamed, at_named};
@@ -47,7 +47,7 @@ impl Machine {
         words: &[i64],
         limits: Limits,
     ) -> Result<Machine, OutOfMemory>
-        requires { Takes program.now (length words.now) }
+        requires { TakesWords program.now (length words.now) }
         ensures machine { IfOk result (λ m. let job : Job = record { program = program.now; words = words.now; limits = limits } in
             IsMachine job m (machine_of job)) }
         ensures runs { IfOk result (λ m. Runs program.now m) }
@@ -67,7 +67,7 @@ impl Machine {
     pub fn names(&self) -> &[Name]
         ensures items { result.now ≡ names_in self.now }
         ensures names { (job : Job) (m : State_of StrandState) → IsMachine job self.now m →
-            AreNames (strands_of job) result.now m.strands }
+            AreNames (strands_of_job job) result.now m.strands }
     {
         self.strands.names.as_slice()
     }
@@ -75,8 +75,8 @@ impl Machine {
     /// What a strand wants. Nothing where it waits for its fork or has come to its end, or where no strand has this number.
     pub fn at(&self, strand: u32) -> Option<Want>
         ensures wants { (job : Job) (m : State_of StrandState) (q : List Turn) → IsMachine job self.now m →
-            turns (names_in self.now) strand ≡ Some q →
-            result ≡ want_before_end (strands_of job) (at (strands_of job) m.strands q) }
+            steps_down (names_in self.now) strand ≡ Some q →
+            result ≡ want_before_end (strands_of_job job) (at (strands_of_job job) m.strands q) }
         ensures unknown { (job : Job) (m : State_of StrandState) → IsMachine job self.now m →
             length (names_in self.now) ≤ strand → result ≡ None }
     {
@@ -99,7 +99,7 @@ impl Machine {
 
     /// Whether the root has ended.
     pub fn ended(&self) -> bool
-        ensures { (job : Job) (m : State_of StrandState) → IsMachine job self.now m → result ≡ has_ended (strands_of job) m }
+        ensures { (job : Job) (m : State_of StrandState) → IsMachine job self.now m → result ≡ has_ended (strands_of_job job) m }
     {
         self.strands.is_over(0)
     }
@@ -109,8 +109,8 @@ impl Machine {
     pub fn pick(&mut self, program: &Program, strand: u32) -> Result<bool, OutOfMemory>
         requires { Runs program.now self.old }
         ensures picks { IfOk result (λ moved. (job : Job) (m : State_of StrandState) (q : List Turn) → job.program ≡ program.now →
-            IsMachine job self.old m → turns (names_in self.old) strand ≡ Some q →
-            Picks job m (pick (strands_of job) m q) moved self.new) }
+            IsMachine job self.old m → steps_down (names_in self.old) strand ≡ Some q →
+            Picks job m (pick (strands_of_job job) m q) moved self.new) }
         ensures runs { OnOk result (Runs program.now self.new) }
         ensures unknown { IfOk result (λ moved. (job : Job) (m : State_of StrandState) → IsMachine job self.old m →
             length (names_in self.old) ≤ strand → moved ≡ false) }
@@ -135,8 +135,8 @@ impl Machine {
     pub(crate) fn shown(self, strand: Option<u32>, name: u32, place: u32) -> SerialEnd
         ensures { (job : Job) (m : State_of StrandState) (o : Option (List Turn)) → IsMachine job self m →
             IsNamed job m self strand o →
-            result ≡ (if has_ended (strands_of job) m then last.Finished m.memory m.outputs
-            else unwrap_or (end_of_named (strands_of job) m name o) (last.Stuck place)) }
+            result ≡ (if has_ended (strands_of_job job) m then last.Finished m.memory m.outputs
+            else unwrap_or (end_of_named (strands_of_job job) m name o) (last.Stuck place)) }
     {
         if self.ended() {
             return SerialEnd::Finished {
@@ -150,7 +150,7 @@ impl Machine {
     /// What a strand wants, where there is one.
     pub(crate) fn want_of(&self, strand: Option<u32>) -> Option<Want>
         ensures { (job : Job) (m : State_of StrandState) (o : Option (List Turn)) → IsMachine job self.now m →
-            IsNamed job m self.now strand o → result ≡ want_before_end (strands_of job) (at_named job m o) }
+            IsNamed job m self.now strand o → result ≡ want_before_end (strands_of_job job) (at_named job m o) }
     {
         match strand {
             None => None,
@@ -161,7 +161,7 @@ impl Machine {
     /// Whether a strand is inside the innermost begun block.
     fn may_pick(&self, strand: u32) -> bool
         ensures { (job : Job) (m : State_of StrandState) (q : List Turn) → IsMachine job self.now m →
-            turns (names_in self.now) strand ≡ Some q → result ≡ may_pick m.begun q }
+            steps_down (names_in self.now) strand ≡ Some q → result ≡ may_pick m.begun q }
     {
         match self.begun.newest() {
             None => true,

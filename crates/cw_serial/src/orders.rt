@@ -15,7 +15,7 @@ pub struct Known<'n> {
 impl<'n> Known<'n> {
     ghost use Rattle.std.specs.Prelude.{List, ℕ};
     ghost use Rattle.cw_tree.specs.declared.picks.Name.{Name as Named};
-    ghost use Rattle.cw_serial.specs.Held.{IsNumbered};
+    ghost use Rattle.cw_serial.specs.Held.{StrandsAreNumbered};
     ghost use Rattle.cw_serial.specs.InMemory.{names_in};
     ghost use Rattle.cw_serial.specs.Orders.{AreKnown, SameStrand, known_at, parent_number, root_number, LeadsUp, LeadDown, Finds};
 
@@ -40,7 +40,7 @@ impl<'n> Known<'n> {
     ) -> Result<Option<u32>, OutOfMemory>
         ensures order { IfOk result (λ found. self.new.order.now ≡ self.old.order.now) }
         ensures found { IfOk result (λ found.
-            IsNumbered (names_in machine.now) machine.now.strands.rows.items →
+            StrandsAreNumbered (names_in machine.now) machine.now.strands.rows.items →
             AreKnown self.old.order.now self.old.numbers.items (names_in machine.now) →
             Finds self.old.order.now name machine.now found
             × AreKnown self.old.order.now self.new.numbers.items (names_in machine.now)) }
@@ -73,7 +73,7 @@ impl<'n> Known<'n> {
     /// The number of the strand to which these names lead down, if that was started.
     fn descend(&mut self, machine: &Machine, number: u32, mut todo: Stack<u32>) -> Option<u32>
         ensures order { self.new.order.now ≡ self.old.order.now }
-        ensures found { IsNumbered (names_in machine.now) machine.now.strands.rows.items →
+        ensures found { StrandsAreNumbered (names_in machine.now) machine.now.strands.rows.items →
             (from n : ℕ) → LeadDown self.old.order.now from todo n →
             SameStrand self.old.order.now (names_in machine.now) from number →
             AreKnown self.old.order.now self.old.numbers.items (names_in machine.now) →

@@ -1,6 +1,6 @@
 ghost use Rattle.std.specs.Prelude.{◌≡◌, length, IfOk, OnOk};
 ghost use Rattle.cw_serial.specs.InMemory.{Runs};
-ghost use Rattle.cw_serial.specs.Jobs.{Job, Takes};
+ghost use Rattle.cw_serial.specs.Jobs.{Job, TakesWords};
 ghost use Rattle.cw_serial.specs.MachineOf.{end_under, machine_of};
 ghost use Rattle.cw_serial.specs.Orders.{IsPlay};
 
@@ -22,10 +22,10 @@ pub struct Play<'n> {
 impl<'n> Play<'n> {
     ghost use Rattle.std.specs.Prelude.{List};
     ghost use Rattle.cw_tree.specs.declared.picks.Name.{Name as Named};
-    ghost use Rattle.cw_serial.specs.Machine.{Machine as State_of, pick_named, shown, turns};
+    ghost use Rattle.cw_serial.specs.Machine.{Machine as State_of, pick_named, machine_shows, steps_down};
     ghost use Rattle.cw_serial.specs.InMemory.{want_before_end};
     ghost use Rattle.cw_serial.specs.Orders.{at_named, Plays};
-    ghost use Rattle.cw_serial.specs.Room.Strands.{StrandState, strands_of};
+    ghost use Rattle.cw_serial.specs.Room.Strands.{StrandState, strands_of_job};
 
     /// The machine before the first pick.
     pub fn new(
@@ -35,7 +35,7 @@ impl<'n> Play<'n> {
         limits: Limits,
         names: &'n [Name],
     ) -> Result<Play<'n>, OutOfMemory>
-        requires { Takes program.now (length words.now) }
+        requires { TakesWords program.now (length words.now) }
         ensures play { IfOk result (λ play. let job : Job = record { program = program.now; words = words.now; limits = limits } in
             IsPlay job names.now play (machine_of job)) }
         ensures runs { IfOk result (λ play. Runs program.now play.machine) }
@@ -60,7 +60,7 @@ impl<'n> Play<'n> {
     /// number is no name.
     pub fn at(&mut self, name: u32) -> Result<Option<Want>, OutOfMemory>
         ensures want { IfOk result (λ want. (job : Job) (names : List Named) (m : State_of StrandState) → IsPlay job names self.old m →
-            want ≡ want_before_end (strands_of job) (at_named job m (turns names name))) }
+            want ≡ want_before_end (strands_of_job job) (at_named job m (steps_down names name))) }
         ensures same { IfOk result (λ want. (job : Job) (names : List Named) (m : State_of StrandState) → IsPlay job names self.old m →
             IsPlay job names self.new m) }
         ensures machine { OnOk result (self.new.machine ≡ self.old.machine) }
@@ -75,7 +75,7 @@ impl<'n> Play<'n> {
         requires { Runs program.now self.old.machine }
         ensures picks { IfOk result (λ moved. (job : Job) (names : List Named) (m : State_of StrandState) → job.program ≡ program.now →
             IsPlay job names self.old m →
-            Plays job names m (pick_named (strands_of job) m (turns names name)) moved self.new) }
+            Plays job names m (pick_named (strands_of_job job) m (steps_down names name)) moved self.new) }
         ensures runs { OnOk result (Runs program.now self.new.machine) }
     {
         let Some(strand) = self.known.number(self.alloc, &self.machine, name)? else {
@@ -87,7 +87,7 @@ impl<'n> Play<'n> {
     /// The end where the picks are used up, so many of them, and the last name is this one.
     pub fn end(self, last: u32, place: u32) -> Result<SerialEnd, OutOfMemory>
         ensures { IfOk result (λ e. (job : Job) (names : List Named) (m : State_of StrandState) → IsPlay job names self.entry m →
-            e ≡ shown (strands_of job) m names last place) }
+            e ≡ machine_shows (strands_of_job job) m names last place) }
     {
         let Play {
             alloc,
@@ -108,7 +108,7 @@ pub fn serial(
     limits: Limits,
     picks: &Picks,
 ) -> Result<SerialEnd, OutOfMemory>
-    requires { Takes program.now (length words.now) }
+    requires { TakesWords program.now (length words.now) }
     ensures { IfOk result (λ e. e ≡ end_under (record { program = program.now; words = words.now; limits = limits }) picks.now) }
 {
     let Ok(count) = u32::try_from(picks.list.len()) else {

@@ -15,12 +15,12 @@ pub struct Standing {
     pub(crate) want: Want,
 }
 
-#[tactic(auto, unfolding(crate::specs::Room::Strands::strands_of, crate::specs::Room::Strands::state_of, crate::specs::Room::Strands::IsOf))]
+#[tactic(auto, unfolding(crate::specs::Room::Strands::strands_of_job, crate::specs::Room::Strands::state_of, crate::specs::Room::Strands::IsOf))]
 impl Standing {
     ghost use Rattle.cw_code.specs.declared.program.Program.{Program};
-    ghost use Rattle.cw_serial.specs.Jobs.{Job, Takes, bare};
-    ghost use Rattle.cw_serial.specs.Room.Saves.{IsSavedOf, MayGoBack, StandsAs};
-    ghost use Rattle.cw_serial.specs.Room.Strands.{StrandState, IsOf, state_of, strands_of};
+    ghost use Rattle.cw_serial.specs.Jobs.{Job, TakesWords, bare};
+    ghost use Rattle.cw_serial.specs.Room.Saves.{IsSavedOf, MayRollBack, StandsAs};
+    ghost use Rattle.cw_serial.specs.Room.Strands.{StrandState, IsOf, state_of, strands_of_job};
 
     /// The strand of main, at its first want.
     pub fn start(
@@ -29,9 +29,9 @@ impl Standing {
         words: &[i64],
         limits: Limits,
     ) -> Result<Standing, OutOfMemory>
-        requires { Takes program.now (length words.now) }
+        requires { TakesWords program.now (length words.now) }
         ensures start { IfOk result (λ x. let job : Job = record { program = program.now; words = words.now; limits = limits } in
-            state_of x ≡ (strands_of job).start) }
+            state_of x ≡ (strands_of_job job).start) }
         ensures stands { IfOk result (λ x. IsOf program.now x) }
     {
         let mut strand = Strand::main(alloc, program, words, limits)?;
@@ -41,7 +41,7 @@ impl Standing {
 
     /// What it stands at.
     pub fn want(&self) -> Want
-        ensures { (job : Job) → result ≡ (strands_of job).want (state_of self.now) }
+        ensures { (job : Job) → result ≡ (strands_of_job job).want (state_of self.now) }
     {
         self.want
     }
@@ -50,7 +50,7 @@ impl Standing {
     pub fn answer(&mut self, given: Given, program: &Program) -> Result<(), OutOfMemory>
         requires { IsOf program.now self.old }
         ensures answer { OnOk result ((job : Job) → job.program ≡ program.now →
-            state_of self.new ≡ (strands_of job).answer (state_of self.old) given) }
+            state_of self.new ≡ (strands_of_job job).answer (state_of self.old) given) }
         ensures stands { OnOk result (IsOf program.now self.new) }
     {
         self.want = self.strand.next(program, given)?;
@@ -60,11 +60,11 @@ impl Standing {
     /// The left strand of the fork that this one wants. This one goes on as the right strand.
     pub fn fork(&mut self, program: &Program) -> Result<Standing, OutOfMemory>
         requires stands { IsOf program.now self.old }
-        requires fork { (strands_of (bare program.now)).want (state_of self.old) ≡ Want.Fork }
+        requires fork { (strands_of_job (bare program.now)).want (state_of self.old) ≡ Want.Fork }
         ensures left { IfOk result (λ left. (job : Job) → job.program ≡ program.now →
-            state_of left ≡ (strands_of job).left (state_of self.old)) }
+            state_of left ≡ (strands_of_job job).left (state_of self.old)) }
         ensures right { OnOk result ((job : Job) → job.program ≡ program.now →
-            state_of self.new ≡ (strands_of job).right (state_of self.old)) }
+            state_of self.new ≡ (strands_of_job job).right (state_of self.old)) }
         ensures left_stands { IfOk result (λ left. IsOf program.now left) }
         ensures right_stands { OnOk result (IsOf program.now self.new) }
     {
@@ -79,7 +79,7 @@ impl Standing {
     pub fn join(&mut self, left: Standing, program: &Program) -> Result<(), OutOfMemory>
         requires { IsOf program.now self.old }
         ensures joined { OnOk result ((job : Job) → job.program ≡ program.now →
-            state_of self.new ≡ (strands_of job).joined (state_of self.old) (state_of left)) }
+            state_of self.new ≡ (strands_of_job job).joined (state_of self.old) (state_of left)) }
         ensures stands { OnOk result (IsOf program.now self.new) }
     {
         self.strand.joined(left.strand);
@@ -97,7 +97,7 @@ impl Standing {
 
     /// Keeps what it needs to stand here again, at the begin of a block that it wants.
     pub fn save(&self) -> Result<Saved, OutOfMemory>
-        ensures { IfOk result (λ saved. (program : Program) → IsOf program self.now → (strands_of (bare program)).want (state_of self.now) ≡ Want.Begin →
+        ensures { IfOk result (λ saved. (program : Program) → IsOf program self.now → (strands_of_job (bare program)).want (state_of self.now) ≡ Want.Begin →
             IsSavedOf program saved (state_of self.now)) }
     {
         let saved = self.strand.save()?;
@@ -106,9 +106,9 @@ impl Standing {
 
     /// Goes back to the begin of a block inside which it stands, at its want: that is the begin of the block again. Takes no memory.
     pub fn back(&mut self, saved: &Saved)
-        requires { MayGoBack saved.now (state_of self.old) }
-        ensures back { (m : MayGoBack saved.now (state_of self.old)) → state_of self.new ≡ m.begin }
-        ensures stands { (m : MayGoBack saved.now (state_of self.old)) → IsOf m.job.program self.new }
+        requires { MayRollBack saved.now (state_of self.old) }
+        ensures back { (m : MayRollBack saved.now (state_of self.old)) → state_of self.new ≡ m.begin }
+        ensures stands { (m : MayRollBack saved.now (state_of self.old)) → IsOf m.job.program self.new }
     {
         self.strand.back(saved);
         self.want = Want::Begin;

@@ -43,8 +43,8 @@ pub struct Table<S> {
 
 impl<S: Drop> Table<S> {
     ghost use Rattle.cw_tree.specs.declared.picks.Turn.{Turn};
-    ghost use Rattle.cw_serial.specs.Machine.{turns, is_beneath};
-    ghost use Rattle.cw_serial.specs.Held.{IsNumbered, Starts, Puts, Notes, awaited_at, started_at};
+    ghost use Rattle.cw_serial.specs.Machine.{steps_down, is_beneath};
+    ghost use Rattle.cw_serial.specs.Held.{StrandsAreNumbered, Starts, Puts, Notes, awaited_at, started_at};
 
     /// Adds a strand.
     fn start(&mut self, alloc: Global, name: Name, strand: S) -> Result<(), OutOfMemory>
@@ -60,8 +60,8 @@ impl<S: Drop> Table<S> {
 
     /// Whether a strand is the other one, or was started beneath it.
     pub fn is_beneath(&self, above: u32, number: u32) -> bool
-        ensures { IsNumbered self.now.names.items self.now.rows.items → (q z : List Turn) →
-            turns self.now.names.items above ≡ Some q → turns self.now.names.items number ≡ Some z →
+        ensures { StrandsAreNumbered self.now.names.items self.now.rows.items → (q z : List Turn) →
+            steps_down self.now.names.items above ≡ Some q → steps_down self.now.names.items number ≡ Some z →
             result ≡ is_beneath q z }
     {
         let mut at = number;
@@ -138,8 +138,8 @@ impl<S: Drop> Table<S> {
 }
 
 impl Table<Standing> {
-    ghost use Rattle.cw_serial.specs.Jobs.{Job, Takes, bare};
-    ghost use Rattle.cw_serial.specs.Room.Strands.{StrandState, state_of, strands_of};
+    ghost use Rattle.cw_serial.specs.Jobs.{Job, TakesWords, bare};
+    ghost use Rattle.cw_serial.specs.Room.Strands.{StrandState, state_of, strands_of_job};
     ghost use Rattle.cw_serial.specs.StrandTree.{StrandTree, goes_on};
     ghost use Rattle.cw_serial.specs.Spots.{IsSettled};
     ghost use Rattle.cw_serial.specs.Held.{Answers, answers_by, Moves, SettlesTo, Holds, IsFront, want_at, over_at};
@@ -152,9 +152,9 @@ impl Table<Standing> {
         words: &[i64],
         limits: Limits,
     ) -> Result<Table<Standing>, OutOfMemory>
-        requires { Takes program.now (length words.now) }
+        requires { TakesWords program.now (length words.now) }
         ensures holds { IfOk result (λ table. let job : Job = record { program = program.now; words = words.now; limits = limits } in
-            let s = strands_of job in
+            let s = strands_of_job job in
             Holds state_of table (goes_on s 0 s.start) × IsSettled s (goes_on s 0 s.start)) }
         ensures stands { IfOk result (λ table. AreOf program.now table.rows.items) }
     {
@@ -175,7 +175,7 @@ impl Table<Standing> {
 
     /// What the strand of this number wants, where it stands.
     pub fn want(&self, number: u32) -> Option<Want>
-        ensures { (job : Job) → result ≡ want_at (strands_of job) state_of self.now.rows.items number }
+        ensures { (job : Job) → result ≡ want_at (strands_of_job job) state_of self.now.rows.items number }
     {
         let row = self.rows.get(number as usize)?;
         match &row.place {
@@ -186,7 +186,7 @@ impl Table<Standing> {
 
     /// Whether a strand has come to its end, and waits for the one beside it.
     pub fn is_over(&self, number: u32) -> bool
-        ensures { (job : Job) → result ≡ over_at (strands_of job) state_of self.now.rows.items number }
+        ensures { (job : Job) → result ≡ over_at (strands_of_job job) state_of self.now.rows.items number }
     {
         matches!(self.want(number), Some(Want::Sync | Want::Done))
     }
@@ -199,9 +199,9 @@ impl Table<Standing> {
         program: &Program,
     ) -> Result<(), OutOfMemory>
         requires stands { AreOf program.now self.old.rows.items }
-        requires answered { answers_by (want_at (strands_of (bare program.now)) state_of self.old.rows.items number) ≡ true }
+        requires answered { answers_by (want_at (strands_of_job (bare program.now)) state_of self.old.rows.items number) ≡ true }
         ensures answers { OnOk result ((job : Job) → job.program ≡ program.now →
-            Answers (strands_of job) state_of self.old number given self.new) }
+            Answers (strands_of_job job) state_of self.old number given self.new) }
         ensures stands { OnOk result (AreOf program.now self.new.rows.items) }
     {
         let Place::Stands(mut strand) = self.put(number, Place::Gone) else {
@@ -221,8 +221,8 @@ impl Table<Standing> {
     ) -> Result<(), OutOfMemory>
         requires { AreOf program.now self.old.rows.items }
         ensures strands { OnOk result ((job : Job) → job.program ≡ program.now → (t : StrandTree StrandState) →
-            SettlesTo (strands_of job) state_of self.old (number ∷ []) t →
-            Holds state_of self.new t × IsSettled (strands_of job) t) }
+            SettlesTo (strands_of_job job) state_of self.old (number ∷ []) t →
+            Holds state_of self.new t × IsSettled (strands_of_job job) t) }
         ensures names { OnOk result (IsFront self.old.names.items self.new.names.items) }
         ensures stands { OnOk result (AreOf program.now self.new.rows.items) }
     {
@@ -244,7 +244,7 @@ impl Table<Standing> {
     ) -> Result<(), OutOfMemory>
         requires { AreOf program.now self.old.rows.items }
         ensures moves { OnOk result ((job : Job) → job.program ≡ program.now →
-            Moves (strands_of job) state_of self.old number todo.old.items self.new todo.new.items) }
+            Moves (strands_of_job job) state_of self.old number todo.old.items self.new todo.new.items) }
         ensures stands { OnOk result (AreOf program.now self.new.rows.items) }
     {
         match self.want(number) {
@@ -263,9 +263,9 @@ impl Table<Standing> {
         todo: &mut Vec<u32>,
     ) -> Result<(), OutOfMemory>
         requires stands { AreOf program.now self.old.rows.items }
-        requires wants { want_at (strands_of (bare program.now)) state_of self.old.rows.items number ≡ Some Want.Fork }
+        requires wants { want_at (strands_of_job (bare program.now)) state_of self.old.rows.items number ≡ Some Want.Fork }
         ensures moves { OnOk result ((job : Job) → job.program ≡ program.now →
-            Moves (strands_of job) state_of self.old number todo.old.items self.new todo.new.items) }
+            Moves (strands_of_job job) state_of self.old number todo.old.items self.new todo.new.items) }
         ensures stands { OnOk result (AreOf program.now self.new.rows.items) }
     {
         let sides = self.next_sides()?;
@@ -308,9 +308,9 @@ impl Table<Standing> {
         todo: &mut Vec<u32>,
     ) -> Result<(), OutOfMemory>
         requires stands { AreOf program.now self.old.rows.items }
-        requires over { over_at (strands_of (bare program.now)) state_of self.old.rows.items number ≡ true }
+        requires over { over_at (strands_of_job (bare program.now)) state_of self.old.rows.items number ≡ true }
         ensures moves { OnOk result ((job : Job) → job.program ≡ program.now →
-            Moves (strands_of job) state_of self.old number todo.old.items self.new todo.new.items) }
+            Moves (strands_of_job job) state_of self.old number todo.old.items self.new todo.new.items) }
         ensures stands { OnOk result (AreOf program.now self.new.rows.items) }
     {
         let Some(name) = self.name(number) else {

@@ -1,22 +1,22 @@
 -- What an event leaves as it was.
 use Rattle.std.proofs.Common.{◌≡◌, ℕ, List, [], ◌∷◌, ◌++◌, map, refl, ◌∙◌, Bool, true, false, cond, Option}
 use Rattle.std.specs.Prelude.{ℤ}
-use Rattle.cw_open.specs.Machine.{Machine}
-use Rattle.cw_open.specs.Steps.{Met, refuses, accesses, undoes, aborts, after as step_after, after_all}
-use Rattle.cw_trace.specs.Columns.{Columns}
+use Rattle.cw_open.specs.Machine.{OpenMachine}
+use Rattle.cw_open.specs.Steps.{Met, refuses, accesses, undoes, aborts, after_open_step as step_after, after_all}
+use Rattle.cw_trace.specs.Columns.{ColumnTable}
 use Rattle.cw_core.specs.declared.event.Event.{Event}
 use Rattle.cw_core.specs.declared.event.Event.TheVariants as event
-use Rattle.cw_core.specs.State.{State, is_split}
-use Rattle.cw_core.specs.Events.{is_stop, after, is_met, met_by, next, touched, may_fork, is_early}
+use Rattle.cw_core.specs.State.{CoreState, is_split}
+use Rattle.cw_core.specs.Events.{is_stop, after_event, is_met, met_by, next, touched, may_fork, is_early}
 
 -- what a roll leaves of a machine: what its undos and its abort leave
-pub rolled : {X : Type 0} (f : Machine → X) (s stamp : ℕ) → ((m : Machine) (c : ℕ) → f (step_after m (undoes s c)) ≡ f m) → ((m : Machine) → f (step_after m (aborts s stamp)) ≡ f m)
-    → (m : Machine) (cs : List ℕ) → f (after_all m (map (undoes s) cs ++ aborts s stamp ∷ [])) ≡ f m
+pub rolled : {X : Type 0} (f : OpenMachine → X) (s stamp : ℕ) → ((m : OpenMachine) (c : ℕ) → f (step_after m (undoes s c)) ≡ f m) → ((m : OpenMachine) → f (step_after m (aborts s stamp)) ≡ f m)
+    → (m : OpenMachine) (cs : List ℕ) → f (after_all m (map (undoes s) cs ++ aborts s stamp ∷ [])) ≡ f m
 rolled f s stamp u a m [] = a m
 rolled f s stamp u a m (c ∷ cs) = rolled f s stamp u a (step_after m (undoes s c)) cs ∙ u m c
 
 -- what an access leaves, be it refused or not
-accessed : {X : Type 0} (f : Machine → X) (m : Machine) (s c : ℕ) (w : Option ℤ) (met : Met) (stamp : ℕ) → f (step_after m (refuses s c w met)) ≡ f m → f (step_after m (accesses s c w stamp)) ≡ f m
+accessed : {X : Type 0} (f : OpenMachine → X) (m : OpenMachine) (s c : ℕ) (w : Option ℤ) (met : Met) (stamp : ℕ) → f (step_after m (refuses s c w met)) ≡ f m → f (step_after m (accesses s c w stamp)) ≡ f m
     → (b : Bool) → f (after_all m (cond b (refuses s c w met) (accesses s c w stamp) ∷ [])) ≡ f m
 accessed f m s c w met stamp r a true = r
 accessed f m s c w met stamp r a false = a
@@ -33,11 +33,11 @@ abbrev pub is_access : Event → Bool
 is_access (event.Access s c w) = true
 is_access e = false
 
-module _ (k : State) where
-  abbrev m : Machine
+module _ (k : CoreState) where
+  abbrev m : OpenMachine
   m = k.machine
 
-  pub halt_after : (e : Event) → is_stop e ≡ false → (after k e).halt ≡ k.halt
+  pub halt_after : (e : Event) → is_stop e ≡ false → (after_event k e).halt ≡ k.halt
   halt_after (event.Fork s) e = refl
   halt_after (event.Begin s) e = refl
   halt_after (event.Access s c w) e = refl
@@ -49,7 +49,7 @@ module _ (k : State) where
   halt_after (event.Join f) e = refl
   halt_after (event.Stop h) e = absurd (cc e)
 
-  pub stopped_after : (e : Event) → is_stop e ≡ false → (after k e).machine.stopped ≡ m.stopped
+  pub stopped_after : (e : Event) → is_stop e ≡ false → (after_event k e).machine.stopped ≡ m.stopped
   stopped_after (event.Fork s) e = refl
   stopped_after (event.Begin s) e = refl
   stopped_after (event.Access s c w) e = accessed (λ m. m.stopped) m s c w (met_by k s c) (next k) refl refl (is_met k s c)
@@ -61,7 +61,7 @@ module _ (k : State) where
   stopped_after (event.Join f) e = refl
   stopped_after (event.Stop h) e = absurd (cc e)
 
-  pub joined_after : (e : Event) → is_stop e ≡ false → is_join e ≡ false → (after k e).machine.joined ≡ m.joined
+  pub joined_after : (e : Event) → is_stop e ≡ false → is_join e ≡ false → (after_event k e).machine.joined ≡ m.joined
   joined_after (event.Fork s) e n = refl
   joined_after (event.Begin s) e n = refl
   joined_after (event.Access s c w) e n = accessed (λ m. m.joined) m s c w (met_by k s c) (next k) refl refl (is_met k s c)
@@ -73,7 +73,7 @@ module _ (k : State) where
   joined_after (event.Join f) e n = absurd (cc n)
   joined_after (event.Stop h) e n = absurd (cc e)
 
-  pub finished_after : (e : Event) → is_stop e ≡ false → is_finish e ≡ false → (after k e).machine.finished ≡ m.finished
+  pub finished_after : (e : Event) → is_stop e ≡ false → is_finish e ≡ false → (after_event k e).machine.finished ≡ m.finished
   finished_after (event.Fork s) e n = refl
   finished_after (event.Begin s) e n = refl
   finished_after (event.Access s c w) e n = accessed (λ m. m.finished) m s c w (met_by k s c) (next k) refl refl (is_met k s c)
@@ -85,7 +85,7 @@ module _ (k : State) where
   finished_after (event.Join f) e n = refl
   finished_after (event.Stop h) e n = absurd (cc e)
 
-  pub conflicts_after : (e : Event) → is_stop e ≡ false → is_access e ≡ false → (after k e).machine.conflicts ≡ m.conflicts
+  pub conflicts_after : (e : Event) → is_stop e ≡ false → is_access e ≡ false → (after_event k e).machine.conflicts ≡ m.conflicts
   conflicts_after (event.Fork s) e n = refl
   conflicts_after (event.Begin s) e n = refl
   conflicts_after (event.Access s c w) e n = absurd (cc n)
@@ -97,12 +97,12 @@ module _ (k : State) where
   conflicts_after (event.Join f) e n = refl
   conflicts_after (event.Stop h) e n = absurd (cc e)
 
-  rooms : (b : Bool) (c d : Columns) → d.room ≡ c.room → (let x : Columns = cond b d c in x.room) ≡ c.room
+  rooms : (b : Bool) (c d : ColumnTable) → d.room ≡ c.room → (let x : ColumnTable = cond b d c in x.room) ≡ c.room
   rooms true c d e = e
   rooms false c d e = refl
 
   -- there are as many columns as before
-  pub room_after : (e : Event) → (after k e).tier.room ≡ k.tier.room
+  pub room_after : (e : Event) → (after_event k e).tier.room ≡ k.tier.room
   room_after (event.Fork s) = rooms (may_fork k) k.tier _ refl
   room_after (event.Begin s) = refl
   room_after (event.Access s c w) = refl

@@ -11,8 +11,8 @@ use Rattle.cw_tree.proofs.Strands.{strand_of_le, strand_over}
 use Rattle.cw_tree.proofs.There.{node_there}
 use Rattle.cw_trace.proofs.Lines.{strong}
 use Rattle.cw_open.proofs.Named.{strand_is}
-use Rattle.cw_core.specs.State.{State, is_split}
-use Rattle.cw_sim.specs.Workers.{left_of, right_of}
+use Rattle.cw_core.specs.State.{CoreState, is_split}
+use Rattle.cw_sim.specs.Workers.{left_node, right_node}
 use Rattle.cw_sim.specs.Kept.{forks_around}
 use Rattle.cw_sim.proofs.Ways.{around_split, around_left, around_right}
 use Rattle.cw_sim.proofs.Halves.{AsMade, which}
@@ -31,13 +31,13 @@ at_end (a ∷ xs) (x ∷ fs) gs g f e =
     ]
 
 -- the fork f waits around strand x, and these further out
-pub record Waits (k : State) (x f : ℕ) (fs : List ℕ) : Type 0 where
+pub record Waits (k : CoreState) (x f : ℕ) (fs : List ℕ) : Type 0 where
   pub fork : is_fork k.machine.tree f ≡ true
   pub split : is_split k f ≡ false
   pub outer : forks_around k (strand_of k.machine.tree f) ≡ fs
-  pub over : is_ancestor k.machine.tree (left_of f) x ≡ true
+  pub over : is_ancestor k.machine.tree (left_node f) x ≡ true
 
-module _ (k : State) (tree : IsTree k.machine.tree) (made : AsMade k.machine.tree) where
+module _ (k : CoreState) (tree : IsTree k.machine.tree) (made : AsMade k.machine.tree) where
   abbrev t : List Node
   t = k.machine.tree
 
@@ -76,15 +76,15 @@ module _ (k : State) (tree : IsTree k.machine.tree) (made : AsMade k.machine.tre
           let h : x < length t = there in
           let le = strand_of_le t tree.rooted g (omega arith) in
           let w = more (strand_of t g) (omega arith) (strand_is t tree.root g) fs hs f q in
-          record { fork = w.fork; split = w.split; outer = w.outer; over = ancestor_trans t tree.rooted (left_of f) (strand_of t g) x there w.over (up_to x (omega arith) there) }
+          record { fork = w.fork; split = w.split; outer = w.outer; over = ancestor_trans t tree.rooted (left_node f) (strand_of t g) x there w.over (up_to x (omega arith) there) }
 
-      by_split : (b : Bool) → is_split k g ≡ b → (x ≡ left_of g) ⊎ (x ≡ right_of g) → Waits k x f fs
+      by_split : (b : Bool) → is_split k g ≡ b → (x ≡ left_node g) ⊎ (x ≡ right_node g) → Waits k x f fs
       by_split true c side = absurd (none_at fs gs f (sym (around_split k tree.rooted x (omega arith) there strand c) ∙ e))
       by_split false c (inr q) = further gs (sym (around_right k tree.rooted x (omega arith) there strand c (λ y. omega (arith, q, y))) ∙ e)
       by_split false c (inl q) = elim (at_end (forks_around k (strand_of t g)) fs gs g f (sym (around_left k tree.rooted x (omega arith) there strand c q) ∙ e)) [
         | inr y ↦ further y.0 y.1
         | inl y ↦ (
-            let P : ℕ → Type 0 = λ n. (is_fork t n ≡ true) × (is_split k n ≡ false) × (forks_around k (strand_of t n) ≡ fs) × (is_ancestor t (left_of n) x ≡ true) in
+            let P : ℕ → Type 0 = λ n. (is_fork t n ≡ true) × (is_split k n ≡ false) × (forks_around k (strand_of t n) ≡ fs) × (is_ancestor t (left_node n) x ≡ true) in
             let Q : ℕ → Type 0 = λ n. is_ancestor t n x ≡ true in
             let w = subst P y.1 (fork, c, y.0, subst Q q (ancestor_self t x)) in
             record { fork = w.0; split = w.1; outer = w.2; over = w.3 })

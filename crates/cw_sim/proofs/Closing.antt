@@ -14,13 +14,13 @@ use Rattle.cw_tree.specs.declared.closed.Halt.TheVariants.{Fault, Budget, Memory
 use Rattle.cw_core.specs.Closing.{journals_of}
 use Rattle.cw_core.specs.Laws.{IsCore}
 use Rattle.cw_core.proofs.Going.{well}
-use Rattle.cw_serial.specs.Jobs.{Job, Takes}
-use Rattle.cw_serial.specs.Room.Strands.{StrandState, strands_of}
+use Rattle.cw_serial.specs.Jobs.{Job, TakesWords}
+use Rattle.cw_serial.specs.Room.Strands.{StrandState, strands_of_job}
 use Rattle.cw_record.specs.declared.record_end.RecordEnd.{RecordEnd}
 use Rattle.cw_record.specs.ClosedRun.{IsClosedRun}
 use Rattle.cw_record.specs.Built.{IsLeftBy, end_left}
 use Rattle.cw_record.specs.Coherent.{IsCoherent, HasOutputs}
-use Rattle.cw_record.specs.Records.{job_of, IsNumberedDepthFirst}
+use Rattle.cw_record.specs.Records.{job_of_record, IsNumberedDepthFirst}
 use Rattle.cw_record.proofs.LeftRuns.{left_coherent}
 use Rattle.cw_record.proofs.NumberedTrees.{numbered_in_order}
 use Rattle.cw_sim.specs.Workers.{Simulation, tree}
@@ -28,7 +28,7 @@ use Rattle.cw_sim.specs.Turns.{worker_at, ListsWorkers}
 use Rattle.cw_sim.specs.Moves.{is_over, move}
 use Rattle.cw_sim.specs.Kept.{HasStates, IsKept}
 use Rattle.cw_sim.specs.Laws.{AreStrands, MovesFit}
-use Rattle.cw_sim.specs.Runs.{RunsAreClosed, RecordsAreCoherent, closed_of, left_by}
+use Rattle.cw_sim.specs.Runs.{RunsAreClosed, RecordsAreCoherent, closed_of, simulation_of}
 use Rattle.cw_sim.proofs.MoveKeeps.{moves_keep}
 use Rattle.cw_sim.proofs.MoveNumbers.{move_number}
 use Rattle.cw_sim.proofs.Opens.{opens}
@@ -52,15 +52,15 @@ module _ {A : Type 0} (s : Strands A) where
 
 -- ## Of a job
 
-module _ (job : Job) (workers : ℕ) (schedule : Schedule) (compiled : IsCompiled job.program) (takes : Takes job.program (length job.words)) (room : 0 < job.limits.strands) (some : 0 < workers) (lists : ListsWorkers schedule workers) where
+module _ (job : Job) (workers : ℕ) (schedule : Schedule) (compiled : IsCompiled job.program) (takes : TakesWords job.program (length job.words)) (room : 0 < job.limits.strands) (some : 0 < workers) (lists : ListsWorkers schedule workers) where
   abbrev s : Strands StrandState
-  s = strands_of job
+  s = strands_of_job job
 
   abbrev first : List ℤ
   first = first_memory job.program.cells
 
   abbrev m : Simulation StrandState
-  m = left_by job workers schedule
+  m = simulation_of job workers schedule
 
   are : AreStrands s (length first)
   are = strands_lawful job compiled takes
@@ -92,13 +92,13 @@ has_outputs values budget t kept cs None false = refl
 
 pub records_coherent : RecordsAreCoherent
 records_coherent r workers schedule compiled takes room some lists few is =
-    let job = job_of r in
+    let job = job_of_record r in
     let first = first_memory r.program.cells in
     let budget = r.limits.aborts in
-    let m = left_by job workers schedule in
+    let m = simulation_of job workers schedule in
     let c = closed_of m in
     let left = job_left job workers schedule compiled takes room some lists few in
-    let All : List Node → List (List Entry) → List Conflict → RecordEnd → Type 0 = λ t kept cs e. IsCoherent (strands_of job) first budget t kept cs e × (HasOutputs t cs budget e × IsNumberedDepthFirst t) in
+    let All : List Node → List (List Entry) → List Conflict → RecordEnd → Type 0 = λ t kept cs e. IsCoherent (strands_of_job job) first budget t kept cs e × (HasOutputs t cs budget e × IsNumberedDepthFirst t) in
     let E : RecordEnd → Type 0 = λ e. All c.tree c.journals c.conflicts e in
     let C : List Conflict → Type 0 = λ cs. All c.tree c.journals cs r.end in
     let J : List (List Entry) → Type 0 = λ kept. All c.tree kept r.conflicts r.end in

@@ -11,19 +11,19 @@ use Rattle.cw_strand.specs.Strands.{Strands}
 use Rattle.cw_open.proofs.Standing.{runs, open_over}
 use Rattle.cw_open.specs.Machine.{is_running}
 use Rattle.cw_open.specs.Open.{is_open}
-use Rattle.cw_core.specs.State.{State, is_split}
+use Rattle.cw_core.specs.State.{CoreState, is_split}
 use Rattle.cw_core.specs.Events.{is_early}
 use Rattle.cw_tree.specs.Series.{strand_of}
 use Rattle.cw_core.proofs.Going.{well}
-use Rattle.cw_sim.specs.Workers.{Worker, left_of, tree, worker}
-use Rattle.cw_sim.specs.Kept.{Runs, Fits, GoesOn, forks_around}
+use Rattle.cw_sim.specs.Workers.{Worker, left_node, tree, worker}
+use Rattle.cw_sim.specs.Kept.{Runs, Fits, CoreGoesOn, forks_around}
 use Rattle.cw_sim.specs.Laws.{NoneIsEarly, ForksAreThere}
 use Rattle.cw_sim.proofs.Ways.{around_left}
 use Rattle.cw_sim.proofs.Halves.{open_unjoined, strand_open, left_child, left_strand}
 use Rattle.cw_sim.proofs.Around.{Waits, waits_around}
 use Rattle.cw_sim.proofs.Early.{not_early}
 
-module _ (first : List ℤ) (k : State) (on : GoesOn first k) where
+module _ (first : List ℤ) (k : CoreState) (on : CoreGoesOn first k) where
   abbrev t : List Node
   t = k.machine.tree
 
@@ -38,9 +38,9 @@ module _ (first : List ℤ) (k : State) (on : GoesOn first k) where
       let here = runs m tree_of nested x running in
       let low = node_there (λ n. is_strand_kind n.kind) t x here.strand in
       let child = left_child t tree_of on.forks f w.fork in
-      let over : is_open m (left_of f) ≡ true = open_over m tree_of nested (left_of f) x low w.over (strand_open m x here.strand here.unfinished) in
+      let over : is_open m (left_node f) ≡ true = open_over m tree_of nested (left_node f) x low w.over (strand_open m x here.strand here.unfinished) in
       let P : ℕ → Type 0 = λ g. is_open m g ≡ true in
-      open_unjoined m f w.fork (subst P child.up (nested.outer (left_of f) child.some child.there over))
+      open_unjoined m f w.fork (subst P child.up (nested.outer (left_node f) child.some child.there over))
 
   -- what is first in a deque waits around the strand of its worker, and nothing further out
   pub oldest : (w : Worker) (r : Option ℕ) → Fits k w r → (f : ℕ) (fs : List ℕ) → w.deque ≡ f ∷ fs → (x : ℕ) × Runs k w x × Waits k x f []
@@ -58,13 +58,13 @@ module _ (first : List ℤ) (k : State) (on : GoesOn first k) where
       not_early first k on.core on.forks f z.2.fork room (unjoined_around z.0 f [] z.1.running z.2) z.2.outer
 
   -- the fork of a left strand that was not split is the newest of its worker
-  pub newest : (w : Worker) (f : ℕ) → is_fork t f ≡ true → Runs k w (left_of f) → is_split k f ≡ false → w.deque ++ w.inline ≡ forks_around k (strand_of t f) ++ f ∷ []
+  pub newest : (w : Worker) (f : ℕ) → is_fork t f ≡ true → Runs k w (left_node f) → is_split k f ≡ false → w.deque ++ w.inline ≡ forks_around k (strand_of t f) ++ f ∷ []
   newest w f fork at off =
       let child = left_child t tree_of on.forks f fork in
       let strand = left_strand t tree_of on.forks f fork in
       let P : ℕ → Type 0 = λ g. is_split k g ≡ false in
       at.forks
-      ∙ around_left k tree_of.rooted (left_of f) child.some child.there strand (subst P (sym child.up) off) (ap left_of (sym child.up))
+      ∙ around_left k tree_of.rooted (left_node f) child.some child.there strand (subst P (sym child.up) off) (ap left_node (sym child.up))
       ∙ ap (λ g. forks_around k (strand_of t g) ++ g ∷ []) child.up
 
 pub none_early : {A : Type 0} (s : Strands A) → NoneIsEarly s

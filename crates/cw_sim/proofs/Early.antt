@@ -10,7 +10,7 @@ use Rattle.cw_tree.specs.Names.{is_right}
 use Rattle.cw_tree.specs.Shape.{IsTree}
 use Rattle.cw_tree.proofs.Strands.{strand_of_root, strand_of_le}
 use Rattle.cw_tree.proofs.There.{node_there}
-use Rattle.cw_trace.specs.Columns.{used, before_split, left_of as left_column}
+use Rattle.cw_trace.specs.Columns.{used, before_split, left_column_of as left_column}
 use Rattle.cw_trace.specs.Stands.{column, column_in, fork_column}
 use Rattle.cw_trace.specs.Segments.{outward}
 use Rattle.cw_trace.proofs.Counting.{fork_column_lt}
@@ -20,11 +20,11 @@ use Rattle.cw_trace.proofs.Meaning.{odd_column}
 use Rattle.cw_trace.proofs.Sides.{Side, bare, left, right, side}
 use Rattle.cw_open.proofs.Named.{strand_is}
 use Rattle.cw_open.proofs.Standing.{strand_itself}
-use Rattle.cw_core.specs.State.{State, has_columns, is_split}
+use Rattle.cw_core.specs.State.{CoreState, has_columns, is_split}
 use Rattle.cw_core.specs.Laws.{IsCore}
 use Rattle.cw_core.proofs.Going.{well}
 use Rattle.cw_core.proofs.Ordering.{columns_used, used_columns, unjoined}
-use Rattle.cw_sim.specs.Workers.{right_of}
+use Rattle.cw_sim.specs.Workers.{right_node}
 use Rattle.cw_sim.specs.Kept.{forks_around}
 use Rattle.cw_sim.proofs.Ways.{around_left, around_right}
 use Rattle.cw_sim.proofs.Halves.{AsMade, which, right_is}
@@ -41,7 +41,7 @@ no_end (x ∷ xs) f e = absurd (cc e)
 even_next : (n : ℕ) → n % 2 ≡ 1 → (n + 1) % 2 ≡ 1 → ⊥
 even_next n e q = omega arith
 
-module _ (first : List ℤ) (k : State) (core : IsCore first k) (made : AsMade k.machine.tree) where
+module _ (first : List ℤ) (k : CoreState) (core : IsCore first k) (made : AsMade k.machine.tree) where
   abbrev t : List Node
   t = k.machine.tree
 
@@ -115,7 +115,7 @@ module _ (first : List ℤ) (k : State) (core : IsCore first k) (made : AsMade k
       | inl q ↦ absurd (no_end (forks_around k (strand_of t f)) f (sym (around_left k tree.rooted y (omega arith) there strand e q) ∙ none))
       | inr q ↦ on s q
     ] where
-      on : Side t tree size y f → y ≡ right_of f → outward k.splits k.tier.parents (suc n) (column t size y) ≡ None
+      on : Side t tree size y f → y ≡ right_node f → outward k.splits k.tier.parents (suc n) (column t size y) ≡ None
       on (bare few same) q = absurd (omega arith)
       on (left c sided at) q = absurd (let one = ap (is_right t) q in let two = right_is t tree made f fork in cc)
       on (right c sided at) q =

@@ -12,34 +12,34 @@ use Rattle.cw_tree.specs.Series.{place}
 use Rattle.cw_strand.specs.declared.want.Want.{Want}
 use Rattle.cw_strand.specs.declared.want.Want.TheVariants as want
 use Rattle.cw_strand.specs.Strands.{Strands}
-use Rattle.cw_open.specs.Machine.{has_finished, finished_dead, is_running, is_dying, in_block, is_free, value_of}
+use Rattle.cw_open.specs.Machine.{has_finished, finished_dead, is_running, is_dying, in_block, is_free, live_value}
 use Rattle.cw_open.specs.Steps.{refusal}
 use Rattle.cw_open.specs.Spent.{HasSpent}
 use Rattle.cw_core.specs.declared.event.Event.{Event}
 use Rattle.cw_core.specs.declared.event.Event.TheVariants as event
 use Rattle.cw_core.specs.declared.event.Reply.TheVariants as reply
-use Rattle.cw_core.specs.State.{State, is_split, waits_for_left, spent}
-use Rattle.cw_core.specs.Events.{is_stop, is_met, met_by, after}
+use Rattle.cw_core.specs.State.{CoreState, is_split, waits_for_left, spent}
+use Rattle.cw_core.specs.Events.{is_stop, is_met, met_by, after_event}
 use Rattle.cw_core.proofs.RefusedTold.{after_refused}
 use Rattle.cw_record.specs.ClosedRun.{EndsSo}
-use Rattle.cw_sim.specs.Workers.{Simulation, left_of, right_of, tree, worker, with_strand}
-use Rattle.cw_sim.specs.Moves.{does, is_over, others, takes, steals, turns, meets, follows, finishes, dies, stops_if_spent, meets_cell, accesses, acts, move}
-use Rattle.cw_sim.specs.Kept.{Fits, is_current, GoesOn, AreStanding}
+use Rattle.cw_sim.specs.Workers.{Simulation, left_node, right_node, tree, worker, with_strand}
+use Rattle.cw_sim.specs.Moves.{does, is_over, others, takes, steals, goes_to_right, meets, follows, finishes, dies, stops_if_spent, meets_cell, accesses, acts, move}
+use Rattle.cw_sim.specs.Kept.{Fits, is_current, CoreGoesOn, AreStanding}
 use Rattle.cw_sim.proofs.After.{is_finish, halt_after, finished_after}
 use Rattle.cw_sim.proofs.EndingMain.{main_lives, waits_for_none, is_there}
 use Rattle.cw_sim.proofs.EndingSpent.{has_spent}
 
 -- ## Events that end no run
 
-abbrev pub over : State → Bool
+abbrev pub over : CoreState → Bool
 over k = is_some k.halt || has_finished k.machine 0
 
 -- neither a stop nor a strand that finishes
-still : (k : State) (e : Event) → is_stop e ≡ false → is_finish e ≡ false → over (after k e) ≡ over k
-still k e a b = ap (λ h. is_some h || has_finished (after k e).machine 0) (halt_after k e a) ∙ ap (λ fs. is_some k.halt || list_any (λ f. nat_eq f.0 0) fs) (finished_after k e a b)
+still : (k : CoreState) (e : Event) → is_stop e ≡ false → is_finish e ≡ false → over (after_event k e) ≡ over k
+still k e a b = ap (λ h. is_some h || has_finished (after_event k e).machine 0) (halt_after k e a) ∙ ap (λ fs. is_some k.halt || list_any (λ f. nat_eq f.0 0) fs) (finished_after k e a b)
 
 -- another strand than main
-other : (k : State) (y : ℕ) (dead : Bool) → 0 < y → over (after k (event.Finish y dead)) ≡ over k
+other : (k : CoreState) (y : ℕ) (dead : Bool) → 0 < y → over (after_event k (event.Finish y dead)) ≡ over k
 other k y dead some = ap (λ b. is_some k.halt || (b || has_finished k.machine 0)) (ne_eqb y 0 (λ q. absurd (omega (arith, q, some))))
 
 -- a strand that has not finished did not finish dead
@@ -50,7 +50,7 @@ none_dead (f ∷ fs) x e =
     or_from (nat_eq f.0 x && f.1) (list_any (λ f. nat_eq f.0 x && f.1) fs) (and_left (nat_eq f.0 x) f.1 z.0) (none_dead fs x z.1)
 
 -- a stop leaves the strands that are current
-still_current : (k : State) (y : ℕ) (kind : FaultKind) (x : ℕ) → is_current k x ≡ true → is_current (after k (event.Stop (halt.Fault y kind))) x ≡ true
+still_current : (k : CoreState) (y : ℕ) (kind : FaultKind) (x : ℕ) → is_current k x ≡ true → is_current (after_event k (event.Stop (halt.Fault y kind))) x ≡ true
 still_current k y kind zero e = refl
 still_current k y kind (suc x) e = e
 
@@ -72,21 +72,21 @@ module _ {A : Type 0} (s : Strands A) where
   -- what follows another strand than main
   follow : (w x : ℕ) (dead : Bool) (n : Simulation A) → is_over (follows s w (suc x) dead n) ≡ is_over n
   follow w x dead n =
-      by ((nat_eq (suc x) (left_of f)) && not (is_split n.core f)) (has_finished n.core.machine (left_of f) && has_finished n.core.machine (right_of f)) dead where
+      by ((nat_eq (suc x) (left_node f)) && not (is_split n.core f)) (has_finished n.core.machine (left_node f) && has_finished n.core.machine (right_node f)) dead where
         f : ℕ
         f = parent_of (tree n) (suc x)
 
-        by : (a b d : Bool) → is_over (cond a (turns s w f d n) (meets s w f b n)) ≡ is_over n
+        by : (a b d : Bool) → is_over (cond a (goes_to_right s w f d n) (meets s w f b n)) ≡ is_over n
         by true b false = refl
-        by true b true = still (after n.core (event.Finish (right_of f) true)) (event.Join f) refl refl ∙ other n.core (right_of f) true (omega arith)
+        by true b true = still (after_event n.core (event.Finish (right_node f) true)) (event.Join f) refl refl ∙ other n.core (right_node f) true (omega arith)
         by false false d = refl
         by false true d = still n.core (event.Join f) refl refl
 
-  module _ (first : List ℤ) (m : Simulation A) (on : GoesOn first m.core) (off : is_over m ≡ false) where
+  module _ (first : List ℤ) (m : Simulation A) (on : CoreGoesOn first m.core) (off : is_over m ≡ false) where
     -- main comes to its end
     main_ends : (w : ℕ) → Ends (finishes s w 0 false m)
     main_ends w before after reached at =
-        let z = Rattle.cw_core.specs.Events.after m.core (event.Finish 0 false) in
+        let z = Rattle.cw_core.specs.Events.after_event m.core (event.Finish 0 false) in
         let P : Option Halt → Type 0 = λ h. EndsSo s z.machine before after reached z.budget h false in
         let lives = none_dead m.core.machine.finished 0 (or_parts (is_some m.core.halt) (has_finished m.core.machine 0) off).1 in
         subst P (sym on.halt) (and_from (has_finished z.machine 0) (not (finished_dead z.machine 0)) refl (not_from_false (finished_dead z.machine 0) lives))
@@ -120,19 +120,19 @@ module _ {A : Type 0} (s : Strands A) where
         -- a refused access spends a budget, or none
         refuse : (c : ℕ) (write : Option ℤ) → is_met m.core x c ≡ true → GoesOrEnds (stops_if_spent s (does (event.Access x c write) m))
         refuse c write e = by (spent z) refl where
-          z : State
-          z = after m.core (event.Access x c write)
+          z : CoreState
+          z = after_event m.core (event.Access x c write)
 
           by : (o : Option ℕ) → spent z ≡ o → GoesOrEnds (option_map_or (λ y. does (event.Stop (halt.Budget y)) (does (event.Access x c write) m)) o (does (event.Access x c write) m))
           by None q = inl (still m.core (event.Access x c write) refl refl ∙ off)
           by (Some y) q = inr (λ before after reached at.
-              let P : State → Type 0 = λ k. spent k ≡ Some y → HasSpent (record k.machine { stopped = y ∷ k.machine.stopped }) k.budget y in
+              let P : CoreState → Type 0 = λ k. spent k ≡ Some y → HasSpent (record k.machine { stopped = y ∷ k.machine.stopped }) k.budget y in
               subst P (sym (after_refused m.core x c write e)) (λ r. has_spent first m.core on.core x free ready c on.spent y r (y ∷ m.core.machine.stopped)) q)
 
         access : (c : ℕ) (write : Option ℤ) → GoesOrEnds (accesses s x c write m)
         access c write = by (is_met m.core x c) refl where
           by : (b : Bool) → is_met m.core x c ≡ b
-              → GoesOrEnds (meets_cell s x write (cond b (reply.Conflict (refusal m.core.machine (place m.core.machine.tree x) c (met_by m.core x c))) (reply.Value (unwrap_or write (value_of m.core.machine c)))) (does (event.Access x c write) m))
+              → GoesOrEnds (meets_cell s x write (cond b (reply.Conflict (refusal m.core.machine (place m.core.machine.tree x) c (met_by m.core x c))) (reply.Value (unwrap_or write (live_value m.core.machine c)))) (does (event.Access x c write) m))
           by true e = refuse c write e
           by false e = inl (still m.core (event.Access x c write) refl refl ∙ off)
 

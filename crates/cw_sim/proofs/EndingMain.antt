@@ -13,11 +13,11 @@ use Rattle.cw_tree.proofs.Ancestors.{ancestor_above, root_ancestor}
 use Rattle.cw_tree.proofs.Lists.{any_in}
 use Rattle.cw_tree.proofs.There.{node_there}
 use Rattle.cw_trace.proofs.InRange.{strand_low}
-use Rattle.cw_open.specs.Machine.{Machine, has_finished, waits, is_running, in_block, is_dying, falls}
+use Rattle.cw_open.specs.Machine.{OpenMachine, has_finished, waits, is_running, in_block, is_dying, falls}
 use Rattle.cw_open.proofs.NodeKinds.{pending_block, strand_no_block}
 use Rattle.cw_open.proofs.Standing.{runs}
 use Rattle.cw_open.proofs.Trees.{IsWell}
-use Rattle.cw_core.specs.State.{State}
+use Rattle.cw_core.specs.State.{CoreState}
 use Rattle.cw_core.specs.Laws.{IsCore}
 use Rattle.cw_core.proofs.Dying.{any_conflict}
 use Rattle.cw_core.proofs.Going.{well, at_place}
@@ -25,8 +25,8 @@ use Rattle.cw_sim.specs.Kept.{is_current}
 use Rattle.cw_sim.proofs.Halves.{open_unjoined, strand_open}
 use Rattle.cw_sim.proofs.Ready.{main_ready}
 
-module _ (first : List ℤ) (k : State) (core : IsCore first k) where
-  abbrev m : Machine
+module _ (first : List ℤ) (k : CoreState) (core : IsCore first k) where
+  abbrev m : OpenMachine
   m = k.machine
 
   abbrev t : List Node

@@ -18,7 +18,7 @@ use Rattle.cw_tree.specs.VictimsAt.{victim_at}
 use Rattle.cw_tree.specs.Refusals.{victim_of, refused}
 use Rattle.cw_tree.proofs.There.{node_there}
 use Rattle.cw_tree.proofs.Growing.{length_more, node_grown, number_new, strand_of_new}
-use Rattle.cw_open.specs.Machine.{Machine, has_finished, is_running, is_free}
+use Rattle.cw_open.specs.Machine.{OpenMachine, has_finished, is_running, is_free}
 use Rattle.cw_open.specs.Steps.{Met, refusal}
 use Rattle.cw_open.specs.Spent.{StandsStill, HasSpent}
 use Rattle.cw_open.proofs.ListSteps.{none_new}
@@ -28,7 +28,7 @@ use Rattle.cw_open.proofs.Standing.{runs, stands}
 use Rattle.cw_open.proofs.TreeSteps.{free_runs}
 use Rattle.cw_open.proofs.Trees.{IsWell}
 use Rattle.cw_open.proofs.Victims.{outermost_in}
-use Rattle.cw_core.specs.State.{State, waits_for_left, last_refusal, spent}
+use Rattle.cw_core.specs.State.{CoreState, waits_for_left, last_refusal, spent}
 use Rattle.cw_core.specs.Events.{met_by}
 use Rattle.cw_core.specs.Laws.{IsCore}
 use Rattle.cw_core.proofs.Going.{well, at_place}
@@ -43,17 +43,17 @@ none_at X b (d ∷ cs) e = by (nat_eq d.attempt b) refl e (none_at X b cs) where
   by true is e more = absurd (cc e)
   by false is e more = All-cons (λ c. c.attempt ≡ b → X c) d cs (λ q. absurd (let y = eq-eqb d.attempt b q in cc (is, y))) (more e)
 
-none_told : (k : State) → spent k ≡ None → last_refusal k ≡ None
+none_told : (k : CoreState) → spent k ≡ None → last_refusal k ≡ None
 none_told k = by (last_refusal k) where
   by : (o : Option Conflict) → option_map (λ c. strand_of k.machine.tree (refused k.machine.tree c)) o ≡ None → o ≡ None
   by None e = refl
   by (Some c) e = absurd (cc e)
 
-module _ (first : List ℤ) (k : State) (core : IsCore first k) (s : ℕ) (free : is_free k.machine s ≡ true) (ready : waits_for_left k s ≡ false) (c : ℕ) where
+module _ (first : List ℤ) (k : CoreState) (core : IsCore first k) (s : ℕ) (free : is_free k.machine s ≡ true) (ready : waits_for_left k s ≡ false) (c : ℕ) where
   abbrev t : List Node
   t = k.machine.tree
 
-  abbrev m : Machine
+  abbrev m : OpenMachine
   m = k.machine
 
   abbrev p : ℕ
@@ -75,7 +75,7 @@ module _ (first : List ℤ) (k : State) (core : IsCore first k) (s : ℕ) (free 
   u = t ++ x ∷ []
 
   -- the machine behind the refused access, whichever strands stopped
-  abbrev pub refused_at : List ℕ → Machine
+  abbrev pub refused_at : List ℕ → OpenMachine
   refused_at stopped = record m { tree = u; conflicts = m.conflicts ++ conflict ∷ []; stopped = stopped }
 
   running : is_running m s ≡ true

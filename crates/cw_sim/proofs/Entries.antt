@@ -5,12 +5,12 @@ use Rattle.cw_tree.specs.declared.access.Entry.{Entry}
 use Rattle.cw_tree.specs.Accesses.{written}
 use Rattle.cw_tree.specs.Stacks.{access_at}
 use Rattle.cw_open.specs.Left.{AreEntriesAt, AreKept}
-use Rattle.cw_core.specs.State.{State}
+use Rattle.cw_core.specs.State.{CoreState}
 use Rattle.cw_core.specs.Closing.{journal, journals, journals_of}
 use Rattle.cw_core.specs.Laws.{IsCore}
 use Rattle.cw_core.proofs.Going.{state}
 
-module _ (k : State) where
+module _ (k : CoreState) where
   entries_at : (v : ℤ) (ss : List ℕ) → AreEntriesAt k.machine.tree v ss (journal k v ss)
   entries_at v [] = tt
   entries_at v (s ∷ ss) = (record { stamp = refl; wrote = refl; value = refl; old = refl }, entries_at (unwrap_or (written k.machine.tree (access_at k.machine.tree s)) v) ss)
@@ -31,7 +31,7 @@ module _ (k : State) where
       subst Q value (subst P these (entries_at x l))
   each_journal (x ∷ vs) (l ∷ ls) (suc c) v es e q = each_journal vs ls c v es e q
 
-pub entries_kept : (first : List ℤ) (k : State) → IsCore first k → AreKept k.machine (journals_of k)
+pub entries_kept : (first : List ℤ) (k : CoreState) → IsCore first k → AreKept k.machine (journals_of k)
 entries_kept first k core = record {
   len = as_many k k.machine.first k.machine.lists (state first k core).listed.len;
   each = λ c v es. each_journal k k.machine.first k.machine.lists c v es;

@@ -9,15 +9,15 @@ use Rattle.cw_tree.specs.Walks.{has, is_ancestor}
 use Rattle.cw_tree.specs.Series.{children}
 use Rattle.cw_tree.specs.Shape.{IsTree}
 use Rattle.cw_trace.proofs.InRange.{strand_low}
-use Rattle.cw_open.specs.Machine.{Machine, has_finished, finished_dead, in_block, is_dying, is_free, rolls_back}
+use Rattle.cw_open.specs.Machine.{OpenMachine, has_finished, finished_dead, in_block, is_dying, is_free, rolls_back}
 use Rattle.cw_open.specs.Runs.{left_died}
 use Rattle.cw_open.proofs.Standing.{runs}
 use Rattle.cw_core.specs.declared.event.Event.TheVariants as event
-use Rattle.cw_core.specs.State.{State, has_columns, is_split}
-use Rattle.cw_core.specs.Events.{fits, after, is_early}
+use Rattle.cw_core.specs.State.{CoreState, has_columns, is_split}
+use Rattle.cw_core.specs.Events.{fits, after_event, is_early}
 use Rattle.cw_core.proofs.Going.{well}
-use Rattle.cw_sim.specs.Workers.{Worker, left_of, right_of, worker_in}
-use Rattle.cw_sim.specs.Kept.{Runs, AreWorkers, GoesOn}
+use Rattle.cw_sim.specs.Workers.{Worker, left_node, right_node, worker_in}
+use Rattle.cw_sim.specs.Kept.{Runs, AreWorkers, CoreGoesOn}
 use Rattle.cw_sim.proofs.Around.{Waits, waits_around}
 use Rattle.cw_sim.proofs.Deques.{oldest_may, unjoined_around}
 use Rattle.cw_sim.proofs.Finishing.{goes, takes_right, done, none_beneath as none_in_right}
@@ -27,8 +27,8 @@ use Rattle.cw_sim.proofs.MoveFresh.{no_children, no_block, unstarted}
 use Rattle.cw_sim.proofs.Unsplit.{none_beneath}
 use Rattle.cw_sim.proofs.Workers.{has_front, runs_in, idle_in}
 
-module _ (first : List ℤ) (k : State) (on : GoesOn first k) (ws : List Worker) (old : AreWorkers k ws) (w x : ℕ) (run : (worker_in ws w).runs ≡ Some x) where
-  abbrev m : Machine
+module _ (first : List ℤ) (k : CoreState) (on : CoreGoesOn first k) (ws : List Worker) (old : AreWorkers k ws) (w x : ℕ) (run : (worker_in ws w).runs ≡ Some x) where
+  abbrev m : OpenMachine
   m = k.machine
 
   abbrev t : List Node
@@ -80,10 +80,10 @@ module _ (first : List ℤ) (k : State) (on : GoesOn first k) (ws : List Worker)
   -- ## After the strand has finished
 
   module _ (dead : Bool) (fit : fits k (event.Finish x dead) ≡ true) where
-    abbrev z : State
-    z = after k (event.Finish x dead)
+    abbrev z : CoreState
+    z = after_event k (event.Finish x dead)
 
-    pub goes_finished : GoesOn first z
+    pub goes_finished : CoreGoesOn first z
     goes_finished = goes first k on x dead at.running at.ready fit
 
     -- but for main, it is a strand of a fork
@@ -100,58 +100,58 @@ module _ (first : List ℤ) (k : State) (on : GoesOn first k) (ws : List Worker)
           let it = runs m tree nested x at.running in
           open_unjoined m f fork_here (nested.outer x some (strand_low t x strand_here) (strand_open m x strand_here it.unfinished))
 
-      pub join_fits_here : has_finished z.machine (left_of f) ≡ true → has_finished z.machine (right_of f) ≡ true → fits z (event.Join f) ≡ true
+      pub join_fits_here : has_finished z.machine (left_node f) ≡ true → has_finished z.machine (right_node f) ≡ true → fits z (event.Join f) ≡ true
       join_fits_here = join_fits first z goes_finished f fork_here unjoined_here
 
   -- ## A left strand has finished dead: its right one does too, and they join
 
-  module _ (fit : fits k (event.Finish x true) ≡ true) (f : ℕ) (fork : is_fork t f ≡ true) (unjoined : has m.joined f ≡ false) (off : is_split k f ≡ false) (left : x ≡ left_of f) where
-    abbrev dead_z : State
-    dead_z = after k (event.Finish x true)
+  module _ (fit : fits k (event.Finish x true) ≡ true) (f : ℕ) (fork : is_fork t f ≡ true) (unjoined : has m.joined f ≡ false) (off : is_split k f ≡ false) (left : x ≡ left_node f) where
+    abbrev dead_z : CoreState
+    dead_z = after_event k (event.Finish x true)
 
-    abbrev right_z : State
-    right_z = after dead_z (event.Finish (right_of f) true)
+    abbrev right_z : CoreState
+    right_z = after_event dead_z (event.Finish (right_node f) true)
 
-    goes_dead : GoesOn first dead_z
+    goes_dead : CoreGoesOn first dead_z
     goes_dead = goes first k on x true at.running at.ready fit
 
     abbrev without : List ℕ → List ℕ
     without = filter (λ g. not (nat_eq g f))
 
-    to_right : Runs dead_z (record here { runs = Some (right_of f); deque = without here.deque; inline = without here.inline }) (right_of f)
+    to_right : Runs dead_z (record here { runs = Some (right_node f); deque = without here.deque; inline = without here.inline }) (right_node f)
     to_right = takes_right first k on x true at.running at.ready fit here f fork off left at
 
-    strand : is_strand t (right_of f) ≡ true
+    strand : is_strand t (right_node f) ≡ true
     strand = right_strand t tree on.forks f fork
 
-    fresh : (n : ℕ) → n < length t → is_ancestor t (right_of f) n ≡ true → n ≡ right_of f
+    fresh : (n : ℕ) → n < length t → is_ancestor t (right_node f) n ≡ true → n ≡ right_node f
     fresh = none_in_right first k on x true at.running at.ready fit here f fork off left at
 
-    died : left_died dead_z.machine (right_of f) ≡ true
+    died : left_died dead_z.machine (right_node f) ≡ true
     died =
-        and_from (nat_eq (length (children t (right_of f))) 0) (list_any (λ l. nat_lt l (right_of f) && finished_dead dead_z.machine l) (children t (parent_of t (right_of f))))
-        (ap (λ cs. nat_eq (length cs) 0) (no_children dead_z.machine tree (right_of f) strand fresh))
-        (ap (λ g. list_any (λ l. nat_lt l (right_of f) && finished_dead dead_z.machine l) (children t g)) (right_child t tree on.forks f fork).up
-        ∙ ap (list_any (λ l. nat_lt l (right_of f) && finished_dead dead_z.machine l)) (on.forks f fork)
-        ∙ or_left (nat_lt (left_of f) (right_of f) && finished_dead dead_z.machine (left_of f)) (nat_lt (right_of f) (right_of f) && finished_dead dead_z.machine (right_of f) || false)
-        (and_from (nat_lt (left_of f) (right_of f)) (finished_dead dead_z.machine (left_of f)) (lt-ltb (left_of f) (right_of f) (omega arith))
-        (or_left (nat_eq x (left_of f) && true) (finished_dead m (left_of f)) (and_from (nat_eq x (left_of f)) true (eq-eqb x (left_of f) left) refl))))
+        and_from (nat_eq (length (children t (right_node f))) 0) (list_any (λ l. nat_lt l (right_node f) && finished_dead dead_z.machine l) (children t (parent_of t (right_node f))))
+        (ap (λ cs. nat_eq (length cs) 0) (no_children dead_z.machine tree (right_node f) strand fresh))
+        (ap (λ g. list_any (λ l. nat_lt l (right_node f) && finished_dead dead_z.machine l) (children t g)) (right_child t tree on.forks f fork).up
+        ∙ ap (list_any (λ l. nat_lt l (right_node f) && finished_dead dead_z.machine l)) (on.forks f fork)
+        ∙ or_left (nat_lt (left_node f) (right_node f) && finished_dead dead_z.machine (left_node f)) (nat_lt (right_node f) (right_node f) && finished_dead dead_z.machine (right_node f) || false)
+        (and_from (nat_lt (left_node f) (right_node f)) (finished_dead dead_z.machine (left_node f)) (lt-ltb (left_node f) (right_node f) (omega arith))
+        (or_left (nat_eq x (left_node f) && true) (finished_dead m (left_node f)) (and_from (nat_eq x (left_node f)) true (eq-eqb x (left_node f) left) refl))))
 
-    pub right_fits_here : fits dead_z (event.Finish (right_of f) true) ≡ true
-    right_fits_here = finish_after_dead first dead_z goes_dead (right_of f) to_right.running to_right.ready (no_block dead_z.machine tree (right_of f) strand fresh) died
+    pub right_fits_here : fits dead_z (event.Finish (right_node f) true) ≡ true
+    right_fits_here = finish_after_dead first dead_z goes_dead (right_node f) to_right.running to_right.ready (no_block dead_z.machine tree (right_node f) strand fresh) died
 
-    pub goes_right : GoesOn first right_z
-    goes_right = goes first dead_z goes_dead (right_of f) true to_right.running to_right.ready right_fits_here
+    pub goes_right : CoreGoesOn first right_z
+    goes_right = goes first dead_z goes_dead (right_node f) true to_right.running to_right.ready right_fits_here
 
     pub both_fit_here : fits right_z (event.Join f) ≡ true
     both_fit_here =
         join_fits first right_z goes_right f fork unjoined
-        (or_right (nat_eq (right_of f) (left_of f)) (has_finished dead_z.machine (left_of f)) (ap (has_finished dead_z.machine) (sym left) ∙ done first k on x true at.running at.ready fit))
-        (done first dead_z goes_dead (right_of f) true to_right.running to_right.ready right_fits_here)
+        (or_right (nat_eq (right_node f) (left_node f)) (has_finished dead_z.machine (left_node f)) (ap (has_finished dead_z.machine) (sym left) ∙ done first k on x true at.running at.ready fit))
+        (done first dead_z goes_dead (right_node f) true to_right.running to_right.ready right_fits_here)
 
 -- ## A fork is taken from a worker's deque
 
-module _ (first : List ℤ) (k : State) (on : GoesOn first k) (ws : List Worker) (old : AreWorkers k ws) (v f : ℕ) (fs : List ℕ) (e : (worker_in ws v).deque ≡ f ∷ fs) where
+module _ (first : List ℤ) (k : CoreState) (on : CoreGoesOn first k) (ws : List Worker) (old : AreWorkers k ws) (v f : ℕ) (fs : List ℕ) (e : (worker_in ws v).deque ≡ f ∷ fs) where
   abbrev from : Worker
   from = worker_in ws v
 
@@ -181,7 +181,7 @@ module _ (first : List ℤ) (k : State) (on : GoesOn first k) (ws : List Worker)
   early_here = oldest_may first k on from from.runs (old.fit v) f fs e
 
   -- its right strand is still to come
-  pub unfinished_here : has_finished k.machine (right_of f) ≡ false
+  pub unfinished_here : has_finished k.machine (right_node f) ≡ false
   unfinished_here = robbed_here.at.to_come f (has_front from.deque from.inline f has_here)
 
   pub split_fits_here : fits k (event.Split f) ≡ true
@@ -189,5 +189,5 @@ module _ (first : List ℤ) (k : State) (on : GoesOn first k) (ws : List Worker)
       let r = robbed_here in
       let tree = (well first k on.core).sound.tree in
       let right = right_strand k.machine.tree tree on.forks f r.here.fork in
-      let none = no_children k.machine tree (right_of f) right (none_beneath first k on r.strand f [] r.at.running r.here) in
+      let none = no_children k.machine tree (right_node f) right (none_beneath first k on r.strand f [] r.at.running r.here) in
       split_fits first k on f r.here.fork columns_here r.here.split (unjoined_around first k on r.strand f [] r.at.running r.here) (unstarted k f on.forks r.here.fork none unfinished_here)

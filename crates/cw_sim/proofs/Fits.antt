@@ -8,16 +8,16 @@ use Rattle.cw_tree.specs.Nodes.{is_fork}
 use Rattle.cw_tree.specs.Walks.{has}
 use Rattle.cw_tree.specs.Series.{children, place}
 use Rattle.cw_tree.specs.Refusals.{is_victim}
-use Rattle.cw_open.specs.Machine.{Machine, has_finished, is_running, in_block, is_dying, is_free, rolls_back}
-use Rattle.cw_open.specs.Runs.{Reached, at_any_time, left_died}
+use Rattle.cw_open.specs.Machine.{OpenMachine, has_finished, is_running, in_block, is_dying, is_free, rolls_back}
+use Rattle.cw_open.specs.Runs.{IsReachedBy, at_any_time, left_died}
 use Rattle.cw_open.proofs.LawsHold.{cells, at_any}
 use Rattle.cw_open.proofs.Victims.{dying_roll_back, free_are_safe}
 use Rattle.cw_core.specs.declared.event.Event.{Event}
 use Rattle.cw_core.specs.declared.event.Event.TheVariants as event
-use Rattle.cw_core.specs.State.{State, has_columns, is_split, waits_for_left, spent}
+use Rattle.cw_core.specs.State.{CoreState, has_columns, is_split, waits_for_left, spent}
 use Rattle.cw_core.specs.Events.{fits, fits_now, is_stop, is_unstarted, may_stop}
-use Rattle.cw_sim.specs.Workers.{left_of, right_of}
-use Rattle.cw_sim.specs.Kept.{GoesOn}
+use Rattle.cw_sim.specs.Workers.{left_node, right_node}
+use Rattle.cw_sim.specs.Kept.{CoreGoesOn}
 
 -- with a Finish of a strand that is dying, or not
 finish_test : (b dead : Bool) → b ≡ dead → (x : Bool) → cond b dead (not dead || x) ≡ true
@@ -30,8 +30,8 @@ dead_test : (b x : Bool) → x ≡ true → cond b true (false || x) ≡ true
 dead_test true x e = refl
 dead_test false x e = e
 
-module _ (first : List ℤ) (k : State) (on : GoesOn first k) where
-  abbrev m : Machine
+module _ (first : List ℤ) (k : CoreState) (on : CoreGoesOn first k) where
+  abbrev m : OpenMachine
   m = k.machine
 
   -- while the core goes on, an event fits where it has what it needs
@@ -40,7 +40,7 @@ module _ (first : List ℤ) (k : State) (on : GoesOn first k) where
       and_from (is_none k.halt && (is_none (spent k) || is_stop e)) (fits_now k e)
       (and_from (is_none k.halt) (is_none (spent k) || is_stop e) (ap is_none on.halt) (or_left (is_none (spent k)) (is_stop e) (ap is_none on.spent))) now
 
-  reached : Reached (at_any_time (λ t us w. Rattle.cw_tree.specs.Newest.newest us)) first m
+  reached : IsReachedBy (at_any_time (λ t us w. Rattle.cw_tree.specs.Newest.newest us)) first m
   reached = at_any first m on.core.reached
 
   -- ## A strand that runs, and does not wait for a left one
@@ -103,20 +103,20 @@ module _ (first : List ℤ) (k : State) (on : GoesOn first k) where
       (and_from (is_fork m.tree f && has_columns k f && not (is_split k f)) (not (has m.joined f))
       (and_from (is_fork m.tree f && has_columns k f) (not (is_split k f)) (and_from (is_fork m.tree f) (has_columns k f) fork room) (not_from_false (is_split k f) off)) (not_from_false (has m.joined f) apart)) fresh)
 
-  pub join_fits : (f : ℕ) → is_fork m.tree f ≡ true → has m.joined f ≡ false → has_finished m (left_of f) ≡ true → has_finished m (right_of f) ≡ true → fits k (event.Join f) ≡ true
+  pub join_fits : (f : ℕ) → is_fork m.tree f ≡ true → has m.joined f ≡ false → has_finished m (left_node f) ≡ true → has_finished m (right_node f) ≡ true → fits k (event.Join f) ≡ true
   join_fits f fork apart left right =
       fits_on (event.Join f)
       (and_from (is_fork m.tree f && not (has m.joined f)) (list_all (has_finished m) (children m.tree f)) (and_from (is_fork m.tree f) (not (has m.joined f)) fork (not_from_false (has m.joined f) apart))
-      (ap (list_all (has_finished m)) (on.forks f fork) ∙ and_from (has_finished m (left_of f)) (has_finished m (right_of f) && true) left (and_from (has_finished m (right_of f)) true right refl)))
+      (ap (list_all (has_finished m)) (on.forks f fork) ∙ and_from (has_finished m (left_node f)) (has_finished m (right_node f) && true) left (and_from (has_finished m (right_node f)) true right refl)))
 
 -- a stop fits until the core has stopped
-pub stop_fits : (k : State) (h : Halt) → k.halt ≡ None → may_stop k h ≡ true → fits k (event.Stop h) ≡ true
+pub stop_fits : (k : CoreState) (h : Halt) → k.halt ≡ None → may_stop k h ≡ true → fits k (event.Stop h) ≡ true
 stop_fits k h going may =
     and_from (is_none k.halt && (is_none (spent k) || true)) (may_stop k h)
     (and_from (is_none k.halt) (is_none (spent k) || true) (ap is_none going) (or_right (is_none (spent k)) true refl)) may
 
 -- the strand that spent its budget may stop so
-pub spent_stop : (k : State) (x : ℕ) → k.halt ≡ None → spent k ≡ Some x → fits k (event.Stop (Rattle.cw_tree.specs.declared.closed.Halt.TheVariants.Budget x)) ≡ true
+pub spent_stop : (k : CoreState) (x : ℕ) → k.halt ≡ None → spent k ≡ Some x → fits k (event.Stop (Rattle.cw_tree.specs.declared.closed.Halt.TheVariants.Budget x)) ≡ true
 spent_stop k x going e =
     stop_fits k (Rattle.cw_tree.specs.declared.closed.Halt.TheVariants.Budget x) going
     (ap (λ o. Rattle.std.specs.Option.option_map_or (λ y. nat_eq y x) o false) e ∙ Rattle.std.proofs.lemmas.Bool.eq-eqb x x refl)

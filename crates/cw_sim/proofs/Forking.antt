@@ -13,27 +13,27 @@ use Rattle.cw_tree.proofs.Growing.{node_grown, number_grown, get_next}
 use Rattle.cw_tree.proofs.Lists.{any_in}
 use Rattle.cw_tree.proofs.NextTrees.{no_fork}
 use Rattle.cw_tree.proofs.Strands.{strand_of_le, strand_of_other}
-use Rattle.cw_trace.specs.Columns.{used, left_of as left_column}
+use Rattle.cw_trace.specs.Columns.{used, left_column_of as left_column}
 use Rattle.cw_trace.specs.Stands.{fork_column}
 use Rattle.cw_trace.proofs.Counting.{fork_column_lt}
 use Rattle.cw_trace.proofs.Grow.{fork_column_append}
 use Rattle.cw_trace.proofs.InRange.{fork_low, strand_low}
 use Rattle.cw_trace.proofs.Meaning.{odd_column}
-use Rattle.cw_open.specs.Machine.{Machine, has_finished, is_running, waits}
+use Rattle.cw_open.specs.Machine.{OpenMachine, has_finished, is_running, waits}
 use Rattle.cw_open.proofs.ListSteps.{none_new}
 use Rattle.cw_open.proofs.NodeKinds.{fork_no_strand}
 use Rattle.cw_open.proofs.Standing.{runs, stands}
 use Rattle.cw_core.specs.declared.event.Event.TheVariants as event
-use Rattle.cw_core.specs.State.{State, has_columns, is_split, waits_for_left}
-use Rattle.cw_core.specs.Events.{fits, after, may_fork, next}
+use Rattle.cw_core.specs.State.{CoreState, has_columns, is_split, waits_for_left}
+use Rattle.cw_core.specs.Events.{fits, after_event, may_fork, next}
 use Rattle.cw_core.specs.Laws.{IsCore}
 use Rattle.cw_core.proofs.ForkTails.{fork_children, other_children}
 use Rattle.cw_core.proofs.Going.{well, at_place}
 use Rattle.cw_core.proofs.Kept.{events}
 use Rattle.cw_core.proofs.PartsGrow.{none_spent}
 use Rattle.cw_core.proofs.Places.{waits_grown}
-use Rattle.cw_sim.specs.Workers.{Worker, waiting, with_fork, left_of, right_of}
-use Rattle.cw_sim.specs.Kept.{Runs, Fits, GoesOn, forks_around}
+use Rattle.cw_sim.specs.Workers.{Worker, waiting, with_fork, left_node, right_node}
+use Rattle.cw_sim.specs.Kept.{Runs, Fits, CoreGoesOn, forks_around}
 use Rattle.cw_sim.proofs.After.{room_after}
 use Rattle.cw_sim.proofs.Around.{waits_around}
 use Rattle.cw_sim.proofs.Going.{still_runs}
@@ -43,11 +43,11 @@ use Rattle.cw_sim.proofs.Same.{SameWays, split_same, columns_same, same_strand, 
 use Rattle.cw_sim.proofs.Ways.{around_left}
 use Rattle.cw_sim.proofs.Workers.{has_parts}
 
-module _ (first : List ℤ) (k : State) (on : GoesOn first k) (x : ℕ) (running : is_running k.machine x ≡ true) (ready : waits_for_left k x ≡ false) (fit : fits k (event.Fork x) ≡ true) where
+module _ (first : List ℤ) (k : CoreState) (on : CoreGoesOn first k) (x : ℕ) (running : is_running k.machine x ≡ true) (ready : waits_for_left k x ≡ false) (fit : fits k (event.Fork x) ≡ true) where
   abbrev t : List Node
   t = k.machine.tree
 
-  abbrev m : Machine
+  abbrev m : OpenMachine
   m = k.machine
 
   abbrev n : ℕ
@@ -62,8 +62,8 @@ module _ (first : List ℤ) (k : State) (on : GoesOn first k) (x : ℕ) (running
   abbrev u : List Node
   u = t ++ xs
 
-  abbrev z : State
-  z = after k (event.Fork x)
+  abbrev z : CoreState
+  z = after_event k (event.Fork x)
 
   tree : IsTree t
   tree = (well first k on.core).sound.tree
@@ -147,17 +147,17 @@ module _ (first : List ℤ) (k : State) (on : GoesOn first k) (x : ℕ) (running
 
   made : AsMade u
   made f e = elim (cases_eq f n) [
-    | inl q ↦ ap (children u) q ∙ fork_children t tree.rooted p (next k) there ∙ ap (λ a. a ∷ suc (suc n) ∷ []) (next_is n) ∙ ap (λ a. left_of n ∷ a ∷ []) (after_is n) ∙ sym (ap (λ g. left_of g ∷ right_of g ∷ []) q)
+    | inl q ↦ ap (children u) q ∙ fork_children t tree.rooted p (next k) there ∙ ap (λ a. a ∷ suc (suc n) ∷ []) (next_is n) ∙ ap (λ a. left_node n ∷ a ∷ []) (after_is n) ∙ sym (ap (λ g. left_node g ∷ right_node g ∷ []) q)
     | inr ne ↦ (let o = fork_old f e ne in
         other_children t tree.rooted p (next k) there f (λ q. absurd (let under = no_fork t p (at_place first k on.core x running ready).holds in cc (o.1, ap (is_fork t) q, under))) ne ∙ on.forks f o.1)
   ] where
-    next_is : (a : ℕ) → suc a ≡ left_of a
+    next_is : (a : ℕ) → suc a ≡ left_node a
     next_is a = omega arith
 
-    after_is : (a : ℕ) → suc (suc a) ≡ right_of a
+    after_is : (a : ℕ) → suc (suc a) ≡ right_node a
     after_is a = omega arith
 
-  pub goes : GoesOn first z
+  pub goes : CoreGoesOn first z
   goes = record {
     core = core;
     halt = on.halt;
@@ -212,7 +212,7 @@ module _ (first : List ℤ) (k : State) (on : GoesOn first k) (x : ℕ) (running
 
   module _ (w : Worker) (at : Runs k w x) where
     abbrev left : Worker
-    left = record (with_fork (may_fork k) n w) { runs = Some (left_of n) }
+    left = record (with_fork (may_fork k) n w) { runs = Some (left_node n) }
 
     -- where there are columns left, no fork waits inline
     none_inline : may_fork k ≡ true → w.inline ≡ []
@@ -264,31 +264,31 @@ module _ (first : List ℤ) (k : State) (on : GoesOn first k) (x : ℕ) (running
     not_yet : (s : ℕ) → n ≤ s → has_finished m s ≡ false
     not_yet s le = false_from_ne_true (has_finished m s) (λ e. absurd (let h = (well first k on.core).finished s e in omega arith))
 
-    left_waits : waits z.machine (left_of n) ≡ false
-    left_waits = false_from_ne_true (waits z.machine (left_of n)) (λ e.
-        let a = any_in (λ g. is_fork u g && nat_eq (strand_of u g) (left_of n) && not (has m.joined g)) (all_nodes u) e in
-        let b = and_parts (is_fork u a.0 && nat_eq (strand_of u a.0) (left_of n)) (not (has m.joined a.0)) a.2 in
-        let c = and_parts (is_fork u a.0) (nat_eq (strand_of u a.0) (left_of n)) b.0 in
-        let own = eqb-true (strand_of u a.0) (left_of n) c.1 in
+    left_waits : waits z.machine (left_node n) ≡ false
+    left_waits = false_from_ne_true (waits z.machine (left_node n)) (λ e.
+        let a = any_in (λ g. is_fork u g && nat_eq (strand_of u g) (left_node n) && not (has m.joined g)) (all_nodes u) e in
+        let b = and_parts (is_fork u a.0 && nat_eq (strand_of u a.0) (left_node n)) (not (has m.joined a.0)) a.2 in
+        let c = and_parts (is_fork u a.0) (nat_eq (strand_of u a.0) (left_node n)) b.0 in
+        let own = eqb-true (strand_of u a.0) (left_node n) c.1 in
         let low = x_low in
         elim (cases_eq a.0 n) [
           | inl q ↦ absurd (let it = sym own ∙ ap (strand_of u) q ∙ fork_strand in omega (arith, it))
           | inr ne ↦ absurd (let o = fork_old a.0 c.0 ne in let le = strand_of_le u tree_after.rooted a.0 (omega (arith, o.0, len)) in omega (arith, own, o.0, le))
         ])
 
-    pub takes_left : Runs z left (left_of n)
+    pub takes_left : Runs z left (left_node n)
     takes_left =
         let lc = left_child u tree_after made n fork_here in
         let strand = left_strand u tree_after made n fork_here in
         record {
-          running = and_from (is_strand u (left_of n) && not (has_finished m (left_of n)) && not (waits z.machine (left_of n))) (not (has m.stopped (left_of n)))
-              (and_from (is_strand u (left_of n) && not (has_finished m (left_of n))) (not (waits z.machine (left_of n))) (and_from (is_strand u (left_of n)) (not (has_finished m (left_of n))) strand (not_from_false (has_finished m (left_of n)) (not_yet (left_of n) (omega arith)))) (not_from_false (waits z.machine (left_of n)) left_waits))
-              (ap (λ ss. not (has ss (left_of n))) on.stopped);
-          ready = left_ready z made (left_of n) n lc.up fork_here refl;
+          running = and_from (is_strand u (left_node n) && not (has_finished m (left_node n)) && not (waits z.machine (left_node n))) (not (has m.stopped (left_node n)))
+              (and_from (is_strand u (left_node n) && not (has_finished m (left_node n))) (not (waits z.machine (left_node n))) (and_from (is_strand u (left_node n)) (not (has_finished m (left_node n))) strand (not_from_false (has_finished m (left_node n)) (not_yet (left_node n) (omega arith)))) (not_from_false (waits z.machine (left_node n)) left_waits))
+              (ap (λ ss. not (has ss (left_node n))) on.stopped);
+          ready = left_ready z made (left_node n) n lc.up fork_here refl;
           forks = waits_now (may_fork k) refl ∙ ap (λ ds. ds ++ n ∷ []) (at.forks ∙ sym (same_around k z tree.rooted tree_after.rooted same x x_low) ∙ sym (ap (forks_around z) fork_strand))
-              ∙ sym (around_left z tree_after.rooted (left_of n) lc.some lc.there strand (ap (is_split z) lc.up ∙ unsplit) (ap left_of (sym lc.up)) ∙ ap (λ g. forks_around z (strand_of u g) ++ g ∷ []) lc.up);
+              ∙ sym (around_left z tree_after.rooted (left_node n) lc.some lc.there strand (ap (is_split z) lc.up ∙ unsplit) (ap left_node (sym lc.up)) ∙ ap (λ g. forks_around z (strand_of u g) ++ g ∷ []) lc.up);
           deque = in_deque (may_fork k) refl;
           inline = in_inline (may_fork k) refl;
           to_come = λ g e. (let h : has (waiting w ++ n ∷ []) g ≡ true = sym (ap (λ ds. has ds g) (waits_now (may_fork k) refl)) ∙ e in
-              elim (one_more (waiting w) g h) [ inl y ↦ at.to_come g y | inr q ↦ ap (λ a. has_finished m (right_of a)) q ∙ not_yet (right_of n) (omega arith) ]);
+              elim (one_more (waiting w) g h) [ inl y ↦ at.to_come g y | inr q ↦ ap (λ a. has_finished m (right_node a)) q ∙ not_yet (right_node n) (omega arith) ]);
         }

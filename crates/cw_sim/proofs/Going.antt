@@ -11,22 +11,22 @@ use Rattle.cw_tree.proofs.Strands.{strand_of_le}
 use Rattle.cw_trace.proofs.InRange.{fork_low, strand_low}
 use Rattle.cw_open.specs.Machine.{has_finished, is_running}
 use Rattle.cw_open.proofs.Standing.{runs}
-use Rattle.cw_core.specs.State.{State, is_split, has_columns, waits_for_left, spent}
+use Rattle.cw_core.specs.State.{CoreState, is_split, has_columns, waits_for_left, spent}
 use Rattle.cw_core.specs.Laws.{IsCore}
 use Rattle.cw_core.proofs.Going.{well}
-use Rattle.cw_sim.specs.Workers.{Worker, left_of, right_of}
-use Rattle.cw_sim.specs.Kept.{lefts, forks_around, Runs, GoesOn}
+use Rattle.cw_sim.specs.Workers.{Worker, left_node, right_node}
+use Rattle.cw_sim.specs.Kept.{lefts, forks_around, Runs, CoreGoesOn}
 use Rattle.cw_sim.proofs.Halves.{AsMade, which}
 use Rattle.cw_sim.proofs.Workers.{has_front, has_back}
 use Rattle.cw_sim.proofs.Same.{SameWays, same_strand, same_around}
 use Rattle.cw_sim.proofs.Ready.{main_ready, split_ready, left_ready, right_ready, left_done}
 
 -- where more forks are split, none waits where none did
-pub none_still : (k z : State) → ((n : ℕ) → parent_of z.machine.tree n ≡ parent_of k.machine.tree n) → ((f : ℕ) → is_split k f ≡ true → is_split z f ≡ true) → (ys : List ℕ) → lefts k ys ≡ [] → lefts z ys ≡ []
+pub none_still : (k z : CoreState) → ((n : ℕ) → parent_of z.machine.tree n ≡ parent_of k.machine.tree n) → ((f : ℕ) → is_split k f ≡ true → is_split z f ≡ true) → (ys : List ℕ) → lefts k ys ≡ [] → lefts z ys ≡ []
 none_still k z up more [] e = refl
 none_still k z up more (y ∷ ys) e =
-    ap (λ f. cond (is_split z f) [] (cond (nat_eq y (left_of f)) (lefts z ys ++ f ∷ []) (lefts z ys))) (up y)
-    ∙ by (is_split k f) (is_split z f) (nat_eq y (left_of f)) (more f) (none_still k z up more ys) refl e where
+    ap (λ f. cond (is_split z f) [] (cond (nat_eq y (left_node f)) (lefts z ys ++ f ∷ []) (lefts z ys))) (up y)
+    ∙ by (is_split k f) (is_split z f) (nat_eq y (left_node f)) (more f) (none_still k z up more ys) refl e where
       f : ℕ
       f = parent_of k.machine.tree y
 
@@ -40,7 +40,7 @@ none_still k z up more (y ∷ ys) e =
       by false false true i rest q h = absurd (no_end (lefts k ys) h)
       by false false false i rest q h = rest h
 
-module _ (first : List ℤ) (k z : State) (on : GoesOn first k) (core : IsCore first z) (same : SameWays k z) where
+module _ (first : List ℤ) (k z : CoreState) (on : CoreGoesOn first k) (core : IsCore first z) (same : SameWays k z) where
   abbrev t : List Node
   t = k.machine.tree
 
@@ -55,7 +55,7 @@ module _ (first : List ℤ) (k z : State) (on : GoesOn first k) (core : IsCore f
 
   -- the forks are those that were there
   pub goes_on : ((f : ℕ) → is_fork u f ≡ true → (is_fork t f ≡ true) × (children u f ≡ children t f)) → ((f : ℕ) → has z.machine.joined f ≡ false → has k.machine.joined f ≡ false)
-      → z.halt ≡ None → spent z ≡ None → z.machine.stopped ≡ [] → GoesOn first z
+      → z.halt ≡ None → spent z ≡ None → z.machine.stopped ≡ [] → CoreGoesOn first z
   goes_on forks joins halt unspent stopped = record {
     core = core;
     halt = halt;
@@ -89,7 +89,7 @@ module _ (first : List ℤ) (k z : State) (on : GoesOn first k) (core : IsCore f
       fork : (y ≡ 0 → ⊥) → is_fork t (parent_of t y) ≡ true
       fork ne = tree.strands y there (some ne) strand
 
-      by_side : (y ≡ left_of (parent_of t y)) ⊎ (y ≡ right_of (parent_of t y)) → 0 < y → is_fork t (parent_of t y) ≡ true → waits_for_left z y ≡ false
+      by_side : (y ≡ left_node (parent_of t y)) ⊎ (y ≡ right_node (parent_of t y)) → 0 < y → is_fork t (parent_of t y) ≡ true → waits_for_left z y ≡ false
       by_side side p ff =
           let h = there in
           let longer = same.longer in
@@ -103,12 +103,12 @@ module _ (first : List ℤ) (k z : State) (on : GoesOn first k) (core : IsCore f
             | inl e ↦ left_ready z made y f up fork_u e
             | inr e ↦ elim (cases_Bool (is_split k f)) [
               | inl s ↦ split_ready z made y f up fork_u (same.splits f (omega arith) ∙ s)
-              | inr s ↦ right_ready z made y f up fork_u e (more (left_of f) (left_done k on.forks y f refl ff e ready s))
+              | inr s ↦ right_ready z made y f up fork_u e (more (left_node f) (left_done k on.forks y f refl ff e ready s))
             ]
           ]
 
     -- a worker of whose forks none came to its right strand, and whose strand still runs
-    pub still_runs : (w : Worker) (y : ℕ) → Runs k w y → is_running z.machine y ≡ true → ((f : ℕ) → has (w.deque ++ w.inline) f ≡ true → f < length t) → ((f : ℕ) → has (w.deque ++ w.inline) f ≡ true → has_finished z.machine (right_of f) ≡ false) → Runs z w y
+    pub still_runs : (w : Worker) (y : ℕ) → Runs k w y → is_running z.machine y ≡ true → ((f : ℕ) → has (w.deque ++ w.inline) f ≡ true → f < length t) → ((f : ℕ) → has (w.deque ++ w.inline) f ≡ true → has_finished z.machine (right_node f) ≡ false) → Runs z w y
     still_runs w y at running low to_come =
         let here = runs k.machine tree (well first k on.core).nested y at.running in
         record {

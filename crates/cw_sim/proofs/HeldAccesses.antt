@@ -14,21 +14,21 @@ use Rattle.cw_tree.specs.declared.node.Kind.TheVariants.{Tried}
 use Rattle.cw_tree.specs.Nodes.{is_block_kind, is_pending_state, fresh_node}
 use Rattle.cw_tree.specs.Series.{place}
 use Rattle.cw_tree.specs.Stacks.{access_kind}
-use Rattle.cw_open.specs.Machine.{value_of}
+use Rattle.cw_open.specs.Machine.{live_value}
 use Rattle.cw_open.specs.Steps.{refuses, accesses as makes, refusal, after_all}
 use Rattle.cw_core.specs.declared.event.Event.{Event}
 use Rattle.cw_core.specs.declared.event.Event.TheVariants as event
 use Rattle.cw_core.specs.declared.event.Reply.{Reply}
 use Rattle.cw_core.specs.declared.event.Reply.TheVariants as reply
-use Rattle.cw_core.specs.State.{State, spent}
-use Rattle.cw_core.specs.Events.{fits, after, reply_to, is_met, met_by, next}
+use Rattle.cw_core.specs.State.{CoreState, spent}
+use Rattle.cw_core.specs.Events.{fits, after_event, reply_to, is_met, met_by, next}
 use Rattle.cw_core.specs.Laws.{IsCore}
 use Rattle.cw_sim.specs.Workers.{Simulation, changed}
 use Rattle.cw_sim.specs.Moves.{does, given_for, meets_cell, stops_if_spent, accesses}
-use Rattle.cw_sim.specs.Kept.{GoesOn}
+use Rattle.cw_sim.specs.Kept.{CoreGoesOn}
 use Rattle.cw_sim.specs.Laws.{NamesCell}
 use Rattle.cw_sim.specs.Inside.{HasInside}
-use Rattle.cw_sim.specs.Held.{Seen, Stands, Comes, MayDo, MayAnswer, law_of, answered, access_of}
+use Rattle.cw_sim.specs.Held.{Seen, StandsFor, Comes, MayDo, MayAnswer, law_of, answered, access_of}
 use Rattle.cw_sim.specs.declared.moves.Simulation.{Simulation as InMemory}
 use Rattle.cw_sim.proofs.Fits.{free, access_fits}
 use Rattle.cw_sim.proofs.HeldActs.{fits_there, is_after, left_may}
@@ -80,19 +80,19 @@ spent_inside s m there None old = old
 spent_inside s m there (Some x) old = stop_inside s m (halt.Budget x) there old
 
 module _ (c : InMemory) (x cell : ℕ) (write : Option ℤ) (z : Seen) (may : MayDo c x (access_of cell write) z) where
-  abbrev k : State
+  abbrev k : CoreState
   k = z.m.core
 
   abbrev e : Event
   e = event.Access x cell write
 
-  abbrev now : State
-  now = after k e
+  abbrev now : CoreState
+  now = after_event k e
 
   abbrev p : ℕ
   p = place k.machine.tree x
 
-  on : GoesOn k.machine.first k
+  on : CoreGoesOn k.machine.first k
   on = may.step.steady.core
 
   -- the cell is there
@@ -114,20 +114,20 @@ module _ (c : InMemory) (x cell : ℕ) (write : Option ℤ) (z : Seen) (may : Ma
   abbrev against : Conflict
   against = refusal k.machine p cell (met_by k x cell)
 
-  seen_reply : (r : Reply) → r ≡ reply_to c.core e → r ≡ reply_by against (unwrap_or write (value_of k.machine cell)) (is_met k x cell)
+  seen_reply : (r : Reply) → r ≡ reply_to c.core e → r ≡ reply_by against (unwrap_or write (live_value k.machine cell)) (is_met k x cell)
   seen_reply r is = is ∙ ap (λ s. reply_to s e) may.step.steady.stands.core
 
   -- ## It is answered
 
   module _ (v : ℤ) (r : Reply) (is_value : r ≡ reply.Value v) (is_reply : r ≡ reply_to c.core e) where
-    replied : reply_by against (unwrap_or write (value_of k.machine cell)) (is_met k x cell) ≡ reply.Value v
+    replied : reply_by against (unwrap_or write (live_value k.machine cell)) (is_met k x cell) ≡ reply.Value v
     replied = sym (seen_reply r is_reply) ∙ is_value
 
     unmet : is_met k x cell ≡ false
-    unmet = made_by against (unwrap_or write (value_of k.machine cell)) v (is_met k x cell) replied
+    unmet = made_by against (unwrap_or write (live_value k.machine cell)) v (is_met k x cell) replied
 
     abbrev node : Node
-    node = fresh_node p (access_kind cell write (value_of k.machine cell)) (next k)
+    node = fresh_node p (access_kind cell write (live_value k.machine cell)) (next k)
 
     more : IsMore k now node
     more = access_more k.machine.first k on x may.step.running may.step.ready cell write unmet
@@ -138,20 +138,20 @@ module _ (c : InMemory) (x cell : ℕ) (write : Option ℤ) (z : Seen) (may : Ma
         subst P (sym unmet) refl
 
     plain : (is_block_kind node.kind && is_pending_state node.state) ≡ false
-    plain = and_left (is_block_kind node.kind) (is_pending_state node.state) (access_plain cell write (value_of k.machine cell))
+    plain = and_left (is_block_kind node.kind) (is_pending_state node.state) (access_plain cell write (live_value k.machine cell))
 
     -- the strand may be answered then
-    pub access_may : (new : State) → new ≡ after c.core e → IsCore new.machine.first new → MayAnswer (record c { core = new }) x (record z { m = does e z.m })
+    pub access_may : (new : CoreState) → new ≡ after_event c.core e → IsCore new.machine.first new → MayAnswer (record c { core = new }) x (record z { m = does e z.m })
     access_may new is core =
         left_may c x z may.step new e is core c.saved z.m.saved may.alive (more_left k now (left.whole k.machine.first k on) node more)
         (left.dying_more k.machine.first k on e fit node more conflicts)
         (λ b q. may.step.steady.stands.saved b (left.plain_more k.machine.first k on e fit node more plain b q))
 
     -- and it stands for the move once it is
-    pub access_comes : (given : Given) → given ≡ given_for write v → (d : InMemory) → Stands d (answered x given (record z { m = does e z.m })) → Comes d z (accesses (law_of z) x cell write z.m)
+    pub access_comes : (given : Given) → given ≡ given_for write v → (d : InMemory) → StandsFor d (answered x given (record z { m = does e z.m })) → Comes d z (accesses (law_of z) x cell write z.m)
     access_comes given is d stands =
         let P : Reply → Type 0 = λ r. Comes d z (meets_cell (law_of z) x write r (does e z.m)) in
-        let Q : Given → Type 0 = λ g. Stands d (answered x g (record z { m = does e z.m })) in
+        let Q : Given → Type 0 = λ g. StandsFor d (answered x g (record z { m = does e z.m })) in
         let R : Want → Type 0 = λ w. IsAnswer w (given_for write v) in
         subst P (sym replied) (
           changed x ((law_of z).answer (z.m.at x) (given_for write v)) z.there,
@@ -166,7 +166,7 @@ module _ (c : InMemory) (x cell : ℕ) (write : Option ℤ) (z : Seen) (may : Ma
 
   module _ (r : Reply) (no_value : (v : ℤ) → r ≡ reply.Value v → ⊥) (is_reply : r ≡ reply_to c.core e) where
     met : is_met k x cell ≡ true
-    met = refused_by against (unwrap_or write (value_of k.machine cell)) (is_met k x cell) r (seen_reply r is_reply) no_value
+    met = refused_by against (unwrap_or write (live_value k.machine cell)) (is_met k x cell) r (seen_reply r is_reply) no_value
 
     abbrev tried : Node
     tried = fresh_node p (Tried cell) 0
@@ -181,16 +181,16 @@ module _ (c : InMemory) (x cell : ℕ) (write : Option ℤ) (z : Seen) (may : Ma
     tried_left = more_left k now (left.whole k.machine.first k on) tried tried_more
 
     -- all bodies stay where they are
-    pub refused_stands : (new : State) → new ≡ after c.core e → IsCore new.machine.first new → Stands (record c { core = new }) (record z { m = does e z.m })
+    pub refused_stands : (new : CoreState) → new ≡ after_event c.core e → IsCore new.machine.first new → StandsFor (record c { core = new }) (record z { m = does e z.m })
     refused_stands new is core =
         still_stands c new z now may.step.steady.stands (is_after c x z may.step new e is core) core (left.body_was k now tried_left)
         (λ y. left.back_was k.machine now.machine tried_left y (left.dying_refused k.machine.first k on e fit tried tried_more against new_conflict y))
         (left.plain_more k.machine.first k on e fit tried tried_more refl)
 
     -- and it stands for the move once the run has stopped, where it has to
-    pub refused_comes : (d : InMemory) → Stands d (record z { m = stops_if_spent (law_of z) (does e z.m) }) → Comes d z (accesses (law_of z) x cell write z.m)
+    pub refused_comes : (d : InMemory) → StandsFor d (record z { m = stops_if_spent (law_of z) (does e z.m) }) → Comes d z (accesses (law_of z) x cell write z.m)
     refused_comes d stands =
-        let P : Bool → Type 0 = λ b. Comes d z (meets_cell (law_of z) x write (reply_by against (unwrap_or write (value_of k.machine cell)) b) (does e z.m)) in
+        let P : Bool → Type 0 = λ b. Comes d z (meets_cell (law_of z) x write (reply_by against (unwrap_or write (live_value k.machine cell)) b) (does e z.m)) in
         subst P (sym met) (
           z.there,
           (

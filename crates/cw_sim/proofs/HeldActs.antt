@@ -12,16 +12,16 @@ use Rattle.cw_tree.specs.Series.{place}
 use Rattle.cw_open.specs.Machine.{is_dying}
 use Rattle.cw_core.specs.declared.event.Event.{Event}
 use Rattle.cw_core.specs.declared.event.Event.TheVariants as event
-use Rattle.cw_core.specs.State.{State}
-use Rattle.cw_core.specs.Events.{fits, after, next}
+use Rattle.cw_core.specs.State.{CoreState}
+use Rattle.cw_core.specs.Events.{fits, after_event, next}
 use Rattle.cw_core.specs.Laws.{IsCore}
 use Rattle.cw_serial.specs.Room.Strands.{StrandState}
 use Rattle.cw_serial.specs.Room.Saves.{IsSavedOf}
-use Rattle.cw_sim.specs.Kept.{GoesOn}
+use Rattle.cw_sim.specs.Kept.{CoreGoesOn}
 use Rattle.cw_sim.specs.Moves.{does, answers}
 use Rattle.cw_sim.specs.Workers.{tree, changed}
 use Rattle.cw_sim.specs.HeldThings.{thing_at}
-use Rattle.cw_sim.specs.Held.{Seen, Stands, Comes, MayStep, MayDo, MayAnswer, law_of, answered}
+use Rattle.cw_sim.specs.Held.{Seen, StandsFor, Comes, MayStep, MayDo, MayAnswer, law_of, answered}
 use Rattle.cw_sim.specs.declared.moves.Simulation.{Simulation as InMemory}
 use Rattle.cw_sim.proofs.Fits.{out_fits}
 use Rattle.cw_sim.proofs.HeldLeft as left
@@ -34,25 +34,25 @@ use Rattle.cw_sim.proofs.Quiet.{out_more}
 -- ## A strand that makes a step
 
 module _ (c : InMemory) (x : ℕ) (z : Seen) (step : MayStep c x z) where
-  abbrev pub seen : State
+  abbrev pub seen : CoreState
   seen = z.m.core
 
   abbrev pub first : List ℤ
   first = seen.machine.first
 
-  pub on : GoesOn first seen
+  pub on : CoreGoesOn first seen
   on = step.steady.core
 
   -- what fits what it stands for fits in memory
   pub fits_there : (e : Event) → fits seen e ≡ true → fits c.core e ≡ true
   fits_there e fit = ap (λ s. fits s e) step.steady.stands.core ∙ fit
 
-  module _ (k : State) (e : Event) (is : k ≡ after c.core e) (core : IsCore k.machine.first k) where
-    abbrev now : State
-    now = after seen e
+  module _ (k : CoreState) (e : Event) (is : k ≡ after_event c.core e) (core : IsCore k.machine.first k) where
+    abbrev now : CoreState
+    now = after_event seen e
 
     pub is_after : k ≡ now
-    is_after = is ∙ ap (λ s. after s e) step.steady.stands.core
+    is_after = is ∙ ap (λ s. after_event s e) step.steady.stands.core
 
     -- after a step that leaves all strands and forks, and those that are dying, it may be answered
     pub left_may : (kept : List (Option Kept)) (saved : ℕ → StrandState) → is_dying seen.machine x ≡ false → IsLeft seen.machine now.machine → ((y : ℕ) → is_dying now.machine y ≡ is_dying seen.machine y)
@@ -71,18 +71,18 @@ module _ (c : InMemory) (x : ℕ) (v : ℤ) (z : Seen) (may : MayDo c x (want.Ou
   out_fits_there = fits_there c x z may.step (event.Out x v) (out_fits (first c x z may.step) z.m.core may.step.steady.core x may.step.running may.step.ready v may.alive)
 
   -- the strand may be answered then
-  pub out_may : (k : State) → k ≡ after c.core (event.Out x v) → IsCore k.machine.first k → MayAnswer (record c { core = k }) x (record z { m = does (event.Out x v) z.m })
+  pub out_may : (k : CoreState) → k ≡ after_event c.core (event.Out x v) → IsCore k.machine.first k → MayAnswer (record c { core = k }) x (record z { m = does (event.Out x v) z.m })
   out_may k is core =
       let on = may.step.steady.core in
       let node = fresh_node (place (tree z.m) x) (Out v) (next z.m.core) in
       let more = out_more z.m.core.machine.first z.m.core on x may.step.running may.step.ready v in
       let fit = out_fits z.m.core.machine.first z.m.core on x may.step.running may.step.ready v may.alive in
-      left_may c x z may.step k (event.Out x v) is core c.saved z.m.saved may.alive (more_left z.m.core (after z.m.core (event.Out x v)) (left.whole z.m.core.machine.first z.m.core on) node more)
+      left_may c x z may.step k (event.Out x v) is core c.saved z.m.saved may.alive (more_left z.m.core (after_event z.m.core (event.Out x v)) (left.whole z.m.core.machine.first z.m.core on) node more)
       (left.dying_more z.m.core.machine.first z.m.core on (event.Out x v) fit node more refl)
       (λ b e. may.step.steady.stands.saved b (left.plain_more z.m.core.machine.first z.m.core on (event.Out x v) fit node more refl b e))
 
   -- and it stands for the move once it is
-  pub out_comes : (d : InMemory) → Stands d (answered x Nothing (record z { m = does (event.Out x v) z.m })) → Comes d z (answers (law_of z) x Nothing (does (event.Out x v) z.m))
+  pub out_comes : (d : InMemory) → StandsFor d (answered x Nothing (record z { m = does (event.Out x v) z.m })) → Comes d z (answers (law_of z) x Nothing (does (event.Out x v) z.m))
   out_comes d stands =
       let on = may.step.steady.core in
       let P : Want → Type 0 = λ w. IsAnswer w Nothing in

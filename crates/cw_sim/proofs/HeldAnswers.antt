@@ -5,15 +5,15 @@ use Rattle.cw_strand.specs.declared.want.Given.{Given}
 use Rattle.cw_serial.specs.declared.standing.Standing.{Standing}
 use Rattle.cw_serial.specs.Jobs.{Job}
 use Rattle.cw_code.specs.declared.program.Program.{Program}
-use Rattle.cw_serial.specs.Room.Strands.{StrandState, IsOf, state_of, strands_of}
+use Rattle.cw_serial.specs.Room.Strands.{StrandState, IsOf, state_of, strands_of_job}
 use Rattle.cw_serial.specs.Room.Saves.{IsSavedOf, StandsAs}
 use Rattle.cw_strand.specs.Saving.{Kept}
 use Rattle.cw_tree.specs.Nodes.{is_pending}
 use Rattle.cw_core.specs.Laws.{IsCore}
-use Rattle.cw_core.specs.State.{State}
+use Rattle.cw_core.specs.State.{CoreState}
 use Rattle.cw_sim.specs.Workers.{changed, with_strand}
 use Rattle.cw_sim.specs.HeldThings.{thing_at, Puts}
-use Rattle.cw_sim.specs.Held.{Seen, Stands, law_of, has_body, MayAnswer, answered}
+use Rattle.cw_sim.specs.Held.{Seen, StandsFor, law_of, has_body, MayAnswer, answered}
 use Rattle.cw_sim.proofs.HeldThings.{puts_twice}
 use Rattle.cw_sim.specs.Inside.{goes_back}
 use Rattle.cw_sim.proofs.InsideKept.{changed_here, changed_other}
@@ -29,13 +29,13 @@ stands_as now there e =
 
 -- The core moves, and strand x has this body now, which stands here, and is the strand itself. Of other strands none gets a body, those that went
 -- back still do, and of each pending block what its strand needs is kept.
-pub changed_stands : (c : InMemory) (k : State) (x : ℕ) (z : Seen) (new : State) (kept : List (Option Kept)) (saved : ℕ → StrandState) (bodies : List (Option Standing)) (body : Standing) (a : StrandState)
-    → Stands c z → k ≡ new → IsCore new.machine.first new
+pub changed_stands : (c : InMemory) (k : CoreState) (x : ℕ) (z : Seen) (new : CoreState) (kept : List (Option Kept)) (saved : ℕ → StrandState) (bodies : List (Option Standing)) (body : Standing) (a : StrandState)
+    → StandsFor c z → k ≡ new → IsCore new.machine.first new
     → ((y : ℕ) → y ≢ x → has_body new y ≡ true → has_body z.m.core y ≡ true)
     → ((y : ℕ) → y ≢ x → has_body z.m.core y ≡ true → goes_back new.machine y ≡ false → goes_back z.m.core.machine y ≡ false)
     → ((b : ℕ) → is_pending new.machine.tree b ≡ true → (s : Kept) × (thing_at kept b ≡ Some s) × IsSavedOf z.job.program s (saved b))
     → Puts c.bodies x (Some body) bodies → IsOf z.job.program body → state_of body ≡ a
-    → Stands (record c { core = k; bodies = bodies; saved = kept }) (record z { m = with_strand x a (record z.m { core = new; saved = saved }); there = changed x a z.there })
+    → StandsFor (record c { core = k; bodies = bodies; saved = kept }) (record z { m = with_strand x a (record z.m { core = new; saved = saved }); there = changed x a z.there })
 changed_stands c k x z new kept saved bodies body a old core is_core was back pending puts of is = record {
   job = old.job;
   core = core;
@@ -71,15 +71,15 @@ changed_stands c k x z new kept saved bodies body a old core is_core was back pe
   like y e = stands_as (state_of body) (changed x a z.there y) (is ∙ here y e z.there)
 
 -- strand x alone has another body
-pub puts_body : (c : InMemory) (x : ℕ) (z : Seen) (bodies : List (Option Standing)) (body : Standing) (a : StrandState) → Stands c z → Puts c.bodies x (Some body) bodies → IsOf z.job.program body → state_of body ≡ a
-    → Stands (record c { bodies = bodies }) (record z { m = with_strand x a z.m; there = changed x a z.there })
+pub puts_body : (c : InMemory) (x : ℕ) (z : Seen) (bodies : List (Option Standing)) (body : Standing) (a : StrandState) → StandsFor c z → Puts c.bodies x (Some body) bodies → IsOf z.job.program body → state_of body ≡ a
+    → StandsFor (record c { bodies = bodies }) (record z { m = with_strand x a z.m; there = changed x a z.there })
 puts_body c x z bodies body a old =
     changed_stands c c.core x z z.m.core c.saved z.m.saved bodies body a old old.core old.is_core (λ y ne h. h) (λ y ne h g. g) old.saved
 
 pub some_inj : {X : Type 0} {a b : X} → Some a ≡ Some b → a ≡ b
 some_inj e = cc
 
-module _ (c : InMemory) (z : Seen) (old : Stands c z) where
+module _ (c : InMemory) (z : Seen) (old : StandsFor c z) where
   -- the program that is run
   pub program_is : c.task.program.now ≡ z.job.program
   program_is = ap (λ j. j.program) old.job
@@ -93,8 +93,8 @@ module _ (c : InMemory) (z : Seen) (old : Stands c z) where
 -- the body of strand x was answered, and put back
 pub answered_stands : (c : InMemory) (x : ℕ) (given : Given) (z : Seen) (without bodies : List (Option Standing)) (was body : Standing) → MayAnswer c x z
     → thing_at c.bodies x ≡ Some was → Puts c.bodies x None without → Puts without x (Some body) bodies → IsOf c.task.program.now body
-    → ((job : Job) → job.program ≡ c.task.program.now → state_of body ≡ (strands_of job).answer (state_of was) given)
-    → Stands (record c { bodies = bodies }) (answered x given z)
+    → ((job : Job) → job.program ≡ c.task.program.now → state_of body ≡ (strands_of_job job).answer (state_of was) given)
+    → StandsFor (record c { bodies = bodies }) (answered x given z)
 answered_stands c x given z without bodies was body may at taken put of answers =
     let program = program_is c z may.stands in
     let P : Program → Type 0 = λ p. IsOf p body in

@@ -10,19 +10,19 @@ use Rattle.cw_tree.specs.declared.node.Kind.TheVariants.{Block}
 use Rattle.cw_tree.specs.Nodes.{fresh_node}
 use Rattle.cw_tree.specs.Series.{place}
 use Rattle.cw_core.specs.declared.event.Event.TheVariants as event
-use Rattle.cw_core.specs.State.{State}
-use Rattle.cw_core.specs.Events.{fits, after, next}
+use Rattle.cw_core.specs.State.{CoreState}
+use Rattle.cw_core.specs.Events.{fits, after_event, next}
 use Rattle.cw_core.specs.Laws.{IsCore}
 use Rattle.cw_serial.specs.declared.standing.Standing.{Standing}
 use Rattle.cw_serial.specs.Jobs.{bare}
-use Rattle.cw_serial.specs.Room.Strands.{StrandState, IsOf, state_of, strands_of}
+use Rattle.cw_serial.specs.Room.Strands.{StrandState, IsOf, state_of, strands_of_job}
 use Rattle.cw_serial.specs.Room.Saves.{IsSavedOf}
 use Rattle.cw_serial.proofs.Room.Wants.{same_want}
 use Rattle.cw_sim.specs.Moves.{does, begins}
 use Rattle.cw_sim.specs.Workers.{tree, changed}
 use Rattle.cw_sim.specs.HeldThings.{thing_at, Puts}
-use Rattle.cw_sim.specs.Kept.{GoesOn}
-use Rattle.cw_sim.specs.Held.{Seen, Stands, Comes, IsBody, MayDo, MayAnswer, law_of, answered}
+use Rattle.cw_sim.specs.Kept.{CoreGoesOn}
+use Rattle.cw_sim.specs.Held.{Seen, StandsFor, Comes, IsBody, MayDo, MayAnswer, law_of, answered}
 use Rattle.cw_sim.specs.declared.moves.Simulation.{Simulation as InMemory}
 use Rattle.cw_sim.proofs.Fits.{begin_fits}
 use Rattle.cw_sim.proofs.HeldActs.{fits_there, left_may}
@@ -33,13 +33,13 @@ use Rattle.cw_sim.proofs.InsideMoves.{begin_inside}
 use Rattle.cw_sim.proofs.Quiet.{begin_more}
 
 module _ (c : InMemory) (x : ℕ) (z : Seen) (may : MayDo c x Begin z) where
-  abbrev k : State
+  abbrev k : CoreState
   k = z.m.core
 
-  abbrev now : State
-  now = after k (event.Begin x)
+  abbrev now : CoreState
+  now = after_event k (event.Begin x)
 
-  on : GoesOn k.machine.first k
+  on : CoreGoesOn k.machine.first k
   on = may.step.steady.core
 
   begin_fit : fits k (event.Begin x) ≡ true
@@ -59,7 +59,7 @@ module _ (c : InMemory) (x : ℕ) (z : Seen) (may : MayDo c x Begin z) where
   abbrev pub begun : Seen
   begun = record z { m = record (does (event.Begin x) z.m) { saved = changed (length (tree z.m)) (z.m.at x) z.m.saved } }
 
-  module _ (body : Standing) (at : thing_at c.bodies x ≡ Some body) (kept : Kept) (saves : (program : Program) → IsOf program body → (strands_of (bare program)).want (state_of body) ≡ Begin → IsSavedOf program kept (state_of body)) where
+  module _ (body : Standing) (at : thing_at c.bodies x ≡ Some body) (kept : Kept) (saves : (program : Program) → IsOf program body → (strands_of_job (bare program)).want (state_of body) ≡ Begin → IsSavedOf program kept (state_of body)) where
     is_itself : state_of body ≡ z.m.at x
     is_itself = body_is c z may.step.steady.stands x body (left.running_body k.machine.first k on x may.step.running) (left.running_back k.machine x may.step.running may.alive) at
 
@@ -71,7 +71,7 @@ module _ (c : InMemory) (x : ℕ) (z : Seen) (may : MayDo c x Begin z) where
         subst Q is_itself (saves program (subst P (some_inj (sym its_body.1 ∙ at)) its_body.2.program) (same_want (bare program) z.job (state_of body) ∙ ap (λ a. (law_of z).want a) is_itself ∙ may.wanted))
 
     -- the strand may be answered then
-    pub begin_may : (b : ℕ) (all : List (Option Kept)) (new : State) → b ≡ length c.core.machine.tree → Puts c.saved b (Some kept) all → new ≡ after c.core (event.Begin x) → IsCore new.machine.first new
+    pub begin_may : (b : ℕ) (all : List (Option Kept)) (new : CoreState) → b ≡ length c.core.machine.tree → Puts c.saved b (Some kept) all → new ≡ after_event c.core (event.Begin x) → IsCore new.machine.first new
         → MayAnswer (record c { core = new; saved = all }) x begun
     begin_may b all new next_is puts is core =
         let node = fresh_node (place k.machine.tree x) Block (next k) in
@@ -95,7 +95,7 @@ module _ (c : InMemory) (x : ℕ) (z : Seen) (may : MayDo c x Begin z) where
         ])
 
   -- and it stands for the move once it is
-  pub begin_comes : (d : InMemory) → Stands d (answered x Nothing begun) → Comes d z (begins (law_of z) x z.m)
+  pub begin_comes : (d : InMemory) → StandsFor d (answered x Nothing begun) → Comes d z (begins (law_of z) x z.m)
   begin_comes d stands = (
     changed x ((law_of z).answer (z.m.at x) Nothing) z.there,
     (

@@ -12,15 +12,15 @@ use Rattle.cw_tree.specs.Nodes.{is_pending}
 use Rattle.cw_tree.specs.Series.{place}
 use Rattle.cw_open.specs.Machine.{in_block}
 use Rattle.cw_core.specs.declared.event.Event.TheVariants as event
-use Rattle.cw_core.specs.State.{State}
-use Rattle.cw_core.specs.Events.{fits, after, next}
+use Rattle.cw_core.specs.State.{CoreState}
+use Rattle.cw_core.specs.Events.{fits, after_event, next}
 use Rattle.cw_core.specs.Laws.{IsCore}
 use Rattle.cw_serial.specs.Room.Saves.{IsSavedOf}
 use Rattle.cw_sim.specs.Moves.{does, answers}
 use Rattle.cw_sim.specs.Workers.{tree, changed}
 use Rattle.cw_sim.specs.HeldThings.{thing_at, Puts}
-use Rattle.cw_sim.specs.Kept.{GoesOn}
-use Rattle.cw_sim.specs.Held.{Seen, Stands, Comes, MayStep, MayDo, MayAnswer, law_of, answered}
+use Rattle.cw_sim.specs.Kept.{CoreGoesOn}
+use Rattle.cw_sim.specs.Held.{Seen, StandsFor, Comes, MayStep, MayDo, MayAnswer, law_of, answered}
 use Rattle.cw_sim.specs.declared.moves.Simulation.{Simulation as InMemory}
 use Rattle.cw_sim.proofs.Fits.{free, commit_fits}
 use Rattle.cw_sim.proofs.HeldActs.{fits_there, left_may}
@@ -43,10 +43,10 @@ pub block_some : (c : InMemory) (x : ℕ) (z : Seen) (b : ℕ) → MayStep c x z
 block_some c x z b step within is = ap is_some (block_kept c x z b step within is).1
 
 module _ (c : InMemory) (x : ℕ) (z : Seen) (may : MayDo c x End z) where
-  abbrev k : State
+  abbrev k : CoreState
   k = z.m.core
 
-  on : GoesOn k.machine.first k
+  on : CoreGoesOn k.machine.first k
   on = may.step.steady.core
 
   pub end_within : in_block k.machine x ≡ true
@@ -59,12 +59,12 @@ module _ (c : InMemory) (x : ℕ) (z : Seen) (may : MayDo c x End z) where
   end_fits_there = fits_there c x z may.step (event.Commit x) end_fits
 
   -- the strand may be answered then
-  pub end_may : (b : ℕ) (kept : List (Option Kept)) (new : State) → b ≡ place c.core.machine.tree x → Puts c.saved b None kept → new ≡ after c.core (event.Commit x) → IsCore new.machine.first new
+  pub end_may : (b : ℕ) (kept : List (Option Kept)) (new : CoreState) → b ≡ place c.core.machine.tree x → Puts c.saved b None kept → new ≡ after_event c.core (event.Commit x) → IsCore new.machine.first new
       → MayAnswer (record c { core = new; saved = kept }) x (record z { m = does (event.Commit x) z.m })
   end_may b kept new at puts is core =
       let shut = commit_shut k.machine.first k on x may.step.running may.step.ready in
       left_may c x z may.step new (event.Commit x) is core kept z.m.saved may.alive
-      (shut_left k (after k (event.Commit x)) (left.whole k.machine.first k on) (place k.machine.tree x) Committed (next k) shut)
+      (shut_left k (after_event k (event.Commit x)) (left.whole k.machine.first k on) (place k.machine.tree x) Committed (next k) shut)
       (left.dying_commit k.machine.first k on x may.step.running may.step.ready end_fits may.alive end_within)
       (λ n e.
       let few = left.shut_fewer k.machine.first k on (event.Commit x) end_fits (place k.machine.tree x) Committed refl shut refl n e in
@@ -72,7 +72,7 @@ module _ (c : InMemory) (x : ℕ) (z : Seen) (may : MayDo c x End z) where
       (old.0, puts n ∙ ap (λ o. cond o None (thing_at c.saved n)) (ne_eqb n b (λ q. few.0 (q ∙ place_there c x z b may.step at))) ∙ old.1, old.2))
 
   -- and it stands for the move once it is
-  pub end_comes : (d : InMemory) → Stands d (answered x Nothing (record z { m = does (event.Commit x) z.m })) → Comes d z (answers (law_of z) x Nothing (does (event.Commit x) z.m))
+  pub end_comes : (d : InMemory) → StandsFor d (answered x Nothing (record z { m = does (event.Commit x) z.m })) → Comes d z (answers (law_of z) x Nothing (does (event.Commit x) z.m))
   end_comes d stands =
       let P : Want → Type 0 = λ w. IsAnswer w Nothing in (
         changed x ((law_of z).answer (z.m.at x) Nothing) z.there,

@@ -7,8 +7,8 @@ use Rattle.cw_open.specs.Machine.{has_finished, finished_dead, is_running, is_dy
 use Rattle.cw_open.specs.Runs.{left_died}
 use Rattle.cw_core.specs.declared.event.Event.{Event}
 use Rattle.cw_core.specs.declared.event.Event.TheVariants as event
-use Rattle.cw_core.specs.State.{State, waits_for_left, spent}
-use Rattle.cw_core.specs.Events.{fits, fits_now, is_stop, after}
+use Rattle.cw_core.specs.State.{CoreState, waits_for_left, spent}
+use Rattle.cw_core.specs.Events.{fits, fits_now, is_stop, after_event}
 use Rattle.cw_sim.specs.Moves.{does}
 use Rattle.cw_sim.specs.Inside.{goes_back}
 use Rattle.cw_sim.specs.Held.{Seen, law_of, IsSteady, Wants}
@@ -17,7 +17,7 @@ use Rattle.cw_sim.proofs.Finishing.{goes, done}
 use Rattle.cw_sim.proofs.InsideMoves.{finish_inside}
 
 -- a strand that goes back still does once one has finished
-still_back : (k : State) (x : ℕ) (dead : Bool) (y : ℕ) → goes_back (after k (event.Finish x dead)).machine y ≡ false → goes_back k.machine y ≡ false
+still_back : (k : CoreState) (x : ℕ) (dead : Bool) (y : ℕ) → goes_back (after_event k (event.Finish x dead)).machine y ≡ false → goes_back k.machine y ≡ false
 still_back k x dead y e =
     let a = or_parts (is_dying k.machine y) (nat_eq x y && dead || finished_dead k.machine y) e in
     let b = or_parts (nat_eq x y && dead) (finished_dead k.machine y) a.1 in
@@ -26,7 +26,7 @@ still_back k x dead y e =
 -- ## After the event
 
 module _ (c : InMemory) (z : Seen) (old : IsSteady c z) (x : ℕ) (dead : Bool) (fit : fits z.m.core (event.Finish x dead) ≡ true) (off : is_dying z.m.core.machine x ≡ false → Wants z x End → ⊥) where
-  abbrev k : State
+  abbrev k : CoreState
   k = z.m.core
 
   abbrev e : Event
@@ -42,18 +42,18 @@ module _ (c : InMemory) (z : Seen) (old : IsSteady c z) (x : ℕ) (dead : Bool) 
       (f.0, not-true (waits_for_left k x) f.1)
 
   -- it has finished
-  pub finish_done : has_finished (after k e).machine x ≡ true
+  pub finish_done : has_finished (after_event k e).machine x ≡ true
   finish_done = done k.machine.first k old.core x dead fits_parts.0 fits_parts.1 fit
 
   -- and it stands for the simulation of the definitions after the event
-  pub finish_steady : (new : State) → new ≡ after c.core e → IsSteady (record c { core = new }) (record z { m = does e z.m })
+  pub finish_steady : (new : CoreState) → new ≡ after_event c.core e → IsSteady (record c { core = new }) (record z { m = does e z.m })
   finish_steady new is =
       let st = old.stands in
       let on = goes k.machine.first k old.core x dead fits_parts.0 fits_parts.1 fit in
       record {
         stands = record {
           job = st.job;
-          core = is ∙ ap (λ j. after j e) st.core;
+          core = is ∙ ap (λ j. after_event j e) st.core;
           is_core = on.core;
           workers = st.workers;
           bodies = λ y has. (let b = st.bodies y has in (b.0, b.1, record { program = b.2.program; at = λ alive. b.2.at (still_back k x dead y alive); like = b.2.like }));

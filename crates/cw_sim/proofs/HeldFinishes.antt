@@ -14,12 +14,12 @@ use Rattle.cw_open.specs.Runs.{at_once}
 use Rattle.cw_open.proofs.Fell.{any_one}
 use Rattle.cw_open.proofs.Victims.{IsTold, told_states}
 use Rattle.cw_core.specs.declared.event.Event.TheVariants as event
-use Rattle.cw_core.specs.State.{State, is_split}
-use Rattle.cw_core.specs.Events.{fits, after}
+use Rattle.cw_core.specs.State.{CoreState, is_split}
+use Rattle.cw_core.specs.Events.{fits, after_event}
 use Rattle.cw_core.proofs.Going.{well}
-use Rattle.cw_sim.specs.Workers.{Worker, left_of, right_of, worker}
+use Rattle.cw_sim.specs.Workers.{Worker, left_node, right_node, worker}
 use Rattle.cw_sim.specs.Moves.{does, follows, finishes}
-use Rattle.cw_sim.specs.Kept.{Runs, AreWorkers, GoesOn, forks_around}
+use Rattle.cw_sim.specs.Kept.{Runs, AreWorkers, CoreGoesOn, forks_around}
 use Rattle.cw_sim.specs.Held.{Seen, law_of, Comes, IsSteady, Wants, MayFinish, MayMeet, IsDead, HasFinished}
 use Rattle.cw_sim.specs.HeldWorkers.{IsLast}
 use Rattle.cw_sim.specs.declared.moves.Simulation.{Simulation as InMemory}
@@ -32,7 +32,7 @@ use Rattle.cw_sim.proofs.Workers.{runs_in}
 use Rattle.cw_sim.proofs.HeldFinished.{finish_steady}
 
 -- a strand in which nothing was made is not dying
-fresh_lives : (first : List ℤ) (k : State) → GoesOn first k → (r : ℕ) → 0 < r → r < length k.machine.tree
+fresh_lives : (first : List ℤ) (k : CoreState) → CoreGoesOn first k → (r : ℕ) → 0 < r → r < length k.machine.tree
     → ((n : ℕ) → n < length k.machine.tree → is_ancestor k.machine.tree r n ≡ true → n ≡ r) → is_dying k.machine r ≡ false
 fresh_lives first k on r some there fresh =
     false_from_ne_true (is_dying k.machine r) (λ e. absurd (
@@ -48,7 +48,7 @@ fresh_lives first k on r some there fresh =
     omega arith))
 
 module _ (c : InMemory) (w x : ℕ) (dead : Bool) (z : Seen) (may : MayFinish c w x dead z) where
-  abbrev k : State
+  abbrev k : CoreState
   k = z.m.core
 
   abbrev t : List Node
@@ -60,7 +60,7 @@ module _ (c : InMemory) (w x : ℕ) (dead : Bool) (z : Seen) (may : MayFinish c 
   abbrev first : List ℤ
   first = k.machine.first
 
-  on : GoesOn first k
+  on : CoreGoesOn first k
   on = may.may.steady.core
 
   workers : AreWorkers k z.m.workers
@@ -85,7 +85,7 @@ module _ (c : InMemory) (w x : ℕ) (dead : Bool) (z : Seen) (may : MayFinish c 
 
   -- ## Its fork, where that is not split
 
-  module _ (f : ℕ) (fork : is_fork t f ≡ true) (unjoined : has k.machine.joined f ≡ false) (off : is_split k f ≡ false) (left : x ≡ left_of f) where
+  module _ (f : ℕ) (fork : is_fork t f ≡ true) (unjoined : has k.machine.joined f ≡ false) (off : is_split k f ≡ false) (left : x ≡ left_node f) where
     -- it waits last in the worker
     last : IsLast here f
     last = record {
@@ -97,32 +97,32 @@ module _ (c : InMemory) (w x : ℕ) (dead : Bool) (z : Seen) (may : MayFinish c 
     tree_is : IsTree t
     tree_is = (well first k on.core).sound.tree
 
-    fresh : (n : ℕ) → n < length t → is_ancestor t (right_of f) n ≡ true → n ≡ right_of f
+    fresh : (n : ℕ) → n < length t → is_ancestor t (right_node f) n ≡ true → n ≡ right_node f
     fresh = none_beneath first k on x dead at.running at.ready fit here f fork off left at
 
     -- the right strand runs before, too, and is not dying
-    right_runs : is_running k.machine (right_of f) ≡ true
+    right_runs : is_running k.machine (right_node f) ≡ true
     right_runs =
-        let r = right_of f in
+        let r = right_node f in
         let later = (takes_right first k on x dead at.running at.ready fit here f fork off left at).running in
         sym (ap (λ b. is_strand t r && not (b || has_finished k.machine r) && not (waits k.machine r) && not (has k.machine.stopped r)) (ne_eqb x r (λ q. omega (arith, q, left)))) ∙ later
 
-    right_free : is_free k.machine (right_of f) ≡ true
+    right_free : is_free k.machine (right_node f) ≡ true
     right_free =
         let child = right_child t tree_is on.forks f fork in
-        and_from (is_running k.machine (right_of f)) (not (is_dying k.machine (right_of f))) right_runs
-        (not_from_false (is_dying k.machine (right_of f)) (fresh_lives first k on (right_of f) child.some child.there fresh))
+        and_from (is_running k.machine (right_node f)) (not (is_dying k.machine (right_node f))) right_runs
+        (not_from_false (is_dying k.machine (right_node f)) (fresh_lives first k on (right_node f) child.some child.there fresh))
 
     -- it stands in no block, and so wants no end of one
-    stays : Wants z (right_of f) End → ⊥
+    stays : Wants z (right_node f) End → ⊥
     stays wants =
-        let within = may.may.wants.ends (right_of f) right_free wants in
-        let none = no_block k.machine tree_is (right_of f) (right_strand t tree_is on.forks f fork) fresh in
+        let within = may.may.wants.ends (right_node f) right_free wants in
+        let none = no_block k.machine tree_is (right_node f) (right_strand t tree_is on.forks f fork) fresh in
         absurd (cc (within, none))
 
     dead_now : fits k (event.Finish x true) ≡ true → IsDead (record z { m = does (event.Finish x true) z.m }) f
     dead_now fit = record {
-      left = ap (has_finished (after k (event.Finish x true)).machine) (sym left) ∙ done first k on x true at.running at.ready fit;
+      left = ap (has_finished (after_event k (event.Finish x true)).machine) (sym left) ∙ done first k on x true at.running at.ready fit;
       fits = right_fits_here first k on z.m.workers workers w x may.runs fit f fork unjoined off left;
       stays = stays;
     }
@@ -135,7 +135,7 @@ module _ (c : InMemory) (w x : ℕ) (dead : Bool) (z : Seen) (may : MayFinish c 
 
   -- ## After it has finished
 
-  module _ (new : State) (is : new ≡ after c.core (event.Finish x dead)) where
+  module _ (new : CoreState) (is : new ≡ after_event c.core (event.Finish x dead)) where
     abbrev d : InMemory
     d = record c { core = new }
 

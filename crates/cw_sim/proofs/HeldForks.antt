@@ -5,28 +5,28 @@ use Rattle.std.proofs.lemmas.Bool.{or_from, false_from_ne_true}
 use Rattle.std.proofs.lemmas.List.{length-map, length-set}
 use Rattle.cw_strand.specs.declared.want.Want.TheVariants.{Fork}
 use Rattle.cw_tree.specs.Shape.{IsTree}
-use Rattle.cw_open.specs.Machine.{Machine, finished_dead, is_dying}
+use Rattle.cw_open.specs.Machine.{OpenMachine, finished_dead, is_dying}
 use Rattle.cw_open.proofs.Backed.{dead_finished}
 use Rattle.cw_core.specs.declared.event.Event.TheVariants as event
 use Rattle.cw_core.specs.declared.event.Reply.{Reply}
 use Rattle.cw_core.specs.declared.event.Reply.TheVariants as reply
-use Rattle.cw_core.specs.State.{State}
-use Rattle.cw_core.specs.Events.{fits, after, reply_to, may_fork}
+use Rattle.cw_core.specs.State.{CoreState}
+use Rattle.cw_core.specs.Events.{fits, after_event, reply_to, may_fork}
 use Rattle.cw_core.specs.Laws.{IsCore}
 use Rattle.cw_core.proofs.Going.{well}
 use Rattle.cw_core.proofs.Kept.{events}
 use Rattle.cw_code.specs.declared.program.Program.{Program}
 use Rattle.cw_serial.specs.declared.standing.Standing.{Standing}
 use Rattle.cw_serial.specs.Jobs.{Job, bare}
-use Rattle.cw_serial.specs.Room.Strands.{StrandState, IsOf, state_of, strands_of}
+use Rattle.cw_serial.specs.Room.Strands.{StrandState, IsOf, state_of, strands_of_job}
 use Rattle.cw_serial.specs.Room.Saves.{StandsAs}
 use Rattle.cw_serial.proofs.Room.Backs.{stands_as_it}
 use Rattle.cw_serial.proofs.Room.Wants.{same_want}
-use Rattle.cw_sim.specs.Workers.{Worker, left_of, right_of, changed, with_fork, worker_in}
+use Rattle.cw_sim.specs.Workers.{Worker, left_node, right_node, changed, with_fork, worker_in}
 use Rattle.cw_sim.specs.Moves.{forks}
-use Rattle.cw_sim.specs.Kept.{GoesOn}
+use Rattle.cw_sim.specs.Kept.{CoreGoesOn}
 use Rattle.cw_sim.specs.Inside.{goes_back, HasInside}
-use Rattle.cw_sim.specs.Held.{Seen, law_of, job_of, has_body, IsBody, Stands, Comes, MayStep, MayFork}
+use Rattle.cw_sim.specs.Held.{Seen, law_of, job_of, has_body, IsBody, StandsFor, Comes, MayStep, MayFork}
 use Rattle.cw_sim.specs.HeldThings.{thing_at, Puts}
 use Rattle.cw_sim.specs.HeldWorkers.{worker_of, workers_of}
 use Rattle.cw_sim.specs.declared.worker.Worker.{Worker as WorkerInMemory}
@@ -40,10 +40,10 @@ use Rattle.cw_sim.proofs.PutThings.{put_here, put_other, some_here, same_thing}
 use Rattle.cw_sim.proofs.Workers.{set_run}
 
 module _ (c : InMemory) (w x : ℕ) (z : Seen) (may : MayFork c w x z) where
-  abbrev k : State
+  abbrev k : CoreState
   k = z.m.core
 
-  abbrev m : Machine
+  abbrev m : OpenMachine
   m = k.machine
 
   -- the fork
@@ -63,10 +63,10 @@ module _ (c : InMemory) (w x : ℕ) (z : Seen) (may : MayFork c w x z) where
   step : MayStep c x z
   step = may.fork.step
 
-  on : GoesOn m.first k
+  on : CoreGoesOn m.first k
   on = step.steady.core
 
-  held : Stands c z
+  held : StandsFor c z
   held = step.steady.stands
 
   tree : IsTree m.tree
@@ -75,7 +75,7 @@ module _ (c : InMemory) (w x : ℕ) (z : Seen) (may : MayFork c w x z) where
   fit : fits k (event.Fork x) ≡ true
   fit = fork_fits m.first k on x step.running step.ready may.fork.alive
 
-  core : IsCore m.first (after k (event.Fork x))
+  core : IsCore m.first (after_event k (event.Fork x))
   core = (events m.first k (event.Fork x) on.core fit).1
 
   -- ## What the calls ask
@@ -106,13 +106,13 @@ module _ (c : InMemory) (w x : ℕ) (z : Seen) (may : MayFork c w x z) where
     pub body_stands_there : IsOf c.task.program.now body
     body_stands_there = let P : Program → Type 0 = λ p. IsOf p body in subst P (sym program_is) is_body.program
 
-    pub body_forks : (strands_of (bare c.task.program.now)).want (state_of body) ≡ Fork
+    pub body_forks : (strands_of_job (bare c.task.program.now)).want (state_of body) ≡ Fork
     body_forks = same_want (bare c.task.program.now) z.job (state_of body) ∙ ap (law_of z).want stood ∙ may.fork.wanted
 
-    pub is_left : (b : Standing) → ((job : Job) → job.program ≡ c.task.program.now → state_of b ≡ (strands_of job).left (state_of body)) → state_of b ≡ left
+    pub is_left : (b : Standing) → ((job : Job) → job.program ≡ c.task.program.now → state_of b ≡ (strands_of_job job).left (state_of body)) → state_of b ≡ left
     is_left b e = e z.job (sym program_is) ∙ ap (law_of z).left stood
 
-    pub is_right : (b : Standing) → ((job : Job) → job.program ≡ c.task.program.now → state_of b ≡ (strands_of job).right (state_of body)) → state_of b ≡ right
+    pub is_right : (b : Standing) → ((job : Job) → job.program ≡ c.task.program.now → state_of b ≡ (strands_of_job job).right (state_of body)) → state_of b ≡ right
     is_right b e = e z.job (sym program_is) ∙ ap (law_of z).right stood
 
   -- the answer says whether the fork has columns
@@ -134,15 +134,15 @@ module _ (c : InMemory) (w x : ℕ) (z : Seen) (may : MayFork c w x z) where
 
   -- ## After the fork
 
-  module _ (new : InMemory) (l r : Standing) (task : new.task ≡ c.task) (forked : new.core ≡ after c.core (event.Fork x)) (saved : new.saved ≡ c.saved)
+  module _ (new : InMemory) (l r : Standing) (task : new.task ≡ c.task) (forked : new.core ≡ after_event c.core (event.Fork x)) (saved : new.saved ≡ c.saved)
       (fork : ℕ) (is_fork : fork ≡ length c.core.machine.tree) (first second : List (Option Standing))
-      (takes : Puts c.bodies x None first) (puts_left : Puts first (left_of fork) (Some l) second) (puts_right : Puts second (right_of fork) (Some r) new.bodies)
+      (takes : Puts c.bodies x None first) (puts_left : Puts first (left_node fork) (Some l) second) (puts_right : Puts second (right_node fork) (Some r) new.bodies)
       (left_at : state_of l ≡ left) (right_at : state_of r ≡ right) (left_of_program : IsOf c.task.program.now l) (right_of_program : IsOf c.task.program.now r) where
     abbrev at : ℕ → StrandState
-    at = changed (left_of n) left (changed (right_of n) right z.m.at)
+    at = changed (left_node n) left (changed (right_node n) right z.m.at)
 
     abbrev there : ℕ → StrandState
-    there = changed (left_of n) left (changed (right_of n) right z.there)
+    there = changed (left_node n) left (changed (right_node n) right z.there)
 
     abbrev after_it : Seen
     after_it = record z { m = forks (law_of z) w x z.m; there = there }
@@ -161,34 +161,34 @@ module _ (c : InMemory) (w x : ℕ) (z : Seen) (may : MayFork c w x z) where
     old_body : (y : ℕ) → y < n → (b : Standing) → IsBody z y b → IsBody after_it y b
     old_body y low b h =
         let same = inside.back_old (law_of z) m.first k on x step.running core z.m.at z.m.saved z.there step.steady.inside may.fork.alive may.fork.wanted y in
-        let set : (f : ℕ → StrandState) → changed (left_of n) left (changed (right_of n) right f) y ≡ f y = λ f. inside.set_old (law_of z) m.first k on x step.running core z.m.at z.m.saved z.there step.steady.inside may.fork.alive may.fork.wanted f y low in
+        let set : (f : ℕ → StrandState) → changed (left_node n) left (changed (right_node n) right f) y ≡ f y = λ f. inside.set_old (law_of z) m.first k on x step.running core z.m.at z.m.saved z.there step.steady.inside may.fork.alive may.fork.wanted f y low in
         let P : StrandState → Type 0 = λ t. StandsAs (state_of b) t in
         record { program = h.program; at = λ e. h.at (sym same ∙ e) ∙ sym (set z.m.at); like = subst P (sym (set z.there)) h.like }
 
     old_place : (y : ℕ) → y < n → y ≢ x → thing_at new.bodies y ≡ thing_at c.bodies y
     old_place y low ne =
-        put_other second new.bodies (right_of fork) (Some r) puts_right y (λ e. omega (arith, e, low, fork_is))
-        ∙ put_other first second (left_of fork) (Some l) puts_left y (λ e. omega (arith, e, low, fork_is))
+        put_other second new.bodies (right_node fork) (Some r) puts_right y (λ e. omega (arith, e, low, fork_is))
+        ∙ put_other first second (left_node fork) (Some l) puts_left y (λ e. omega (arith, e, low, fork_is))
         ∙ put_other c.bodies first x None takes y ne
 
-    left_place : thing_at new.bodies (left_of n) ≡ Some l
+    left_place : thing_at new.bodies (left_node n) ≡ Some l
     left_place =
-        ap (λ f. thing_at new.bodies (left_of f)) (sym fork_is)
-        ∙ put_other second new.bodies (right_of fork) (Some r) puts_right (left_of fork) (λ e. omega (arith, e))
-        ∙ put_here first second (left_of fork) (Some l) puts_left
+        ap (λ f. thing_at new.bodies (left_node f)) (sym fork_is)
+        ∙ put_other second new.bodies (right_node fork) (Some r) puts_right (left_node fork) (λ e. omega (arith, e))
+        ∙ put_here first second (left_node fork) (Some l) puts_left
 
-    right_place : thing_at new.bodies (right_of n) ≡ Some r
-    right_place = ap (λ f. thing_at new.bodies (right_of f)) (sym fork_is) ∙ put_here second new.bodies (right_of fork) (Some r) puts_right
+    right_place : thing_at new.bodies (right_node n) ≡ Some r
+    right_place = ap (λ f. thing_at new.bodies (right_node f)) (sym fork_is) ∙ put_here second new.bodies (right_node fork) (Some r) puts_right
 
-    set_left : (f : ℕ → StrandState) → changed (left_of n) left (changed (right_of n) right f) (left_of n) ≡ left
+    set_left : (f : ℕ → StrandState) → changed (left_node n) left (changed (right_node n) right f) (left_node n) ≡ left
     set_left f = inside.set_left (law_of z) m.first k on x step.running core z.m.at z.m.saved z.there step.steady.inside may.fork.alive may.fork.wanted f
 
-    set_right : (f : ℕ → StrandState) → changed (left_of n) left (changed (right_of n) right f) (right_of n) ≡ right
+    set_right : (f : ℕ → StrandState) → changed (left_node n) left (changed (right_node n) right f) (right_node n) ≡ right
     set_right f = inside.set_right (law_of z) m.first k on x step.running core z.m.at z.m.saved z.there step.steady.inside may.fork.alive may.fork.wanted f
 
-    bodies_after : (y : ℕ) → has_body (after k (event.Fork x)) y ≡ true → (b : Standing) × (thing_at new.bodies y ≡ Some b) × IsBody after_it y b
+    bodies_after : (y : ℕ) → has_body (after_event k (event.Fork x)) y ≡ true → (b : Standing) × (thing_at new.bodies y ≡ Some b) × IsBody after_it y b
     bodies_after y has =
-        let st = body_stands (after k (event.Fork x)) (well m.first (after k (event.Fork x)) core).sound.tree.root y has in
+        let st = body_stands (after_event k (event.Fork x)) (well m.first (after_event k (event.Fork x)) core).sound.tree.root y has in
         let P : ℕ → Type 0 = λ v. (b : Standing) × (thing_at new.bodies v ≡ Some b) × IsBody after_it v b in
         elim (inside.which (law_of z) m.first k on x step.running core z.m.at z.m.saved z.there step.steady.inside may.fork.alive may.fork.wanted y st) [
           | inl (low, ne) ↦
@@ -196,28 +196,28 @@ module _ (c : InMemory) (w x : ℕ) (z : Seen) (may : MayFork c w x z) where
               let h = held.bodies y (stands_body k y was) in
               (h.0, old_place y low ne ∙ h.1, old_body y low h.0 h.2))
           | inr side ↦ elim side [
-            | inl e ↦ subst P (sym e) (l, left_place, new_body (left_of n) l left left_at left_of_program (set_left z.m.at) (set_left z.there))
-            | inr e ↦ subst P (sym e) (r, right_place, new_body (right_of n) r right right_at right_of_program (set_right z.m.at) (set_right z.there))
+            | inl e ↦ subst P (sym e) (l, left_place, new_body (left_node n) l left left_at left_of_program (set_left z.m.at) (set_left z.there))
+            | inr e ↦ subst P (sym e) (r, right_place, new_body (right_node n) r right right_at right_of_program (set_right z.m.at) (set_right z.there))
           ]
         ]
 
     module _ (columns : Bool) (has_columns : columns ≡ may_fork k) (middle : List Worker)
         (forks_in : middle ≡ slice_set (workers_of c.workers.items) w (with_fork columns fork (worker_in (workers_of c.workers.items) w)))
-        (runs_in : workers_of new.workers.items ≡ slice_set middle w (record (worker_in middle w) { runs = Some (left_of fork) })) where
-      workers_after : workers_of new.workers.items ≡ slice_set z.m.workers w (record (with_fork (may_fork k) n (worker_in z.m.workers w)) { runs = Some (left_of n) })
+        (runs_in : workers_of new.workers.items ≡ slice_set middle w (record (worker_in middle w) { runs = Some (left_node fork) })) where
+      workers_after : workers_of new.workers.items ≡ slice_set z.m.workers w (record (with_fork (may_fork k) n (worker_in z.m.workers w)) { runs = Some (left_node n) })
       workers_after =
           let low : w < length (workers_of c.workers.items) = (let P : List Worker → Type 0 = λ ws. w < length ws in subst P (sym held.workers) may.there) in
           runs_in
-          ∙ ap (λ ws. slice_set ws w (record (worker_in ws w) { runs = Some (left_of fork) })) forks_in
-          ∙ set_run (workers_of c.workers.items) w (with_fork columns fork (worker_in (workers_of c.workers.items) w)) (Some (left_of fork)) low
-          ∙ ap (λ ws. slice_set ws w (record (with_fork columns fork (worker_in ws w)) { runs = Some (left_of fork) })) held.workers
-          ∙ ap (λ f. slice_set z.m.workers w (record (with_fork columns f (worker_in z.m.workers w)) { runs = Some (left_of f) })) fork_is
-          ∙ ap (λ b. slice_set z.m.workers w (record (with_fork b n (worker_in z.m.workers w)) { runs = Some (left_of n) })) has_columns
+          ∙ ap (λ ws. slice_set ws w (record (worker_in ws w) { runs = Some (left_node fork) })) forks_in
+          ∙ set_run (workers_of c.workers.items) w (with_fork columns fork (worker_in (workers_of c.workers.items) w)) (Some (left_node fork)) low
+          ∙ ap (λ ws. slice_set ws w (record (with_fork columns fork (worker_in ws w)) { runs = Some (left_node fork) })) held.workers
+          ∙ ap (λ f. slice_set z.m.workers w (record (with_fork columns f (worker_in z.m.workers w)) { runs = Some (left_node f) })) fork_is
+          ∙ ap (λ b. slice_set z.m.workers w (record (with_fork b n (worker_in z.m.workers w)) { runs = Some (left_node n) })) has_columns
 
-      stands_after : Stands new after_it
+      stands_after : StandsFor new after_it
       stands_after = record {
         job = ap job_of task ∙ held.job;
-        core = forked ∙ ap (λ k. after k (event.Fork x)) held.core;
+        core = forked ∙ ap (λ k. after_event k (event.Fork x)) held.core;
         is_core = core;
         workers = workers_after;
         bodies = bodies_after;

@@ -8,20 +8,20 @@ use Rattle.cw_tree.specs.Series.{strand_of}
 use Rattle.cw_tree.specs.Shape.{IsTree}
 use Rattle.cw_open.specs.Machine.{has_finished, finished_dead, is_running, is_dying}
 use Rattle.cw_core.specs.declared.event.Event.TheVariants as event
-use Rattle.cw_core.specs.State.{State}
-use Rattle.cw_core.specs.Events.{fits, after}
+use Rattle.cw_core.specs.State.{CoreState}
+use Rattle.cw_core.specs.Events.{fits, after_event}
 use Rattle.cw_core.proofs.Forks.{IsChild}
 use Rattle.cw_core.proofs.Going.{well}
 use Rattle.cw_serial.specs.declared.standing.Standing.{Standing}
 use Rattle.cw_serial.specs.Jobs.{Job}
-use Rattle.cw_serial.specs.Room.Strands.{StrandState, IsOf, state_of, strands_of}
+use Rattle.cw_serial.specs.Room.Strands.{StrandState, IsOf, state_of, strands_of_job}
 use Rattle.cw_serial.specs.Room.Saves.{StandsAs}
 use Rattle.cw_serial.proofs.Room.Backs.{stands_as_it}
-use Rattle.cw_sim.specs.Workers.{left_of, right_of, changed, worker_in}
+use Rattle.cw_sim.specs.Workers.{left_node, right_node, changed, worker_in}
 use Rattle.cw_sim.specs.Moves.{joins}
-use Rattle.cw_sim.specs.Kept.{GoesOn}
+use Rattle.cw_sim.specs.Kept.{CoreGoesOn}
 use Rattle.cw_sim.specs.Inside.{HasInside}
-use Rattle.cw_sim.specs.Held.{Seen, job_of, law_of, has_body, IsBody, Stands, Comes, MayJoin}
+use Rattle.cw_sim.specs.Held.{Seen, job_of, law_of, has_body, IsBody, StandsFor, Comes, MayJoin}
 use Rattle.cw_sim.specs.HeldThings.{thing_at, Puts}
 use Rattle.cw_sim.specs.HeldWorkers.{workers_of}
 use Rattle.cw_sim.specs.declared.moves.Simulation.{Simulation as InMemory}
@@ -34,7 +34,7 @@ use Rattle.cw_sim.proofs.Joining.{goes, parent_runs}
 use Rattle.cw_sim.proofs.PutThings.{put_here, put_other, some_here, same_thing}
 
 module _ (c : InMemory) (w f : ℕ) (z : Seen) (may : MayJoin c w f z) where
-  abbrev k : State
+  abbrev k : CoreState
   k = z.m.core
 
   abbrev t : List Node
@@ -46,21 +46,21 @@ module _ (c : InMemory) (w f : ℕ) (z : Seen) (may : MayJoin c w f z) where
 
   -- where it stands once they are joined
   abbrev joined : StrandState
-  joined = (law_of z).joined (z.m.at (right_of f)) (z.m.at (left_of f))
+  joined = (law_of z).joined (z.m.at (right_node f)) (z.m.at (left_node f))
 
-  on : GoesOn k.machine.first k
+  on : CoreGoesOn k.machine.first k
   on = may.meet.steady.core
 
-  held : Stands c z
+  held : StandsFor c z
   held = may.meet.steady.stands
 
   tree : IsTree t
   tree = (well k.machine.first k on.core).sound.tree
 
-  left : IsChild t f (left_of f)
+  left : IsChild t f (left_node f)
   left = left_child t tree on.forks f may.meet.fork
 
-  right : IsChild t f (right_of f)
+  right : IsChild t f (right_node f)
   right = right_child t tree on.forks f may.meet.fork
 
   fit : fits k (event.Join f) ≡ true
@@ -68,22 +68,22 @@ module _ (c : InMemory) (w f : ℕ) (z : Seen) (may : MayJoin c w f z) where
 
   -- ## What the calls ask
 
-  pub nodes_there : right_of f < length c.core.machine.tree
+  pub nodes_there : right_node f < length c.core.machine.tree
   nodes_there = let h = right.there in omega (arith, ap (λ k. length k.machine.tree) held.core)
 
   -- each of its strands that has finished has a body
   side_has : (y : ℕ) → IsChild t f y → has_finished k.machine y ≡ true → (body : Standing) × (thing_at c.bodies y ≡ Some body) × IsBody z y body
   side_has y child done = held.bodies y (side_body k.machine.first k on f may.meet.fork may.meet.joined y child done)
 
-  pub left_has : IsSome (thing_at c.bodies (left_of f))
-  left_has = let b = side_has (left_of f) left may.left in some_here (thing_at c.bodies (left_of f)) b.0 b.1
+  pub left_has : IsSome (thing_at c.bodies (left_node f))
+  left_has = let b = side_has (left_node f) left may.left in some_here (thing_at c.bodies (left_node f)) b.0 b.1
 
   -- that of the right one is there still once that of the left one is taken
-  right_other : (b : List (Option Standing)) → Puts c.bodies (left_of f) None b → thing_at b (right_of f) ≡ thing_at c.bodies (right_of f)
-  right_other b put = put_other c.bodies b (left_of f) None put (right_of f) (λ e. omega (arith, e))
+  right_other : (b : List (Option Standing)) → Puts c.bodies (left_node f) None b → thing_at b (right_node f) ≡ thing_at c.bodies (right_node f)
+  right_other b put = put_other c.bodies b (left_node f) None put (right_node f) (λ e. omega (arith, e))
 
-  pub right_has : (b : List (Option Standing)) → Puts c.bodies (left_of f) None b → IsSome (thing_at b (right_of f))
-  right_has b put = let h = side_has (right_of f) right may.right in some_here (thing_at b (right_of f)) h.0 (right_other b put ∙ h.1)
+  pub right_has : (b : List (Option Standing)) → Puts c.bodies (left_node f) None b → IsSome (thing_at b (right_node f))
+  right_has b put = let h = side_has (right_node f) right may.right in some_here (thing_at b (right_node f)) h.0 (right_other b put ∙ h.1)
 
   pub fits_here : fits c.core (event.Join f) ≡ true
   fits_here = ap (λ k. fits k (event.Join f)) held.core ∙ fit
@@ -91,16 +91,16 @@ module _ (c : InMemory) (w f : ℕ) (z : Seen) (may : MayJoin c w f z) where
   parent_is : (parent : ℕ) → parent ≡ strand_of c.core.machine.tree f → parent ≡ p
   parent_is parent e = e ∙ ap (λ k. strand_of k.machine.tree f) held.core
 
-  core_is : (new : State) → new ≡ after c.core (event.Join f) → new ≡ after k (event.Join f)
-  core_is new e = e ∙ ap (λ k. after k (event.Join f)) held.core
+  core_is : (new : CoreState) → new ≡ after_event c.core (event.Join f) → new ≡ after_event k (event.Join f)
+  core_is new e = e ∙ ap (λ k. after_event k (event.Join f)) held.core
 
-  pub parent_running : (new : State) → new ≡ after c.core (event.Join f) → (parent : ℕ) → parent ≡ strand_of c.core.machine.tree f → is_running new.machine parent ≡ true
+  pub parent_running : (new : CoreState) → new ≡ after_event c.core (event.Join f) → (parent : ℕ) → parent ≡ strand_of c.core.machine.tree f → is_running new.machine parent ≡ true
   parent_running new e parent q =
-      ap (λ k. is_running k.machine parent) (core_is new e) ∙ ap (is_running (after k (event.Join f)).machine) (parent_is parent q)
+      ap (λ k. is_running k.machine parent) (core_is new e) ∙ ap (is_running (after_event k (event.Join f)).machine) (parent_is parent q)
       ∙ parent_runs k.machine.first k on f may.meet.fork may.meet.joined fit
 
   -- whether it is dying is as it was before
-  pub parent_dying : (new : State) → new ≡ after c.core (event.Join f) → (parent : ℕ) → parent ≡ strand_of c.core.machine.tree f → is_dying new.machine parent ≡ is_dying k.machine p
+  pub parent_dying : (new : CoreState) → new ≡ after_event c.core (event.Join f) → (parent : ℕ) → parent ≡ strand_of c.core.machine.tree f → is_dying new.machine parent ≡ is_dying k.machine p
   parent_dying new e parent q = ap (λ k. is_dying k.machine parent) (core_is new e) ∙ ap (is_dying k.machine) (parent_is parent q)
 
   -- ## The body of the strand that forked
@@ -111,25 +111,25 @@ module _ (c : InMemory) (w f : ℕ) (z : Seen) (may : MayJoin c w f z) where
     pub program : IsOf z.job.program body
     pub at : is_dying k.machine p ≡ false → state_of body ≡ joined
     pub like : StandsAs (state_of body) here
-    pub goes : is_dying k.machine p ≡ true → here ≡ z.there (right_of f)
+    pub goes : is_dying k.machine p ≡ true → here ≡ z.there (right_node f)
     pub lives : is_dying k.machine p ≡ false → here ≡ joined
 
   program_is : c.task.program.now ≡ z.job.program
   program_is = ap (λ j. j.program) held.job
 
   -- what was taken are the bodies of the two strands
-  module _ (a b : Standing) (bodies : List (Option Standing)) (at_left : thing_at c.bodies (left_of f) ≡ Some a) (takes : Puts c.bodies (left_of f) None bodies) (at_right : thing_at bodies (right_of f) ≡ Some b) where
-    is_left : IsBody z (left_of f) a
+  module _ (a b : Standing) (bodies : List (Option Standing)) (at_left : thing_at c.bodies (left_node f) ≡ Some a) (takes : Puts c.bodies (left_node f) None bodies) (at_right : thing_at bodies (right_node f) ≡ Some b) where
+    is_left : IsBody z (left_node f) a
     is_left =
-        let h = side_has (left_of f) left may.left in
-        let P : Standing → Type 0 = λ x. IsBody z (left_of f) x in
-        subst P (same_thing (thing_at c.bodies (left_of f)) h.0 a h.1 at_left) h.2
+        let h = side_has (left_node f) left may.left in
+        let P : Standing → Type 0 = λ x. IsBody z (left_node f) x in
+        subst P (same_thing (thing_at c.bodies (left_node f)) h.0 a h.1 at_left) h.2
 
-    is_right : IsBody z (right_of f) b
+    is_right : IsBody z (right_node f) b
     is_right =
-        let h = side_has (right_of f) right may.right in
-        let P : Standing → Type 0 = λ x. IsBody z (right_of f) x in
-        subst P (same_thing (thing_at bodies (right_of f)) h.0 b (right_other bodies takes ∙ h.1) at_right) h.2
+        let h = side_has (right_node f) right may.right in
+        let P : Standing → Type 0 = λ x. IsBody z (right_node f) x in
+        subst P (same_thing (thing_at bodies (right_node f)) h.0 b (right_other bodies takes ∙ h.1) at_right) h.2
 
     pub right_stands : IsOf c.task.program.now b
     right_stands = let P : Program → Type 0 = λ x. IsOf x b in subst P (sym program_is) is_right.program
@@ -137,21 +137,21 @@ module _ (c : InMemory) (w f : ℕ) (z : Seen) (may : MayJoin c w f z) where
     -- where it is dying it is the right one's
     pub given_up : (body : Standing) → is_dying k.machine p ≡ true → ((there : StrandState) → StandsAs (state_of b) there → StandsAs (state_of body) there) → ((program : Program) → IsOf program b → IsOf program body) → IsParent body
     given_up body dying like stands = record {
-      here = z.there (right_of f);
+      here = z.there (right_node f);
       program = stands z.job.program is_right.program;
       at = λ e. absurd (cc (e, dying));
-      like = like (z.there (right_of f)) is_right.like;
+      like = like (z.there (right_node f)) is_right.like;
       goes = λ e. refl;
       lives = λ e. absurd (cc (e, dying));
     }
 
     -- and else what the two become
-    pub lives_on : (body : Standing) → is_dying k.machine p ≡ false → ((job : Job) → job.program ≡ c.task.program.now → state_of body ≡ (strands_of job).joined (state_of b) (state_of a)) → IsOf c.task.program.now body → IsParent body
+    pub lives_on : (body : Standing) → is_dying k.machine p ≡ false → ((job : Job) → job.program ≡ c.task.program.now → state_of body ≡ (strands_of_job job).joined (state_of b) (state_of a)) → IsOf c.task.program.now body → IsParent body
     lives_on body free is stands =
         let at : state_of body ≡ joined =
         is z.job (sym program_is)
-        ∙ ap (λ x. (law_of z).joined x (state_of a)) (is_right.at (side_lives k.machine.first k on f may.meet.fork may.meet.joined (right_of f) right free))
-        ∙ ap (λ x. (law_of z).joined (z.m.at (right_of f)) x) (is_left.at (side_lives k.machine.first k on f may.meet.fork may.meet.joined (left_of f) left free)) in
+        ∙ ap (λ x. (law_of z).joined x (state_of a)) (is_right.at (side_lives k.machine.first k on f may.meet.fork may.meet.joined (right_node f) right free))
+        ∙ ap (λ x. (law_of z).joined (z.m.at (right_node f)) x) (is_left.at (side_lives k.machine.first k on f may.meet.fork may.meet.joined (left_node f) left free)) in
         let P : Program → Type 0 = λ x. IsOf x body in
         let Q : StrandState → Type 0 = λ x. StandsAs x joined in
         record {
@@ -165,9 +165,9 @@ module _ (c : InMemory) (w f : ℕ) (z : Seen) (may : MayJoin c w f z) where
 
   -- ## After the join
 
-  module _ (new : InMemory) (body : Standing) (is : IsParent body) (task : new.task ≡ c.task) (core : new.core ≡ after c.core (event.Join f)) (saved : new.saved ≡ c.saved)
+  module _ (new : InMemory) (body : Standing) (is : IsParent body) (task : new.task ≡ c.task) (core : new.core ≡ after_event c.core (event.Join f)) (saved : new.saved ≡ c.saved)
       (parent : ℕ) (forked : parent ≡ strand_of c.core.machine.tree f) (first second : List (Option Standing))
-      (takes_left : Puts c.bodies (left_of f) None first) (takes_right : Puts first (right_of f) None second) (puts : Puts second parent (Some body) new.bodies)
+      (takes_left : Puts c.bodies (left_node f) None first) (takes_right : Puts first (right_node f) None second) (puts : Puts second parent (Some body) new.bodies)
       (workers : workers_of new.workers.items ≡ slice_set (workers_of c.workers.items) w (record (worker_in (workers_of c.workers.items) w) { runs = Some parent })) where
     abbrev there : ℕ → StrandState
     there = changed p is.here z.there
@@ -194,14 +194,14 @@ module _ (c : InMemory) (w f : ℕ) (z : Seen) (may : MayJoin c w f z) where
           like = subst P (sym (changed_other p is.here z.there x ne)) h.like;
         }
 
-    same_place : (x : ℕ) → x ≢ p → has_body (after k (event.Join f)) x ≡ true → thing_at new.bodies x ≡ thing_at c.bodies x
+    same_place : (x : ℕ) → x ≢ p → has_body (after_event k (event.Join f)) x ≡ true → thing_at new.bodies x ≡ thing_at c.bodies x
     same_place x ne has =
-        let off : (y : ℕ) → IsChild t f y → x ≢ y = λ y child e. side_gone k.machine.first k on f may.meet.fork may.meet.joined y child (sym (ap (has_body (after k (event.Join f))) e) ∙ has) in
+        let off : (y : ℕ) → IsChild t f y → x ≢ y = λ y child e. side_gone k.machine.first k on f may.meet.fork may.meet.joined y child (sym (ap (has_body (after_event k (event.Join f))) e) ∙ has) in
         put_other second new.bodies parent (Some body) puts x (λ e. ne (e ∙ parent_is parent forked))
-        ∙ put_other first second (right_of f) None takes_right x (off (right_of f) right)
-        ∙ put_other c.bodies first (left_of f) None takes_left x (off (left_of f) left)
+        ∙ put_other first second (right_node f) None takes_right x (off (right_node f) right)
+        ∙ put_other c.bodies first (left_node f) None takes_left x (off (left_node f) left)
 
-    bodies_after : (x : ℕ) → has_body (after k (event.Join f)) x ≡ true → (b : Standing) × (thing_at new.bodies x ≡ Some b) × IsBody after_it x b
+    bodies_after : (x : ℕ) → has_body (after_event k (event.Join f)) x ≡ true → (b : Standing) × (thing_at new.bodies x ≡ Some b) × IsBody after_it x b
     bodies_after x has = elim (cases_eq x p) [
       | inl e ↦
           (let P : ℕ → Type 0 = λ x. (b : Standing) × (thing_at new.bodies x ≡ Some b) × IsBody after_it x b in
@@ -211,7 +211,7 @@ module _ (c : InMemory) (w f : ℕ) (z : Seen) (may : MayJoin c w f z) where
           (h.0, same_place x ne has ∙ h.1, same_body x ne h.0 h.2))
     ]
 
-    stands_after : Stands new after_it
+    stands_after : StandsFor new after_it
     stands_after = record {
       job = ap job_of task ∙ held.job;
       core = core_is new.core core;

@@ -15,7 +15,7 @@ use Rattle.cw_tree.specs.Shape.{IsTree}
 use Rattle.cw_tree.specs.Walks.{has}
 use Rattle.cw_tree.proofs.NextPending.{pending_closed, pending_stays}
 use Rattle.cw_trace.proofs.InRange.{strand_low}
-use Rattle.cw_open.specs.Machine.{Machine, finished_dead, waits, is_running, is_dying, is_free, in_block, rolls_back}
+use Rattle.cw_open.specs.Machine.{OpenMachine, finished_dead, waits, is_running, is_dying, is_free, in_block, rolls_back}
 use Rattle.cw_open.specs.Open.{is_open, AreNested}
 use Rattle.cw_open.specs.Runs.{at_once}
 use Rattle.cw_open.proofs.Backed.{dead_finished}
@@ -25,11 +25,11 @@ use Rattle.cw_open.proofs.TreeSteps.{place_pending}
 use Rattle.cw_open.proofs.Victims.{IsTold, IsToldState, told_states, free_are_safe}
 use Rattle.cw_core.specs.declared.event.Event.{Event}
 use Rattle.cw_core.specs.declared.event.Event.TheVariants as event
-use Rattle.cw_core.specs.State.{State, waits_for_left}
-use Rattle.cw_core.specs.Events.{fits, after, next}
+use Rattle.cw_core.specs.State.{CoreState, waits_for_left}
+use Rattle.cw_core.specs.Events.{fits, after_event, next}
 use Rattle.cw_core.proofs.Kept.{events}
-use Rattle.cw_sim.specs.Kept.{GoesOn, is_current}
-use Rattle.cw_sim.specs.Inside.{Stands, goes_back}
+use Rattle.cw_sim.specs.Kept.{CoreGoesOn, is_current}
+use Rattle.cw_sim.specs.Inside.{HasOneOpenFork, goes_back}
 use Rattle.cw_sim.specs.Held.{has_body}
 use Rattle.cw_sim.proofs.After.{conflicts_after}
 use Rattle.cw_sim.proofs.InsideDying.{Dies, dies_on, not_its_block}
@@ -42,7 +42,7 @@ use Rattle.cw_sim.proofs.Shuts.{IsShut}
 
 -- ## Bodies
 
-module _ (k z : State) (left : IsLeft k.machine z.machine) where
+module _ (k z : CoreState) (left : IsLeft k.machine z.machine) where
   current_was : (x : ℕ) → is_current z x ≡ true → is_current k x ≡ true
   current_was zero e = refl
   current_was (suc x) e =
@@ -80,7 +80,7 @@ or_none true b e = absurd (cc e)
 or_false : (a b : Bool) → a ≡ false → b ≡ false → (a || b) ≡ false
 or_false a b e f = ap (λ c. c || b) e ∙ f
 
-module _ (m z : Machine) (left : IsLeft m z) where
+module _ (m z : OpenMachine) (left : IsLeft m z) where
   -- a strand that goes back still does, while it is dying if it was
   pub back_was : (x : ℕ) → (is_dying z x ≡ false → is_dying m x ≡ false) → goes_back z x ≡ false → goes_back m x ≡ false
   back_was x dying e =
@@ -93,15 +93,15 @@ module _ (m z : Machine) (left : IsLeft m z) where
       or_false (is_dying z x) (finished_dead z x) (dying ∙ live) (dead_as m z left x ∙ undead)
 
 -- a running strand goes back where it is dying
-pub running_back : (m : Machine) (x : ℕ) → is_running m x ≡ true → is_dying m x ≡ false → goes_back m x ≡ false
+pub running_back : (m : OpenMachine) (x : ℕ) → is_running m x ≡ true → is_dying m x ≡ false → goes_back m x ≡ false
 running_back m x running free =
     or_false (is_dying m x) (finished_dead m x) free
     (false_from_ne_true (finished_dead m x) (λ e. absurd (let d = dead_finished m x e in let g = (going m x running).unfinished in cc (d, g))))
 
 -- ## The events of a running strand
 
-module _ (first : List ℤ) (k : State) (on : GoesOn first k) where
-  abbrev m : Machine
+module _ (first : List ℤ) (k : CoreState) (on : CoreGoesOn first k) where
+  abbrev m : OpenMachine
   m = k.machine
 
   told : IsToldState first m
@@ -117,7 +117,7 @@ module _ (first : List ℤ) (k : State) (on : GoesOn first k) where
   nested : AreNested m.tree (is_open m)
   nested = told.state.well.nested
 
-  current_of : (x : ℕ) → Stands m x → is_current k x ≡ true
+  current_of : (x : ℕ) → HasOneOpenFork m x → is_current k x ≡ true
   current_of zero st = refl
   current_of (suc x) st = and_from (is_strand m.tree (suc x)) (not (has m.joined (parent_of m.tree (suc x)))) st.strand (not_from_false (has m.joined (parent_of m.tree (suc x))) (st.apart (omega arith)))
 
@@ -128,19 +128,19 @@ module _ (first : List ℤ) (k : State) (on : GoesOn first k) where
       and_from (is_current k x) (not (waits m x)) (current_of x st) (not_from_false (waits m x) st.alone)
 
   -- one with a body stands
-  pub body_stands : (x : ℕ) → has_body k x ≡ true → Stands m x
+  pub body_stands : (x : ℕ) → has_body k x ≡ true → HasOneOpenFork m x
   body_stands x e =
       let (current, alone) = and_parts (is_current k x) (not (waits m x)) e in
       by x current (not-true (waits m x) alone) where
-        by : (x : ℕ) → is_current k x ≡ true → waits m x ≡ false → Stands m x
+        by : (x : ℕ) → is_current k x ≡ true → waits m x ≡ false → HasOneOpenFork m x
         by zero e alone = record { strand = whole.root; apart = λ some. absurd (omega (arith, some)); alone = alone }
         by (suc x) e alone =
             let (strand, apart) = and_parts (is_strand m.tree (suc x)) (not (has m.joined (parent_of m.tree (suc x)))) e in
             record { strand = strand; apart = λ some. not-true (has m.joined (parent_of m.tree (suc x))) apart; alone = alone }
 
   module _ (e : Event) (fit : fits k e ≡ true) where
-    abbrev z : State
-    z = after k e
+    abbrev z : CoreState
+    z = after_event k e
 
     now : IsToldState first z.machine
     now = told_states at_once first z.machine (events first k e on.core fit).1.reached
@@ -191,7 +191,7 @@ module _ (first : List ℤ) (k : State) (on : GoesOn first k) where
     p = place m.tree x
 
     -- ends a block, and no strand is dying for that
-    pub dying_commit : fits k (event.Commit x) ≡ true → is_dying m x ≡ false → in_block m x ≡ true → (y : ℕ) → is_dying (after k (event.Commit x)).machine y ≡ is_dying m y
+    pub dying_commit : fits k (event.Commit x) ≡ true → is_dying m x ≡ false → in_block m x ≡ true → (y : ℕ) → is_dying (after_event k (event.Commit x)).machine y ≡ is_dying m y
     dying_commit fit free within y =
         let safe = free_are_safe (λ t us w. newest us) first m (at_any first m on.core.reached) x (and_from (is_free m x) (in_block m x) (and_from (is_running m x) (not (is_dying m x)) running (not_from_false (is_dying m x) free)) within) in
         dying_shut (event.Commit x) fit p Committed refl (commit_shut first k on x running ready) refl y (λ c b t among d q.
@@ -201,7 +201,7 @@ module _ (first : List ℤ) (k : State) (on : GoesOn first k) where
         cc (one, safe))
 
     -- rolls one back, and others stay dying that stand
-    pub dying_roll : fits k (event.Roll x) ≡ true → rolls_back m x ≡ true → (y : ℕ) → Stands m y → y ≢ x → is_dying (after k (event.Roll x)).machine y ≡ is_dying m y
+    pub dying_roll : fits k (event.Roll x) ≡ true → rolls_back m x ≡ true → (y : ℕ) → HasOneOpenFork m y → y ≢ x → is_dying (after_event k (event.Roll x)).machine y ≡ is_dying m y
     dying_roll fit rolls y st ne =
         dying_shut (event.Roll x) fit p Aborted refl (roll_shut first k on x running ready rolls) (conflicts_after k (event.Roll x) refl refl) y
         (λ c b t among d. not_its_block first m told x running y st ne c b t d)

@@ -3,10 +3,10 @@ use Rattle.std.proofs.Common.{◌≡◌, ℕ, ◌<◌, length, ap, sym, ◌∙�
 use Rattle.std.specs.Prelude.{◌&&◌, slice_set}
 use Rattle.std.proofs.lemmas.Bool.{and_from}
 use Rattle.cw_open.specs.Machine.{has_finished}
-use Rattle.cw_core.specs.State.{State}
+use Rattle.cw_core.specs.State.{CoreState}
 use Rattle.cw_core.proofs.Forks.{IsChild}
 use Rattle.cw_core.proofs.Going.{well}
-use Rattle.cw_sim.specs.Workers.{left_of, right_of, worker_in}
+use Rattle.cw_sim.specs.Workers.{left_node, right_node, worker_in}
 use Rattle.cw_sim.specs.Moves.{joins, meets}
 use Rattle.cw_sim.specs.Held.{Seen, law_of, Comes, MayMeet, MayJoin}
 use Rattle.cw_sim.specs.HeldWorkers.{workers_of}
@@ -15,21 +15,21 @@ use Rattle.cw_sim.proofs.Halves.{right_child}
 use Rattle.cw_sim.proofs.HeldWorking.{run_stands}
 
 module _ (c : InMemory) (w f : ℕ) (z : Seen) (may : MayMeet c w f z) where
-  abbrev k : State
+  abbrev k : CoreState
   k = z.m.core
 
-  right : IsChild k.machine.tree f (right_of f)
+  right : IsChild k.machine.tree f (right_node f)
   right = right_child k.machine.tree (well k.machine.first k may.steady.core.core).sound.tree may.steady.core.forks f may.fork
 
   -- its strands are nodes
-  pub nodes_there : right_of f < length c.core.machine.tree
+  pub nodes_there : right_node f < length c.core.machine.tree
   nodes_there = let h = right.there in omega (arith, ap (λ j. length j.machine.tree) may.steady.stands.core)
 
-  abbrev left_done : State → Bool
-  left_done j = has_finished j.machine (left_of f)
+  abbrev left_done : CoreState → Bool
+  left_done j = has_finished j.machine (left_node f)
 
-  abbrev right_done : State → Bool
-  right_done j = has_finished j.machine (right_of f)
+  abbrev right_done : CoreState → Bool
+  right_done j = has_finished j.machine (right_node f)
 
   -- where both have finished in memory, they may join
   pub may_join : left_done c.core ≡ true → right_done c.core ≡ true → MayJoin c w f z

@@ -13,17 +13,17 @@ use Rattle.cw_strand.specs.Strands.{is_over, Strands}
 use Rattle.cw_open.specs.Machine.{finished_dead, is_running, is_dying, in_block}
 use Rattle.cw_open.proofs.Backed.{dead_finished}
 use Rattle.cw_core.specs.declared.event.Event.TheVariants as event
-use Rattle.cw_core.specs.State.{State}
+use Rattle.cw_core.specs.State.{CoreState}
 use Rattle.cw_core.specs.Events.{fits}
 use Rattle.cw_core.proofs.Going.{well}
 use Rattle.cw_serial.specs.declared.standing.Standing.{Standing}
 use Rattle.cw_serial.specs.Jobs.{Job}
-use Rattle.cw_serial.specs.Room.Strands.{StrandState, state_of, strands_of}
+use Rattle.cw_serial.specs.Room.Strands.{StrandState, state_of, strands_of_job}
 use Rattle.cw_sim.specs.Workers.{tree, worker, worker_in, with_strand}
 use Rattle.cw_sim.specs.Moves.{does, others, steals, finishes, dies, acts, move}
 use Rattle.cw_sim.specs.Kept.{Runs}
-use Rattle.cw_sim.specs.Inside.{Stands as IsThere, goes_back}
-use Rattle.cw_sim.specs.Held.{Seen, law_of, IsBody, Stands, Comes, MayMove, Wants, MayStep, MayDo, MayRoll, MayFork, MayAct, MayDie, MayFinish}
+use Rattle.cw_sim.specs.Inside.{HasOneOpenFork as IsThere, goes_back}
+use Rattle.cw_sim.specs.Held.{Seen, law_of, IsBody, StandsFor, Comes, MayMove, Wants, MayStep, MayDo, MayRoll, MayFork, MayAct, MayDie, MayFinish}
 use Rattle.cw_sim.specs.HeldThings.{thing_at}
 use Rattle.cw_sim.specs.HeldWorkers.{worker_of}
 use Rattle.cw_sim.specs.declared.worker.Worker.{Worker as WorkerInMemory}
@@ -41,7 +41,7 @@ use Rattle.cw_sim.proofs.Workers.{runs_in}
 -- ## Worker w runs a strand
 
 module _ (c : InMemory) (w : ℕ) (z : Seen) (may : MayMove c w z) (x : ℕ) (run : (worker z.m w).runs ≡ Some x) where
-  abbrev k : State
+  abbrev k : CoreState
   k = z.m.core
 
   at : Runs k (worker z.m w) x
@@ -73,7 +73,7 @@ module _ (c : InMemory) (w : ℕ) (z : Seen) (may : MayMove c w z) (x : ℕ) (ru
       (false_from_ne_true (finished_dead k.machine x) (λ e. absurd (let done = dead_finished k.machine x e in let off = (going k.machine x at.running).unfinished in cc (done, off))))
 
   -- at what it wants
-  pub wants_so : is_dying k.machine x ≡ false → (body : Standing) → thing_at c.bodies x ≡ Some body → (want : Want) → ((job : Job) → want ≡ (strands_of job).want (state_of body)) → Wants z x want
+  pub wants_so : is_dying k.machine x ≡ false → (body : Standing) → thing_at c.bodies x ≡ Some body → (want : Want) → ((job : Job) → want ≡ (strands_of_job job).want (state_of body)) → Wants z x want
   wants_so alive body there want is =
       let h = body_of in
       sym (is z.job ∙ ap (λ b. (law_of z).want (state_of b)) (same_thing (thing_at c.bodies x) body h.0 there h.1) ∙ ap (law_of z).want (h.2.at (not_back alive)))
@@ -140,7 +140,7 @@ module _ (c : InMemory) (w x : ℕ) (want : Want) (z : Seen) (may : MayAct c w x
       ap (λ j. fits j (event.Stop (halt.Fault x kind))) may.may.steady.stands.core ∙ stop_fits k (halt.Fault x kind) on.halt (strand_here k.machine.first k on z.m.workers may.may.workers w x may.runs)
 
   -- and then it does
-  pub faulted : (kind : FaultKind) → v ≡ Wanted.Fault kind → (d : InMemory) → (Stands c z → Stands d (record z { m = does (event.Stop (halt.Fault x kind)) z.m })) → Comes d z (acts (law_of z) w x want z.m)
+  pub faulted : (kind : FaultKind) → v ≡ Wanted.Fault kind → (d : InMemory) → (StandsFor c z → StandsFor d (record z { m = does (event.Stop (halt.Fault x kind)) z.m })) → Comes d z (acts (law_of z) w x want z.m)
   faulted kind e d stands =
       let P : Want → Type 0 = λ v. Comes d z (acts (law_of z) w x v z.m) in
       subst P (sym (is ∙ e)) (z.there, (stands may.may.steady.stands, stop_inside (law_of z) z.m (halt.Fault x kind) z.there may.may.steady.inside))
@@ -197,7 +197,7 @@ module _ (c : InMemory) (w : ℕ) (z : Seen) (may : MayMove c w z) where
     pub moves_dying : is_dying c.core.machine x ≡ true → (d : InMemory) → (MayDie c w x z → Comes d z (dies s w x z.m)) → Comes d z (move s w z.m)
     moves_dying dying d comes = by_dying true dying d (comes (may_die dying))
 
-    module _ (alive : is_dying c.core.machine x ≡ false) (body : Standing) (there : thing_at c.bodies x ≡ Some body) (want : Want) (is : (job : Job) → want ≡ (strands_of job).want (state_of body)) where
+    module _ (alive : is_dying c.core.machine x ≡ false) (body : Standing) (there : thing_at c.bodies x ≡ Some body) (want : Want) (is : (job : Job) → want ≡ (strands_of_job job).want (state_of body)) where
       wanted : Wants z x want
       wanted = wants_so c w z may x run (sym same_dying ∙ alive) body there want is
 

@@ -7,16 +7,16 @@ use Rattle.cw_tree.specs.declared.node.BlockState.TheVariants.{Aborted}
 use Rattle.cw_tree.specs.Series.{place}
 use Rattle.cw_open.specs.Machine.{rolls_back}
 use Rattle.cw_core.specs.declared.event.Event.TheVariants as event
-use Rattle.cw_core.specs.State.{State}
-use Rattle.cw_core.specs.Events.{fits, after, next}
+use Rattle.cw_core.specs.State.{CoreState}
+use Rattle.cw_core.specs.Events.{fits, after_event, next}
 use Rattle.cw_core.specs.Laws.{IsCore}
 use Rattle.cw_serial.specs.declared.standing.Standing.{Standing}
 use Rattle.cw_serial.specs.Room.Strands.{IsOf, state_of}
-use Rattle.cw_serial.specs.Room.Saves.{IsSavedOf, MayGoBack}
+use Rattle.cw_serial.specs.Room.Saves.{IsSavedOf, MayRollBack}
 use Rattle.cw_sim.specs.Moves.{does}
 use Rattle.cw_sim.specs.Workers.{changed, with_strand}
 use Rattle.cw_sim.specs.HeldThings.{thing_at, Puts}
-use Rattle.cw_sim.specs.Kept.{GoesOn}
+use Rattle.cw_sim.specs.Kept.{CoreGoesOn}
 use Rattle.cw_sim.specs.Held.{Seen, Comes, IsBody, MayRoll, law_of}
 use Rattle.cw_sim.specs.declared.moves.Simulation.{Simulation as InMemory}
 use Rattle.cw_sim.proofs.After.{conflicts_after}
@@ -32,16 +32,16 @@ use Rattle.cw_sim.proofs.InsideQuiet.{IsLeft}
 use Rattle.cw_sim.proofs.Quiet.{roll_shut}
 
 module _ (c : InMemory) (x : ℕ) (z : Seen) (may : MayRoll c x z) where
-  abbrev k : State
+  abbrev k : CoreState
   k = z.m.core
 
-  abbrev now : State
-  now = after k (event.Roll x)
+  abbrev now : CoreState
+  now = after_event k (event.Roll x)
 
   abbrev p : ℕ
   p = place k.machine.tree x
 
-  on : GoesOn k.machine.first k
+  on : CoreGoesOn k.machine.first k
   on = may.step.steady.core
 
   rolled : rolls_back k.machine x ≡ true
@@ -72,7 +72,7 @@ module _ (c : InMemory) (x : ℕ) (z : Seen) (may : MayRoll c x z) where
         subst Q is_p (subst P (some_inj (sym s.1 ∙ begin)) s.2)
 
     -- which may go back
-    pub roll_back : MayGoBack kept (state_of was)
+    pub roll_back : MayRollBack kept (state_of was)
     roll_back =
         let g = may_go_back (law_of z) k.machine.first z.m on z.there may.step.steady.inside x may.step.running may.step.ready may.dying may.within in
         let P : Standing → Type 0 = λ s. Rattle.cw_serial.specs.Room.Saves.StandsAs (state_of s) (z.there x) in
@@ -89,16 +89,16 @@ module _ (c : InMemory) (x : ℕ) (z : Seen) (may : MayRoll c x z) where
         }
 
     -- and once it has, the simulation stands for the move
-    pub roll_comes : (rest : List (Option Kept)) (without bodies : List (Option Standing)) (new : State) (body : Standing)
-        → Puts c.saved b None rest → Puts c.bodies x None without → Puts without x (Some body) bodies → new ≡ after c.core (event.Roll x) → IsCore new.machine.first new
-        → ((m : MayGoBack kept (state_of was)) → state_of body ≡ m.begin) → ((m : MayGoBack kept (state_of was)) → IsOf m.job.program body)
+    pub roll_comes : (rest : List (Option Kept)) (without bodies : List (Option Standing)) (new : CoreState) (body : Standing)
+        → Puts c.saved b None rest → Puts c.bodies x None without → Puts without x (Some body) bodies → new ≡ after_event c.core (event.Roll x) → IsCore new.machine.first new
+        → ((m : MayRollBack kept (state_of was)) → state_of body ≡ m.begin) → ((m : MayRollBack kept (state_of was)) → IsOf m.job.program body)
         → Comes (record c { core = new; bodies = bodies; saved = rest }) z (with_strand x (z.m.saved p) (does (event.Roll x) z.m))
     unfolding roll_back
     roll_comes rest without bodies new body gone taken put is core back of =
         let shut = roll_shut k.machine.first k on x may.step.running may.step.ready rolled in
         let is_left : IsLeft k.machine now.machine = shut_left k now (left.whole k.machine.first k on) p Aborted (next k) shut in
-        let is_now : new ≡ now = is ∙ ap (λ s. after s (event.Roll x)) may.step.steady.stands.core in
-        let P : State → Type 0 = λ s. IsCore s.machine.first s in (
+        let is_now : new ≡ now = is ∙ ap (λ s. after_event s (event.Roll x)) may.step.steady.stands.core in
+        let P : CoreState → Type 0 = λ s. IsCore s.machine.first s in (
           changed x (z.m.saved p) z.there,
           (
             changed_stands c new x z now rest z.m.saved bodies body (z.m.saved p) may.step.steady.stands is_now (subst P is_now core)

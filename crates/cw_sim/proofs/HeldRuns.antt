@@ -7,17 +7,17 @@ use Rattle.cw_strand.specs.Names.{first_memory}
 use Rattle.cw_strand.specs.Programs.{IsCompiled}
 use Rattle.cw_strand.specs.Strands.{Strands}
 use Rattle.cw_core.proofs.Going.{state}
-use Rattle.cw_serial.specs.Jobs.{Job, Takes}
-use Rattle.cw_serial.specs.Room.Strands.{StrandState, strands_of}
+use Rattle.cw_serial.specs.Jobs.{Job, TakesWords}
+use Rattle.cw_serial.specs.Room.Strands.{StrandState, strands_of_job}
 use Rattle.cw_sim.specs.Workers.{Simulation, idle}
 use Rattle.cw_sim.specs.Turns.{worker_at}
 use Rattle.cw_sim.specs.Moves.{is_over, move, after_moves}
-use Rattle.cw_sim.specs.Runs.{left_by}
-use Rattle.cw_sim.specs.Kept.{GoesOn, IsKept}
+use Rattle.cw_sim.specs.Runs.{simulation_of}
+use Rattle.cw_sim.specs.Kept.{CoreGoesOn, IsKept}
 use Rattle.cw_sim.specs.Laws.{AreStrands}
 use Rattle.cw_sim.specs.HasWants.{HasWants}
 use Rattle.cw_sim.specs.Inside.{HasInside}
-use Rattle.cw_sim.specs.Held.{Seen, Stands, Comes, Ends, MayMove, opened}
+use Rattle.cw_sim.specs.Held.{Seen, StandsFor, Comes, Ends, MayMove, opened}
 use Rattle.cw_sim.specs.HeldTurns.{AreAt}
 use Rattle.cw_sim.specs.declared.turns.Turns.{Turns}
 use Rattle.cw_sim.specs.declared.moves.Simulation.{Simulation as InMemory}
@@ -31,7 +31,7 @@ use Rattle.cw_sim.proofs.WholeStrands.{strands_lawful}
 
 module _ (job : Job) (workers : ℕ) (schedule : Schedule) where
   abbrev s : Strands StrandState
-  s = strands_of job
+  s = strands_of_job job
 
   abbrev first : List ℤ
   first = first_memory job.program.cells
@@ -47,11 +47,11 @@ module _ (job : Job) (workers : ℕ) (schedule : Schedule) where
   pub record IsAt (c : InMemory) (n : ℕ) : Type 0 where
     pub m : Simulation StrandState
     pub there : ℕ → StrandState
-    pub stands : Stands c (record { job = job; m = m; there = there })
+    pub stands : StandsFor c (record { job = job; m = m; there = there })
     pub inside : HasInside s m there
     pub many : length m.workers ≡ workers
     pub kept : is_over m ≡ false → IsKept s first m
-    pub left : after_moves s turn (limit - n) n m ≡ left_by job workers schedule
+    pub left : after_moves s turn (limit - n) n m ≡ simulation_of job workers schedule
 
   -- those who take turns stand there, too
   pub record AreAlong (t : Turns) (n : ℕ) : Type 0 where
@@ -68,7 +68,7 @@ module _ (job : Job) (workers : ℕ) (schedule : Schedule) where
   along_next t u n a next schedules counts = record { at = next; schedule_same = schedules ∙ a.schedule_same; workers_same = counts ∙ a.workers_same }
 
   -- before the first move it is so
-  pub is_opened : (c : InMemory) → 0 < job.limits.strands → 0 < workers → Stands c (opened job workers) → IsAt c 0
+  pub is_opened : (c : InMemory) → 0 < job.limits.strands → 0 < workers → StandsFor c (opened job workers) → IsAt c 0
   is_opened c room some stands = record {
     m = (opened job workers).m;
     there = (opened job workers).there;
@@ -86,7 +86,7 @@ module _ (job : Job) (workers : ℕ) (schedule : Schedule) where
     abbrev pub z : Seen
     z = record { job = job; m = is.m; there = is.there }
 
-    module _ (b : Bool) (tells : (y : Seen) → Stands c y → b ≡ is_over y.m) where
+    module _ (b : Bool) (tells : (y : Seen) → StandsFor c y → b ≡ is_over y.m) where
       -- whether it is over
       over_is : (v : Bool) → b ≡ v → is_over is.m ≡ v
       over_is v e = sym (tells z is.stands) ∙ e
@@ -94,12 +94,12 @@ module _ (job : Job) (workers : ℕ) (schedule : Schedule) where
       -- once it is all moves came to it
       pub ends_over : b ≡ true → Ends c job workers schedule
       ends_over e =
-          let P : Simulation StrandState → Type 0 = λ m. Stands c (record { job = job; m = m; there = is.there }) in
+          let P : Simulation StrandState → Type 0 = λ m. StandsFor c (record { job = job; m = m; there = is.there }) in
           (is.there, subst P (sym (stays_over s turn (limit - n) n is.m (over_is true e)) ∙ is.left) is.stands)
 
       -- ## Where it is not
 
-      module _ (compiled : IsCompiled job.program) (takes : Takes job.program (length job.words)) (off : b ≡ false) (t : Turns) (along : AreAlong t n) (w : ℕ)
+      module _ (compiled : IsCompiled job.program) (takes : TakesWords job.program (length job.words)) (off : b ≡ false) (t : Turns) (along : AreAlong t n) (w : ℕ)
           (who : w ≡ worker_at t.schedule.now t.workers n) (few : w < t.workers) where
         are : AreStrands s (length first)
         are = strands_lawful job compiled takes
@@ -116,7 +116,7 @@ module _ (job : Job) (workers : ℕ) (schedule : Schedule) where
         -- the worker whose turn it is may move
         pub may_move : MayMove c w z
         may_move =
-            let P : List ℤ → Type 0 = λ vs. GoesOn vs is.m.core in
+            let P : List ℤ → Type 0 = λ vs. CoreGoesOn vs is.m.core in
             let Q : List ℤ → Type 0 = λ vs. HasWants s (length vs) is.m in
             record {
               steady = record { stands = is.stands; core = subst P (sym values) kept.core; inside = is.inside };

@@ -12,25 +12,25 @@ use Rattle.cw_tree.proofs.Lists.{any_in, any_from}
 use Rattle.cw_tree.proofs.NextBefore.{above_down}
 use Rattle.cw_tree.proofs.Strands.{strand_over}
 use Rattle.cw_trace.proofs.InRange.{fork_low}
-use Rattle.cw_open.specs.Machine.{Machine, has_finished, finished_dead, waits, is_dying}
+use Rattle.cw_open.specs.Machine.{OpenMachine, has_finished, finished_dead, waits, is_dying}
 use Rattle.cw_open.specs.Runs.{at_once}
 use Rattle.cw_open.proofs.BackedStates.{IsBackedState, backed_states}
 use Rattle.cw_open.proofs.Fell.{any_one}
 use Rattle.cw_open.proofs.Victims.{IsTold}
 use Rattle.cw_core.specs.declared.event.Event.TheVariants as event
-use Rattle.cw_core.specs.State.{State}
-use Rattle.cw_core.specs.Events.{after}
+use Rattle.cw_core.specs.State.{CoreState}
+use Rattle.cw_core.specs.Events.{after_event}
 use Rattle.cw_core.proofs.Forks.{IsChild}
 use Rattle.cw_core.proofs.Going.{well}
 use Rattle.cw_core.proofs.Ordering.{strand_under}
-use Rattle.cw_sim.specs.Kept.{GoesOn}
-use Rattle.cw_sim.specs.Inside.{Stands as IsThere, goes_back}
+use Rattle.cw_sim.specs.Kept.{CoreGoesOn}
+use Rattle.cw_sim.specs.Inside.{HasOneOpenFork as IsThere, goes_back}
 use Rattle.cw_sim.specs.Held.{has_body}
 use Rattle.cw_sim.proofs.InsideDying.{dies_by, died_by, by_dies, dead_dies}
 use Rattle.cw_sim.proofs.InsideWaits.{finished_alone}
 
 -- a strand that has a body stands
-pub body_stands : (k : State) → is_strand k.machine.tree 0 ≡ true → (x : ℕ) → has_body k x ≡ true → IsThere k.machine x
+pub body_stands : (k : CoreState) → is_strand k.machine.tree 0 ≡ true → (x : ℕ) → has_body k x ≡ true → IsThere k.machine x
 body_stands k root zero e = record { strand = root; apart = λ some. absurd (omega arith); alone = not-true (waits k.machine 0) e }
 body_stands k root (suc x) e =
     let t = k.machine.tree in
@@ -40,7 +40,7 @@ body_stands k root (suc x) e =
     record { strand = b.0; apart = λ some. not-true off b.1; alone = not-true (waits k.machine (suc x)) a.1 }
 
 -- and one that stands has a body
-pub stands_body : (k : State) (x : ℕ) → IsThere k.machine x → has_body k x ≡ true
+pub stands_body : (k : CoreState) (x : ℕ) → IsThere k.machine x → has_body k x ≡ true
 stands_body k zero st = not_from_false (waits k.machine 0) st.alone
 stands_body k (suc x) st =
     let t = k.machine.tree in
@@ -50,8 +50,8 @@ stands_body k (suc x) st =
 
 -- ## The strands of a fork that may be joined
 
-module _ (first : List ℤ) (k : State) (on : GoesOn first k) (f : ℕ) (fork : is_fork k.machine.tree f ≡ true) (apart : has k.machine.joined f ≡ false) where
-  abbrev m : Machine
+module _ (first : List ℤ) (k : CoreState) (on : CoreGoesOn first k) (f : ℕ) (fork : is_fork k.machine.tree f ≡ true) (apart : has k.machine.joined f ≡ false) where
+  abbrev m : OpenMachine
   m = k.machine
 
   abbrev t : List Node
@@ -60,8 +60,8 @@ module _ (first : List ℤ) (k : State) (on : GoesOn first k) (f : ℕ) (fork : 
   abbrev p : ℕ
   p = strand_of t f
 
-  abbrev z : State
-  z = after k (event.Join f)
+  abbrev z : CoreState
+  z = after_event k (event.Join f)
 
   tree : IsTree t
   tree = (well first k on.core).sound.tree

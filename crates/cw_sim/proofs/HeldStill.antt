@@ -6,9 +6,9 @@ use Rattle.cw_tree.specs.declared.closed.Halt.TheVariants as halt
 use Rattle.cw_tree.specs.Nodes.{is_pending}
 use Rattle.cw_strand.specs.Strands.{Strands}
 use Rattle.cw_strand.specs.Saving.{Kept}
-use Rattle.cw_open.specs.Machine.{Machine}
-use Rattle.cw_core.specs.State.{State, spent}
-use Rattle.cw_core.specs.Events.{after}
+use Rattle.cw_open.specs.Machine.{OpenMachine}
+use Rattle.cw_core.specs.State.{CoreState, spent}
+use Rattle.cw_core.specs.Events.{after_event}
 use Rattle.cw_core.specs.Laws.{IsCore}
 use Rattle.cw_core.specs.declared.event.Event.TheVariants as event
 use Rattle.cw_serial.specs.Room.Strands.{StrandState}
@@ -17,21 +17,21 @@ use Rattle.cw_sim.specs.Workers.{Simulation, tree}
 use Rattle.cw_sim.specs.Moves.{does, stops_if_spent}
 use Rattle.cw_sim.specs.Inside as inside
 use Rattle.cw_sim.specs.HeldThings.{thing_at}
-use Rattle.cw_sim.specs.Held.{Seen, Stands, has_body, law_of}
+use Rattle.cw_sim.specs.Held.{Seen, StandsFor, has_body, law_of}
 use Rattle.cw_sim.specs.declared.moves.Simulation.{Simulation as InMemory}
 
 -- ## The core moves
 
-module _ (c : InMemory) (k : State) (z : Seen) (new : State) (old : Stands c z) (is : k ≡ new) (core : IsCore k.machine.first k)
+module _ (c : InMemory) (k : CoreState) (z : Seen) (new : CoreState) (old : StandsFor c z) (is : k ≡ new) (core : IsCore k.machine.first k)
     (bodies : (x : ℕ) → has_body new x ≡ true → has_body z.m.core x ≡ true)
     (back : (x : ℕ) → inside.goes_back new.machine x ≡ false → inside.goes_back z.m.core.machine x ≡ false) where
   core_now : IsCore new.machine.first new
-  core_now = let P : State → Type 0 = λ s. IsCore s.machine.first s in subst P is core
+  core_now = let P : CoreState → Type 0 = λ s. IsCore s.machine.first s in subst P is core
 
   -- No strand has a body that had none, strands that went back still do, and of each pending block what its strand needs is kept.
   pub moved_stands : (kept : List (Option Kept)) (saved : ℕ → StrandState)
       → ((b : ℕ) → is_pending new.machine.tree b ≡ true → (s : Kept) × (thing_at kept b ≡ Some s) × IsSavedOf z.job.program s (saved b))
-      → Stands (record c { core = k; saved = kept }) (record z { m = record z.m { core = new; saved = saved } })
+      → StandsFor (record c { core = k; saved = kept }) (record z { m = record z.m { core = new; saved = saved } })
   moved_stands kept saved pending = record {
     job = old.job;
     core = is;
@@ -44,27 +44,27 @@ module _ (c : InMemory) (k : State) (z : Seen) (new : State) (old : Stands c z) 
   }
 
   -- no block is pending that was not
-  pub still_stands : ((b : ℕ) → is_pending new.machine.tree b ≡ true → is_pending (tree z.m) b ≡ true) → Stands (record c { core = k }) (record z { m = record z.m { core = new } })
+  pub still_stands : ((b : ℕ) → is_pending new.machine.tree b ≡ true → is_pending (tree z.m) b ≡ true) → StandsFor (record c { core = k }) (record z { m = record z.m { core = new } })
   still_stands pending = moved_stands c.saved z.m.saved (λ b e. old.saved b (pending b e))
 
 -- ## The run stops
 
 -- a halt stops the run, and moves no strand
-pub stop_stands : (c : InMemory) (k : State) (z : Seen) (h : Halt) → Stands c z → k ≡ after z.m.core (event.Stop h) → IsCore k.machine.first k
-    → Stands (record c { core = k }) (record z { m = does (event.Stop h) z.m })
-stop_stands c k z (halt.Fault x kind) old e core = still_stands c k z (after z.m.core (event.Stop (halt.Fault x kind))) old e core (λ n h. h) (λ n h. h) (λ n h. h)
-stop_stands c k z (halt.Budget x) old e core = still_stands c k z (after z.m.core (event.Stop (halt.Budget x))) old e core (λ n h. h) (λ n h. h) (λ n h. h)
-stop_stands c k z halt.Memory old e core = still_stands c k z (after z.m.core (event.Stop halt.Memory)) old e core (λ n h. h) (λ n h. h) (λ n h. h)
+pub stop_stands : (c : InMemory) (k : CoreState) (z : Seen) (h : Halt) → StandsFor c z → k ≡ after_event z.m.core (event.Stop h) → IsCore k.machine.first k
+    → StandsFor (record c { core = k }) (record z { m = does (event.Stop h) z.m })
+stop_stands c k z (halt.Fault x kind) old e core = still_stands c k z (after_event z.m.core (event.Stop (halt.Fault x kind))) old e core (λ n h. h) (λ n h. h) (λ n h. h)
+stop_stands c k z (halt.Budget x) old e core = still_stands c k z (after_event z.m.core (event.Stop (halt.Budget x))) old e core (λ n h. h) (λ n h. h) (λ n h. h)
+stop_stands c k z halt.Memory old e core = still_stands c k z (after_event z.m.core (event.Stop halt.Memory)) old e core (λ n h. h) (λ n h. h) (λ n h. h)
 
 -- where no budget is spent it goes on
-pub unspent_stands : (c : InMemory) (z : Seen) → Stands c z → spent c.core ≡ None → Stands c (record z { m = stops_if_spent (law_of z) z.m })
+pub unspent_stands : (c : InMemory) (z : Seen) → StandsFor c z → spent c.core ≡ None → StandsFor c (record z { m = stops_if_spent (law_of z) z.m })
 unspent_stands c z old none =
-    let P : Option ℕ → Type 0 = λ o. Stands c (record z { m = option_map_or (λ x. does (event.Stop (halt.Budget x)) z.m) o z.m }) in
+    let P : Option ℕ → Type 0 = λ o. StandsFor c (record z { m = option_map_or (λ x. does (event.Stop (halt.Budget x)) z.m) o z.m }) in
     subst P (sym (ap spent (sym old.core) ∙ none)) old
 
 module _ {A : Type 0} (s : Strands A) where
   -- which strands stopped makes no difference to where they stand
-  stopped_inside : (m : Machine) (xs : List ℕ) (at saved there : ℕ → A) → inside.AreInside s m at saved there → inside.AreInside s (record m { stopped = xs }) at saved there
+  stopped_inside : (m : OpenMachine) (xs : List ℕ) (at saved there : ℕ → A) → inside.AreInside s m at saved there → inside.AreInside s (record m { stopped = xs }) at saved there
   stopped_inside m xs at saved there old = record {
     same = λ y st. old.same y (was y st);
     lives = λ y b n st. old.lives y b n (was y st);
@@ -72,7 +72,7 @@ module _ {A : Type 0} (s : Strands A) where
     blocks = old.blocks;
     begins = old.begins;
   } where
-    was : (y : ℕ) → inside.Stands (record m { stopped = xs }) y → inside.Stands m y
+    was : (y : ℕ) → inside.HasOneOpenFork (record m { stopped = xs }) y → inside.HasOneOpenFork m y
     was y st = record { strand = st.strand; apart = st.apart; alone = st.alone }
 
   -- so a halt leaves all strands inside their blocks

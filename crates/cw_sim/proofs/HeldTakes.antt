@@ -4,15 +4,15 @@ use Rattle.std.specs.Prelude.{slice_set}
 use Rattle.std.proofs.lemmas.Bool.{cases_lt}
 use Rattle.std.proofs.lemmas.List.{length-map, length-set}
 use Rattle.cw_core.specs.declared.event.Event.TheVariants as event
-use Rattle.cw_core.specs.State.{State}
-use Rattle.cw_core.specs.Events.{fits, after}
+use Rattle.cw_core.specs.State.{CoreState}
+use Rattle.cw_core.specs.Events.{fits, after_event}
 use Rattle.cw_core.specs.Laws.{IsCore}
 use Rattle.cw_core.proofs.Going.{well}
 use Rattle.cw_serial.specs.Room.Strands.{StrandState}
-use Rattle.cw_sim.specs.Workers.{Worker, Simulation, right_of, worker, worker_in}
+use Rattle.cw_sim.specs.Workers.{Worker, Simulation, right_node, worker, worker_in}
 use Rattle.cw_sim.specs.Moves.{others, takes, steals}
-use Rattle.cw_sim.specs.HeldWorkers.{worker_of, workers_of, first_with_forks, after as workers_after}
-use Rattle.cw_sim.specs.Held.{Seen, Stands, IsSteady, MayMove, MayTake, Comes}
+use Rattle.cw_sim.specs.HeldWorkers.{worker_of, workers_of, first_with_forks, workers_next as workers_after}
+use Rattle.cw_sim.specs.Held.{Seen, StandsFor, IsSteady, MayMove, MayTake, Comes}
 use Rattle.cw_sim.specs.declared.worker.Worker.{Worker as WorkerInMemory}
 use Rattle.cw_sim.specs.declared.moves.Simulation.{Simulation as InMemory}
 use Rattle.cw_sim.proofs.EventsFit.{robbed_here, split_fits_here}
@@ -106,7 +106,7 @@ abbrev pub TakesOldest : (old new : List Worker) (v : ℕ) → Option ℕ → Ty
 TakesOldest old new v r = (f : ℕ) (fs : List ℕ) → (worker_in old v).deque ≡ f ∷ fs → (r ≡ Some f) × (new ≡ slice_set old v (record (worker_in old v) { deque = fs }))
 
 module _ (c : InMemory) (w v : ℕ) (z : Seen) (may : MayTake c w v z) (r : Option ℕ) (new : List WorkerInMemory) (took : TakesOldest (workers_of c.workers.items) (workers_of new) v r) where
-  abbrev k : State
+  abbrev k : CoreState
   k = z.m.core
 
   in_memory : (f : ℕ) (fs : List ℕ) → (worker z.m v).deque ≡ f ∷ fs → (worker_in (workers_of c.workers.items) v).deque ≡ f ∷ fs
@@ -150,7 +150,7 @@ module _ (c : InMemory) (w v : ℕ) (z : Seen) (may : MayTake c w v z) (r : Opti
         ∙ split_fits_here k.machine.first k may.may.steady.core z.m.workers may.may.workers v fork first_fork.rest waits
 
     -- its right strand is a node
-    pub right_there : (j : State) → j ≡ after c.core (event.Split fork) → right_of fork < length j.machine.tree
+    pub right_there : (j : CoreState) → j ≡ after_event c.core (event.Split fork) → right_node fork < length j.machine.tree
     right_there j e =
         let robbed = robbed_here k.machine.first k may.may.steady.core z.m.workers may.may.workers v fork first_fork.rest waits in
         let low = (right_child k.machine.tree (well k.machine.first k may.may.steady.core.core).sound.tree may.may.steady.core.forks fork robbed.here.fork).there in
@@ -158,8 +158,8 @@ module _ (c : InMemory) (w v : ℕ) (z : Seen) (may : MayTake c w v z) (r : Opti
         omega (arith, n, low)
 
     -- once it was split, and worker w has its right strand
-    pub taken_comes : (j : State) (rest : InMemory) → j ≡ after c.core (event.Split fork) → IsCore j.machine.first j
-        → workers_of rest.workers.items ≡ slice_set (workers_of new) w (record (worker_in (workers_of new) w) { runs = Some (right_of fork) })
+    pub taken_comes : (j : CoreState) (rest : InMemory) → j ≡ after_event c.core (event.Split fork) → IsCore j.machine.first j
+        → workers_of rest.workers.items ≡ slice_set (workers_of new) w (record (worker_in (workers_of new) w) { runs = Some (right_node fork) })
         → (f : ℕ) (fs : List ℕ) → (worker z.m v).deque ≡ f ∷ fs → Comes (record c { core = j; workers = rest.workers }) z (takes w v f fs z.m)
     taken_comes j rest e core ran f fs q = (
       z.there,
@@ -167,18 +167,18 @@ module _ (c : InMemory) (w v : ℕ) (z : Seen) (may : MayTake c w v z) (r : Opti
         record {
           job = st.job;
           core = now;
-          is_core = (let P : State → Type 0 = λ i. IsCore i.machine.first i in subst P now core);
+          is_core = (let P : CoreState → Type 0 = λ i. IsCore i.machine.first i in subst P now core);
           workers =
-              ran ∙ ap (λ ws. slice_set ws w (record (worker_in ws w) { runs = Some (right_of fork) })) (robbed_workers f fs q)
-              ∙ ap (λ g. (let ws = slice_set z.m.workers v (record (worker z.m v) { deque = fs }) in slice_set ws w (record (worker_in ws w) { runs = Some (right_of g) }))) (same f fs q);
+              ran ∙ ap (λ ws. slice_set ws w (record (worker_in ws w) { runs = Some (right_node fork) })) (robbed_workers f fs q)
+              ∙ ap (λ g. (let ws = slice_set z.m.workers v (record (worker z.m v) { deque = fs }) in slice_set ws w (record (worker_in ws w) { runs = Some (right_node g) }))) (same f fs q);
           bodies = λ x has. (let b = st.bodies x has in (b.0, b.1, record { program = b.2.program; at = b.2.at; like = b.2.like }));
           saved = λ b pending. st.saved b pending;
         },
         may.may.steady.inside,
       ),
     ) where
-      st : Stands c z
+      st : StandsFor c z
       st = may.may.steady.stands
 
-      now : j ≡ after k (event.Split f)
-      now = e ∙ ap (λ i. after i (event.Split fork)) st.core ∙ ap (λ g. after k (event.Split g)) (same f fs q)
+      now : j ≡ after_event k (event.Split f)
+      now = e ∙ ap (λ i. after_event i (event.Split fork)) st.core ∙ ap (λ g. after_event k (event.Split g)) (same f fs q)

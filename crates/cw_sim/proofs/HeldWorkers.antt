@@ -10,7 +10,7 @@ use Rattle.cw_tree.specs.Nodes.{below}
 use Rattle.cw_tree.specs.Walks.{has}
 use Rattle.cw_tree.proofs.Lists.{get_map_below}
 use Rattle.cw_sim.specs.Workers.{Worker, idle, worker_in}
-use Rattle.cw_sim.specs.HeldWorkers.{IsLast, without, worker_of, workers_of, first_with_forks, after}
+use Rattle.cw_sim.specs.HeldWorkers.{IsLast, without, worker_of, workers_of, first_with_forks, workers_next}
 use Rattle.cw_sim.specs.declared.worker.Worker.{Worker as InMemory}
 
 or_none : (a b : Bool) → (a || b) ≡ false → (a ≡ false) × (b ≡ false)
@@ -120,21 +120,21 @@ length_below : (k : ℕ) → length (below k) ≡ k
 length_below zero = refl
 length_below (suc k) = length-append (below k) (k ∷ []) ∙ ap (λ n. n + 1) (length_below k) ∙ add-one k
 
-length_after : (w count : ℕ) → length (after w count) ≡ count - 1
+length_after : (w count : ℕ) → length (workers_next w count) ≡ count - 1
 length_after w count = length-map (below (count - 1)) (λ i. (w + suc i) % count) ∙ length_below (count - 1)
 
 -- of those after a worker, from the i-th on
-pub from_after : (w count i : ℕ) → 0 < i → i < count → drop (i - 1) (after w count) ≡ (w + i) % count ∷ drop i (after w count)
+pub from_after : (w count i : ℕ) → 0 < i → i < count → drop (i - 1) (workers_next w count) ≡ (w + i) % count ∷ drop i (workers_next w count)
 from_after w count (suc i) some low =
-    let few : i < length (after w count) = omega (arith, length_after w count) in
-    ap (λ j. drop j (after w count)) (sub-one (suc i))
-    ∙ drop_more (after w count) i 0 few
-    ∙ ap (λ v. v ∷ drop (i + 1) (after w count)) (get_map_below (λ j. (w + suc j) % count) (count - 1) i 0 (omega arith))
-    ∙ ap (λ j. (w + suc i) % count ∷ drop j (after w count)) (add-one i)
+    let few : i < length (workers_next w count) = omega (arith, length_after w count) in
+    ap (λ j. drop j (workers_next w count)) (sub-one (suc i))
+    ∙ drop_more (workers_next w count) i 0 few
+    ∙ ap (λ v. v ∷ drop (i + 1) (workers_next w count)) (get_map_below (λ j. (w + suc j) % count) (count - 1) i 0 (omega arith))
+    ∙ ap (λ j. (w + suc i) % count ∷ drop j (workers_next w count)) (add-one i)
 from_after w count zero some low = absurd (omega (arith, some))
 
-pub none_after : (w count i : ℕ) → count ≤ i → drop (i - 1) (after w count) ≡ []
-none_after w count i high = drop_all (i - 1) (after w count) (omega (arith, length_after w count))
+pub none_after : (w count i : ℕ) → count ≤ i → drop (i - 1) (workers_next w count) ≡ []
+none_after w count i high = drop_all (i - 1) (workers_next w count) (omega (arith, length_after w count))
 
 -- ## A search of them
 
@@ -152,8 +152,8 @@ module _ (ws : List Worker) (w count i : ℕ) (some : 0 < i) (low : i < count) w
   abbrev v : ℕ
   v = (w + i) % count
 
-  pub found_here : first_with_forks ws (after w count) ≡ first_with_forks ws (drop (i - 1) (after w count)) → (length (worker_in ws v).deque ≡ 0 → ⊥) → first_with_forks ws (after w count) ≡ Some v
-  found_here so has_some = so ∙ ap (first_with_forks ws) (from_after w count i some low) ∙ stops ws v (drop i (after w count)) has_some
+  pub found_here : first_with_forks ws (workers_next w count) ≡ first_with_forks ws (drop (i - 1) (workers_next w count)) → (length (worker_in ws v).deque ≡ 0 → ⊥) → first_with_forks ws (workers_next w count) ≡ Some v
+  found_here so has_some = so ∙ ap (first_with_forks ws) (from_after w count i some low) ∙ stops ws v (drop i (workers_next w count)) has_some
 
-  pub not_here : first_with_forks ws (after w count) ≡ first_with_forks ws (drop (i - 1) (after w count)) → length (worker_in ws v).deque ≡ 0 → first_with_forks ws (after w count) ≡ first_with_forks ws (drop i (after w count))
-  not_here so has_none = so ∙ ap (first_with_forks ws) (from_after w count i some low) ∙ skips ws v (drop i (after w count)) (length_none (worker_in ws v).deque has_none)
+  pub not_here : first_with_forks ws (workers_next w count) ≡ first_with_forks ws (drop (i - 1) (workers_next w count)) → length (worker_in ws v).deque ≡ 0 → first_with_forks ws (workers_next w count) ≡ first_with_forks ws (drop i (workers_next w count))
+  not_here so has_none = so ∙ ap (first_with_forks ws) (from_after w count i some low) ∙ skips ws v (drop i (workers_next w count)) (length_none (worker_in ws v).deque has_none)

@@ -11,29 +11,29 @@ use Rattle.cw_tree.specs.Nodes.{is_block_kind, is_pending_state, is_pending}
 use Rattle.cw_tree.specs.Series.{strand_of, place}
 use Rattle.cw_tree.specs.Shape.{IsTree}
 use Rattle.cw_tree.proofs.There.{node_there}
-use Rattle.cw_open.specs.Machine.{Machine, finished_dead, is_running, is_dying}
+use Rattle.cw_open.specs.Machine.{OpenMachine, finished_dead, is_running, is_dying}
 use Rattle.cw_open.specs.Open.{is_open, AreNested}
 use Rattle.cw_open.proofs.Backed.{dead_finished}
 use Rattle.cw_open.proofs.Standing.{stands}
 use Rattle.cw_open.proofs.Victims.{IsToldState, told_states}
 use Rattle.cw_open.specs.Runs.{at_once}
-use Rattle.cw_core.specs.State.{State}
+use Rattle.cw_core.specs.State.{CoreState}
 use Rattle.cw_core.specs.Laws.{IsCore}
 use Rattle.cw_sim.specs.Workers.{changed}
-use Rattle.cw_sim.specs.Kept.{GoesOn}
-use Rattle.cw_sim.specs.Inside.{Stands, IsRightOf, goes_back, GoesBackIn, AreInside}
+use Rattle.cw_sim.specs.Kept.{CoreGoesOn}
+use Rattle.cw_sim.specs.Inside.{HasOneOpenFork, IsRightOf, goes_back, GoesBackIn, AreInside}
 use Rattle.cw_sim.proofs.InsideKept.{changed_here, changed_other}
 use Rattle.cw_sim.proofs.InsideLaw.{stays_other, goes_on}
 use Rattle.cw_sim.proofs.InsideQuiet.{IsLeft, WasPending, IsBegun, Pends, steps, inside_to}
 use Rattle.cw_sim.proofs.InsideWaits.{going, running_stands, over_waits}
 
 -- a running strand of a core, before a step to another core, that leaves all strands and forks
-module _ {A : Type 0} (s : Strands A) (first : List ℤ) (k z : State) (on : GoesOn first k) (core : IsCore first z) (left : IsLeft k.machine z.machine) (x : ℕ) (running : is_running k.machine x ≡ true)
+module _ {A : Type 0} (s : Strands A) (first : List ℤ) (k z : CoreState) (on : CoreGoesOn first k) (core : IsCore first z) (left : IsLeft k.machine z.machine) (x : ℕ) (running : is_running k.machine x ≡ true)
     (at saved there : ℕ → A) (old : AreInside s k.machine at saved there) where
-  abbrev m : Machine
+  abbrev m : OpenMachine
   m = k.machine
 
-  abbrev u : Machine
+  abbrev u : OpenMachine
   u = z.machine
 
   abbrev p : ℕ
@@ -51,7 +51,7 @@ module _ {A : Type 0} (s : Strands A) (first : List ℤ) (k z : State) (on : Goe
   nested : AreNested m.tree (is_open m)
   nested = told.state.well.nested
 
-  x_stands : Stands m x
+  x_stands : HasOneOpenFork m x
   x_stands = running_stands m tree nested x running
 
   dead_no : finished_dead m x ≡ false
@@ -70,7 +70,7 @@ module _ {A : Type 0} (s : Strands A) (first : List ℤ) (k z : State) (on : Goe
     x_inside b n pending right = let l = old.lives x b n x_stands (back_is false free) pending right in (l.inner, l.inside)
 
   -- no block comes, and what falls for no free strand stays
-  module _ (fewer : (b : ℕ) → is_pending u.tree b ≡ true → is_pending m.tree b ≡ true) (others : (y : ℕ) → Stands m y → y ≢ x → is_dying u y ≡ is_dying m y) where
+  module _ (fewer : (b : ℕ) → is_pending u.tree b ≡ true → is_pending m.tree b ≡ true) (others : (y : ℕ) → HasOneOpenFork m y → y ≢ x → is_dying u y ≡ is_dying m y) where
     was : (b : ℕ) → is_pending u.tree b ≡ true → WasPending m saved saved b
     was b e = record { low = node_there (λ y. is_block_kind y.kind && is_pending_state y.state) m.tree b (fewer b e); pending = fewer b e; saved_as = refl }
 

@@ -17,7 +17,7 @@ use Rattle.cw_tree.proofs.NextBefore.{above_down}
 use Rattle.cw_tree.proofs.Strands.{strand_over}
 use Rattle.cw_tree.proofs.There.{node_there}
 use Rattle.cw_trace.proofs.InRange.{fork_low, strand_low}
-use Rattle.cw_open.specs.Machine.{Machine, finished_dead, is_running, is_dying, falls}
+use Rattle.cw_open.specs.Machine.{OpenMachine, finished_dead, is_running, is_dying, falls}
 use Rattle.cw_open.specs.Open.{is_open, AreNested}
 use Rattle.cw_open.proofs.BackedStates.{IsBackedState}
 use Rattle.cw_open.proofs.Fell.{fell, any_one, of_fell, one_fell, names_block, victim_stays}
@@ -26,27 +26,27 @@ use Rattle.cw_open.proofs.NodeKinds.{fork_no_strand}
 use Rattle.cw_open.proofs.Standing.{open_over, open_block, stands}
 use Rattle.cw_open.proofs.Staying.{Stays, above_stays}
 use Rattle.cw_open.proofs.Victims.{IsTold, IsToldState, victim_above}
-use Rattle.cw_sim.specs.Inside.{Stands}
+use Rattle.cw_sim.specs.Inside.{HasOneOpenFork}
 use Rattle.cw_sim.proofs.PlacedRunning.{unjoined_open}
 use Rattle.cw_sim.proofs.InsideWaits.{going, over_waits, stands_waits}
 
 -- why strand y is dying: a conflict beneath it, and its victim
-pub record Dies (m : Machine) (y : ℕ) (c : Conflict) (v : ℕ) : Type 0 where
+pub record Dies (m : OpenMachine) (y : ℕ) (c : Conflict) (v : ℕ) : Type 0 where
   pub over : is_above m.tree y c.asker ≡ true
   pub pending : is_pending m.tree v ≡ true
   pub victim : is_victim m.tree (c ∷ []) v ≡ true
 
-abbrev pub dies_by : Machine → ℕ → Conflict → Bool
+abbrev pub dies_by : OpenMachine → ℕ → Conflict → Bool
 dies_by m y c = is_above m.tree y c.asker && list_any (falls m c) (all_nodes m.tree)
 
-pub died_by : (m : Machine) (y : ℕ) (c : Conflict) → dies_by m y c ≡ true → (v : ℕ) × Dies m y c v
+pub died_by : (m : OpenMachine) (y : ℕ) (c : Conflict) → dies_by m y c ≡ true → (v : ℕ) × Dies m y c v
 died_by m y c e =
     let x = and_parts (is_above m.tree y c.asker) (list_any (falls m c) (all_nodes m.tree)) e in
     let w = any_in (falls m c) (all_nodes m.tree) x.1 in
     let f = and_parts (is_pending m.tree w.0) (is_victim m.tree (c ∷ []) w.0) w.2 in
     (w.0, record { over = x.0; pending = f.0; victim = f.1 })
 
-pub by_dies : (m : Machine) (y : ℕ) (c : Conflict) (v : ℕ) → Dies m y c v → dies_by m y c ≡ true
+pub by_dies : (m : OpenMachine) (y : ℕ) (c : Conflict) (v : ℕ) → Dies m y c v → dies_by m y c ≡ true
 by_dies m y c v d =
     let low = node_there (λ n. is_block_kind n.kind && is_pending_state n.state) m.tree v d.pending in
     and_from (is_above m.tree y c.asker) (list_any (falls m c) (all_nodes m.tree)) d.over
@@ -66,7 +66,7 @@ told_stays t u s c w = record {
   ];
 }
 
-module _ (m z : Machine) (told : All (IsTold m.tree) m.conflicts) (s : Stays m.tree z.tree) (y : ℕ) where
+module _ (m z : OpenMachine) (told : All (IsTold m.tree) m.conflicts) (s : Stays m.tree z.tree) (y : ℕ) where
   -- a strand that is dying still is, while what falls beneath it stays pending
   pub dies_on : ((q : Conflict → Bool) → list_any q m.conflicts ≡ true → list_any q z.conflicts ≡ true)
       → ((c : Conflict) (v : ℕ) → IsTold m.tree c → ((q : Conflict → Bool) → q c ≡ true → list_any q m.conflicts ≡ true) → Dies m y c v → is_pending z.tree v ≡ true)
@@ -104,7 +104,7 @@ module _ (m z : Machine) (told : All (IsTold m.tree) m.conflicts) (s : Stays m.t
 
 -- ## Beside a running strand
 
-module _ (first : List ℤ) (m : Machine) (w : IsToldState first m) (x : ℕ) (running : is_running m x ≡ true) where
+module _ (first : List ℤ) (m : OpenMachine) (w : IsToldState first m) (x : ℕ) (running : is_running m x ≡ true) where
   abbrev t : List Node
   t = m.tree
 
@@ -118,7 +118,7 @@ module _ (first : List ℤ) (m : Machine) (w : IsToldState first m) (x : ℕ) (r
   nested = w.state.well.nested
 
   -- the block in which it stands is not what falls for another strand that stands
-  pub not_its_block : (y : ℕ) → Stands m y → y ≢ x → (c : Conflict) (v : ℕ) → IsTold t c → Dies m y c v → v ≢ p
+  pub not_its_block : (y : ℕ) → HasOneOpenFork m y → y ≢ x → (c : Conflict) (v : ℕ) → IsTold t c → Dies m y c v → v ≢ p
   not_its_block y st ne c v told d at =
       let tree = w.state.well.sound.tree in
       let here = stands m tree nested x running in
@@ -144,7 +144,7 @@ module _ (first : List ℤ) (m : Machine) (w : IsToldState first m) (x : ℕ) (r
 -- ## Dead strands
 
 -- a strand is dying of whose fork, which is not joined, a strand finished dead
-pub dead_dies : (first : List ℤ) (m : Machine) → IsBackedState first m → (f y : ℕ) → is_fork m.tree f ≡ true → has m.joined f ≡ false → 0 < y → parent_of m.tree y ≡ f → finished_dead m y ≡ true → is_dying m (strand_of m.tree f) ≡ true
+pub dead_dies : (first : List ℤ) (m : OpenMachine) → IsBackedState first m → (f y : ℕ) → is_fork m.tree f ≡ true → has m.joined f ≡ false → 0 < y → parent_of m.tree y ≡ f → finished_dead m y ≡ true → is_dying m (strand_of m.tree f) ≡ true
 dead_dies first m w f y fork apart some up dead =
     let t = m.tree in
     let tree = w.told.state.well.sound.tree in

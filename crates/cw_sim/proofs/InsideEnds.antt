@@ -7,17 +7,17 @@ use Rattle.cw_strand.specs.Strands.{Strands}
 use Rattle.cw_tree.specs.Nodes.{is_pending}
 use Rattle.cw_tree.specs.Series.{strand_of}
 use Rattle.cw_tree.specs.Shape.{IsTree}
-use Rattle.cw_open.specs.Machine.{Machine, has_finished, finished_dead, is_running, is_dying}
+use Rattle.cw_open.specs.Machine.{OpenMachine, has_finished, finished_dead, is_running, is_dying}
 use Rattle.cw_open.specs.Open.{is_open, AreNested}
-use Rattle.cw_sim.specs.Inside.{Stands, IsRightOf, goes_back, LivesIn, GoesBackIn, AreInside}
+use Rattle.cw_sim.specs.Inside.{HasOneOpenFork, IsRightOf, goes_back, LivesIn, GoesBackIn, AreInside}
 use Rattle.cw_sim.proofs.InsideLaw.{stays_other}
 
-module _ {A : Type 0} (s : Strands A) (m : Machine) (tree : IsTree m.tree) (nested : AreNested m.tree (is_open m)) (x : ℕ) (dead : Bool) (running : is_running m x ≡ true)
+module _ {A : Type 0} (s : Strands A) (m : OpenMachine) (tree : IsTree m.tree) (nested : AreNested m.tree (is_open m)) (x : ℕ) (dead : Bool) (running : is_running m x ≡ true)
     (at saved there : ℕ → A) (old : AreInside s m at saved there) (off : is_dying m x ≡ false → s.want (at x) ≡ End → ⊥) where
-  abbrev u : Machine
+  abbrev u : OpenMachine
   u = record m { finished = (x, dead) ∷ m.finished }
 
-  was : (y : ℕ) → Stands u y → Stands m y
+  was : (y : ℕ) → HasOneOpenFork u y → HasOneOpenFork m y
   was y st = record { strand = st.strand; apart = st.apart; alone = st.alone }
 
   lived : (y : ℕ) → goes_back u y ≡ false → goes_back m y ≡ false
@@ -29,7 +29,7 @@ module _ {A : Type 0} (s : Strands A) (m : Machine) (tree : IsTree m.tree) (nest
   alive : (y : ℕ) → goes_back m y ≡ false → is_dying m y ≡ false
   alive y e = (or_parts (is_dying m y) (finished_dead m y) e).0
 
-  lives : (y b n : ℕ) → Stands u y → goes_back u y ≡ false → is_pending m.tree b ≡ true → IsRightOf m.tree n y (strand_of m.tree b) → LivesIn s (has_finished u y) (saved b) n (at y)
+  lives : (y b n : ℕ) → HasOneOpenFork u y → goes_back u y ≡ false → is_pending m.tree b ≡ true → IsRightOf m.tree n y (strand_of m.tree b) → LivesIn s (has_finished u y) (saved b) n (at y)
   lives y b n st e pending right =
       let l = old.lives y b n (was y st) (lived y e) pending right in
       record {
@@ -44,7 +44,7 @@ module _ {A : Type 0} (s : Strands A) (m : Machine) (tree : IsTree m.tree) (nest
         ];
       }
 
-  back : (y b n : ℕ) → Stands u y → goes_back u y ≡ true → is_pending m.tree b ≡ true → IsRightOf m.tree n y (strand_of m.tree b) → GoesBackIn s (saved b) (there y)
+  back : (y b n : ℕ) → HasOneOpenFork u y → goes_back u y ≡ true → is_pending m.tree b ≡ true → IsRightOf m.tree n y (strand_of m.tree b) → GoesBackIn s (saved b) (there y)
   back y b n st e pending right = elim (cases_Bool (goes_back m y)) [
     | inl goes ↦ old.back y b n (was y st) goes pending right
     | inr live ↦

@@ -17,7 +17,7 @@ use Rattle.cw_tree.proofs.Growing.{get_next, node_grown, length_more}
 use Rattle.cw_tree.proofs.Strands.{strand_of_le, strand_of_other}
 use Rattle.cw_tree.proofs.There.{node_there}
 use Rattle.cw_trace.proofs.InRange.{strand_low}
-use Rattle.cw_open.specs.Machine.{Machine, has_finished, finished_dead, waits, is_running, is_dying}
+use Rattle.cw_open.specs.Machine.{OpenMachine, has_finished, finished_dead, waits, is_running, is_dying}
 use Rattle.cw_open.specs.Runs.{at_once}
 use Rattle.cw_open.proofs.Backed.{dead_finished}
 use Rattle.cw_open.proofs.Fell.{any_one}
@@ -29,22 +29,22 @@ use Rattle.cw_open.proofs.Staying.{Stays, grown_stays, strand_stays}
 use Rattle.cw_open.proofs.Trees.{stands_well}
 use Rattle.cw_open.proofs.Victims.{IsTold, IsToldState, told_states}
 use Rattle.cw_core.specs.declared.event.Event.TheVariants as event
-use Rattle.cw_core.specs.State.{State}
-use Rattle.cw_core.specs.Events.{after, next}
+use Rattle.cw_core.specs.State.{CoreState}
+use Rattle.cw_core.specs.Events.{after_event, next}
 use Rattle.cw_core.specs.Laws.{IsCore}
 use Rattle.cw_core.proofs.Places.{waits_grown, waits_for}
-use Rattle.cw_sim.specs.Workers.{left_of, right_of, changed}
-use Rattle.cw_sim.specs.Kept.{GoesOn}
+use Rattle.cw_sim.specs.Workers.{left_node, right_node, changed}
+use Rattle.cw_sim.specs.Kept.{CoreGoesOn}
 use Rattle.cw_sim.proofs.Halves.{left_child}
-use Rattle.cw_sim.specs.Inside.{Stands, IsRightOf, goes_back, LivesIn, GoesBackIn, AreInside}
+use Rattle.cw_sim.specs.Inside.{HasOneOpenFork, IsRightOf, goes_back, LivesIn, GoesBackIn, AreInside}
 use Rattle.cw_sim.proofs.InsideDying.{dies_by, died_by}
 use Rattle.cw_sim.proofs.InsideKept.{changed_here, changed_other, dying_same}
 use Rattle.cw_sim.proofs.InsideQuiet.{right_was, lives_to, back_to}
 use Rattle.cw_sim.proofs.InsideWaits.{going, running_stands}
 
-module _ {A : Type 0} (s : Strands A) (first : List ℤ) (k : State) (on : GoesOn first k) (x : ℕ) (running : is_running k.machine x ≡ true) (core : IsCore first (after k (event.Fork x)))
+module _ {A : Type 0} (s : Strands A) (first : List ℤ) (k : CoreState) (on : CoreGoesOn first k) (x : ℕ) (running : is_running k.machine x ≡ true) (core : IsCore first (after_event k (event.Fork x)))
     (at saved there : ℕ → A) (old : AreInside s k.machine at saved there) (free : is_dying k.machine x ≡ false) (wants : s.want (at x) ≡ ForkWant) where
-  abbrev m : Machine
+  abbrev m : OpenMachine
   m = k.machine
 
   abbrev t : List Node
@@ -59,7 +59,7 @@ module _ {A : Type 0} (s : Strands A) (first : List ℤ) (k : State) (on : GoesO
   abbrev xs : List Node
   xs = fork_nodes n p (next k)
 
-  abbrev z : Machine
+  abbrev z : OpenMachine
   z = record m { tree = t ++ xs; clock = Rattle.std.specs.Prelude.max m.clock (next k) }
 
   abbrev u : List Node
@@ -139,16 +139,16 @@ module _ {A : Type 0} (s : Strands A) (first : List ℤ) (k : State) (on : GoesO
   x_waits = waits_for z x n (omega (arith, len)) fork_here fork_strand (false_from_ne_true (has m.joined n) (λ e. absurd (let h = told.state.well.joined n e in omega arith)))
 
   -- which strands stand
-  pub which : (y : ℕ) → Stands z y → ((y < n) × (y ≢ x)) ⊎ ((y ≡ left_of n) ⊎ (y ≡ right_of n))
+  pub which : (y : ℕ) → HasOneOpenFork z y → ((y < n) × (y ≢ x)) ⊎ ((y ≡ left_node n) ⊎ (y ≡ right_node n))
   which y st = elim (cases_lt y n) [
     | inl low ↦ inl (low, λ e. (let alone = st.alone in let w = x_waits in cc (alone, w, ap (waits z) e)))
     | inr le ↦
         (let there_y = strand_low u y st.strand in
         let other : y ≢ n = λ e. (let strand = st.strand in cc (strand, ap (is_strand u) e, fork_no_strand u n fork_here)) in
-        elim (cases_eq y (left_of n)) [ inl e ↦ inr (inl e) | inr ne ↦ inr (inr (omega (arith, len, other, ne))) ])
+        elim (cases_eq y (left_node n)) [ inl e ↦ inr (inl e) | inr ne ↦ inr (inr (omega (arith, len, other, ne))) ])
   ]
 
-  pub was : (y : ℕ) → y < n → y ≢ x → Stands z y → Stands m y
+  pub was : (y : ℕ) → y < n → y ≢ x → HasOneOpenFork z y → HasOneOpenFork m y
   was y low ne st = record {
     strand = sym (stays.strands y low) ∙ st.strand;
     apart = λ some. ap (has m.joined) (sym (stays.parents y low)) ∙ st.apart some;
@@ -171,7 +171,7 @@ module _ {A : Type 0} (s : Strands A) (first : List ℤ) (k : State) (on : GoesO
   right_as y b j low e right = let P : ℕ → Type 0 = λ c. IsRightOf t j y c in subst P (own_as b e) (right_was t u stays j y (strand_of u b) low right)
 
   -- the left strand comes from none, and the right one from the strand that forks
-  left_none : (b j : ℕ) → is_pending u b ≡ true → IsRightOf u j (left_of n) (strand_of u b) → ⊥
+  left_none : (b j : ℕ) → is_pending u b ≡ true → IsRightOf u j (left_node n) (strand_of u b) → ⊥
   left_none b zero e right = let h = own_low b e in omega arith
   left_none b (suc j) e (g, (fork, (same, rest))) =
       let low : g < n = omega (arith, same) in
@@ -179,7 +179,7 @@ module _ {A : Type 0} (s : Strands A) (first : List ℤ) (k : State) (on : GoesO
       let h = c.there in
       omega (arith, same)
 
-  right_from : (b j : ℕ) → is_pending u b ≡ true → IsRightOf u j (right_of n) (strand_of u b) → (i : ℕ) × ((j ≡ suc i) × IsRightOf t i x (strand_of t b))
+  right_from : (b j : ℕ) → is_pending u b ≡ true → IsRightOf u j (right_node n) (strand_of u b) → (i : ℕ) × ((j ≡ suc i) × IsRightOf t i x (strand_of t b))
   right_from b zero e right = absurd (let h = own_low b e in omega arith)
   right_from b (suc j) e (g, (fork, (same, rest))) =
       let at_n : g ≡ n = omega (arith, same) in
@@ -195,18 +195,18 @@ module _ {A : Type 0} (s : Strands A) (first : List ℤ) (k : State) (on : GoesO
   r = s.right (at x)
 
   abbrev set : (ℕ → A) → ℕ → A
-  set f = changed (left_of n) l (changed (right_of n) r f)
+  set f = changed (left_node n) l (changed (right_node n) r f)
 
   pub set_old : (f : ℕ → A) (y : ℕ) → y < n → set f y ≡ f y
-  set_old f y low = changed_other (left_of n) l (changed (right_of n) r f) y (λ e. omega (arith, e, low)) ∙ changed_other (right_of n) r f y (λ e. omega (arith, e, low))
+  set_old f y low = changed_other (left_node n) l (changed (right_node n) r f) y (λ e. omega (arith, e, low)) ∙ changed_other (right_node n) r f y (λ e. omega (arith, e, low))
 
-  pub set_left : (f : ℕ → A) → set f (left_of n) ≡ l
-  set_left f = changed_here (left_of n) l (changed (right_of n) r f)
+  pub set_left : (f : ℕ → A) → set f (left_node n) ≡ l
+  set_left f = changed_here (left_node n) l (changed (right_node n) r f)
 
-  pub set_right : (f : ℕ → A) → set f (right_of n) ≡ r
-  set_right f = changed_other (left_of n) l (changed (right_of n) r f) (right_of n) (λ e. omega (arith, e)) ∙ changed_here (right_of n) r f
+  pub set_right : (f : ℕ → A) → set f (right_node n) ≡ r
+  set_right f = changed_other (left_node n) l (changed (right_node n) r f) (right_node n) (λ e. omega (arith, e)) ∙ changed_here (right_node n) r f
 
-  same : (y : ℕ) → Stands z y → goes_back z y ≡ false → set there y ≡ set at y
+  same : (y : ℕ) → HasOneOpenFork z y → goes_back z y ≡ false → set there y ≡ set at y
   same y st e = elim (which y st) [
     | inl (low, ne) ↦ set_old there y low ∙ old.same y (was y low ne st) (sym (back_old y) ∙ e) ∙ sym (set_old at y low)
     | inr side ↦ elim side [
@@ -215,7 +215,7 @@ module _ {A : Type 0} (s : Strands A) (first : List ℤ) (k : State) (on : GoesO
     ]
   ]
 
-  lives : (y b j : ℕ) → Stands z y → goes_back z y ≡ false → is_pending u b ≡ true → IsRightOf u j y (strand_of u b) → LivesIn s (has_finished m y) (saved b) j (set at y)
+  lives : (y b j : ℕ) → HasOneOpenFork z y → goes_back z y ≡ false → is_pending u b ≡ true → IsRightOf u j y (strand_of u b) → LivesIn s (has_finished m y) (saved b) j (set at y)
   lives y b j st e pending right = elim (which y st) [
     | inl (low, ne) ↦
         lives_to s (has_finished m y) (has_finished m y) (saved b) (saved b) j (at y) (set at y) refl refl (set_old at y low)
@@ -232,7 +232,7 @@ module _ {A : Type 0} (s : Strands A) (first : List ℤ) (k : State) (on : GoesO
     ]
   ]
 
-  back : (y b j : ℕ) → Stands z y → goes_back z y ≡ true → is_pending u b ≡ true → IsRightOf u j y (strand_of u b) → GoesBackIn s (saved b) (set there y)
+  back : (y b j : ℕ) → HasOneOpenFork z y → goes_back z y ≡ true → is_pending u b ≡ true → IsRightOf u j y (strand_of u b) → GoesBackIn s (saved b) (set there y)
   back y b j st e pending right = elim (which y st) [
     | inl (low, ne) ↦ back_to s (saved b) (saved b) (there y) (set there y) refl (set_old there y low) (old.back y b j (was y low ne st) (sym (back_old y) ∙ e) (pending_old b pending).1 (right_as y b j low pending right))
     | inr side ↦ absurd (let le : n ≤ y = elim side [ inl q ↦ omega (arith, q) | inr q ↦ omega (arith, q) ] in let off = new_lives y le in cc (e, off))

@@ -14,7 +14,7 @@ use Rattle.cw_tree.proofs.Lists.{any_in, any_from}
 use Rattle.cw_tree.proofs.NextBefore.{above_down}
 use Rattle.cw_tree.proofs.Strands.{strand_over}
 use Rattle.cw_trace.proofs.InRange.{fork_low}
-use Rattle.cw_open.specs.Machine.{Machine, has_finished, finished_dead, waits, is_dying}
+use Rattle.cw_open.specs.Machine.{OpenMachine, has_finished, finished_dead, waits, is_dying}
 use Rattle.cw_open.specs.Open.{is_open, AreNested}
 use Rattle.cw_open.proofs.Backed.{dead_finished}
 use Rattle.cw_open.proofs.BackedStates.{IsBackedState}
@@ -23,18 +23,18 @@ use Rattle.cw_open.proofs.Named.{strand_is}
 use Rattle.cw_open.proofs.Standing.{open_over}
 use Rattle.cw_open.proofs.Victims.{IsTold}
 use Rattle.cw_core.proofs.Ordering.{closed_strand}
-use Rattle.cw_sim.specs.Workers.{left_of, right_of, changed}
+use Rattle.cw_sim.specs.Workers.{left_node, right_node, changed}
 use Rattle.cw_sim.proofs.Halves.{AsMade, right_child, right_strand}
-use Rattle.cw_sim.specs.Inside.{Stands, IsRightOf, goes_back, LivesIn, GoesBackIn, AreInside}
+use Rattle.cw_sim.specs.Inside.{HasOneOpenFork, IsRightOf, goes_back, LivesIn, GoesBackIn, AreInside}
 use Rattle.cw_sim.proofs.InsideDying.{dies_by, died_by, by_dies, dead_dies}
 use Rattle.cw_sim.proofs.InsideKept.{changed_here, changed_other}
 use Rattle.cw_sim.proofs.InsideQuiet.{lives_to, back_to}
 use Rattle.cw_sim.proofs.PlacedRunning.{unjoined_open}
 use Rattle.cw_sim.proofs.InsideWaits.{finished_alone}
 
-module _ {A : Type 0} (s : Strands A) (first : List ℤ) (m : Machine) (w : IsBackedState first m) (made : AsMade m.tree) (f : ℕ) (fork : is_fork m.tree f ≡ true) (apart : has m.joined f ≡ false) (done : has_finished m (right_of f) ≡ true)
+module _ {A : Type 0} (s : Strands A) (first : List ℤ) (m : OpenMachine) (w : IsBackedState first m) (made : AsMade m.tree) (f : ℕ) (fork : is_fork m.tree f ≡ true) (apart : has m.joined f ≡ false) (done : has_finished m (right_node f) ≡ true)
     (at saved there : ℕ → A) (old : AreInside s m at saved there) (here : A)
-    (goes : is_dying m (strand_of m.tree f) ≡ true → here ≡ there (right_of f)) (joined : is_dying m (strand_of m.tree f) ≡ false → here ≡ s.joined (at (right_of f)) (at (left_of f))) where
+    (goes : is_dying m (strand_of m.tree f) ≡ true → here ≡ there (right_node f)) (joined : is_dying m (strand_of m.tree f) ≡ false → here ≡ s.joined (at (right_node f)) (at (left_node f))) where
   abbrev t : List Node
   t = m.tree
 
@@ -42,13 +42,13 @@ module _ {A : Type 0} (s : Strands A) (first : List ℤ) (m : Machine) (w : IsBa
   p = strand_of t f
 
   abbrev y : ℕ
-  y = right_of f
+  y = right_node f
 
-  abbrev u : Machine
+  abbrev u : OpenMachine
   u = record m { joined = f ∷ m.joined }
 
   abbrev a : A
-  a = s.joined (at y) (at (left_of f))
+  a = s.joined (at y) (at (left_node f))
 
   tree : IsTree t
   tree = w.told.state.well.sound.tree
@@ -67,7 +67,7 @@ module _ {A : Type 0} (s : Strands A) (first : List ℤ) (m : Machine) (w : IsBa
   p_back false e = ap (λ d. d || finished_dead m p) e ∙ false_from_ne_true (finished_dead m p) (λ d. absurd (let g = dead_finished m p d in let o = unfinished in cc (g, o)))
 
   -- the right strand stands
-  right_stands : Stands m y
+  right_stands : HasOneOpenFork m y
   right_stands =
       let c = right_child t tree made f fork in
       let strand = right_strand t tree made f fork in
@@ -95,7 +95,7 @@ module _ {A : Type 0} (s : Strands A) (first : List ℤ) (m : Machine) (w : IsBa
   right_lives e = false_from_ne_true (goes_back m y) (λ g. absurd (let d = right_dies g in cc (d, e)))
 
   -- another strand that stands stood
-  was : (x : ℕ) → x ≢ p → Stands u x → Stands m x
+  was : (x : ℕ) → x ≢ p → HasOneOpenFork u x → HasOneOpenFork m x
   was x ne st = record {
     strand = st.strand;
     apart = λ some. (or_parts (nat_eq f (parent_of t x)) (has m.joined (parent_of t x)) (st.apart some)).1;
@@ -116,7 +116,7 @@ module _ {A : Type 0} (s : Strands A) (first : List ℤ) (m : Machine) (w : IsBa
   at_p : (b n : ℕ) → is_dying m p ≡ false → is_pending t b ≡ true → IsRightOf t n p (strand_of t b) → LivesIn s (has_finished m p) (saved b) n a
   at_p b n free pending right =
       let l = old.lives y b (suc n) right_stands (right_lives free) pending (up b n right) in
-      record { inner = _; inside = joins l.inside (l.stays done) (at (left_of f)); stays = λ e. absurd (let o = unfinished in cc (e, o)) }
+      record { inner = _; inside = joins l.inside (l.stays done) (at (left_node f)); stays = λ e. absurd (let o = unfinished in cc (e, o)) }
 
   there_p : (b n : ℕ) → is_pending t b ≡ true → IsRightOf t n p (strand_of t b) → GoesBackIn s (saved b) (there y)
   there_p b n pending right = elim (cases_Bool (goes_back m y)) [
@@ -133,13 +133,13 @@ module _ {A : Type 0} (s : Strands A) (first : List ℤ) (m : Machine) (w : IsBa
   p_dies : goes_back u p ≡ true → is_dying m p ≡ true
   p_dies e = elim (cases_Bool (is_dying m p)) [ inl d ↦ d | inr d ↦ absurd (let o = p_back false d in cc (e, o)) ]
 
-  same : (x : ℕ) → Stands u x → goes_back u x ≡ false → changed p here there x ≡ changed p a at x
+  same : (x : ℕ) → HasOneOpenFork u x → goes_back u x ≡ false → changed p here there x ≡ changed p a at x
   same x st e = elim (cases_eq x p) [
     | inl q ↦ ap (changed p here there) q ∙ changed_here p here there ∙ joined (p_free (ap (goes_back u) (sym q) ∙ e)) ∙ sym (ap (changed p a at) q ∙ changed_here p a at)
     | inr ne ↦ changed_other p here there x ne ∙ old.same x (was x ne st) e ∙ sym (changed_other p a at x ne)
   ]
 
-  lives : (x b n : ℕ) → Stands u x → goes_back u x ≡ false → is_pending t b ≡ true → IsRightOf t n x (strand_of t b) → LivesIn s (has_finished m x) (saved b) n (changed p a at x)
+  lives : (x b n : ℕ) → HasOneOpenFork u x → goes_back u x ≡ false → is_pending t b ≡ true → IsRightOf t n x (strand_of t b) → LivesIn s (has_finished m x) (saved b) n (changed p a at x)
   lives x b n st e pending right = elim (cases_eq x p) [
     | inl q ↦
         (let P : ℕ → Type 0 = λ c. IsRightOf t n c (strand_of t b) in
@@ -148,7 +148,7 @@ module _ {A : Type 0} (s : Strands A) (first : List ℤ) (m : Machine) (w : IsBa
     | inr ne ↦ lives_to s (has_finished m x) (has_finished m x) (saved b) (saved b) n (at x) (changed p a at x) refl refl (changed_other p a at x ne) (old.lives x b n (was x ne st) e pending right)
   ]
 
-  back : (x b n : ℕ) → Stands u x → goes_back u x ≡ true → is_pending t b ≡ true → IsRightOf t n x (strand_of t b) → GoesBackIn s (saved b) (changed p here there x)
+  back : (x b n : ℕ) → HasOneOpenFork u x → goes_back u x ≡ true → is_pending t b ≡ true → IsRightOf t n x (strand_of t b) → GoesBackIn s (saved b) (changed p here there x)
   back x b n st e pending right = elim (cases_eq x p) [
     | inl q ↦
         (let P : ℕ → Type 0 = λ c. IsRightOf t n c (strand_of t b) in

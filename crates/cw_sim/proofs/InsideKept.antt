@@ -12,10 +12,10 @@ use Rattle.cw_tree.proofs.Closing.{length_closed}
 use Rattle.cw_tree.proofs.Growing.{length_more, node_grown, number_grown, node_new}
 use Rattle.cw_tree.proofs.There.{node_there}
 use Rattle.cw_trace.proofs.InRange.{strand_low}
-use Rattle.cw_open.specs.Machine.{Machine, is_dying}
+use Rattle.cw_open.specs.Machine.{OpenMachine, is_dying}
 use Rattle.cw_open.proofs.Staying.{Stays, closed_stays}
 use Rattle.cw_open.proofs.Victims.{IsTold, IsToldState}
-use Rattle.cw_core.specs.State.{State}
+use Rattle.cw_core.specs.State.{CoreState}
 use Rattle.cw_sim.specs.Workers.{changed}
 use Rattle.cw_sim.proofs.InsideDying.{Dies, dies_by, dies_on, dies_back}
 use Rattle.cw_sim.proofs.InsideQuiet.{IsLeft}
@@ -37,7 +37,7 @@ both_same false true f g = absurd (let e = g refl in cc e)
 -- ## Strands and forks
 
 -- a node came that is neither
-pub more_left : (k z : State) → IsTree k.machine.tree → (x : Node) → IsMore k z x → IsLeft k.machine z.machine
+pub more_left : (k z : CoreState) → IsTree k.machine.tree → (x : Node) → IsMore k z x → IsLeft k.machine z.machine
 more_left k z tree x is =
     let t = k.machine.tree in
     let ways = more_ways k z tree x is in
@@ -64,7 +64,7 @@ more_left k z tree x is =
     }
 
 -- a block was closed
-pub shut_left : (k z : State) → IsTree k.machine.tree → (b : ℕ) (state : BlockState) (end : ℕ) → IsShut k z b state end → IsLeft k.machine z.machine
+pub shut_left : (k z : CoreState) → IsTree k.machine.tree → (b : ℕ) (state : BlockState) (end : ℕ) → IsShut k z b state end → IsLeft k.machine z.machine
 shut_left k z tree b state end is =
     let t = k.machine.tree in
     let P : List Node → Type 0 = λ u. Stays t u in
@@ -77,7 +77,7 @@ shut_left k z tree b state end is =
     }
 
 -- a pending block of a tree with one node more was so, or is that node
-pub pending_more : (k z : State) (x : Node) → IsMore k z x → (b : ℕ) → is_pending z.machine.tree b ≡ true → ((b < length k.machine.tree) × (is_pending k.machine.tree b ≡ true)) ⊎ ((b ≡ length k.machine.tree) × ((is_block_kind x.kind && is_pending_state x.state) ≡ true))
+pub pending_more : (k z : CoreState) (x : Node) → IsMore k z x → (b : ℕ) → is_pending z.machine.tree b ≡ true → ((b < length k.machine.tree) × (is_pending k.machine.tree b ≡ true)) ⊎ ((b ≡ length k.machine.tree) × ((is_block_kind x.kind && is_pending_state x.state) ≡ true))
 pending_more k z x is b e =
     let t = k.machine.tree in
     let f = sym (ap (λ v. is_pending v b) is.tree) ∙ e in
@@ -88,14 +88,14 @@ pending_more k z x is b e =
       | inr ne ↦ (let h : b < length t = omega (arith, ne) in inl (h, sym (node_grown t (x ∷ []) (λ y. is_block_kind y.kind && is_pending_state y.state) b h) ∙ f))
     ]
 
-pub more_pending : (k z : State) (x : Node) → IsMore k z x → (b : ℕ) → is_pending k.machine.tree b ≡ true → is_pending z.machine.tree b ≡ true
+pub more_pending : (k z : CoreState) (x : Node) → IsMore k z x → (b : ℕ) → is_pending k.machine.tree b ≡ true → is_pending z.machine.tree b ≡ true
 more_pending k z x is b e =
     let t = k.machine.tree in
     ap (λ v. is_pending v b) is.tree ∙ node_grown t (x ∷ []) (λ y. is_block_kind y.kind && is_pending_state y.state) b (node_there (λ y. is_block_kind y.kind && is_pending_state y.state) t b e) ∙ e
 
 -- ## Which strands are dying
 
-module _ (first : List ℤ) (m z : Machine) (w : IsToldState first m) (v : IsToldState first z) (stays : Stays m.tree z.tree)
+module _ (first : List ℤ) (m z : OpenMachine) (w : IsToldState first m) (v : IsToldState first z) (stays : Stays m.tree z.tree)
     (pend : (b : ℕ) → b < length m.tree → is_pending z.tree b ≡ true → is_pending m.tree b ≡ true) (y : ℕ)
     (keep : (c : Conflict) (b : ℕ) → IsTold m.tree c → ((q : Conflict → Bool) → q c ≡ true → list_any q m.conflicts ≡ true) → Dies m y c b → is_pending z.tree b ≡ true) where
   -- without a new conflict

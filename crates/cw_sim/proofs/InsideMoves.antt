@@ -21,7 +21,7 @@ use Rattle.cw_tree.specs.Shape.{IsTree}
 use Rattle.cw_tree.specs.Stacks.{access_kind}
 use Rattle.cw_tree.proofs.Growing.{above_new, strand_of_new}
 use Rattle.cw_tree.proofs.NextPending.{pending_closed, pending_stays}
-use Rattle.cw_open.specs.Machine.{Machine, has_finished, finished_dead, is_running, is_dying, is_free, in_block, rolls_back, value_of}
+use Rattle.cw_open.specs.Machine.{OpenMachine, has_finished, finished_dead, is_running, is_dying, is_free, in_block, rolls_back, live_value}
 use Rattle.cw_open.specs.Open.{is_open, AreNested}
 use Rattle.cw_open.specs.Runs.{at_once}
 use Rattle.cw_open.specs.Steps.{refuses, accesses, refusal, after_all}
@@ -33,13 +33,13 @@ use Rattle.cw_open.proofs.TreeSteps.{place_pending}
 use Rattle.cw_open.proofs.Victims.{IsTold, IsToldState, told_states, free_are_safe}
 use Rattle.cw_core.specs.declared.event.Event.{Event}
 use Rattle.cw_core.specs.declared.event.Event.TheVariants as event
-use Rattle.cw_core.specs.State.{State, waits_for_left}
-use Rattle.cw_core.specs.Events.{fits, after, is_met, met_by, next}
+use Rattle.cw_core.specs.State.{CoreState, waits_for_left}
+use Rattle.cw_core.specs.Events.{fits, after_event, is_met, met_by, next}
 use Rattle.cw_core.specs.Laws.{IsCore}
 use Rattle.cw_core.proofs.Kept.{events}
-use Rattle.cw_sim.specs.Workers.{Simulation, left_of, right_of, changed, with_strand}
+use Rattle.cw_sim.specs.Workers.{Simulation, left_node, right_node, changed, with_strand}
 use Rattle.cw_sim.specs.Moves.{does, answers, begins}
-use Rattle.cw_sim.specs.Kept.{GoesOn}
+use Rattle.cw_sim.specs.Kept.{CoreGoesOn}
 use Rattle.cw_sim.proofs.After.{conflicts_after}
 use Rattle.cw_sim.specs.Inside.{IsRightOf, GoesBackIn, AreInside, HasInside}
 use Rattle.cw_sim.proofs.InsideActs as acts
@@ -55,11 +55,11 @@ use Rattle.cw_sim.proofs.Leaves.{IsMore}
 use Rattle.cw_sim.proofs.Quiet.{out_more, begin_more, access_more, refused_more, commit_shut, roll_shut}
 use Rattle.cw_sim.proofs.Shuts.{IsShut}
 
-module _ {A : Type 0} (s : Strands A) (first : List ℤ) (m : Simulation A) (on : GoesOn first m.core) (there : ℕ → A) (old : HasInside s m there) where
-  abbrev k : State
+module _ {A : Type 0} (s : Strands A) (first : List ℤ) (m : Simulation A) (on : CoreGoesOn first m.core) (there : ℕ → A) (old : HasInside s m there) where
+  abbrev k : CoreState
   k = m.core
 
-  abbrev mm : Machine
+  abbrev mm : OpenMachine
   mm = k.machine
 
   told : IsToldState first mm
@@ -87,9 +87,9 @@ module _ {A : Type 0} (s : Strands A) (first : List ℤ) (m : Simulation A) (on 
 
     -- ## A node that is no block
 
-    module _ (e : Event) (fit : fits k e ≡ true) (node : Node) (is : IsMore k (after k e) node) where
-      abbrev z : State
-      z = after k e
+    module _ (e : Event) (fit : fits k e ≡ true) (node : Node) (is : IsMore k (after_event k e) node) where
+      abbrev z : CoreState
+      z = after_event k e
 
       core : IsCore first z
       core = (events first k e on.core fit).1
@@ -122,12 +122,12 @@ module _ {A : Type 0} (s : Strands A) (first : List ℤ) (m : Simulation A) (on 
     access_plain c (Some a) v = refl
 
     -- an access that is made
-    pub access_inside : (c : ℕ) (w : Option ℤ) (given : Given) → fits k (event.Access x c w) ≡ true → is_met k x c ≡ false → (after k (event.Access x c w)).machine.conflicts ≡ mm.conflicts
+    pub access_inside : (c : ℕ) (w : Option ℤ) (given : Given) → fits k (event.Access x c w) ≡ true → is_met k x c ≡ false → (after_event k (event.Access x c w)).machine.conflicts ≡ mm.conflicts
         → is_dying mm x ≡ false → IsAnswer (s.want (m.at x)) given → (s.want (m.at x) ≡ End → ⊥)
         → HasInside s (answers s x given (does (event.Access x c w) m)) (changed x (s.answer (m.at x) given) there)
     access_inside c w given fit met conflicts free answer off =
-        leaf (event.Access x c w) fit (fresh_node p (access_kind c w (value_of mm c)) (next k)) (access_more first k on x running ready c w met)
-        (Rattle.std.proofs.lemmas.Bool.and_left (is_block_kind (access_kind c w (value_of mm c))) _ (access_plain c w (value_of mm c))) conflicts free given answer off
+        leaf (event.Access x c w) fit (fresh_node p (access_kind c w (live_value mm c)) (next k)) (access_more first k on x running ready c w met)
+        (Rattle.std.proofs.lemmas.Bool.and_left (is_block_kind (access_kind c w (live_value mm c))) _ (access_plain c w (live_value mm c))) conflicts free given answer off
 
     -- a refused access
     pub refused_inside : (c : ℕ) (w : Option ℤ) → fits k (event.Access x c w) ≡ true → is_met k x c ≡ true → is_dying mm x ≡ false → (s.want (m.at x) ≡ End → ⊥) → HasInside s (does (event.Access x c w) m) there
@@ -136,7 +136,7 @@ module _ {A : Type 0} (s : Strands A) (first : List ℤ) (m : Simulation A) (on 
         let node = fresh_node p (Tried c) 0 in
         let is = refused_more first k on x running ready c w met in
         let core = (events first k e on.core fit).1 in
-        let z = after k e in
+        let z = after_event k e in
         let left = more_left k z tree node is in
         let now = told_states at_once first z.machine core.reached in
         let d = refusal mm p c (met_by k x c) in
@@ -158,7 +158,7 @@ module _ {A : Type 0} (s : Strands A) (first : List ℤ) (m : Simulation A) (on 
         let node = fresh_node p Block (next k) in
         let is = begin_more first k on x running ready in
         let core = (events first k e on.core fit).1 in
-        let z = after k e in
+        let z = after_event k e in
         let left = more_left k z tree node is in
         let now = told_states at_once first z.machine core.reached in
         let here = stands mm tree nested x running in
@@ -169,9 +169,9 @@ module _ {A : Type 0} (s : Strands A) (first : List ℤ) (m : Simulation A) (on 
 
     -- ## A block is closed
 
-    module _ (e : Event) (fit : fits k e ≡ true) (state : BlockState) (closes : is_pending_state state ≡ false) (is : IsShut k (after k e) p state (next k)) (conflicts : (after k e).machine.conflicts ≡ mm.conflicts) where
-      abbrev zc : State
-      zc = after k e
+    module _ (e : Event) (fit : fits k e ≡ true) (state : BlockState) (closes : is_pending_state state ≡ false) (is : IsShut k (after_event k e) p state (next k)) (conflicts : (after_event k e).machine.conflicts ≡ mm.conflicts) where
+      abbrev zc : CoreState
+      zc = after_event k e
 
       shut_core : IsCore first zc
       shut_core = (events first k e on.core fit).1
@@ -203,12 +203,12 @@ module _ {A : Type 0} (s : Strands A) (first : List ℤ) (m : Simulation A) (on 
         let v = subst P q d.victim in
         let one = one_names mm.tree mm.conflicts p (names_block mm.tree c p v) (among (λ c. names mm.tree c p) v) in
         cc (one, safe)) in
-        let same : (y : ℕ) → is_dying (after k e).machine y ≡ is_dying mm y = λ y. shut_same e fit Committed refl is refl y (off y) in
-        acts.answered s first k (after k e) on (shut_core e fit Committed refl is refl) (shut_is e fit Committed refl is refl) x running m.at m.saved there old (λ b f. (shut_fewer e fit Committed refl is refl b f).1) (λ y st ne. same y) Nothing free (same x ∙ free)
+        let same : (y : ℕ) → is_dying (after_event k e).machine y ≡ is_dying mm y = λ y. shut_same e fit Committed refl is refl y (off y) in
+        acts.answered s first k (after_event k e) on (shut_core e fit Committed refl is refl) (shut_is e fit Committed refl is refl) x running m.at m.saved there old (λ b f. (shut_fewer e fit Committed refl is refl b f).1) (λ y st ne. same y) Nothing free (same x ∙ free)
         (λ b n pending right.
         let few = shut_fewer e fit Committed refl is refl b pending in
         let P : ℕ → Type 0 = λ c. IsRightOf mm.tree n c (strand_of mm.tree b) in
-        let h = acts.x_inside s first k (after k e) on (shut_core e fit Committed refl is refl) (shut_is e fit Committed refl is refl) x running m.at m.saved there old free p 0 pend_p here_right in
+        let h = acts.x_inside s first k (after_event k e) on (shut_core e fit Committed refl is refl) (shut_is e fit Committed refl is refl) x running m.at m.saved there old free p 0 pend_p here_right in
         let o = old.blocks p b n pend_p few.1 (subst P (sym own) right) (λ z. own_before b n few.0 few.1 right z) in
         goes_out s (m.saved b) (m.saved p) n o.0 o.1 (old.begins p pend_p) h.0 (m.at x) Nothing h.1 answer wants) where
           own_before : (b n : ℕ) → b ≢ p → is_pending mm.tree b ≡ true → IsRightOf mm.tree n x (strand_of mm.tree b) → n ≡ 0 → b < p
@@ -223,15 +223,15 @@ module _ {A : Type 0} (s : Strands A) (first : List ℤ) (m : Simulation A) (on 
         let e = event.Roll x in
         let is = roll_shut first k on x running ready rolls in
         let conf = conflicts_after k e refl refl in
-        acts.rolled s first k (after k e) on (shut_core e fit Aborted refl is conf) (shut_is e fit Aborted refl is conf) x running m.at m.saved there old (λ b f. (shut_fewer e fit Aborted refl is conf b f).1)
+        acts.rolled s first k (after_event k e) on (shut_core e fit Aborted refl is conf) (shut_is e fit Aborted refl is conf) x running m.at m.saved there old (λ b f. (shut_fewer e fit Aborted refl is conf b f).1)
         (λ y st ne. shut_same e fit Aborted refl is conf y (λ c b t among d. not_its_block first mm told x running y st ne c b t d))
         (place_pending mm told.state.well x running within)
-        (false_from_ne_true (is_pending (after k e).machine.tree p) (λ f. absurd ((shut_fewer e fit Aborted refl is conf p f).0 refl)))
+        (false_from_ne_true (is_pending (after_event k e).machine.tree p) (λ f. absurd ((shut_fewer e fit Aborted refl is conf p f).0 refl)))
 
     -- it forks
     pub fork_inside : fits k (event.Fork x) ≡ true → is_dying mm x ≡ false → s.want (m.at x) ≡ ForkWant
         → let n = length mm.tree in
-        HasInside s (with_strand (left_of n) (s.left (m.at x)) (with_strand (right_of n) (s.right (m.at x)) (does (event.Fork x) m))) (changed (left_of n) (s.left (m.at x)) (changed (right_of n) (s.right (m.at x)) there))
+        HasInside s (with_strand (left_node n) (s.left (m.at x)) (with_strand (right_node n) (s.right (m.at x)) (does (event.Fork x) m))) (changed (left_node n) (s.left (m.at x)) (changed (right_node n) (s.right (m.at x)) there))
     fork_inside fit free wants = forked s first k on x running (events first k (event.Fork x) on.core fit).1 m.at m.saved there old free wants
 
   -- a strand finishes, live or dead
@@ -239,7 +239,7 @@ module _ {A : Type 0} (s : Strands A) (first : List ℤ) (m : Simulation A) (on 
   finish_inside x dead running off = finished s mm tree nested x dead running m.at m.saved there old off
 
   -- the strands of a fork are joined: where the strand that forked is dying, it stands where the right one stood
-  pub join_inside : (f : ℕ) → is_fork mm.tree f ≡ true → has mm.joined f ≡ false → has_finished mm (right_of f) ≡ true → (here : A)
-      → (is_dying mm (strand_of mm.tree f) ≡ true → here ≡ there (right_of f)) → (is_dying mm (strand_of mm.tree f) ≡ false → here ≡ s.joined (m.at (right_of f)) (m.at (left_of f)))
-      → HasInside s (with_strand (strand_of mm.tree f) (s.joined (m.at (right_of f)) (m.at (left_of f))) (does (event.Join f) m)) (changed (strand_of mm.tree f) here there)
+  pub join_inside : (f : ℕ) → is_fork mm.tree f ≡ true → has mm.joined f ≡ false → has_finished mm (right_node f) ≡ true → (here : A)
+      → (is_dying mm (strand_of mm.tree f) ≡ true → here ≡ there (right_node f)) → (is_dying mm (strand_of mm.tree f) ≡ false → here ≡ s.joined (m.at (right_node f)) (m.at (left_node f)))
+      → HasInside s (with_strand (strand_of mm.tree f) (s.joined (m.at (right_node f)) (m.at (left_node f))) (does (event.Join f) m)) (changed (strand_of mm.tree f) here there)
   join_inside f fork apart done here goes joined = both_joined s first mm (backed_states at_once first mm on.core.reached) on.forks f fork apart done m.at m.saved there old here goes joined

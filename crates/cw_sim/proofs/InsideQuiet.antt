@@ -13,15 +13,15 @@ use Rattle.cw_tree.specs.Series.{strand_of}
 use Rattle.cw_tree.specs.Shape.{IsTree}
 use Rattle.cw_tree.proofs.Strands.{strand_of_le}
 use Rattle.cw_trace.proofs.InRange.{strand_low}
-use Rattle.cw_open.specs.Machine.{Machine, has_finished, finished_dead, waits, is_running, is_dying}
+use Rattle.cw_open.specs.Machine.{OpenMachine, has_finished, finished_dead, waits, is_running, is_dying}
 use Rattle.cw_open.specs.Open.{is_open, AreNested}
 use Rattle.cw_open.proofs.Staying.{Stays, strand_stays}
 use Rattle.cw_sim.proofs.Halves.{AsMade}
-use Rattle.cw_sim.specs.Inside.{Stands, IsRightOf, goes_back, LivesIn, GoesBackIn, AreInside}
+use Rattle.cw_sim.specs.Inside.{HasOneOpenFork, IsRightOf, goes_back, LivesIn, GoesBackIn, AreInside}
 use Rattle.cw_sim.proofs.InsideWaits.{going, none_right, pending_waits}
 
 -- all strands and forks of machine m are left in machine z, with others waiting, joined and finished as before
-pub record IsLeft (m z : Machine) : Type 0 where
+pub record IsLeft (m z : OpenMachine) : Type 0 where
   pub stays : Stays m.tree z.tree
   pub strands : (y : ℕ) → is_strand z.tree y ≡ true → y < length m.tree
   pub waits : (y : ℕ) → waits z y ≡ waits m y
@@ -56,14 +56,14 @@ module _ {A : Type 0} (s : Strands A) where
       let R : A → Type 0 = λ x. Inside s b n inner x in
       (inner, subst Q (sym bc) (subst R (sym ao) l))
 
-module _ (m z : Machine) (left : IsLeft m z) where
+module _ (m z : OpenMachine) (left : IsLeft m z) where
   finished_as : (y : ℕ) → has_finished z y ≡ has_finished m y
   finished_as y = ap (λ fs. list_any (λ f. nat_eq f.0 y) fs) left.finished
 
   pub dead_as : (y : ℕ) → finished_dead z y ≡ finished_dead m y
   dead_as y = ap (λ fs. list_any (λ f. nat_eq f.0 y && f.1) fs) left.finished
 
-  stands_was : (y : ℕ) → Stands z y → Stands m y
+  stands_was : (y : ℕ) → HasOneOpenFork z y → HasOneOpenFork m y
   stands_was y st =
       let low = left.strands y st.strand in
       record {
@@ -73,18 +73,18 @@ module _ (m z : Machine) (left : IsLeft m z) where
       }
 
 -- a block that was pending, with what was saved of it
-pub record WasPending {A : Type 0} (m : Machine) (saved after : ℕ → A) (b : ℕ) : Type 0 where
+pub record WasPending {A : Type 0} (m : OpenMachine) (saved after : ℕ → A) (b : ℕ) : Type 0 where
   pub low : b < length m.tree
   pub pending : is_pending m.tree b ≡ true
   pub saved_as : after b ≡ saved b
 
 -- or one of strand x that is new
-pub record IsBegun (m z : Machine) (x b : ℕ) : Type 0 where
+pub record IsBegun (m z : OpenMachine) (x b : ℕ) : Type 0 where
   pub past : length m.tree ≤ b
   pub own : strand_of z.tree b ≡ x
 
 -- strand x makes a step
-module _ {A : Type 0} (s : Strands A) (m z : Machine) (tree : IsTree m.tree) (nested : AreNested m.tree (is_open m)) (made : AsMade m.tree) (left : IsLeft m z) (x : ℕ) (running : is_running m x ≡ true)
+module _ {A : Type 0} (s : Strands A) (m z : OpenMachine) (tree : IsTree m.tree) (nested : AreNested m.tree (is_open m)) (made : AsMade m.tree) (left : IsLeft m z) (x : ℕ) (running : is_running m x ≡ true)
     (at saved there at_now saved_now there_now : ℕ → A) (old : AreInside s m at saved there) where
   abbrev pub Pends : ℕ → Type 0
   Pends b = WasPending m saved saved_now b ⊎ IsBegun m z x b
@@ -93,7 +93,7 @@ module _ {A : Type 0} (s : Strands A) (m z : Machine) (tree : IsTree m.tree) (ne
   pub record IsStep : Type 0 where
     pub others_at : (y : ℕ) → y ≢ x → at_now y ≡ at y
     pub others_there : (y : ℕ) → y ≢ x → there_now y ≡ there y
-    pub dying : (y : ℕ) → Stands m y → y ≢ x → is_dying z y ≡ is_dying m y
+    pub dying : (y : ℕ) → HasOneOpenFork m y → y ≢ x → is_dying z y ≡ is_dying m y
     pub pend : (b : ℕ) → is_pending z.tree b ≡ true → Pends b
 
   -- and of the strand itself
@@ -125,7 +125,7 @@ module _ {A : Type 0} (s : Strands A) (m z : Machine) (tree : IsTree m.tree) (ne
     or_no false = refl
 
   module _ (step : IsStep) (own : IsStepOf) where
-    back_as : (y : ℕ) → Stands m y → y ≢ x → goes_back z y ≡ goes_back m y
+    back_as : (y : ℕ) → HasOneOpenFork m y → y ≢ x → goes_back z y ≡ goes_back m y
     back_as y st ne = ap (λ b. b || finished_dead z y) (step.dying y st ne) ∙ ap (λ b. is_dying m y || b) (dead_as m z left y)
 
     own_as : (b : ℕ) → WasPending m saved saved_now b → strand_of z.tree b ≡ strand_of m.tree b
@@ -138,19 +138,19 @@ module _ {A : Type 0} (s : Strands A) (m z : Machine) (tree : IsTree m.tree) (ne
     right_x b n e = right_was m.tree z.tree left.stays n x (strand_of z.tree b) x_low e
 
     -- no other strand that stands is in a new block
-    not_begun : (y b n : ℕ) → Stands z y → y ≢ x → IsBegun m z x b → IsRightOf z.tree n y (strand_of z.tree b) → ⊥
+    not_begun : (y b n : ℕ) → HasOneOpenFork z y → y ≢ x → IsBegun m z x b → IsRightOf z.tree n y (strand_of z.tree b) → ⊥
     not_begun y b n st ne w e =
         let P : ℕ → Type 0 = λ c. IsRightOf m.tree n y c in
         let right = subst P w.own (right_was m.tree z.tree left.stays n y (strand_of z.tree b) (left.strands y st.strand) e) in
         ne (none_right m tree nested x running made y n (stands_was m z left y st) right)
 
-    same : (y : ℕ) → Stands z y → goes_back z y ≡ false → there_now y ≡ at_now y
+    same : (y : ℕ) → HasOneOpenFork z y → goes_back z y ≡ false → there_now y ≡ at_now y
     same y st live = elim (cases_eq y x) [
       | inl e ↦ ap there_now e ∙ own.same (sym x_back ∙ ap (goes_back z) (sym e) ∙ live) ∙ ap at_now (sym e)
       | inr ne ↦ (let was = stands_was m z left y st in step.others_there y ne ∙ old.same y was (sym (back_as y was ne) ∙ live) ∙ sym (step.others_at y ne))
     ]
 
-    lives : (y b n : ℕ) → Stands z y → goes_back z y ≡ false → is_pending z.tree b ≡ true → IsRightOf z.tree n y (strand_of z.tree b) → LivesIn s (has_finished z y) (saved_now b) n (at_now y)
+    lives : (y b n : ℕ) → HasOneOpenFork z y → goes_back z y ≡ false → is_pending z.tree b ≡ true → IsRightOf z.tree n y (strand_of z.tree b) → LivesIn s (has_finished z y) (saved_now b) n (at_now y)
     lives y b n st live pending right = elim (cases_eq y x) [
       | inl e ↦
           (let P : ℕ → Type 0 = λ c. LivesIn s (has_finished z c) (saved_now b) n (at_now c) in
@@ -168,7 +168,7 @@ module _ {A : Type 0} (s : Strands A) (m z : Machine) (tree : IsTree m.tree) (ne
       ]
     ]
 
-    back : (y b n : ℕ) → Stands z y → goes_back z y ≡ true → is_pending z.tree b ≡ true → IsRightOf z.tree n y (strand_of z.tree b) → GoesBackIn s (saved_now b) (there_now y)
+    back : (y b n : ℕ) → HasOneOpenFork z y → goes_back z y ≡ true → is_pending z.tree b ≡ true → IsRightOf z.tree n y (strand_of z.tree b) → GoesBackIn s (saved_now b) (there_now y)
     back y b n st goes pending right = elim (cases_eq y x) [
       | inl e ↦
           (let P : ℕ → Type 0 = λ c. GoesBackIn s (saved_now b) (there_now c) in

@@ -13,31 +13,31 @@ use Rattle.cw_tree.proofs.Kin.{ancestor_linear}
 use Rattle.cw_tree.proofs.Lists.{any_in}
 use Rattle.cw_tree.proofs.Strands.{strand_of_other, strand_over, strand_innermost, strand_of_le}
 use Rattle.cw_trace.proofs.InRange.{fork_low, strand_low}
-use Rattle.cw_open.specs.Machine.{Machine, has_finished, waits, is_running}
+use Rattle.cw_open.specs.Machine.{OpenMachine, has_finished, waits, is_running}
 use Rattle.cw_open.specs.Open.{is_open, AreNested}
 use Rattle.cw_open.proofs.NodeKinds.{fork_no_strand}
 use Rattle.cw_open.proofs.Standing.{strand_itself, open_over, pending_open}
 use Rattle.cw_core.proofs.Ordering.{closed_strand}
 use Rattle.cw_core.proofs.Places.{waits_for}
-use Rattle.cw_sim.specs.Workers.{right_of}
+use Rattle.cw_sim.specs.Workers.{right_node}
 use Rattle.cw_sim.proofs.Halves.{AsMade, open_unjoined, strand_open, right_child}
 use Rattle.cw_sim.proofs.PlacedRunning.{unjoined_open}
-use Rattle.cw_sim.specs.Inside.{Stands, IsRightOf}
+use Rattle.cw_sim.specs.Inside.{HasOneOpenFork, IsRightOf}
 
 -- what a running strand is
-pub record IsGoing (m : Machine) (x : ℕ) : Type 0 where
+pub record IsGoing (m : OpenMachine) (x : ℕ) : Type 0 where
   pub strand : is_strand m.tree x ≡ true
   pub unfinished : has_finished m x ≡ false
   pub alone : waits m x ≡ false
 
-pub going : (m : Machine) (x : ℕ) → is_running m x ≡ true → IsGoing m x
+pub going : (m : OpenMachine) (x : ℕ) → is_running m x ≡ true → IsGoing m x
 going m x e =
     let a = and_parts (is_strand m.tree x && not (has_finished m x) && not (waits m x)) (not (has m.stopped x)) e in
     let b = and_parts (is_strand m.tree x && not (has_finished m x)) (not (waits m x)) a.0 in
     let c = and_parts (is_strand m.tree x) (not (has_finished m x)) b.0 in
     record { strand = c.0; unfinished = not-true (has_finished m x) c.1; alone = not-true (waits m x) b.1 }
 
-module _ (m : Machine) (tree : IsTree m.tree) (nested : AreNested m.tree (is_open m)) where
+module _ (m : OpenMachine) (tree : IsTree m.tree) (nested : AreNested m.tree (is_open m)) where
   abbrev t : List Node
   t = m.tree
 
@@ -79,7 +79,7 @@ module _ (m : Machine) (tree : IsTree m.tree) (nested : AreNested m.tree (is_ope
 
   -- ## Strands that stand
 
-  module _ (y : ℕ) (stands : Stands m y) where
+  module _ (y : ℕ) (stands : HasOneOpenFork m y) where
     low_y : y < length t
     low_y = strand_low t y stands.strand
 
@@ -106,7 +106,7 @@ module _ (m : Machine) (tree : IsTree m.tree) (nested : AreNested m.tree (is_ope
 
   -- a strand from which y comes as a right one is above it
   module _ (made : AsMade t) where
-    right_step : (f y z : ℕ) → is_fork t f ≡ true → y ≡ right_of f → y < length t → is_ancestor t z (strand_of t f) ≡ true → is_above t z y ≡ true
+    right_step : (f y z : ℕ) → is_fork t f ≡ true → y ≡ right_node f → y < length t → is_ancestor t z (strand_of t f) ≡ true → is_above t z y ≡ true
     right_step f y z fork at h over =
         let low = fork_low t f fork in
         let c = right_child t tree made f fork in
@@ -126,7 +126,7 @@ module _ (m : Machine) (tree : IsTree m.tree) (nested : AreNested m.tree (is_ope
   -- ## A running strand
 
   module _ (x : ℕ) (running : is_running m x ≡ true) where
-    pub running_stands : Stands m x
+    pub running_stands : HasOneOpenFork m x
     running_stands =
         let g = going m x running in
         let h = strand_low t x g.strand in
@@ -137,7 +137,7 @@ module _ (m : Machine) (tree : IsTree m.tree) (nested : AreNested m.tree (is_ope
         }
 
     -- no other strand that stands comes from it as a right one
-    pub none_right : AsMade t → (y n : ℕ) → Stands m y → IsRightOf t n y x → y ≡ x
+    pub none_right : AsMade t → (y n : ℕ) → HasOneOpenFork m y → IsRightOf t n y x → y ≡ x
     none_right made y zero st e = e
     none_right made y (suc n) st e =
         absurd (

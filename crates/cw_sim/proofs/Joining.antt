@@ -10,22 +10,22 @@ use Rattle.cw_tree.specs.Shape.{IsTree}
 use Rattle.cw_tree.proofs.Lists.{any_in, any_from}
 use Rattle.cw_tree.proofs.Strands.{strand_over, strand_of_le}
 use Rattle.cw_trace.proofs.InRange.{fork_low, strand_low}
-use Rattle.cw_open.specs.Machine.{Machine, has_finished, is_running, waits}
+use Rattle.cw_open.specs.Machine.{OpenMachine, has_finished, is_running, waits}
 use Rattle.cw_open.specs.Open.{is_open}
 use Rattle.cw_open.proofs.Named.{strand_is}
 use Rattle.cw_open.proofs.NodeKinds.{fork_no_strand}
 use Rattle.cw_open.proofs.Standing.{runs, open_over}
 use Rattle.cw_core.specs.declared.event.Event.TheVariants as event
-use Rattle.cw_core.specs.State.{State, has_columns, is_split, waits_for_left}
-use Rattle.cw_core.specs.Events.{fits, after}
+use Rattle.cw_core.specs.State.{CoreState, has_columns, is_split, waits_for_left}
+use Rattle.cw_core.specs.Events.{fits, after_event}
 use Rattle.cw_core.specs.Laws.{IsCore}
 use Rattle.cw_core.proofs.Going.{well}
 use Rattle.cw_core.proofs.Kept.{events}
 use Rattle.cw_core.proofs.OneFork.{one_fork}
 use Rattle.cw_core.proofs.Ordering.{closed_strand, open_fork}
 use Rattle.cw_core.proofs.PartsGrow.{none_spent}
-use Rattle.cw_sim.specs.Workers.{Worker, waiting, right_of}
-use Rattle.cw_sim.specs.Kept.{Runs, Fits, GoesOn, forks_around}
+use Rattle.cw_sim.specs.Workers.{Worker, waiting, right_node}
+use Rattle.cw_sim.specs.Kept.{Runs, Fits, CoreGoesOn, forks_around}
 use Rattle.cw_sim.proofs.After.{room_after}
 use Rattle.cw_sim.proofs.Around.{waits_around}
 use Rattle.cw_sim.proofs.Going.{goes_on, still_runs, still_ready}
@@ -35,18 +35,18 @@ use Rattle.cw_sim.proofs.Same.{SameWays, split_same, columns_same, same_around}
 use Rattle.cw_sim.proofs.Unsplit.{left_ended}
 use Rattle.cw_sim.proofs.Workers.{has_parts}
 
-module _ (first : List ℤ) (k : State) (on : GoesOn first k) (f : ℕ) (fork : is_fork k.machine.tree f ≡ true) (unjoined : has k.machine.joined f ≡ false) (fit : fits k (event.Join f) ≡ true) where
+module _ (first : List ℤ) (k : CoreState) (on : CoreGoesOn first k) (f : ℕ) (fork : is_fork k.machine.tree f ≡ true) (unjoined : has k.machine.joined f ≡ false) (fit : fits k (event.Join f) ≡ true) where
   abbrev t : List Node
   t = k.machine.tree
 
-  abbrev m : Machine
+  abbrev m : OpenMachine
   m = k.machine
 
   abbrev p : ℕ
   p = strand_of t f
 
-  abbrev z : State
-  z = after k (event.Join f)
+  abbrev z : CoreState
+  z = after_event k (event.Join f)
 
   tree : IsTree t
   tree = (well first k on.core).sound.tree
@@ -63,7 +63,7 @@ module _ (first : List ℤ) (k : State) (on : GoesOn first k) (f : ℕ) (fork : 
   fewer : (g : ℕ) → has z.machine.joined g ≡ false → has m.joined g ≡ false
   fewer g e = false_from_ne_true (has m.joined g) (λ q. absurd (let h = or_right (nat_eq f g) (has m.joined g) q in cc (h, e)))
 
-  pub goes : GoesOn first z
+  pub goes : CoreGoesOn first z
   goes = goes_on first k z on core same (λ g e. (e, refl)) fewer on.halt (none_spent k z (ap is_none on.spent) refl refl ∙ on.spent) on.stopped
 
   -- ## The other workers
@@ -146,13 +146,13 @@ module _ (first : List ℤ) (k : State) (on : GoesOn first k) (f : ℕ) (fork : 
             | inl e ↦ left_ready k on.forks p h refl ff e
             | inr e ↦
                 (let P : ℕ → Type 0 = λ n. is_ancestor t n f ≡ true in
-                let ne : f ≢ right_of h = λ q. (let one = ap (is_strand t) (q ∙ sym e) in let two = fork_no_strand t f fork in absurd (cc (one, two, p_strand))) in
+                let ne : f ≢ right_node h = λ q. (let one = ap (is_strand t) (q ∙ sym e) in let two = fork_no_strand t f fork in absurd (cc (one, two, p_strand))) in
                 right_ready k on.forks p h refl ff e (left_ended first k on h ff s f f_low (subst P e over) ne))
           ]
         ]
 
   -- the worker in which just the forks around it wait goes on with it
-  pub takes_parent : (w : Worker) → waiting w ≡ forks_around k p → ((g : ℕ) → has w.deque g ≡ true → has_columns k g ≡ true) → ((g : ℕ) → has w.inline g ≡ true → has_columns k g ≡ false) → ((g : ℕ) → has (waiting w) g ≡ true → has_finished m (right_of g) ≡ false)
+  pub takes_parent : (w : Worker) → waiting w ≡ forks_around k p → ((g : ℕ) → has w.deque g ≡ true → has_columns k g ≡ true) → ((g : ℕ) → has w.inline g ≡ true → has_columns k g ≡ false) → ((g : ℕ) → has (waiting w) g ≡ true → has_finished m (right_node g) ≡ false)
       → Runs z (record w { runs = Some p }) p
   takes_parent w waits deque inline to_come =
       let low : (g : ℕ) → has (waiting w) g ≡ true → g < length t = λ g e. (let q = has_parts (waiting w) g e in fork_low t g (waits_around k tree on.forks p p_strand q.0 q.1 g (sym waits ∙ q.2)).fork) in

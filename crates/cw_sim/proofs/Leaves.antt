@@ -12,13 +12,13 @@ use Rattle.cw_trace.proofs.Grow.{fork_column_append}
 use Rattle.cw_trace.proofs.InRange.{fork_low}
 use Rattle.cw_trace.specs.Columns.{used}
 use Rattle.cw_open.specs.Machine.{has_finished, is_running, waits}
-use Rattle.cw_core.specs.State.{State, has_columns}
+use Rattle.cw_core.specs.State.{CoreState, has_columns}
 use Rattle.cw_core.proofs.Places.{waits_grown}
 use Rattle.cw_core.proofs.Tails.{children_other}
 use Rattle.cw_sim.proofs.Same.{SameWays, split_same, columns_same}
 
 -- core z is core k with one node more
-pub record IsMore (k z : State) (x : Node) : Type 0 where
+pub record IsMore (k z : CoreState) (x : Node) : Type 0 where
   pub tree : z.machine.tree ≡ k.machine.tree ++ x ∷ []
   pub there : x.parent < length k.machine.tree
   pub under : is_fork k.machine.tree x.parent ≡ false
@@ -30,7 +30,7 @@ pub record IsMore (k z : State) (x : Node) : Type 0 where
   pub finished : z.machine.finished ≡ k.machine.finished
   pub stopped : z.machine.stopped ≡ k.machine.stopped
 
-module _ (k z : State) (tree : IsTree k.machine.tree) (x : Node) (is : IsMore k z x) where
+module _ (k z : CoreState) (tree : IsTree k.machine.tree) (x : Node) (is : IsMore k z x) where
   abbrev t : List Node
   t = k.machine.tree
 

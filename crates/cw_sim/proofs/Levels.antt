@@ -8,14 +8,14 @@ use Rattle.cw_tree.specs.declared.node.Node.{Node}
 use Rattle.cw_tree.specs.Nodes.{parent_of, is_strand, is_block}
 use Rattle.cw_tree.specs.Walks.{IsRooted}
 use Rattle.cw_tree.proofs.Climbs.{by_parent}
-use Rattle.cw_sim.specs.Workers.{left_of}
+use Rattle.cw_sim.specs.Workers.{left_node}
 
 -- The numbers in a node, by those around it: a strand begins none itself, and has those around it where it is a right one; a block is begun.
 abbrev pub levels_by : (strand left block : Bool) → List ℕ → List ℕ
 levels_by strand left block around = cond strand (0 ∷ cond left [] around) (cond block (own_after Begin around) around)
 
 abbrev pub levels_in : List Node → ℕ → List ℕ → List ℕ
-levels_in t n = levels_by (is_strand t n) (nat_eq n (left_of (parent_of t n))) (is_block t n)
+levels_in t n = levels_by (is_strand t n) (nat_eq n (left_node (parent_of t n))) (is_block t n)
 
 abbrev pub levels_to : List Node → (k n : ℕ) → List ℕ
 levels_to t zero n = 0 ∷ []
@@ -61,16 +61,16 @@ module _ (t : List Node) (r : IsRooted t) where
     around = levels t (parent_of t n)
 
     abbrev left : Bool
-    left = nat_eq n (left_of (parent_of t n))
+    left = nat_eq n (left_node (parent_of t n))
 
     pub levels_strand : is_strand t n ≡ true → levels t n ≡ 0 ∷ cond left [] around
     levels_strand strand = levels_step n some low ∙ ap (λ b. levels_by b left (is_block t n) around) strand
 
-    pub levels_left : is_strand t n ≡ true → n ≡ left_of (parent_of t n) → levels t n ≡ 0 ∷ []
-    levels_left strand is = levels_strand strand ∙ ap (λ b. 0 ∷ cond b [] around) (eq-eqb n (left_of (parent_of t n)) is)
+    pub levels_left : is_strand t n ≡ true → n ≡ left_node (parent_of t n) → levels t n ≡ 0 ∷ []
+    levels_left strand is = levels_strand strand ∙ ap (λ b. 0 ∷ cond b [] around) (eq-eqb n (left_node (parent_of t n)) is)
 
-    pub levels_right : is_strand t n ≡ true → (n ≡ left_of (parent_of t n) → ⊥) → levels t n ≡ 0 ∷ around
-    levels_right strand is = levels_strand strand ∙ ap (λ b. 0 ∷ cond b [] around) (ne_eqb n (left_of (parent_of t n)) is)
+    pub levels_right : is_strand t n ≡ true → (n ≡ left_node (parent_of t n) → ⊥) → levels t n ≡ 0 ∷ around
+    levels_right strand is = levels_strand strand ∙ ap (λ b. 0 ∷ cond b [] around) (ne_eqb n (left_node (parent_of t n)) is)
 
     pub levels_other : is_strand t n ≡ false → is_block t n ≡ false → levels t n ≡ around
     levels_other strand block = levels_step n some low ∙ ap (λ b. levels_by b left (is_block t n) around) strand ∙ ap (λ b. levels_by false left b around) block
@@ -83,7 +83,7 @@ module _ (t : List Node) (r : IsRooted t) where
   some_levels =
       by_parent t r (λ n. Begins (levels t n)) (record { head = 0; rest = []; is = refl })
       (λ n some low more.
-      let here = begins_by (is_strand t n) (nat_eq n (left_of (parent_of t n))) (is_block t n) more.head more.rest in
+      let here = begins_by (is_strand t n) (nat_eq n (left_node (parent_of t n))) (is_block t n) more.head more.rest in
       record { head = here.head; rest = here.rest; is = levels_step n some low ∙ ap (levels_in t n) more.is ∙ here.is })
 
   -- a strand has begun none where it begins
@@ -91,7 +91,7 @@ module _ (t : List Node) (r : IsRooted t) where
   strand_levels n low strand =
       elim (cases_eq n 0) [
         | inl root ↦ (let bs : List ℕ = [] in (bs, ap (levels t) root))
-        | inr ne ↦ (cond (nat_eq n (left_of (parent_of t n))) [] (levels t (parent_of t n)), levels_strand n (omega arith) low strand)
+        | inr ne ↦ (cond (nat_eq n (left_node (parent_of t n))) [] (levels t (parent_of t n)), levels_strand n (omega arith) low strand)
       ]
 
   -- in a block one is begun at least

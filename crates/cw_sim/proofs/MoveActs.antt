@@ -7,15 +7,15 @@ use Rattle.cw_tree.specs.Series.{place}
 use Rattle.cw_strand.specs.declared.want.Want.{Want}
 use Rattle.cw_strand.specs.declared.want.Want.TheVariants.{Load, Store, Out, Begin, End, Fork, Sync, Done, Fault}
 use Rattle.cw_strand.specs.Strands.{Strands, is_over}
-use Rattle.cw_open.specs.Machine.{value_of, in_block, is_dying, is_free}
+use Rattle.cw_open.specs.Machine.{live_value, in_block, is_dying, is_free}
 use Rattle.cw_open.specs.Steps.{refusal}
 use Rattle.cw_core.specs.declared.event.Event.TheVariants as event
 use Rattle.cw_core.specs.declared.event.Reply.TheVariants as reply
-use Rattle.cw_core.specs.State.{State, spent}
-use Rattle.cw_core.specs.Events.{after, is_met, met_by}
+use Rattle.cw_core.specs.State.{CoreState, spent}
+use Rattle.cw_core.specs.Events.{after_event, is_met, met_by}
 use Rattle.cw_sim.specs.Workers.{Simulation, Worker, tree, worker_in, worker, with_strand}
 use Rattle.cw_sim.specs.Moves.{does, dies, finishes, meets_cell, accesses, acts}
-use Rattle.cw_sim.specs.Kept.{Runs, AreWorkers, GoesOn}
+use Rattle.cw_sim.specs.Kept.{Runs, AreWorkers, CoreGoesOn}
 use Rattle.cw_sim.specs.Laws.{NamesCell}
 use Rattle.cw_sim.proofs.EventsFit.{strand_here, is_free_here, fork_fits_here, begin_fits_here, out_fits_here, access_fits_here, commit_fits_here, rolls_here, roll_fits_here, finish_fits_here}
 use Rattle.cw_sim.proofs.Fits.{stop_fits, spent_stop}
@@ -26,8 +26,8 @@ use Rattle.cw_sim.proofs.Moving.{GoesTo, goes_on_there, halted, by_event}
 use Rattle.cw_sim.proofs.Quiet.{keeps_out, keeps_begin, keeps_access, keeps_refused, keeps_commit, keeps_roll}
 use Rattle.cw_sim.proofs.Workers.{runs_in}
 
-module _ {A : Type 0} (s : Strands A) (first : List ℤ) (n : Simulation A) (w : ℕ) (low : w < length n.workers) (on : GoesOn first n.core) (old : AreWorkers n.core n.workers) (x : ℕ) (run : (worker n w).runs ≡ Some x) where
-  abbrev k : State
+module _ {A : Type 0} (s : Strands A) (first : List ℤ) (n : Simulation A) (w : ℕ) (low : w < length n.workers) (on : CoreGoesOn first n.core) (old : AreWorkers n.core n.workers) (x : ℕ) (run : (worker n w).runs ≡ Some x) where
+  abbrev k : CoreState
   k = n.core
 
   abbrev ws : List Worker
@@ -52,7 +52,7 @@ module _ {A : Type 0} (s : Strands A) (first : List ℤ) (n : Simulation A) (w :
 
   module _ (alive : is_dying k.machine x ≡ false) where
     -- where an access is refused, the run stops if the budget is spent
-    refused_to : (c : ℕ) (write : Option ℤ) → c < length first → is_met k x c ≡ true → (o : Option ℕ) → spent (after k (event.Access x c write)) ≡ o
+    refused_to : (c : ℕ) (write : Option ℤ) → c < length first → is_met k x c ≡ true → (o : Option ℕ) → spent (after_event k (event.Access x c write)) ≡ o
         → GoesTo first k (option_map_or (λ y. does (event.Stop (halt.Budget y)) (does (event.Access x c write) n)) o (does (event.Access x c write) n))
     refused_to c write named met None e =
         let o = does (event.Access x c write) n in
@@ -61,20 +61,20 @@ module _ {A : Type 0} (s : Strands A) (first : List ℤ) (n : Simulation A) (w :
         by_event first o k (event.Access x c write) fit (goes_on_there first o kept.goes kept.workers)
     refused_to c write named met (Some y) e =
         let o = does (event.Stop (halt.Budget y)) (does (event.Access x c write) n) in
-        let z = after k (event.Access x c write) in
+        let z = after_event k (event.Access x c write) in
         by_event first o k (event.Access x c write) (access_fits_here first k on ws old w x run c write alive named)
         (by_event first o z (event.Stop (halt.Budget y)) (spent_stop z y on.halt e) (halted first o (halt.Budget y) refl))
 
     access_to : (c : ℕ) (write : Option ℤ) → c < length first → GoesTo first k (accesses s x c write n)
     access_to c write named = by (is_met k x c) refl where
       by : (b : Bool) → is_met k x c ≡ b
-          → GoesTo first k (meets_cell s x write (cond b (reply.Conflict (refusal k.machine (place k.machine.tree x) c (met_by k x c))) (reply.Value (unwrap_or write (value_of k.machine c)))) (does (event.Access x c write) n))
+          → GoesTo first k (meets_cell s x write (cond b (reply.Conflict (refusal k.machine (place k.machine.tree x) c (met_by k x c))) (reply.Value (unwrap_or write (live_value k.machine c)))) (does (event.Access x c write) n))
       by false e =
-          let o = meets_cell s x write (reply.Value (unwrap_or write (value_of k.machine c))) (does (event.Access x c write) n) in
+          let o = meets_cell s x write (reply.Value (unwrap_or write (live_value k.machine c))) (does (event.Access x c write) n) in
           let fit = access_fits_here first k on ws old w x run c write alive named in
           let kept = keeps_access first k on x at.running at.ready c write ws old fit e in
           by_event first o k (event.Access x c write) fit (goes_on_there first o kept.goes kept.workers)
-      by true e = refused_to c write named e (spent (after k (event.Access x c write))) refl
+      by true e = refused_to c write named e (spent (after_event k (event.Access x c write))) refl
 
     module _ (wants : HasWants s (length first) n) where
       free : is_free k.machine x ≡ true

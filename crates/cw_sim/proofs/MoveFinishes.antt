@@ -11,15 +11,15 @@ use Rattle.cw_tree.specs.Series.{strand_of}
 use Rattle.cw_tree.specs.Shape.{IsTree}
 use Rattle.cw_trace.proofs.InRange.{strand_low}
 use Rattle.cw_strand.specs.Strands.{Strands}
-use Rattle.cw_open.specs.Machine.{Machine, has_finished}
+use Rattle.cw_open.specs.Machine.{OpenMachine, has_finished}
 use Rattle.cw_open.proofs.Standing.{runs}
 use Rattle.cw_core.specs.declared.event.Event.TheVariants as event
-use Rattle.cw_core.specs.State.{State, is_split}
-use Rattle.cw_core.specs.Events.{fits, after}
+use Rattle.cw_core.specs.State.{CoreState, is_split}
+use Rattle.cw_core.specs.Events.{fits, after_event}
 use Rattle.cw_core.proofs.Going.{well}
-use Rattle.cw_sim.specs.Workers.{Worker, Simulation, waiting, left_of, right_of, worker_in}
-use Rattle.cw_sim.specs.Moves.{does, turns, meets, finishes}
-use Rattle.cw_sim.specs.Kept.{Runs, AreWorkers, GoesOn, forks_around}
+use Rattle.cw_sim.specs.Workers.{Worker, Simulation, waiting, left_node, right_node, worker_in}
+use Rattle.cw_sim.specs.Moves.{does, goes_to_right, meets, finishes}
+use Rattle.cw_sim.specs.Kept.{Runs, AreWorkers, CoreGoesOn, forks_around}
 use Rattle.cw_sim.proofs.EventsFit.{strand_here, fork_here, unjoined_here, join_fits_here, right_fits_here, both_fit_here}
 use Rattle.cw_sim.proofs.Finishing.{done, more, left_behind, takes_right, filter_has}
 use Rattle.cw_sim.proofs.Halves.{right_child, which}
@@ -38,15 +38,15 @@ without_fork f v = record v { deque = filter (λ g. not (nat_eq g f)) v.deque; i
 
 -- ## The workers
 
-module _ (first : List ℤ) (k : State) (on : GoesOn first k) (ws : List Worker) (old : AreWorkers k ws) (w x : ℕ) (run : (worker_in ws w).runs ≡ Some x) (dead : Bool) (fit : fits k (event.Finish x dead) ≡ true) (some : 0 < x) (low : w < length ws) where
-  abbrev m : Machine
+module _ (first : List ℤ) (k : CoreState) (on : CoreGoesOn first k) (ws : List Worker) (old : AreWorkers k ws) (w x : ℕ) (run : (worker_in ws w).runs ≡ Some x) (dead : Bool) (fit : fits k (event.Finish x dead) ≡ true) (some : 0 < x) (low : w < length ws) where
+  abbrev m : OpenMachine
   m = k.machine
 
   abbrev t : List Node
   t = m.tree
 
-  abbrev z : State
-  z = after k (event.Finish x dead)
+  abbrev z : CoreState
+  z = after_event k (event.Finish x dead)
 
   abbrev here : Worker
   here = worker_in ws w
@@ -74,9 +74,9 @@ module _ (first : List ℤ) (k : State) (on : GoesOn first k) (ws : List Worker)
 
   -- its fork is split, or it is a right strand: there waits in the worker what waits around the strand that forked
   abbrev ToMeet : Type 0
-  ToMeet = (is_split k f ≡ true) ⊎ (x ≡ right_of f)
+  ToMeet = (is_split k f ≡ true) ⊎ (x ≡ right_node f)
 
-  right_around : x ≡ right_of f → (b : Bool) → is_split k f ≡ b → waiting here ≡ forks_around k (strand_of t f)
+  right_around : x ≡ right_node f → (b : Bool) → is_split k f ≡ b → waiting here ≡ forks_around k (strand_of t f)
   right_around q true e = at.forks ∙ around_split k tree.rooted x some there strand e ∙ sym (on.outside f fork unjoined e)
   right_around q false e = at.forks ∙ around_right k tree.rooted x some there strand e (λ r. omega (arith, q, r))
 
@@ -85,36 +85,36 @@ module _ (first : List ℤ) (k : State) (on : GoesOn first k) (ws : List Worker)
   parent_around (inr q) = right_around q (is_split k f) refl
 
   -- where the other strand of the fork has not finished, the fork is split
-  none_waits : ToMeet → (has_finished z.machine (left_of f) && has_finished z.machine (right_of f)) ≡ false → waiting here ≡ []
+  none_waits : ToMeet → (has_finished z.machine (left_node f) && has_finished z.machine (right_node f)) ≡ false → waiting here ≡ []
   none_waits (inl e) going = at.forks ∙ around_split k tree.rooted x some there strand e
   none_waits (inr q) going = elim (cases_Bool (is_split k f)) [
     | inl e ↦ at.forks ∙ around_split k tree.rooted x some there strand e
     | inr e ↦
-        (let left = more first k on x dead at.running at.ready fit (left_of f) (left_done k on.forks x f refl fork q at.ready e) in
+        (let left = more first k on x dead at.running at.ready fit (left_node f) (left_done k on.forks x f refl fork q at.ready e) in
         let right = ap (has_finished z.machine) (sym q) ∙ done first k on x dead at.running at.ready fit in
-        let all = and_from (has_finished z.machine (left_of f)) (has_finished z.machine (right_of f)) left right in
+        let all = and_from (has_finished z.machine (left_node f)) (has_finished z.machine (right_node f)) left right in
         absurd (cc (all, going)))
   ]
 
-  pub idle_workers : ToMeet → (has_finished z.machine (left_of f) && has_finished z.machine (right_of f)) ≡ false → AreWorkers z (slice_set ws w (record here { runs = None }))
+  pub idle_workers : ToMeet → (has_finished z.machine (left_node f) && has_finished z.machine (right_node f)) ≡ false → AreWorkers z (slice_set ws w (record here { runs = None }))
   idle_workers side going =
       let none = both_empty here.deque here.inline (none_waits side going) in
       workers_after ws w (record here { runs = None }) low k z old (finish_others first k on ws old w x run dead fit) (record { deque = none.0; inline = none.1 }) (λ v y ne e q. absurd (cc e)) (λ v g ne e q. ne (old.once v w g q e))
 
-  pub met_workers : (join : fits z (event.Join f) ≡ true) → ToMeet → AreWorkers (after z (event.Join f)) (slice_set ws w (record here { runs = Some (strand_of t f) }))
+  pub met_workers : (join : fits z (event.Join f) ≡ true) → ToMeet → AreWorkers (after_event z (event.Join f)) (slice_set ws w (record here { runs = Some (strand_of t f) }))
   met_workers join side = join_workers first k on ws old w x run dead fit f fork unjoined join low (parent_around side)
 
   -- ## After the left strand of a fork that is not split
 
-  module _ (left : x ≡ left_of f) (off : is_split k f ≡ false) where
+  module _ (left : x ≡ left_node f) (off : is_split k f ≡ false) where
     abbrev back : Worker
-    back = record (without_fork f here) { runs = Some (right_of f) }
+    back = record (without_fork f here) { runs = Some (right_node f) }
 
     -- no other worker runs the right strand, since the left one had not finished
-    right_apart : (v : ℕ) → (worker_in ws v).runs ≡ Some (right_of f) → ⊥
+    right_apart : (v : ℕ) → (worker_in ws v).runs ≡ Some (right_node f) → ⊥
     right_apart v e =
-        let other = runs_in k ws v (right_of f) old e in
-        let ended = left_done k on.forks (right_of f) f (right_child t tree on.forks f fork).up fork refl other.ready off in
+        let other = runs_in k ws v (right_node f) old e in
+        let ended = left_done k on.forks (right_node f) f (right_child t tree on.forks f fork).up fork refl other.ready off in
         let going = (runs m tree (well first k on.core).nested x at.running).unfinished in
         absurd (cc (ended, left, going))
 
@@ -131,8 +131,8 @@ module _ (first : List ℤ) (k : State) (on : GoesOn first k) (ws : List Worker)
 
 -- ## The move
 
-module _ {A : Type 0} (s : Strands A) (first : List ℤ) (n : Simulation A) (w : ℕ) (low : w < length n.workers) (on : GoesOn first n.core) (old : AreWorkers n.core n.workers) where
-  abbrev k : State
+module _ {A : Type 0} (s : Strands A) (first : List ℤ) (n : Simulation A) (w : ℕ) (low : w < length n.workers) (on : CoreGoesOn first n.core) (old : AreWorkers n.core n.workers) where
+  abbrev k : CoreState
   k = n.core
 
   abbrev ws : List Worker
@@ -142,19 +142,19 @@ module _ {A : Type 0} (s : Strands A) (first : List ℤ) (n : Simulation A) (w :
   fork_of x = parent_of k.machine.tree x
 
   -- the right strand is w's, or it finishes dead too, and they join
-  turns_to : (x : ℕ) (run : (worker_in ws w).runs ≡ Some x) (dead : Bool) (fit : fits k (event.Finish x dead) ≡ true) → 0 < x → x ≡ left_of (fork_of x) → is_split k (fork_of x) ≡ false
-      → GoesTo first (after k (event.Finish x dead)) (turns s w (fork_of x) dead (does (event.Finish x dead) n))
+  turns_to : (x : ℕ) (run : (worker_in ws w).runs ≡ Some x) (dead : Bool) (fit : fits k (event.Finish x dead) ≡ true) → 0 < x → x ≡ left_node (fork_of x) → is_split k (fork_of x) ≡ false
+      → GoesTo first (after_event k (event.Finish x dead)) (goes_to_right s w (fork_of x) dead (does (event.Finish x dead) n))
   turns_to x run false fit some left off =
       let f = fork_of x in
       let o = does (event.Finish x false) n in
-      goes_on_there first (turns s w f false o) (finish_goes first k on ws old w x run false fit)
-      (subst (λ us. AreWorkers (after k (event.Finish x false)) us) (sym (set_run ws w (without_fork f (worker_in ws w)) (Some (right_of f)) low)) (turned_workers first k on ws old w x run false fit some low left off))
+      goes_on_there first (goes_to_right s w f false o) (finish_goes first k on ws old w x run false fit)
+      (subst (λ us. AreWorkers (after_event k (event.Finish x false)) us) (sym (set_run ws w (without_fork f (worker_in ws w)) (Some (right_node f)) low)) (turned_workers first k on ws old w x run false fit some low left off))
   turns_to x run true fit some left off =
       let f = fork_of x in
-      let r = right_of f in
+      let r = right_node f in
       let p = strand_of k.machine.tree f in
       let o = does (event.Finish x true) n in
-      let z = after k (event.Finish x true) in
+      let z = after_event k (event.Finish x true) in
       let here = worker_in ws w in
       let back : Worker = record (without_fork f here) { runs = Some r } in
       let vs = slice_set ws w back in
@@ -168,14 +168,14 @@ module _ {A : Type 0} (s : Strands A) (first : List ℤ) (n : Simulation A) (w :
       let low_v : w < length vs = omega (arith, length-set ws w back, low) in
       let waits : waiting (worker_in vs w) ≡ forks_around z p = ap (λ v. waiting v) (worker_here ws w back low) ∙ waits_back first k on ws old w x run true fit some low left off in
       let joined = join_workers first z on_z vs turned w r run_r true fit_r f fork unjoined join low_v waits in
-      by_event first (turns s w f true o) z (event.Finish r true) fit_r
-      (by_event first (turns s w f true o) (after z (event.Finish r true)) (event.Join f) join
-      (goes_on_there first (turns s w f true o) (join_goes first z on_z vs turned w r run_r true fit_r f fork unjoined join)
-      (subst (λ us. AreWorkers (after (after z (event.Finish r true)) (event.Join f)) us) (set_run ws w back (Some p) low ∙ sym (set_run ws w (without_fork f here) (Some p) low)) joined)))
+      by_event first (goes_to_right s w f true o) z (event.Finish r true) fit_r
+      (by_event first (goes_to_right s w f true o) (after_event z (event.Finish r true)) (event.Join f) join
+      (goes_on_there first (goes_to_right s w f true o) (join_goes first z on_z vs turned w r run_r true fit_r f fork unjoined join)
+      (subst (λ us. AreWorkers (after_event (after_event z (event.Finish r true)) (event.Join f)) us) (set_run ws w back (Some p) low ∙ sym (set_run ws w (without_fork f here) (Some p) low)) joined)))
 
   module _ (x : ℕ) (run : (worker_in ws w).runs ≡ Some x) (dead : Bool) (fit : fits k (event.Finish x dead) ≡ true) (some : 0 < x) where
-    abbrev ended : State
-    ended = after k (event.Finish x dead)
+    abbrev ended : CoreState
+    ended = after_event k (event.Finish x dead)
 
     abbrev forked : ℕ
     forked = fork_of x
@@ -184,33 +184,33 @@ module _ {A : Type 0} (s : Strands A) (first : List ℤ) (n : Simulation A) (w :
     o = does (event.Finish x dead) n
 
     abbrev both : Bool
-    both = has_finished ended.machine (left_of forked) && has_finished ended.machine (right_of forked)
+    both = has_finished ended.machine (left_node forked) && has_finished ended.machine (right_node forked)
 
     meets_to : ToMeet first k on ws old w x run dead fit some low → GoesTo first ended (meets s w forked both o)
     meets_to side = by both refl where
       by : (b : Bool) → both ≡ b → GoesTo first ended (meets s w forked b o)
       by false e = goes_on_there first (meets s w forked false o) (finish_goes first k on ws old w x run dead fit) (idle_workers first k on ws old w x run dead fit some low side e)
       by true e =
-          let p = and_parts (has_finished ended.machine (left_of forked)) (has_finished ended.machine (right_of forked)) e in
+          let p = and_parts (has_finished ended.machine (left_node forked)) (has_finished ended.machine (right_node forked)) e in
           let join = join_fits_here first k on ws old w x run dead fit some p.0 p.1 in
           let fork = fork_here first k on ws old w x run dead fit some in
           let unjoined = unjoined_here first k on ws old w x run dead fit some in
           by_event first (meets s w forked true o) ended (event.Join forked) join
           (goes_on_there first (meets s w forked true o) (join_goes first k on ws old w x run dead fit forked fork unjoined join) (met_workers first k on ws old w x run dead fit some low join side))
 
-    follows_to : GoesTo first ended (cond (nat_eq x (left_of forked) && not (is_split k forked)) (turns s w forked dead o) (meets s w forked both o))
-    follows_to = by (nat_eq x (left_of forked)) (is_split k forked) refl refl where
+    follows_to : GoesTo first ended (cond (nat_eq x (left_node forked) && not (is_split k forked)) (goes_to_right s w forked dead o) (meets s w forked both o))
+    follows_to = by (nat_eq x (left_node forked)) (is_split k forked) refl refl where
       tree : IsTree k.machine.tree
       tree = (well first k on.core).sound.tree
 
       strand : is_strand k.machine.tree x ≡ true
       strand = strand_here first k on ws old w x run
 
-      by : (a b : Bool) → nat_eq x (left_of forked) ≡ a → is_split k forked ≡ b → GoesTo first ended (cond (a && not b) (turns s w forked dead o) (meets s w forked both o))
-      by true false p q = turns_to x run dead fit some (eqb-true x (left_of forked) p) q
+      by : (a b : Bool) → nat_eq x (left_node forked) ≡ a → is_split k forked ≡ b → GoesTo first ended (cond (a && not b) (goes_to_right s w forked dead o) (meets s w forked both o))
+      by true false p q = turns_to x run dead fit some (eqb-true x (left_node forked) p) q
       by true true p q = meets_to (inl q)
       by false b p q = elim (which k.machine.tree tree on.forks forked (fork_here first k on ws old w x run dead fit some) x some (strand_low k.machine.tree x strand) refl) [
-        | inl e ↦ absurd (let same = eq-eqb x (left_of forked) e in cc (same, p))
+        | inl e ↦ absurd (let same = eq-eqb x (left_node forked) e in cc (same, p))
         | inr e ↦ meets_to (inr e)
       ]
 

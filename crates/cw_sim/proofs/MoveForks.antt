@@ -4,15 +4,15 @@ use Rattle.std.specs.Prelude.{ℤ, slice_set}
 use Rattle.cw_tree.specs.Walks.{has}
 use Rattle.cw_trace.proofs.InRange.{strand_low}
 use Rattle.cw_core.specs.declared.event.Event.TheVariants as event
-use Rattle.cw_core.specs.State.{State}
-use Rattle.cw_core.specs.Events.{fits, after, may_fork}
-use Rattle.cw_sim.specs.Workers.{Worker, waiting, with_fork, left_of, worker_in}
-use Rattle.cw_sim.specs.Kept.{Runs, Fits, AreWorkers, GoesOn}
+use Rattle.cw_core.specs.State.{CoreState}
+use Rattle.cw_core.specs.Events.{fits, after_event, may_fork}
+use Rattle.cw_sim.specs.Workers.{Worker, waiting, with_fork, left_node, worker_in}
+use Rattle.cw_sim.specs.Kept.{Runs, Fits, AreWorkers, CoreGoesOn}
 use Rattle.cw_sim.proofs.EventsFit.{strand_here}
 use Rattle.cw_sim.proofs.Forking.{goes, others, takes_left, low_waiting, waits_now, one_more}
 use Rattle.cw_sim.proofs.Workers.{runs_in, workers_after}
 
-module _ (first : List ℤ) (k : State) (on : GoesOn first k) (ws : List Worker) (old : AreWorkers k ws) (w x : ℕ) (run : (worker_in ws w).runs ≡ Some x) (fit : fits k (event.Fork x) ≡ true) where
+module _ (first : List ℤ) (k : CoreState) (on : CoreGoesOn first k) (ws : List Worker) (old : AreWorkers k ws) (w x : ℕ) (run : (worker_in ws w).runs ≡ Some x) (fit : fits k (event.Fork x) ≡ true) where
   abbrev n : ℕ
   n = length k.machine.tree
 
@@ -20,16 +20,16 @@ module _ (first : List ℤ) (k : State) (on : GoesOn first k) (ws : List Worker)
   here = worker_in ws w
 
   abbrev with_left : Worker
-  with_left = record (with_fork (may_fork k) n here) { runs = Some (left_of n) }
+  with_left = record (with_fork (may_fork k) n here) { runs = Some (left_node n) }
 
   at : Runs k here x
   at = runs_in k ws w x old run
 
-  pub forks_goes : GoesOn first (after k (event.Fork x))
+  pub forks_goes : CoreGoesOn first (after_event k (event.Fork x))
   forks_goes = goes first k on x at.running at.ready fit
 
   -- no worker runs the left strand yet
-  new_strand : (v y : ℕ) → (worker_in ws v).runs ≡ Some y → y ≡ left_of n → ⊥
+  new_strand : (v y : ℕ) → (worker_in ws v).runs ≡ Some y → y ≡ left_node n → ⊥
   new_strand v y e q = let low = strand_low k.machine.tree y (strand_here first k on ws old v y e) in omega (arith, low, q)
 
   -- nor does the fork wait in any
@@ -44,9 +44,9 @@ module _ (first : List ℤ) (k : State) (on : GoesOn first k) (ws : List Worker)
         | inr same ↦ absurd (let low = all_low (worker_in ws v) (worker_in ws v).runs (old.fit v) g q in omega (arith, low, same))
       ]
 
-  pub forks_workers : w < length ws → AreWorkers (after k (event.Fork x)) (slice_set ws w with_left)
+  pub forks_workers : w < length ws → AreWorkers (after_event k (event.Fork x)) (slice_set ws w with_left)
   forks_workers low =
-      workers_after ws w with_left low k (after k (event.Fork x)) old
+      workers_after ws w with_left low k (after_event k (event.Fork x)) old
       (λ v ne. others first k on x at.running at.ready fit (worker_in ws v) (worker_in ws v).runs (λ y e q. ne (old.apart v w x (e ∙ ap Some q) run)) (old.fit v))
       (takes_left first k on x at.running at.ready fit here at)
-      (λ v y ne e q. new_strand v y q (let same : left_of n ≡ y = cc e in sym same)) (λ v g ne e q. not_shared v g ne e q)
+      (λ v y ne e q. new_strand v y q (let same : left_node n ≡ y = cc e in sym same)) (λ v g ne e q. not_shared v g ne e q)

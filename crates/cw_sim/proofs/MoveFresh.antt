@@ -11,15 +11,15 @@ use Rattle.cw_tree.specs.Shape.{IsTree}
 use Rattle.cw_tree.proofs.Ancestors.{ancestor_self, ancestor_up}
 use Rattle.cw_tree.proofs.Lists.{In}
 use Rattle.cw_tree.proofs.Strands.{strand_over}
-use Rattle.cw_open.specs.Machine.{Machine, has_finished, in_block}
+use Rattle.cw_open.specs.Machine.{OpenMachine, has_finished, in_block}
 use Rattle.cw_open.proofs.Standing.{stands_at}
-use Rattle.cw_core.specs.State.{State}
+use Rattle.cw_core.specs.State.{CoreState}
 use Rattle.cw_core.specs.Events.{is_unstarted}
 use Rattle.cw_core.proofs.Forks.{in_child}
-use Rattle.cw_sim.specs.Workers.{left_of, right_of}
+use Rattle.cw_sim.specs.Workers.{left_node, right_node}
 use Rattle.cw_sim.proofs.Halves.{AsMade}
 
-module _ (m : Machine) (tree : IsTree m.tree) (r : ℕ) (strand : is_strand m.tree r ≡ true) (fresh : (n : ℕ) → n < length m.tree → is_ancestor m.tree r n ≡ true → n ≡ r) where
+module _ (m : OpenMachine) (tree : IsTree m.tree) (r : ℕ) (strand : is_strand m.tree r ≡ true) (fresh : (n : ℕ) → n < length m.tree → is_ancestor m.tree r n ≡ true → n ≡ r) where
   abbrev t : List Node
   t = m.tree
 
@@ -45,9 +45,9 @@ module _ (m : Machine) (tree : IsTree m.tree) (r : ℕ) (strand : is_strand m.tr
       not_from_true (nat_eq (place t r) r) (eq-eqb (place t r) r here)
 
 -- A fork whose right strand made no step, and has not finished, may be split.
-module _ (k : State) (f : ℕ) where
+module _ (k : CoreState) (f : ℕ) where
   abbrev smaller : ℕ → Bool
-  smaller r = nat_lt (left_of f) r || (nat_lt (right_of f) r || false)
+  smaller r = nat_lt (left_node f) r || (nat_lt (right_node f) r || false)
 
   abbrev fresh : ℕ → Bool
   fresh r = nat_eq (length (children k.machine.tree r)) 0 && not (has_finished k.machine r)
@@ -55,15 +55,15 @@ module _ (k : State) (f : ℕ) where
   abbrev test : ℕ → Bool
   test r = not (smaller r) || fresh r
 
-  not_less : (n : ℕ) → left_of f < suc n → nat_lt n (left_of f) ≡ false
-  not_less n h = false_from_ne_true (nat_lt n (left_of f)) (λ e. let l : n < left_of f = ltb-true n (left_of f) e in absurd (omega arith))
+  not_less : (n : ℕ) → left_node f < suc n → nat_lt n (left_node f) ≡ false
+  not_less n h = false_from_ne_true (nat_lt n (left_node f)) (λ e. let l : n < left_node f = ltb-true n (left_node f) e in absurd (omega arith))
 
-  none_smaller : smaller (left_of f) ≡ false
-  none_smaller = or_from (nat_lt (left_of f) (left_of f)) (nat_lt (right_of f) (left_of f) || false) (not_less (left_of f) (omega arith)) (or_from (nat_lt (right_of f) (left_of f)) false (not_less (right_of f) (omega arith)) refl)
+  none_smaller : smaller (left_node f) ≡ false
+  none_smaller = or_from (nat_lt (left_node f) (left_node f)) (nat_lt (right_node f) (left_node f) || false) (not_less (left_node f) (omega arith)) (or_from (nat_lt (right_node f) (left_node f)) false (not_less (right_node f) (omega arith)) refl)
 
-  pub unstarted : AsMade k.machine.tree → is_fork k.machine.tree f ≡ true → children k.machine.tree (right_of f) ≡ [] → has_finished k.machine (right_of f) ≡ false → is_unstarted k f ≡ true
+  pub unstarted : AsMade k.machine.tree → is_fork k.machine.tree f ≡ true → children k.machine.tree (right_node f) ≡ [] → has_finished k.machine (right_node f) ≡ false → is_unstarted k f ≡ true
   unstarted made fork none going =
-      let right_fresh = and_from (nat_eq (length (children k.machine.tree (right_of f))) 0) (not (has_finished k.machine (right_of f))) (ap (λ cs. nat_eq (length cs) 0) none) (not_from_false (has_finished k.machine (right_of f)) going) in
+      let right_fresh = and_from (nat_eq (length (children k.machine.tree (right_node f))) 0) (not (has_finished k.machine (right_node f))) (ap (λ cs. nat_eq (length cs) 0) none) (not_from_false (has_finished k.machine (right_node f)) going) in
       ap (λ ns. list_all (λ r. not (list_any (λ l. nat_lt l r) ns) || fresh r) ns) (made f fork)
-      ∙ and_from (test (left_of f)) (test (right_of f) && true) (or_left (not (smaller (left_of f))) (fresh (left_of f)) (not_from_false (smaller (left_of f)) none_smaller))
-      (and_from (test (right_of f)) true (or_right (not (smaller (right_of f))) (fresh (right_of f)) right_fresh) refl)
+      ∙ and_from (test (left_node f)) (test (right_node f) && true) (or_left (not (smaller (left_node f))) (fresh (left_node f)) (not_from_false (smaller (left_node f)) none_smaller))
+      (and_from (test (right_node f)) true (or_right (not (smaller (right_node f))) (fresh (right_node f)) right_fresh) refl)

@@ -5,27 +5,27 @@ use Rattle.cw_tree.specs.declared.node.Node.{Node}
 use Rattle.cw_tree.specs.Nodes.{is_fork}
 use Rattle.cw_tree.specs.Walks.{has}
 use Rattle.cw_tree.specs.Series.{strand_of}
-use Rattle.cw_open.specs.Machine.{Machine}
+use Rattle.cw_open.specs.Machine.{OpenMachine}
 use Rattle.cw_open.proofs.Standing.{runs}
 use Rattle.cw_core.specs.declared.event.Event.TheVariants as event
-use Rattle.cw_core.specs.State.{State}
-use Rattle.cw_core.specs.Events.{fits, after}
+use Rattle.cw_core.specs.State.{CoreState}
+use Rattle.cw_core.specs.Events.{fits, after_event}
 use Rattle.cw_core.proofs.Going.{well}
 use Rattle.cw_sim.specs.Workers.{Worker, waiting, worker_in}
-use Rattle.cw_sim.specs.Kept.{Runs, Fits, AreWorkers, GoesOn, forks_around}
+use Rattle.cw_sim.specs.Kept.{Runs, Fits, AreWorkers, CoreGoesOn, forks_around}
 use Rattle.cw_sim.proofs.Finishing.{goes, others, still_to_come}
 use Rattle.cw_sim.proofs.Joining.{goes as goes_joined, others as others_joined, takes_parent}
 use Rattle.cw_sim.proofs.Workers.{runs_in, workers_after}
 
-module _ (first : List ℤ) (k : State) (on : GoesOn first k) (ws : List Worker) (old : AreWorkers k ws) (w x : ℕ) (run : (worker_in ws w).runs ≡ Some x) (dead : Bool) (fit : fits k (event.Finish x dead) ≡ true) where
-  abbrev m : Machine
+module _ (first : List ℤ) (k : CoreState) (on : CoreGoesOn first k) (ws : List Worker) (old : AreWorkers k ws) (w x : ℕ) (run : (worker_in ws w).runs ≡ Some x) (dead : Bool) (fit : fits k (event.Finish x dead) ≡ true) where
+  abbrev m : OpenMachine
   m = k.machine
 
   abbrev t : List Node
   t = m.tree
 
-  abbrev z : State
-  z = after k (event.Finish x dead)
+  abbrev z : CoreState
+  z = after_event k (event.Finish x dead)
 
   abbrev here : Worker
   here = worker_in ws w
@@ -33,7 +33,7 @@ module _ (first : List ℤ) (k : State) (on : GoesOn first k) (ws : List Worker)
   at : Runs k here x
   at = runs_in k ws w x old run
 
-  pub finish_goes : GoesOn first z
+  pub finish_goes : CoreGoesOn first z
   finish_goes = goes first k on x dead at.running at.ready fit
 
   -- the other workers still fit
@@ -41,10 +41,10 @@ module _ (first : List ℤ) (k : State) (on : GoesOn first k) (ws : List Worker)
   finish_others v ne = others first k on x dead at.running at.ready fit (worker_in ws v) (worker_in ws v).runs (λ y e q. ne (old.apart v w x (e ∙ ap Some q) run)) (old.fit v)
 
   module _ (f : ℕ) (fork : is_fork t f ≡ true) (unjoined : has m.joined f ≡ false) (join : fits z (event.Join f) ≡ true) where
-    abbrev both : State
-    both = after z (event.Join f)
+    abbrev both : CoreState
+    both = after_event z (event.Join f)
 
-    pub join_goes : GoesOn first both
+    pub join_goes : CoreGoesOn first both
     join_goes = goes_joined first z finish_goes f fork unjoined join
 
     -- no other worker runs the strand that forked, since that waited

@@ -5,14 +5,14 @@ use Rattle.cw_strand.specs.Strands.{Strands}
 use Rattle.cw_open.specs.Machine.{is_dying}
 use Rattle.cw_sim.specs.Workers.{Simulation, worker}
 use Rattle.cw_sim.specs.Moves.{is_over, others, steals, dies, acts, move}
-use Rattle.cw_sim.specs.Kept.{AreWorkers, GoesOn}
+use Rattle.cw_sim.specs.Kept.{AreWorkers, CoreGoesOn}
 use Rattle.cw_sim.specs.Laws.{AreStrands, ComesByEvents}
 use Rattle.cw_sim.specs.HasWants.{HasWants}
 use Rattle.cw_sim.proofs.MoveActs.{dies_to, acts_to}
 use Rattle.cw_sim.proofs.MoveSteals.{steals_to}
 use Rattle.cw_sim.proofs.Moving.{GoesTo}
 
-module _ {A : Type 0} (s : Strands A) (first : List ℤ) (m : Simulation A) (w : ℕ) (low : w < length m.workers) (on : GoesOn first m.core) (old : AreWorkers m.core m.workers) (wants : HasWants s (length first) m) where
+module _ {A : Type 0} (s : Strands A) (first : List ℤ) (m : Simulation A) (w : ℕ) (low : w < length m.workers) (on : CoreGoesOn first m.core) (old : AreWorkers m.core m.workers) (wants : HasWants s (length first) m) where
   runs_to : (x : ℕ) → (worker m w).runs ≡ Some x → (b : Bool) → is_dying m.core.machine x ≡ b → GoesTo first m.core (cond b (dies s w x m) (acts s w x (s.want (m.at x)) m))
   runs_to x e true q = dies_to s first m w low on old x e q
   runs_to x e false q = acts_to s first m w low on old x e q wants (s.want (m.at x)) refl
@@ -24,6 +24,6 @@ module _ {A : Type 0} (s : Strands A) (first : List ℤ) (m : Simulation A) (w :
   pub moves_to : GoesTo first m.core (move s w m)
   moves_to = moves_by (worker m w).runs refl
 
-pub moves_keep : {A : Type 0} (s : Strands A) (first : List ℤ) (m : Simulation A) (w : ℕ) → AreStrands s (length first) → w < length m.workers → GoesOn first m.core → AreWorkers m.core m.workers → HasWants s (length first) m → is_over m ≡ false
-    → ComesByEvents m.core (move s w m).core × (is_over (move s w m) ≡ false → GoesOn first (move s w m).core × AreWorkers (move s w m).core (move s w m).workers)
+pub moves_keep : {A : Type 0} (s : Strands A) (first : List ℤ) (m : Simulation A) (w : ℕ) → AreStrands s (length first) → w < length m.workers → CoreGoesOn first m.core → AreWorkers m.core m.workers → HasWants s (length first) m → is_over m ≡ false
+    → ComesByEvents m.core (move s w m).core × (is_over (move s w m) ≡ false → CoreGoesOn first (move s w m).core × AreWorkers (move s w m).core (move s w m).workers)
 moves_keep s first m w strands low on old wants going = let to = moves_to s first m w low on old wants in (to.comes, to.kept)

@@ -15,8 +15,8 @@ use Rattle.cw_core.specs.declared.event.Reply.{Reply}
 use Rattle.cw_core.specs.declared.event.Reply.TheVariants as reply
 use Rattle.cw_core.specs.State.{is_split, spent}
 use Rattle.cw_core.specs.Events.{reply_to}
-use Rattle.cw_sim.specs.Workers.{Simulation, left_of, right_of, tree, worker, with_strand}
-use Rattle.cw_sim.specs.Moves.{does, others, takes, steals, turns, meets, finishes, follows, dies, meets_cell, stops_if_spent, acts, move}
+use Rattle.cw_sim.specs.Workers.{Simulation, left_node, right_node, tree, worker, with_strand}
+use Rattle.cw_sim.specs.Moves.{does, others, takes, steals, goes_to_right, meets, finishes, follows, dies, meets_cell, stops_if_spent, acts, move}
 
 module _ {A : Type 0} (s : Strands A) (w : ℕ) where
   abbrev number : Simulation A → ℕ
@@ -29,7 +29,7 @@ module _ {A : Type 0} (s : Strands A) (w : ℕ) where
     by rest [] = rest
     by rest (f ∷ fs) = length-set _ w _ ∙ length-set m.workers v _
 
-  turns_number : (f : ℕ) (dead : Bool) (m : Simulation A) → number (turns s w f dead m) ≡ number m
+  turns_number : (f : ℕ) (dead : Bool) (m : Simulation A) → number (goes_to_right s w f dead m) ≡ number m
   turns_number f false m = length-set _ w _ ∙ length-set m.workers w _
   turns_number f true m = length-set _ w _ ∙ length-set m.workers w _
 
@@ -39,14 +39,14 @@ module _ {A : Type 0} (s : Strands A) (w : ℕ) where
 
   follows_number : (x : ℕ) (dead : Bool) (m : Simulation A) → number (follows s w x dead m) ≡ number m
   follows_number zero dead m = length-set m.workers w _
-  follows_number (suc x) dead m = by (nat_eq (suc x) (left_of f) && not (is_split m.core f)) where
+  follows_number (suc x) dead m = by (nat_eq (suc x) (left_node f) && not (is_split m.core f)) where
     f : ℕ
     f = parent_of (tree m) (suc x)
 
     both : Bool
-    both = has_finished m.core.machine (left_of f) && has_finished m.core.machine (right_of f)
+    both = has_finished m.core.machine (left_node f) && has_finished m.core.machine (right_node f)
 
-    by : (b : Bool) → number (cond b (turns s w f dead m) (meets s w f both m)) ≡ number m
+    by : (b : Bool) → number (cond b (goes_to_right s w f dead m) (meets s w f both m)) ≡ number m
     by true = turns_number f dead m
     by false = meets_number f both m
 

@@ -5,11 +5,11 @@ use Rattle.std.proofs.lemmas.Bool.{cases_eq, cases_lt, or_right, false_from_ne_t
 use Rattle.std.proofs.lemmas.List.{length-set}
 use Rattle.cw_tree.specs.Walks.{has}
 use Rattle.cw_core.specs.declared.event.Event.TheVariants as event
-use Rattle.cw_core.specs.State.{State}
-use Rattle.cw_core.specs.Events.{after}
-use Rattle.cw_sim.specs.Workers.{Worker, Simulation, waiting, right_of, worker_in, worker}
+use Rattle.cw_core.specs.State.{CoreState}
+use Rattle.cw_core.specs.Events.{after_event}
+use Rattle.cw_sim.specs.Workers.{Worker, Simulation, waiting, right_node, worker_in, worker}
 use Rattle.cw_sim.specs.Moves.{takes, steals}
-use Rattle.cw_sim.specs.Kept.{IsIdle, Fits, AreWorkers, GoesOn}
+use Rattle.cw_sim.specs.Kept.{IsIdle, Fits, AreWorkers, CoreGoesOn}
 use Rattle.cw_sim.proofs.EventsFit.{IsRobbed, robbed_here, has_here, columns_here, early_here, unfinished_here, split_fits_here}
 use Rattle.cw_sim.proofs.Moving.{GoesTo, goes_on_there, by_event}
 use Rattle.cw_sim.proofs.Thief.{core_goes, not_right, robbed_runs, others, thief_runs}
@@ -17,9 +17,9 @@ use Rattle.cw_sim.proofs.Workers.{worker_here, worker_other, worker_past, has_fr
 
 -- ## The workers: w is idle, and f is the oldest fork in the deque of worker v
 
-module _ (first : List ℤ) (k : State) (on : GoesOn first k) (ws : List Worker) (old : AreWorkers k ws) (w v f : ℕ) (fs : List ℕ) (low : w < length ws) (idles : (worker_in ws w).runs ≡ None) (e : (worker_in ws v).deque ≡ f ∷ fs) where
-  abbrev z : State
-  z = after k (event.Split f)
+module _ (first : List ℤ) (k : CoreState) (on : CoreGoesOn first k) (ws : List Worker) (old : AreWorkers k ws) (w v f : ℕ) (fs : List ℕ) (low : w < length ws) (idles : (worker_in ws w).runs ≡ None) (e : (worker_in ws v).deque ≡ f ∷ fs) where
+  abbrev z : CoreState
+  z = after_event k (event.Split f)
 
   abbrev from : Worker
   from = worker_in ws v
@@ -40,7 +40,7 @@ module _ (first : List ℤ) (k : State) (on : GoesOn first k) (ws : List Worker)
   v_low : v < length ws
   v_low = elim (cases_lt v (length ws)) [ inl h ↦ h | inr h ↦ absurd (let none = ap (λ u. u.deque) (worker_past ws v h) in cc (none, e)) ]
 
-  split_goes : GoesOn first z
+  split_goes : CoreGoesOn first z
   split_goes = core_goes first k on f (columns_here first k on ws old v f fs e) (early_here first k on ws old v f fs e) (split_fits_here first k on ws old v f fs e) y robbery.at.running robbery.here
 
   abbrev robbed : Worker
@@ -71,13 +71,13 @@ module _ (first : List ℤ) (k : State) (on : GoesOn first k) (ws : List Worker)
     | inr ne ↦ ap (λ o. o.runs) (worker_other ws v u robbed ne)
   ]
 
-  not_taken : (u : ℕ) → (worker_in vs u).runs ≡ Some (right_of f) → ⊥
+  not_taken : (u : ℕ) → (worker_in vs u).runs ≡ Some (right_node f) → ⊥
   not_taken u q =
-      let at = runs_in k ws u (right_of f) old (sym (same_runs u) ∙ q) in
-      not_right first k on f (columns_here first k on ws old v f fs e) (early_here first k on ws old v f fs e) (split_fits_here first k on ws old v f fs e) y robbery.at.running robbery.here (right_of f) at.ready refl
+      let at = runs_in k ws u (right_node f) old (sym (same_runs u) ∙ q) in
+      not_right first k on f (columns_here first k on ws old v f fs e) (early_here first k on ws old v f fs e) (split_fits_here first k on ws old v f fs e) y robbery.at.running robbery.here (right_node f) at.ready refl
 
   abbrev thief : Worker
-  thief = record (worker_in vs w) { runs = Some (right_of f) }
+  thief = record (worker_in vs w) { runs = Some (right_node f) }
 
   was : worker_in vs w ≡ worker_in ws w
   was = worker_other ws v w robbed apart
@@ -97,7 +97,7 @@ module _ (first : List ℤ) (k : State) (on : GoesOn first k) (ws : List Worker)
 
 -- ## The move
 
-module _ {A : Type 0} (first : List ℤ) (n : Simulation A) (w : ℕ) (low : w < length n.workers) (on : GoesOn first n.core) (old : AreWorkers n.core n.workers) (idles : (worker n w).runs ≡ None) where
+module _ {A : Type 0} (first : List ℤ) (n : Simulation A) (w : ℕ) (low : w < length n.workers) (on : CoreGoesOn first n.core) (old : AreWorkers n.core n.workers) (idles : (worker n w).runs ≡ None) where
   takes_to : (v f : ℕ) (fs : List ℕ) → (worker n v).deque ≡ f ∷ fs → GoesTo first n.core (takes w v f fs n)
   takes_to v f fs e =
       by_event first (takes w v f fs n) n.core (event.Split f) (split_fits_here first n.core on n.workers old v f fs e)

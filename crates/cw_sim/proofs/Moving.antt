@@ -5,24 +5,24 @@ use Rattle.std.proofs.lemmas.Bool.{and_from, or_left, or_right}
 use Rattle.cw_tree.specs.declared.closed.Halt.{Halt}
 use Rattle.cw_open.specs.Machine.{has_finished}
 use Rattle.cw_core.specs.declared.event.Event.{Event}
-use Rattle.cw_core.specs.State.{State}
-use Rattle.cw_core.specs.Events.{fits, after, all_fit}
+use Rattle.cw_core.specs.State.{CoreState}
+use Rattle.cw_core.specs.Events.{fits, after_event, all_fit}
 use Rattle.cw_sim.specs.Workers.{Simulation}
 use Rattle.cw_sim.specs.Moves.{is_over}
-use Rattle.cw_sim.specs.Kept.{AreWorkers, GoesOn}
+use Rattle.cw_sim.specs.Kept.{AreWorkers, CoreGoesOn}
 use Rattle.cw_sim.specs.Laws.{ComesByEvents}
 
 -- simulation n comes so of a state of the core
-pub record GoesTo {A : Type 0} (first : List ℤ) (k : State) (n : Simulation A) : Type 0 where
+pub record GoesTo {A : Type 0} (first : List ℤ) (k : CoreState) (n : Simulation A) : Type 0 where
   pub comes : ComesByEvents k n.core
-  pub kept : is_over n ≡ false → GoesOn first n.core × AreWorkers n.core n.workers
+  pub kept : is_over n ≡ false → CoreGoesOn first n.core × AreWorkers n.core n.workers
 
 module _ {A : Type 0} (first : List ℤ) (n : Simulation A) where
   -- by no event
-  pub as_it_is : (is_over n ≡ false → GoesOn first n.core × AreWorkers n.core n.workers) → GoesTo first n.core n
+  pub as_it_is : (is_over n ≡ false → CoreGoesOn first n.core × AreWorkers n.core n.workers) → GoesTo first n.core n
   as_it_is kept = record { comes = record { events = []; fit = refl; there = refl }; kept = kept }
 
-  pub goes_on_there : GoesOn first n.core → AreWorkers n.core n.workers → GoesTo first n.core n
+  pub goes_on_there : CoreGoesOn first n.core → AreWorkers n.core n.workers → GoesTo first n.core n
   goes_on_there core workers = as_it_is (λ e. (core, workers))
 
   -- and where the run is over, nothing is to be kept
@@ -33,8 +33,8 @@ module _ {A : Type 0} (first : List ℤ) (n : Simulation A) where
   main_ended e = as_it_is (λ q. absurd (let over = or_right (is_some n.core.halt) (has_finished n.core.machine 0) e in cc (over, q)))
 
   -- by one event more
-  pub by_event : (k : State) (e : Event) → fits k e ≡ true → GoesTo first (after k e) n → GoesTo first k n
+  pub by_event : (k : CoreState) (e : Event) → fits k e ≡ true → GoesTo first (after_event k e) n → GoesTo first k n
   by_event k e fit rest = record {
-    comes = record { events = e ∷ rest.comes.events; fit = and_from (fits k e) (all_fit (after k e) rest.comes.events) fit rest.comes.fit; there = rest.comes.there };
+    comes = record { events = e ∷ rest.comes.events; fit = and_from (fits k e) (all_fit (after_event k e) rest.comes.events) fit rest.comes.fit; there = rest.comes.there };
     kept = rest.kept;
   }

@@ -9,11 +9,11 @@ use Rattle.cw_tree.specs.Walks.{has}
 use Rattle.cw_tree.specs.Series.{children}
 use Rattle.cw_strand.specs.Strands.{Strands, is_over}
 use Rattle.cw_open.specs.Machine.{has_finished, finished_dead}
-use Rattle.cw_core.specs.State.{State, start}
+use Rattle.cw_core.specs.State.{CoreState, start}
 use Rattle.cw_core.proofs.Kept.{starts}
 use Rattle.cw_record.specs.Coherent.{InSeries, IsWanted, entered}
-use Rattle.cw_sim.specs.Workers.{Worker, idle, waiting, worker_in, Simulation, tree, opening}
-use Rattle.cw_sim.specs.Kept.{Fits, GoesOn, HasStates}
+use Rattle.cw_sim.specs.Workers.{Worker, idle, waiting, worker_in, Simulation, tree, first_simulation}
+use Rattle.cw_sim.specs.Kept.{Fits, CoreGoesOn, HasStates}
 use Rattle.cw_sim.specs.Laws.{OpensWell}
 use Rattle.cw_sim.proofs.Ready.{main_ready}
 
@@ -24,14 +24,14 @@ idle_in (suc n) zero = refl
 idle_in (suc n) (suc i) = idle_in n i
 
 module _ (first : List ℤ) (room budget : ℕ) where
-  abbrev k : State
+  abbrev k : CoreState
   k = start first room budget
 
   no_fork : (f : ℕ) → is_fork k.machine.tree f ≡ false
   no_fork zero = refl
   no_fork (suc f) = refl
 
-  goes : 0 < room → GoesOn first k
+  goes : 0 < room → CoreGoesOn first k
   goes some = record {
     core = starts first room budget some;
     halt = refl;
@@ -59,7 +59,7 @@ module _ (first : List ℤ) (room budget : ℕ) where
 
 module _ {A : Type 0} (s : Strands A) (first : List ℤ) (room budget workers : ℕ) where
   abbrev m : Simulation A
-  m = opening first room budget workers s.start
+  m = first_simulation first room budget workers s.start
 
   abbrev all_start : ℕ → A
   all_start n = s.start

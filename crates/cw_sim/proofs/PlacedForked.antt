@@ -15,7 +15,7 @@ use Rattle.cw_tree.proofs.NextTrees.{is_child}
 use Rattle.cw_tree.proofs.Parting.{series_or_parallel}
 use Rattle.cw_tree.proofs.Strands.{strand_of_le, strand_of_other, strand_innermost}
 use Rattle.cw_trace.proofs.InRange.{fork_low, pending_low}
-use Rattle.cw_open.specs.Machine.{Machine}
+use Rattle.cw_open.specs.Machine.{OpenMachine}
 use Rattle.cw_open.specs.Open.{is_open}
 use Rattle.cw_open.proofs.Named.{strand_is}
 use Rattle.cw_open.proofs.NodeKinds.{fork_no_block_at, fork_no_strand, pending_block}
@@ -26,7 +26,7 @@ use Rattle.cw_core.proofs.Ordering.{strand_under}
 use Rattle.cw_core.proofs.Places.{place_is}
 use Rattle.cw_sim.proofs.PlacedRunning.{unjoined_open}
 
-module _ (m : Machine) (w : IsWell m) (f : ℕ) (fork : is_fork m.tree f ≡ true) (unjoined : has m.joined f ≡ false) where
+module _ (m : OpenMachine) (w : IsWell m) (f : ℕ) (fork : is_fork m.tree f ≡ true) (unjoined : has m.joined f ≡ false) where
   abbrev t : List Node
   t = m.tree
 

@@ -13,7 +13,7 @@ use Rattle.cw_tree.proofs.Strands.{strand_of_le}
 use Rattle.cw_tree.proofs.There.{node_there}
 use Rattle.cw_open.specs.Machine.{waits}
 use Rattle.cw_open.proofs.Standing.{stands_at}
-use Rattle.cw_core.specs.State.{State}
+use Rattle.cw_core.specs.State.{CoreState}
 use Rattle.cw_core.proofs.Places.{waits_for}
 use Rattle.cw_record.specs.ClosedRun.{AreStates}
 use Rattle.cw_sim.specs.Workers.{Simulation, tree}
@@ -21,12 +21,12 @@ use Rattle.cw_sim.specs.Kept.{is_current, AreStanding}
 use Rattle.cw_sim.proofs.StatesKept.{AllStates, Stay}
 
 -- a strand is current where its own fork was not joined
-pub current_from : (k : State) (n : ℕ) → is_strand k.machine.tree n ≡ true → (0 < n → has k.machine.joined (parent_of k.machine.tree n) ≡ false) → is_current k n ≡ true
+pub current_from : (k : CoreState) (n : ℕ) → is_strand k.machine.tree n ≡ true → (0 < n → has k.machine.joined (parent_of k.machine.tree n) ≡ false) → is_current k n ≡ true
 current_from k zero strand off = refl
 current_from k (suc n) strand off = and_from (is_strand k.machine.tree (suc n)) (not (has k.machine.joined (parent_of k.machine.tree (suc n)))) strand (not_from_false (has k.machine.joined (parent_of k.machine.tree (suc n))) (off (omega arith)))
 
 -- and a current one is a strand
-pub current_is : (k : State) → is_strand k.machine.tree 0 ≡ true → (n : ℕ) → is_current k n ≡ true → (is_strand k.machine.tree n ≡ true) × (0 < n → has k.machine.joined (parent_of k.machine.tree n) ≡ false)
+pub current_is : (k : CoreState) → is_strand k.machine.tree 0 ≡ true → (n : ℕ) → is_current k n ≡ true → (is_strand k.machine.tree n ≡ true) × (0 < n → has k.machine.joined (parent_of k.machine.tree n) ≡ false)
 current_is k root zero e = (root, λ some. absurd (omega arith))
 current_is k root (suc n) e =
     let w = and_parts (is_strand k.machine.tree (suc n)) (not (has k.machine.joined (parent_of k.machine.tree (suc n)))) e in

@@ -12,7 +12,7 @@ use Rattle.cw_tree.proofs.Lists.{any_in}
 use Rattle.cw_tree.proofs.NextTrees.{no_fork}
 use Rattle.cw_tree.proofs.Strands.{strand_over}
 use Rattle.cw_trace.proofs.InRange.{strand_low}
-use Rattle.cw_open.specs.Machine.{Machine, has_finished, is_running, waits}
+use Rattle.cw_open.specs.Machine.{OpenMachine, has_finished, is_running, waits}
 use Rattle.cw_open.specs.Open.{is_open}
 use Rattle.cw_open.proofs.Standing.{runs, stands, stands_at, place_open, pending_open, open_over}
 use Rattle.cw_open.proofs.Trees.{IsWell, stands_well}
@@ -24,12 +24,12 @@ use Rattle.cw_sim.proofs.StatesKept.{AllStates, MayChange}
 use Rattle.cw_sim.proofs.PlacedKept.{current_from}
 
 -- a fork that was not joined is open
-pub unjoined_open : (m : Machine) (f : ℕ) → is_fork m.tree f ≡ true → has m.joined f ≡ false → is_open m f ≡ true
+pub unjoined_open : (m : OpenMachine) (f : ℕ) → is_fork m.tree f ≡ true → has m.joined f ≡ false → is_open m f ≡ true
 unjoined_open m f fork off =
     or_left (is_strand m.tree f && not (has_finished m f) || is_fork m.tree f && not (has m.joined f)) (is_pending m.tree f)
     (or_right (is_strand m.tree f && not (has_finished m f)) (is_fork m.tree f && not (has m.joined f)) (and_from (is_fork m.tree f) (not (has m.joined f)) fork (not_from_false (has m.joined f) off)))
 
-module _ (m : Machine) (w : IsWell m) where
+module _ (m : OpenMachine) (w : IsWell m) where
   abbrev t : List Node
   t = m.tree
 

@@ -9,29 +9,29 @@ use Rattle.cw_tree.specs.Series.{strand_of}
 use Rattle.cw_tree.proofs.Climbs.{by_parent}
 use Rattle.cw_tree.proofs.Strands.{strand_of_root, strand_of_strand, strand_of_other}
 use Rattle.cw_trace.specs.Stands.{fork_column}
-use Rattle.cw_core.specs.State.{State, has_columns, is_split}
-use Rattle.cw_sim.specs.Workers.{left_of}
+use Rattle.cw_core.specs.State.{CoreState, has_columns, is_split}
+use Rattle.cw_sim.specs.Workers.{left_node}
 use Rattle.cw_sim.specs.Kept.{lefts, forks_around}
 use Rattle.cw_sim.proofs.Ways.{on_strand, on_other}
 
 -- the nodes of core k are in core z, with their strands, and as many of their forks are split
-pub record SameWays (k z : State) : Type 0 where
+pub record SameWays (k z : CoreState) : Type 0 where
   pub longer : length k.machine.tree ≤ length z.machine.tree
   pub parents : (n : ℕ) → n < length k.machine.tree → parent_of z.machine.tree n ≡ parent_of k.machine.tree n
   pub strands : (n : ℕ) → n < length k.machine.tree → is_strand z.machine.tree n ≡ is_strand k.machine.tree n
   pub splits : (f : ℕ) → f < length k.machine.tree → is_split z f ≡ is_split k f
 
 -- a fork has columns, and is split, where it was
-pub columns_same : (k z : State) (f : ℕ) → fork_column z.machine.tree f ≡ fork_column k.machine.tree f → z.tier.room ≡ k.tier.room → has_columns z f ≡ has_columns k f
+pub columns_same : (k z : CoreState) (f : ℕ) → fork_column z.machine.tree f ≡ fork_column k.machine.tree f → z.tier.room ≡ k.tier.room → has_columns z f ≡ has_columns k f
 columns_same k z f at room = ap (λ c. nat_le (c + 2) z.tier.room) at ∙ ap (λ r. nat_le (fork_column k.machine.tree f + 2) r) room
 
-pub split_same : (k z : State) (f : ℕ) → fork_column z.machine.tree f ≡ fork_column k.machine.tree f → z.tier.room ≡ k.tier.room → z.splits ≡ k.splits → is_split z f ≡ is_split k f
+pub split_same : (k z : CoreState) (f : ℕ) → fork_column z.machine.tree f ≡ fork_column k.machine.tree f → z.tier.room ≡ k.tier.room → z.splits ≡ k.splits → is_split z f ≡ is_split k f
 split_same k z f at room splits =
     ap (λ b. b && has z.splits (fork_column z.machine.tree f)) (columns_same k z f at room)
     ∙ ap (λ c. has_columns k f && has z.splits c) at
     ∙ ap (λ cs. has_columns k f && has cs (fork_column k.machine.tree f)) splits
 
-module _ (k z : State) (rt : IsRooted k.machine.tree) (ru : IsRooted z.machine.tree) (same : SameWays k z) where
+module _ (k z : CoreState) (rt : IsRooted k.machine.tree) (ru : IsRooted z.machine.tree) (same : SameWays k z) where
   abbrev t : List Node
   t = k.machine.tree
 
@@ -59,7 +59,7 @@ module _ (k z : State) (rt : IsRooted k.machine.tree) (ru : IsRooted z.machine.t
             let f = parent_of t n in
             let low : f < n = rt n p h in
             ap (lefts z) (on_strand u ru n p (omega arith) (same.strands n h ∙ e))
-            ∙ ap (λ g. cond (is_split z g) [] (cond (nat_eq n (left_of g)) (forks_around z g ++ g ∷ []) (forks_around z g))) (same.parents n h)
-            ∙ ap (λ b. cond b [] (cond (nat_eq n (left_of f)) (forks_around z f ++ f ∷ []) (forks_around z f))) (same.splits f (omega arith))
-            ∙ ap (λ gs. cond (is_split k f) [] (cond (nat_eq n (left_of f)) (gs ++ f ∷ []) gs)) more
+            ∙ ap (λ g. cond (is_split z g) [] (cond (nat_eq n (left_node g)) (forks_around z g ++ g ∷ []) (forks_around z g))) (same.parents n h)
+            ∙ ap (λ b. cond b [] (cond (nat_eq n (left_node f)) (forks_around z f ++ f ∷ []) (forks_around z f))) (same.splits f (omega arith))
+            ∙ ap (λ gs. cond (is_split k f) [] (cond (nat_eq n (left_node f)) (gs ++ f ∷ []) gs)) more
             ∙ sym (ap (lefts k) (on_strand t rt n p h e))

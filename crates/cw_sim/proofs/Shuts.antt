@@ -12,11 +12,11 @@ use Rattle.cw_tree.proofs.Closing.{length_closed, node_closed, number_closed, st
 use Rattle.cw_tree.proofs.Members.{any_same, filter_same, in_below}
 use Rattle.cw_trace.specs.Stands.{fork_column}
 use Rattle.cw_open.specs.Machine.{has_finished, is_running, waits}
-use Rattle.cw_core.specs.State.{State, has_columns}
+use Rattle.cw_core.specs.State.{CoreState, has_columns}
 use Rattle.cw_sim.proofs.Same.{SameWays, split_same, columns_same}
 
 -- core z is core k with block b closed
-pub record IsShut (k z : State) (b : ℕ) (state : BlockState) (end : ℕ) : Type 0 where
+pub record IsShut (k z : CoreState) (b : ℕ) (state : BlockState) (end : ℕ) : Type 0 where
   pub tree : z.machine.tree ≡ closed k.machine.tree b state end
   pub room : z.tier.room ≡ k.tier.room
   pub splits : z.splits ≡ k.splits
@@ -24,7 +24,7 @@ pub record IsShut (k z : State) (b : ℕ) (state : BlockState) (end : ℕ) : Typ
   pub finished : z.machine.finished ≡ k.machine.finished
   pub stopped : z.machine.stopped ≡ k.machine.stopped
 
-module _ (k z : State) (tree : IsTree k.machine.tree) (b : ℕ) (state : BlockState) (end : ℕ) (is : IsShut k z b state end) where
+module _ (k z : CoreState) (tree : IsTree k.machine.tree) (b : ℕ) (state : BlockState) (end : ℕ) (is : IsShut k z b state end) where
   abbrev t : List Node
   t = k.machine.tree
 

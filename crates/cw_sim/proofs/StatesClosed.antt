@@ -30,7 +30,7 @@ use Rattle.cw_record.specs.Coherent.{InSeries, IsClosed, IsWanted, entered}
 use Rattle.cw_record.proofs.AddedStates.{state_same, state_other}
 use Rattle.cw_record.proofs.States.{Closes}
 use Rattle.cw_sim.specs.Workers.{Simulation, changed, tree}
-use Rattle.cw_sim.specs.Kept.{GoesOn, AreStanding, HasStates}
+use Rattle.cw_sim.specs.Kept.{CoreGoesOn, AreStanding, HasStates}
 use Rattle.cw_sim.proofs.StatesKept.{AllStates, Stay, MayChange, AreNew, closed_by, series_last, series_at, entered_same, states_kept}
 use Rattle.cw_sim.proofs.PlacedKept.{Elsewhere, AreHere, current_is, standing_kept}
 use Rattle.cw_sim.proofs.PlacedRunning.{running_own, running_none, running_stands}
@@ -40,7 +40,7 @@ abbrev pub with_closed : {A : Type 0} → Simulation A → (o : ℕ) → BlockSt
 with_closed m o state end now = record m { core = record m.core { machine = record m.core.machine { tree = closed (tree m) (place (tree m) o) state end } }; at = now }
 
 -- Behind it is state b, and strands stand at now.
-module _ {A : Type 0} (s : Strands A) (first : List ℤ) (m : Simulation A) (on : GoesOn first m.core) (o : ℕ) (running : is_running m.core.machine o ≡ true) (ready : waits_for_left m.core o ≡ false) (within : in_block m.core.machine o ≡ true)
+module _ {A : Type 0} (s : Strands A) (first : List ℤ) (m : Simulation A) (on : CoreGoesOn first m.core) (o : ℕ) (running : is_running m.core.machine o ≡ true) (ready : waits_for_left m.core o ≡ false) (within : in_block m.core.machine o ≡ true)
     (state : BlockState) (done : is_pending_state state ≡ false) (end : ℕ) (b : A) (now : ℕ → A) (x : AllStates A) where
   abbrev t : List Node
   t = tree m

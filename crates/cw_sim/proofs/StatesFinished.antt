@@ -6,7 +6,7 @@ use Rattle.cw_strand.specs.Strands.{Strands, is_over}
 use Rattle.cw_tree.specs.declared.node.Node.{Node}
 use Rattle.cw_tree.specs.Nodes.{is_strand}
 use Rattle.cw_tree.specs.Series.{place}
-use Rattle.cw_open.specs.Machine.{Machine, has_finished, finished_dead, waits}
+use Rattle.cw_open.specs.Machine.{OpenMachine, has_finished, finished_dead, waits}
 use Rattle.cw_sim.specs.Workers.{Simulation, tree}
 use Rattle.cw_sim.specs.Kept.{is_current, AreStanding}
 use Rattle.cw_sim.proofs.StatesKept.{AllStates}
@@ -19,13 +19,13 @@ module _ {A : Type 0} (s : Strands A) (m : Simulation A) (o : ℕ) (dead : Bool)
   abbrev t : List Node
   t = tree m
 
-  abbrev old : Machine
+  abbrev old : OpenMachine
   old = m.core.machine
 
   abbrev z : Simulation A
   z = with_finished m o dead
 
-  abbrev new : Machine
+  abbrev new : OpenMachine
   new = z.core.machine
 
   -- a strand that did not die had not died

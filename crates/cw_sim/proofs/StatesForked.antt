@@ -25,7 +25,7 @@ use Rattle.cw_core.proofs.Places.{last_pass, place_grown, waits_for}
 use Rattle.cw_core.proofs.Tails.{child_low}
 use Rattle.cw_record.specs.Coherent.{InSeries, IsForkOf, IsWanted, entered}
 use Rattle.cw_record.proofs.AddedStates.{state_same, state_other}
-use Rattle.cw_sim.specs.Workers.{Simulation, left_of, right_of, changed, tree}
+use Rattle.cw_sim.specs.Workers.{Simulation, left_node, right_node, changed, tree}
 use Rattle.cw_sim.specs.Kept.{AreStanding, HasStates}
 use Rattle.cw_sim.proofs.StatesKept.{AllStates, Stay, MayChange, AreNew, series_more, series_at, entered_same, states_kept}
 use Rattle.cw_sim.proofs.PlacedKept.{Elsewhere, AreHere, current_is, standing_kept}
@@ -33,7 +33,7 @@ use Rattle.cw_sim.proofs.PlacedRunning.{running_place, running_own, running_stra
 
 -- strand o forks: the strands of fork g stand so, and all others as in f
 abbrev pub halves : {A : Type 0} → Strands A → (g : ℕ) → A → (ℕ → A) → ℕ → A
-halves s g a f = changed (left_of g) (s.left a) (changed (right_of g) (s.right a) f)
+halves s g a f = changed (left_node g) (s.left a) (changed (right_node g) (s.right a) f)
 
 abbrev pub with_fork : {A : Type 0} → Strands A → Simulation A → (o st : ℕ) → Simulation A
 with_fork s m o st = record m { core = record m.core { machine = record m.core.machine { tree = tree m ++ fork_nodes (length (tree m)) (place (tree m) o) st } }; at = halves s (length (tree m)) (m.at o) m.at }
@@ -96,18 +96,18 @@ module _ {A : Type 0} (s : Strands A) (m : Simulation A) (w : IsWell m.core.mach
   in_turn : u ≡ one ++ half ∷ half ∷ []
   in_turn = sym (append_assoc t (fork_node ∷ []) (half ∷ half ∷ []))
 
-  get_left : slice_get u (left_of g) ≡ Some half
+  get_left : slice_get u (left_node g) ≡ Some half
   get_left =
-      let at : left_of g ≡ length one = omega (arith, length_more t fork_node) in
+      let at : left_node g ≡ length one = omega (arith, length_more t fork_node) in
       ap (slice_get u) at ∙ ap (λ v. slice_get v (length one)) in_turn ∙ get_next one half (half ∷ [])
 
-  get_right : slice_get u (right_of g) ≡ Some half
+  get_right : slice_get u (right_node g) ≡ Some half
   get_right =
-      let at : right_of g ≡ length two = omega (arith, length_more t fork_node, length_more one half) in
+      let at : right_node g ≡ length two = omega (arith, length_more t fork_node, length_more one half) in
       ap (slice_get u) at ∙ ap (λ v. slice_get v (length two)) (in_turn ∙ sym (append_assoc one (half ∷ []) (half ∷ []))) ∙ get_next two half []
 
-  which_new : (n : ℕ) → g < n → n < length u → (n ≡ left_of g) ⊎ (n ≡ right_of g)
-  which_new n more low = elim (cases_eq n (left_of g)) [ inl e ↦ inl e | inr ne ↦ inr (omega (arith, len, ne)) ]
+  which_new : (n : ℕ) → g < n → n < length u → (n ≡ left_node g) ⊎ (n ≡ right_node g)
+  which_new n more low = elim (cases_eq n (left_node g)) [ inl e ↦ inl e | inr ne ↦ inr (omega (arith, len, ne)) ]
 
   get_half : (n : ℕ) → g < n → n < length u → slice_get u n ≡ Some half
   get_half n more low = elim (which_new n more low) [ inl e ↦ ap (slice_get u) e ∙ get_left | inr e ↦ ap (slice_get u) e ∙ get_right ]
@@ -153,13 +153,13 @@ module _ {A : Type 0} (s : Strands A) (m : Simulation A) (w : IsWell m.core.mach
   -- ## States
 
   half_old : (f : ℕ → A) (n : ℕ) → n ≤ g → forked f n ≡ f n
-  half_old f n le = state_other (changed (right_of g) (s.right a) f) (left_of g) (s.left a) n (λ e. omega (arith, e)) ∙ state_other f (right_of g) (s.right a) n (λ e. omega (arith, e))
+  half_old f n le = state_other (changed (right_node g) (s.right a) f) (left_node g) (s.left a) n (λ e. omega (arith, e)) ∙ state_other f (right_node g) (s.right a) n (λ e. omega (arith, e))
 
-  half_left : (f : ℕ → A) → forked f (left_of g) ≡ s.left a
-  half_left f = state_same (changed (right_of g) (s.right a) f) (left_of g) (s.left a)
+  half_left : (f : ℕ → A) → forked f (left_node g) ≡ s.left a
+  half_left f = state_same (changed (right_node g) (s.right a) f) (left_node g) (s.left a)
 
-  half_right : (f : ℕ → A) → forked f (right_of g) ≡ s.right a
-  half_right f = state_other (changed (right_of g) (s.right a) f) (left_of g) (s.left a) (right_of g) (λ e. omega (arith, e)) ∙ state_same f (right_of g) (s.right a)
+  half_right : (f : ℕ → A) → forked f (right_node g) ≡ s.right a
+  half_right f = state_other (changed (right_node g) (s.right a) f) (left_node g) (s.left a) (right_node g) (λ e. omega (arith, e)) ∙ state_same f (right_node g) (s.right a)
 
   half_same : (f h : ℕ → A) (n : ℕ) → g < n → n < length u → forked f n ≡ forked h n
   half_same f h n more low = elim (which_new n more low) [
@@ -214,14 +214,14 @@ module _ {A : Type 0} (s : Strands A) (m : Simulation A) (w : IsWell m.core.mach
 
     is_forked : IsWanted s u y.before y.after y.reached g Fork fork_node.state
     is_forked =
-        let left : left_of g ≡ suc g = omega arith in
-        let right : right_of g ≡ suc (suc g) = omega arith in
+        let left : left_node g ≡ suc g = omega arith in
+        let right : right_node g ≡ suc (suc g) = omega arith in
         let P : List ℕ → Type 0 = λ ns. IsForkOf s u y.before y.after y.reached g ns in
-        let begins : P (left_of g ∷ right_of g ∷ []) = (
-          before_past (left_of g) (λ e. omega (arith, e)) ∙ half_left x.before ∙ ap s.left (sym before_here),
-          before_past (right_of g) (λ e. omega (arith, e)) ∙ half_right x.before ∙ ap s.right (sym before_here),
+        let begins : P (left_node g ∷ right_node g ∷ []) = (
+          before_past (left_node g) (λ e. omega (arith, e)) ∙ half_left x.before ∙ ap s.left (sym before_here),
+          before_past (right_node g) (λ e. omega (arith, e)) ∙ half_right x.before ∙ ap s.right (sym before_here),
         ) in
-        (ap s.want before_here ∙ wants, subst P (sym (fork_children t shape.rooted p st there ∙ ap (λ i. i ∷ suc (suc g) ∷ []) (sym left) ∙ ap (λ i. left_of g ∷ i ∷ []) (sym right))) begins)
+        (ap s.want before_here ∙ wants, subst P (sym (fork_children t shape.rooted p st there ∙ ap (λ i. i ∷ suc (suc g) ∷ []) (sym left) ∙ ap (λ i. left_node g ∷ i ∷ []) (sym right))) begins)
 
     are_new : AreNew s m.core.machine z.core.machine y p g
     are_new = record {

@@ -20,7 +20,7 @@ use Rattle.cw_open.proofs.Trees.{IsWell}
 use Rattle.cw_core.proofs.OneFork.{one_fork}
 use Rattle.cw_record.specs.Coherent.{InSeries, IsForkOf, IsWanted, entered}
 use Rattle.cw_record.proofs.AddedStates.{state_same, state_other}
-use Rattle.cw_sim.specs.Workers.{Simulation, left_of, right_of, changed, tree}
+use Rattle.cw_sim.specs.Workers.{Simulation, left_node, right_node, changed, tree}
 use Rattle.cw_sim.specs.Kept.{AreStanding}
 use Rattle.cw_sim.proofs.StatesKept.{AllStates, Stay, MayChange, AreNew, series_last, series_at, entered_same, states_kept}
 use Rattle.cw_sim.proofs.PlacedKept.{Elsewhere, AreHere, current_is, standing_kept}
@@ -31,17 +31,17 @@ use Rattle.cw_sim.proofs.PlacedForked.{fork_there, above_low, above_open, above_
 abbrev pub with_joined : {A : Type 0} → Strands A → Simulation A → (f : ℕ) → Simulation A
 with_joined s m f = record m {
   core = record m.core { machine = record m.core.machine { joined = f ∷ m.core.machine.joined } };
-  at = changed (strand_of (tree m) f) (s.joined (m.at (right_of f)) (m.at (left_of f))) m.at;
+  at = changed (strand_of (tree m) f) (s.joined (m.at (right_node f)) (m.at (left_node f))) m.at;
 }
 
 -- as is behind the fork, and reached in what holds it
 abbrev pub joined_states : {A : Type 0} → Strands A → Simulation A → (f : ℕ) → AllStates A → AllStates A
 joined_states s m f x =
-    let v = s.joined (m.at (right_of f)) (m.at (left_of f)) in
+    let v = s.joined (m.at (right_node f)) (m.at (left_node f)) in
     record { before = x.before; after = changed f v x.after; reached = changed (parent_of (tree m) f) v x.reached }
 
 module _ {A : Type 0} (s : Strands A) (m : Simulation A) (w : IsWell m.core.machine) (forks : (f : ℕ) → has m.core.machine.joined f ≡ true → is_fork (tree m) f ≡ true)
-    (f : ℕ) (fork : is_fork (tree m) f ≡ true) (unjoined : has m.core.machine.joined f ≡ false) (made : children (tree m) f ≡ left_of f ∷ right_of f ∷ []) (x : AllStates A) where
+    (f : ℕ) (fork : is_fork (tree m) f ≡ true) (unjoined : has m.core.machine.joined f ≡ false) (made : children (tree m) f ≡ left_node f ∷ right_node f ∷ []) (x : AllStates A) where
   abbrev t : List Node
   t = tree m
 
@@ -54,7 +54,7 @@ module _ {A : Type 0} (s : Strands A) (m : Simulation A) (w : IsWell m.core.mach
 
   -- what its strands become
   abbrev v : A
-  v = s.joined (m.at (right_of f)) (m.at (left_of f))
+  v = s.joined (m.at (right_node f)) (m.at (left_node f))
 
   abbrev z : Simulation A
   z = with_joined s m f
@@ -113,7 +113,7 @@ module _ {A : Type 0} (s : Strands A) (m : Simulation A) (w : IsWell m.core.mach
       let yes = has_f in
       cc (yes, ap (has z.core.machine.joined) one, e)
 
-  module _ (h : AreStanding s m x.before x.after x.reached) (left : x.reached (left_of f) ≡ m.at (left_of f)) (right : x.reached (right_of f) ≡ m.at (right_of f)) where
+  module _ (h : AreStanding s m x.before x.after x.reached) (left : x.reached (left_node f) ≡ m.at (left_node f)) (right : x.reached (right_node f) ≡ m.at (right_node f)) where
     abbrev elders : List ℕ
     elders = filter (is_child t p) (below f)
 
@@ -141,15 +141,15 @@ module _ {A : Type 0} (s : Strands A) (m : Simulation A) (w : IsWell m.core.mach
     -- behind the fork is what its strands become
     joins : (l r : ℕ) → children t f ≡ l ∷ r ∷ [] → y.after f ≡ s.joined (y.reached r) (y.reached l)
     joins l r kids =
-        let both : left_of f ∷ right_of f ∷ [] ≡ l ∷ r ∷ [] = sym made ∙ kids in
-        let same_l : left_of f ≡ l = cc both in
-        let same_r : right_of f ≡ r = cc both in
+        let both : left_node f ∷ right_node f ∷ [] ≡ l ∷ r ∷ [] = sym made ∙ kids in
+        let same_l : left_node f ≡ l = cc both in
+        let same_r : right_node f ≡ r = cc both in
         let low = p_low in
         let other : (n : ℕ) → f < n → y.reached n ≡ x.reached n = λ n more. state_other x.reached p v n (λ e. omega (arith, e, low)) in
         state_same x.after f v
-        ∙ ap (λ i. s.joined i (m.at (left_of f))) (sym (other (right_of f) (omega arith) ∙ right))
-        ∙ ap (s.joined (y.reached (right_of f))) (sym (other (left_of f) (omega arith) ∙ left))
-        ∙ ap (λ i. s.joined (y.reached i) (y.reached (left_of f))) same_r
+        ∙ ap (λ i. s.joined i (m.at (left_node f))) (sym (other (right_node f) (omega arith) ∙ right))
+        ∙ ap (s.joined (y.reached (right_node f))) (sym (other (left_node f) (omega arith) ∙ left))
+        ∙ ap (λ i. s.joined (y.reached i) (y.reached (left_node f))) same_r
         ∙ ap (λ i. s.joined (y.reached r) (y.reached i)) same_l
 
     none_new : (n : ℕ) → length t ≤ n → n < length t → ⊥

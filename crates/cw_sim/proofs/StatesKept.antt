@@ -14,7 +14,7 @@ use Rattle.cw_tree.specs.Nodes.{passes, is_fork_kind, is_block_kind, is_pending_
 use Rattle.cw_tree.specs.Walks.{has}
 use Rattle.cw_tree.specs.Series.{children}
 use Rattle.cw_tree.proofs.Lists.{In}
-use Rattle.cw_open.specs.Machine.{Machine, has_finished, finished_dead}
+use Rattle.cw_open.specs.Machine.{OpenMachine, has_finished, finished_dead}
 use Rattle.cw_open.specs.Open.{is_open}
 use Rattle.cw_open.proofs.NodeKinds.{at_node, not_at_node}
 use Rattle.cw_open.proofs.Standing.{open_block}
@@ -78,7 +78,7 @@ pub record AllStates (A : Type 0) : Type 0 where
   pub reached : ℕ → A
 
 -- Machine m becomes z: the nodes that were there stay, with their children and states, but in node p and behind c, a child of it.
-pub record Stay {A : Type 0} (m z : Machine) (x y : AllStates A) (p c : ℕ) : Type 0 where
+pub record Stay {A : Type 0} (m z : OpenMachine) (x y : AllStates A) (p c : ℕ) : Type 0 where
   pub longer : length m.tree ≤ length z.tree
   pub nodes : (n : ℕ) → n < length m.tree → n ≢ c → slice_get z.tree n ≡ slice_get m.tree n
   pub strands : (n : ℕ) → n < length m.tree → is_strand z.tree n ≡ is_strand m.tree n
@@ -90,7 +90,7 @@ pub record Stay {A : Type 0} (m z : Machine) (x y : AllStates A) (p c : ℕ) : T
   pub reached : (n : ℕ) → n < length m.tree → n ≢ p → y.reached n ≡ x.reached n
 
 -- Node p is open, and no fork; c is a child of it, or comes anew, and no fork that was joined.
-pub record MayChange (m : Machine) (p c : ℕ) : Type 0 where
+pub record MayChange (m : OpenMachine) (p c : ℕ) : Type 0 where
   pub well : IsWell m
   pub forks : (f : ℕ) → has m.joined f ≡ true → is_fork m.tree f ≡ true
   pub opened : is_open m p ≡ true
@@ -99,7 +99,7 @@ pub record MayChange (m : Machine) (p c : ℕ) : Type 0 where
   pub apart : has m.joined c ≡ false
 
 -- What is to be shown of node p, of c, and of nodes that come anew.
-pub record AreNew {A : Type 0} (s : Strands A) (m z : Machine) (y : AllStates A) (p c : ℕ) : Type 0 where
+pub record AreNew {A : Type 0} (s : Strands A) (m z : OpenMachine) (y : AllStates A) (p c : ℕ) : Type 0 where
   pub here : InSeries y.before y.after (entered s z.tree y.before y.after y.reached p) (children z.tree p) (y.reached p)
   pub series : (n : ℕ) → length m.tree ≤ n → n < length z.tree → (is_strand z.tree n || is_block z.tree n) ≡ true
       → InSeries y.before y.after (entered s z.tree y.before y.after y.reached n) (children z.tree n) (y.reached n)
@@ -117,7 +117,7 @@ pending_undone t = not_at_node t (λ v. is_block_kind v.kind && is_pending_state
       by Aborted e = refl
       by Committed e = absurd (cc e)
 
-module _ {A : Type 0} (s : Strands A) (m z : Machine) (x y : AllStates A) (p c : ℕ) (may : MayChange m p c) (k : Stay m z x y p c) where
+module _ {A : Type 0} (s : Strands A) (m z : OpenMachine) (x y : AllStates A) (p c : ℕ) (may : MayChange m p c) (k : Stay m z x y p c) where
   abbrev t : List Node
   t = m.tree
 

@@ -16,14 +16,14 @@ use Rattle.cw_tree.specs.Nodes.{is_fork, is_block_kind, first_state, fresh_node}
 use Rattle.cw_tree.specs.Walks.{has}
 use Rattle.cw_tree.specs.Series.{place}
 use Rattle.cw_tree.specs.Newest.{newest}
-use Rattle.cw_open.specs.Machine.{value_of, is_running, in_block, is_dying, rolls_back}
+use Rattle.cw_open.specs.Machine.{live_value, is_running, in_block, is_dying, rolls_back}
 use Rattle.cw_open.specs.Steps.{refusal}
 use Rattle.cw_open.proofs.LawsHold.{at_any}
 use Rattle.cw_open.proofs.Trees.{IsWell}
 use Rattle.cw_open.proofs.Victims.{dying_roll_back}
 use Rattle.cw_core.specs.declared.event.Event.TheVariants as event
 use Rattle.cw_core.specs.declared.event.Reply.TheVariants as reply
-use Rattle.cw_core.specs.State.{State, waits_for_left, spent}
+use Rattle.cw_core.specs.State.{CoreState, waits_for_left, spent}
 use Rattle.cw_core.specs.Events.{is_met, met_by, next}
 use Rattle.cw_core.proofs.Going.{well}
 use Rattle.cw_record.specs.Replay.{IsAccessOf}
@@ -31,7 +31,7 @@ use Rattle.cw_record.proofs.AddedStates.{state_same, state_other}
 use Rattle.cw_record.proofs.States.{DoesAs}
 use Rattle.cw_sim.specs.Workers.{Simulation, changed, tree, worker, with_strand}
 use Rattle.cw_sim.specs.Moves.{does, takes, steals, stops_if_spent, answers, meets_cell, accesses, begins, forks}
-use Rattle.cw_sim.specs.Kept.{GoesOn, HasStates}
+use Rattle.cw_sim.specs.Kept.{CoreGoesOn, HasStates}
 use Rattle.cw_sim.proofs.Leaves.{IsMore}
 use Rattle.cw_sim.proofs.Quiet.{out_more, begin_more, access_more, refused_more, roll_shut}
 use Rattle.cw_sim.proofs.StatesKept.{AllStates}
@@ -65,8 +65,8 @@ module _ {A : Type 0} (s : Strands A) where
 
 -- ## A running strand
 
-module _ {A : Type 0} (s : Strands A) (first : List ℤ) (m : Simulation A) (on : GoesOn first m.core) (held : HasStates s m) (o : ℕ) (running : is_running m.core.machine o ≡ true) (ready : waits_for_left m.core o ≡ false) where
-  abbrev k : State
+module _ {A : Type 0} (s : Strands A) (first : List ℤ) (m : Simulation A) (on : CoreGoesOn first m.core) (held : HasStates s m) (o : ℕ) (running : is_running m.core.machine o ≡ true) (ready : waits_for_left m.core o ≡ false) where
+  abbrev k : CoreState
   k = m.core
 
   abbrev p : ℕ
@@ -119,7 +119,7 @@ module _ {A : Type 0} (s : Strands A) (first : List ℤ) (m : Simulation A) (on 
       (by_leaf (at_cell c write) (Tried c) 0 (refused_more first k on o running ready c write e) a a (wants, refl) (λ e. absurd (cc e)) refl (λ n ne. refl) (λ e. absurd (cc e)) (λ n l. refl))
 
   abbrev met : (c : ℕ) → Option ℤ → Bool → Simulation A
-  met c write b = meets_cell s o write (cond b (reply.Conflict (refusal k.machine p c (met_by k o c))) (reply.Value (unwrap_or write (value_of k.machine c)))) (at_cell c write)
+  met c write b = meets_cell s o write (cond b (reply.Conflict (refusal k.machine p c (met_by k o c))) (reply.Value (unwrap_or write (live_value k.machine c)))) (at_cell c write)
 
   pub load_states : (c : ℕ) → s.want a ≡ want.Load c → HasStates s (accesses s o c None m)
   load_states c wants = by (is_met k o c) refl where
@@ -129,7 +129,7 @@ module _ {A : Type 0} (s : Strands A) (first : List ℤ) (m : Simulation A) (on 
     by : (b : Bool) → is_met k o c ≡ b → HasStates s (met c None b)
     by true e = refused_states c None e (subst P (sym wants) refl)
     by false e =
-        let v = value_of k.machine c in
+        let v = live_value k.machine c in
         by_leaf (met c None false) (Read c v) (next k) (access_more first k on o running ready c None e) (s.answer a (Value v)) a (wants, refl) (λ e. absurd (cc e)) (state_same m.at o (s.answer a (Value v)))
         (other_at (s.answer a (Value v))) (λ e. absurd (cc e)) (λ n l. refl)
 

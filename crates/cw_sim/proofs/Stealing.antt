@@ -17,14 +17,14 @@ use Rattle.cw_trace.proofs.InRange.{fork_low}
 use Rattle.cw_trace.proofs.Lines.{strong}
 use Rattle.cw_open.proofs.Named.{strand_is}
 use Rattle.cw_core.specs.declared.event.Event.TheVariants as event
-use Rattle.cw_core.specs.State.{State, has_columns, is_split}
-use Rattle.cw_core.specs.Events.{fits, after, is_early}
+use Rattle.cw_core.specs.State.{CoreState, has_columns, is_split}
+use Rattle.cw_core.specs.Events.{fits, after_event, is_early}
 use Rattle.cw_core.specs.Laws.{IsCore}
 use Rattle.cw_core.proofs.Going.{well}
 use Rattle.cw_core.proofs.Kept.{events}
 use Rattle.cw_core.proofs.PartsGrow.{none_spent}
-use Rattle.cw_sim.specs.Workers.{left_of, right_of}
-use Rattle.cw_sim.specs.Kept.{GoesOn, forks_around}
+use Rattle.cw_sim.specs.Workers.{left_node, right_node}
+use Rattle.cw_sim.specs.Kept.{CoreGoesOn, forks_around}
 use Rattle.cw_sim.proofs.After.{room_after}
 use Rattle.cw_sim.proofs.Around.{at_end, waits_around}
 use Rattle.cw_sim.proofs.Going.{none_still}
@@ -33,13 +33,13 @@ use Rattle.cw_sim.proofs.Same.{columns_same}
 use Rattle.cw_sim.proofs.Ways.{around_split, around_left, around_right}
 use Rattle.cw_sim.proofs.Workers.{has_front, has_back}
 
-module _ (first : List ℤ) (k : State) (on : GoesOn first k) (f : ℕ) (fork : is_fork k.machine.tree f ≡ true) (room : has_columns k f ≡ true) (off : is_split k f ≡ false) (outer : forks_around k (strand_of k.machine.tree f) ≡ []) (early : is_early k f ≡ None)
+module _ (first : List ℤ) (k : CoreState) (on : CoreGoesOn first k) (f : ℕ) (fork : is_fork k.machine.tree f ≡ true) (room : has_columns k f ≡ true) (off : is_split k f ≡ false) (outer : forks_around k (strand_of k.machine.tree f) ≡ []) (early : is_early k f ≡ None)
     (fit : fits k (event.Split f) ≡ true) where
   abbrev t : List Node
   t = k.machine.tree
 
-  abbrev z : State
-  z = after k (event.Split f)
+  abbrev z : CoreState
+  z = after_event k (event.Split f)
 
   tree : IsTree t
   tree = (well first k on.core).sound.tree
@@ -66,7 +66,7 @@ module _ (first : List ℤ) (k : State) (on : GoesOn first k) (f : ℕ) (fork : 
   pub other : (g : ℕ) → is_fork t g ≡ true → g ≢ f → is_split z g ≡ is_split k g
   other g e ne = split_is g ∙ ap (λ b. has_columns k g && (b || has k.splits (fork_column t g))) (ne_eqb (fork_column t f) (fork_column t g) (λ q. ne (sym (fork_column_one t f g fork e q))))
 
-  pub goes : GoesOn first z
+  pub goes : CoreGoesOn first z
   goes = record {
     core = core;
     halt = on.halt;
@@ -97,7 +97,7 @@ module _ (first : List ℤ) (k : State) (on : GoesOn first k) (f : ℕ) (fork : 
       let low = fork_low t g e in
       let le = strand_of_le t tree.rooted g low in
       let w = waits_around k tree on.forks (strand_of t g) (strand_is t tree.root g) [] gs f q in
-      let up = ancestor_le t tree.rooted (left_of f) (strand_of t g) (omega arith) w.over in
+      let up = ancestor_le t tree.rooted (left_node f) (strand_of t g) (omega arith) w.over in
       omega (arith, same)
 
   tail_of : (hs gs : List ℕ) (g : ℕ) → (f ∷ hs) ++ g ∷ [] ≡ f ∷ gs → hs ++ g ∷ [] ≡ gs
@@ -121,7 +121,7 @@ module _ (first : List ℤ) (k : State) (on : GoesOn first k) (f : ℕ) (fork : 
     below : strand_of t g < y
     below = forked_low y (omega arith) there
 
-    by_split : (b : Bool) → is_split k g ≡ b → (y ≡ left_of g) ⊎ (y ≡ right_of g) → forks_around z y ≡ gs
+    by_split : (b : Bool) → is_split k g ≡ b → (y ≡ left_node g) ⊎ (y ≡ right_node g) → forks_around z y ≡ gs
     by_split true c side = absurd (let q = around_split k tree.rooted y (omega arith) there strand c in cc (q, e))
     by_split false c (inr q) =
         let same : forks_around k (strand_of t g) ≡ f ∷ gs = sym (around_right k tree.rooted y (omega arith) there strand c (λ r. omega (arith, q, r))) ∙ e in
@@ -142,7 +142,7 @@ module _ (first : List ℤ) (k : State) (on : GoesOn first k) (f : ℕ) (fork : 
   -- ## Any other worker: f does not wait around its strand, which is not in the right strand of f
 
   abbrev Kept : ℕ → Type 0
-  Kept y = is_strand t y ≡ true → has (forks_around k y) f ≡ false → is_ancestor t (right_of f) y ≡ false → forks_around z y ≡ forks_around k y
+  Kept y = is_strand t y ≡ true → has (forks_around k y) f ≡ false → is_ancestor t (right_node f) y ≡ false → forks_around z y ≡ forks_around k y
 
   kept_step : (y : ℕ) → ((x : ℕ) → x < y → Kept x) → Kept y
   kept_step zero rest strand none apart = refl
@@ -165,14 +165,14 @@ module _ (first : List ℤ) (k : State) (on : GoesOn first k) (f : ℕ) (fork : 
     up : is_ancestor t (strand_of t g) y ≡ true
     up = let h = there in let low : g < y = tree.rooted y (omega arith) h in ancestor_up t tree.rooted (strand_of t g) y (omega arith) h (strand_over t tree.rooted g (omega arith))
 
-    off_up : is_ancestor t (right_of f) (strand_of t g) ≡ false
-    off_up = false_from_ne_true (is_ancestor t (right_of f) (strand_of t g)) (λ q. absurd (let z = ancestor_trans t tree.rooted (right_of f) (strand_of t g) y there q up in cc (z, apart)))
+    off_up : is_ancestor t (right_node f) (strand_of t g) ≡ false
+    off_up = false_from_ne_true (is_ancestor t (right_node f) (strand_of t g)) (λ q. absurd (let z = ancestor_trans t tree.rooted (right_node f) (strand_of t g) y there q up in cc (z, apart)))
 
-    by_split : (b : Bool) → is_split k g ≡ b → (y ≡ left_of g) ⊎ (y ≡ right_of g) → forks_around z y ≡ forks_around k y
+    by_split : (b : Bool) → is_split k g ≡ b → (y ≡ left_node g) ⊎ (y ≡ right_node g) → forks_around z y ≡ forks_around k y
     by_split true c side = around_split z tree.rooted y (omega arith) there strand (more g c) ∙ sym (around_split k tree.rooted y (omega arith) there strand c)
     by_split false c (inr q) =
         let was = around_right k tree.rooted y (omega arith) there strand c (λ r. omega (arith, q, r)) in
-        let ne : g ≢ f = λ r. (let P : ℕ → Type 0 = λ x. is_ancestor t x y ≡ true in let o = subst P (q ∙ ap right_of r) (ancestor_self t y) in absurd (cc (o, apart))) in
+        let ne : g ≢ f = λ r. (let P : ℕ → Type 0 = λ x. is_ancestor t x y ≡ true in let o = subst P (q ∙ ap right_node r) (ancestor_self t y) in absurd (cc (o, apart))) in
         let less : has (forks_around k (strand_of t g)) f ≡ false = sym (ap (λ ds. has ds f) was) ∙ none in
         around_right z tree.rooted y (omega arith) there strand (other g ff ne ∙ c) (λ r. omega (arith, q, r)) ∙ rest (strand_of t g) below (strand_is t tree.root g) less off_up ∙ sym was
     by_split false c (inl q) =

@@ -10,18 +10,18 @@ use Rattle.cw_trace.specs.Columns.{used}
 use Rattle.cw_trace.specs.Running.{IsUnsplit}
 use Rattle.cw_trace.specs.Stands.{fork_column}
 use Rattle.cw_trace.proofs.InRange.{strand_low}
-use Rattle.cw_open.specs.Machine.{Machine, has_finished, is_running}
+use Rattle.cw_open.specs.Machine.{OpenMachine, has_finished, is_running}
 use Rattle.cw_open.specs.Open.{is_open}
 use Rattle.cw_open.proofs.Standing.{runs, open_over}
-use Rattle.cw_core.specs.State.{State, has_columns, is_split}
+use Rattle.cw_core.specs.State.{CoreState, has_columns, is_split}
 use Rattle.cw_core.proofs.Going.{well}
 use Rattle.cw_core.proofs.Ordering.{used_columns}
-use Rattle.cw_sim.specs.Workers.{left_of, right_of}
-use Rattle.cw_sim.specs.Kept.{GoesOn}
+use Rattle.cw_sim.specs.Workers.{left_node, right_node}
+use Rattle.cw_sim.specs.Kept.{CoreGoesOn}
 use Rattle.cw_sim.proofs.Around.{Waits}
 use Rattle.cw_sim.proofs.Halves.{left_child, right_child, left_strand, strand_open}
 
-module _ (first : List ℤ) (k : State) (on : GoesOn first k) (f : ℕ) (fork : is_fork k.machine.tree f ≡ true) (off : is_split k f ≡ false) where
+module _ (first : List ℤ) (k : CoreState) (on : CoreGoesOn first k) (f : ℕ) (fork : is_fork k.machine.tree f ≡ true) (off : is_split k f ≡ false) where
   abbrev t : List Node
   t = k.machine.tree
 
@@ -38,35 +38,35 @@ module _ (first : List ℤ) (k : State) (on : GoesOn first k) (f : ℕ) (fork : 
     ])
 
   -- once something was made in its right strand, the left one is open no more
-  pub left_shut : (n : ℕ) → n < length t → is_ancestor t (right_of f) n ≡ true → n ≢ right_of f → is_open k.machine (left_of f) ≡ false
+  pub left_shut : (n : ℕ) → n < length t → is_ancestor t (right_node f) n ≡ true → n ≢ right_node f → is_open k.machine (left_node f) ≡ false
   left_shut n h over ne =
       let lc = left_child t tree on.forks f fork in
       let rc = right_child t tree on.forks f fork in
       let P : ℕ → Type 0 = λ g. is_fork t g ≡ true in
-      on.core.left_first (left_of f) (right_of f) n lc.some (omega arith) rc.there (lc.up ∙ sym rc.up) (subst P (sym rc.up) fork) (unsplit (parent_of t (right_of f)) rc.up) h over ne
+      on.core.left_first (left_node f) (right_node f) n lc.some (omega arith) rc.there (lc.up ∙ sym rc.up) (subst P (sym rc.up) fork) (unsplit (parent_of t (right_node f)) rc.up) h over ne
 
   -- and has finished
-  pub left_ended : (n : ℕ) → n < length t → is_ancestor t (right_of f) n ≡ true → n ≢ right_of f → has_finished k.machine (left_of f) ≡ true
-  left_ended n h over ne = true_from_ne_false (has_finished k.machine (left_of f)) (λ e. absurd (let a = left_shut n h over ne in let b = strand_open k.machine (left_of f) (left_strand t tree on.forks f fork) e in cc (a, b)))
+  pub left_ended : (n : ℕ) → n < length t → is_ancestor t (right_node f) n ≡ true → n ≢ right_node f → has_finished k.machine (left_node f) ≡ true
+  left_ended n h over ne = true_from_ne_false (has_finished k.machine (left_node f)) (λ e. absurd (let a = left_shut n h over ne in let b = strand_open k.machine (left_node f) (left_strand t tree on.forks f fork) e in cc (a, b)))
 
   -- while the left one is open, nothing was made in the right one
-  pub none_made : is_open k.machine (left_of f) ≡ true → (n : ℕ) → n < length t → is_ancestor t (right_of f) n ≡ true → n ≡ right_of f
-  none_made going n h over = elim (cases_eq n (right_of f)) [ inl e ↦ e | inr ne ↦ absurd (let shut = left_shut n h over ne in cc (going, shut)) ]
+  pub none_made : is_open k.machine (left_node f) ≡ true → (n : ℕ) → n < length t → is_ancestor t (right_node f) n ≡ true → n ≡ right_node f
+  none_made going n h over = elim (cases_eq n (right_node f)) [ inl e ↦ e | inr ne ↦ absurd (let shut = left_shut n h over ne in cc (going, shut)) ]
 
 -- ## A fork that waits around a running strand
 
-module _ (first : List ℤ) (k : State) (on : GoesOn first k) (y f : ℕ) (fs : List ℕ) (y_runs : is_running k.machine y ≡ true) (here : Waits k y f fs) where
-  abbrev m : Machine
+module _ (first : List ℤ) (k : CoreState) (on : CoreGoesOn first k) (y f : ℕ) (fs : List ℕ) (y_runs : is_running k.machine y ≡ true) (here : Waits k y f fs) where
+  abbrev m : OpenMachine
   m = k.machine
 
   -- its left strand is open
-  pub left_open : is_open m (left_of f) ≡ true
+  pub left_open : is_open m (left_node f) ≡ true
   left_open =
       let tree = (well first k on.core).sound.tree in
       let nested = (well first k on.core).nested in
       let run = runs m tree nested y y_runs in
-      open_over m tree nested (left_of f) y (strand_low m.tree y run.strand) here.over (strand_open m y run.strand run.unfinished)
+      open_over m tree nested (left_node f) y (strand_low m.tree y run.strand) here.over (strand_open m y run.strand run.unfinished)
 
   -- and nothing was made in its right one
-  pub none_beneath : (n : ℕ) → n < length m.tree → is_ancestor m.tree (right_of f) n ≡ true → n ≡ right_of f
+  pub none_beneath : (n : ℕ) → n < length m.tree → is_ancestor m.tree (right_node f) n ≡ true → n ≡ right_node f
   none_beneath = none_made first k on f here.fork here.split left_open

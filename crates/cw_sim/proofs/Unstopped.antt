@@ -19,16 +19,16 @@ use Rattle.cw_core.specs.State.{is_split, spent}
 use Rattle.cw_core.specs.Events.{reply_to}
 use Rattle.cw_io.specs.declared.schedule.Schedule.{Schedule}
 use Rattle.cw_serial.specs.Jobs.{Job}
-use Rattle.cw_serial.specs.Room.Strands.{strands_of}
+use Rattle.cw_serial.specs.Room.Strands.{strands_of_job}
 use Rattle.cw_record.specs.declared.record.Record.{Record}
 use Rattle.cw_record.specs.declared.record_end.RecordEnd.{RecordEnd}
 use Rattle.cw_record.specs.declared.record_end.RecordEnd.TheVariants.{Finished, Fault, Budget, Moves}
 use Rattle.cw_record.specs.Built.{memory_left, outputs_left}
 use Rattle.cw_record.specs.ClosedRun.{end_after}
-use Rattle.cw_sim.specs.Workers.{Simulation, left_of, right_of, opening, tree, worker}
+use Rattle.cw_sim.specs.Workers.{Simulation, left_node, right_node, first_simulation, tree, worker}
 use Rattle.cw_sim.specs.Turns.{worker_at}
-use Rattle.cw_sim.specs.Moves.{accesses, acts, after_moves, dies, does, finishes, follows, is_over, joins, meets, meets_cell, move, others, steals, stops_if_spent, takes, turns}
-use Rattle.cw_sim.specs.Runs.{IsRecordOf, closed_of, left_by}
+use Rattle.cw_sim.specs.Moves.{accesses, acts, after_moves, dies, does, finishes, follows, is_over, joins, meets, meets_cell, move, others, steals, stops_if_spent, takes, goes_to_right}
+use Rattle.cw_sim.specs.Runs.{IsRecordOf, closed_of, simulation_of}
 
 -- what an end tells of the moves, where it is not for want of memory
 ends_so : (t : List Node) (h : Option Halt) (root : Bool) (memory outputs : List ℤ) → (h ≡ Some halt.Memory → ⊥)
@@ -62,9 +62,9 @@ module _ {A : Type 0} where
     follows_goes w zero dead m g = g
     follows_goes w (suc x) dead m g =
         let f = parent_of (tree m) (suc x) in
-        by_test ((suc x == left_of f) && not (is_split m.core f)) _ _ (by_dead f dead) (by_both f (has_finished m.core.machine (left_of f) && has_finished m.core.machine (right_of f)))
+        by_test ((suc x == left_node f) && not (is_split m.core f)) _ _ (by_dead f dead) (by_both f (has_finished m.core.machine (left_node f) && has_finished m.core.machine (right_node f)))
       where
-        by_dead : (f : ℕ) (d : Bool) → Goes (turns s w f d m)
+        by_dead : (f : ℕ) (d : Bool) → Goes (goes_to_right s w f d m)
         by_dead f false = g
         by_dead f true = g
 
@@ -131,8 +131,8 @@ module _ {A : Type 0} where
         (λ f. z.0 (sym is.end ∙ f), λ f. is.end ∙ z.1 f)
 
 -- the record of what the moves of a job come to tells whether they were spent
-pub left_told : (job : Job) (workers : ℕ) (schedule : Schedule) (r : Record) → IsRecordOf (left_by job workers schedule) r → r.end ≡ Moves ↔ (is_over (left_by job workers schedule) ≡ false)
+pub left_told : (job : Job) (workers : ℕ) (schedule : Schedule) (r : Record) → IsRecordOf (simulation_of job workers schedule) r → r.end ≡ Moves ↔ (is_over (simulation_of job workers schedule) ≡ false)
 left_told job workers schedule r is =
-    let s = strands_of job in
-    told (left_by job workers schedule) r is
-    (moves_go s (worker_at schedule workers) job.limits.moves 0 (opening (first_memory job.program.cells) job.limits.strands job.limits.aborts workers s.start) (λ e. cc))
+    let s = strands_of_job job in
+    told (simulation_of job workers schedule) r is
+    (moves_go s (worker_at schedule workers) job.limits.moves 0 (first_simulation (first_memory job.program.cells) job.limits.strands job.limits.aborts workers s.start) (λ e. cc))

@@ -12,7 +12,7 @@ use Rattle.cw_tree.specs.Series.{place}
 use Rattle.cw_tree.specs.Newest.{newest}
 use Rattle.cw_tree.specs.Shape.{IsTree}
 use Rattle.cw_tree.proofs.There.{node_there}
-use Rattle.cw_open.specs.Machine.{Machine, has_finished, waits, is_running, is_dying, in_block, is_free}
+use Rattle.cw_open.specs.Machine.{OpenMachine, has_finished, waits, is_running, is_dying, in_block, is_free}
 use Rattle.cw_open.specs.Told.{unstopped}
 use Rattle.cw_open.proofs.Backed.{fork_child}
 use Rattle.cw_open.proofs.LawsHold.{at_any}
@@ -23,7 +23,7 @@ use Rattle.cw_core.proofs.Going.{well}
 use Rattle.cw_record.specs.Coherent.{Follows}
 use Rattle.cw_record.proofs.ClosedStrands.{follows, no_open_fork}
 use Rattle.cw_sim.specs.Workers.{Simulation}
-use Rattle.cw_sim.specs.Kept.{GoesOn, is_current, AreStanding, HasStates, IsKept}
+use Rattle.cw_sim.specs.Kept.{CoreGoesOn, is_current, AreStanding, HasStates, IsKept}
 use Rattle.cw_sim.specs.Laws.{AreStrands}
 use Rattle.cw_sim.proofs.Halves.{open_unjoined, strand_open}
 use Rattle.cw_sim.specs.HasWants.{HasWants}
@@ -48,8 +48,8 @@ pending_some t root b pending =
       | inr ne ↦ omega arith
     ]
 
-module _ {A : Type 0} (s : Strands A) (first : List ℤ) (m : Simulation A) (on : GoesOn first m.core) where
-  abbrev o : Machine
+module _ {A : Type 0} (s : Strands A) (first : List ℤ) (m : Simulation A) (on : CoreGoesOn first m.core) where
+  abbrev o : OpenMachine
   o = m.core.machine
 
   abbrev t : List Node

@@ -10,13 +10,13 @@ use Rattle.cw_open.specs.Machine.{has_finished}
 use Rattle.cw_open.specs.Times.{ReachedInTime}
 use Rattle.cw_open.specs.Told.{as_told}
 use Rattle.cw_core.specs.declared.event.Event.{Event}
-use Rattle.cw_core.specs.State.{State, start}
-use Rattle.cw_core.specs.Events.{fits, after, all_fit, after_events}
+use Rattle.cw_core.specs.State.{CoreState, start}
+use Rattle.cw_core.specs.Events.{fits, after_event, all_fit, after_events}
 use Rattle.cw_core.specs.Closing.{journals_of}
 use Rattle.cw_core.specs.Laws.{IsCore}
 use Rattle.cw_core.proofs.Kept.{lists}
 use Rattle.cw_record.specs.ClosedRun.{EndsSo, IsClosedRun}
-use Rattle.cw_sim.specs.Workers.{Worker, idle, Simulation, opening}
+use Rattle.cw_sim.specs.Workers.{Worker, idle, Simulation, first_simulation}
 use Rattle.cw_sim.specs.Moves.{is_over, move, after_moves}
 use Rattle.cw_sim.specs.Kept.{HasStates, IsKept}
 use Rattle.cw_sim.specs.Laws.{AreStrands, ComesByEvents, OpensWell, MovesFit}
@@ -27,32 +27,32 @@ use Rattle.cw_sim.proofs.Entries.{entries_kept}
 
 -- ## Events one after another
 
-fit_more : (k : State) (es fs : List Event) → all_fit k es ≡ true → all_fit (after_events k es) fs ≡ true → all_fit k (es ++ fs) ≡ true
+fit_more : (k : CoreState) (es fs : List Event) → all_fit k es ≡ true → all_fit (after_events k es) fs ≡ true → all_fit k (es ++ fs) ≡ true
 fit_more k [] fs a b = b
-fit_more k (e ∷ es) fs a b = let z = and_parts (fits k e) (all_fit (after k e) es) a in and_from (fits k e) (all_fit (after k e) (es ++ fs)) z.0 (fit_more (after k e) es fs z.1 b)
+fit_more k (e ∷ es) fs a b = let z = and_parts (fits k e) (all_fit (after_event k e) es) a in and_from (fits k e) (all_fit (after_event k e) (es ++ fs)) z.0 (fit_more (after_event k e) es fs z.1 b)
 
-after_more : (k : State) (es fs : List Event) → after_events k (es ++ fs) ≡ after_events (after_events k es) fs
+after_more : (k : CoreState) (es fs : List Event) → after_events k (es ++ fs) ≡ after_events (after_events k es) fs
 after_more k [] fs = refl
-after_more k (e ∷ es) fs = after_more (after k e) es fs
+after_more k (e ∷ es) fs = after_more (after_event k e) es fs
 
-come_more : (a b c : State) → ComesByEvents a b → ComesByEvents b c → ComesByEvents a c
+come_more : (a b c : CoreState) → ComesByEvents a b → ComesByEvents b c → ComesByEvents a c
 come_more a b c x y =
-    let P : State → Type 0 = λ k. all_fit k y.events ≡ true in
+    let P : CoreState → Type 0 = λ k. all_fit k y.events ≡ true in
     record {
       events = x.events ++ y.events;
       fit = fit_more a x.events y.events x.fit (subst P (sym x.there) y.fit);
-      there = after_more a x.events y.events ∙ ap (λ (k : State). after_events k y.events) x.there ∙ y.there;
+      there = after_more a x.events y.events ∙ ap (λ (k : CoreState). after_events k y.events) x.there ∙ y.there;
     }
 
-same_budget : (k : State) (es : List Event) → (after_events k es).budget ≡ k.budget
+same_budget : (k : CoreState) (es : List Event) → (after_events k es).budget ≡ k.budget
 same_budget k [] = refl
-same_budget k (e ∷ es) = same_budget (after k e) es
+same_budget k (e ∷ es) = same_budget (after_event k e) es
 
 -- ## The whole run
 
 module _ {A : Type 0} (s : Strands A) where
   -- what moves came to, from the core before the first
-  record IsLeft (from : State) (z : Simulation A) : Type 0 where
+  record IsLeft (from : CoreState) (z : Simulation A) : Type 0 where
     pub comes : ComesByEvents from z.core
     pub states : HasStates s z
     pub ends : GoesOrEnds s z
@@ -90,7 +90,7 @@ module _ {A : Type 0} (s : Strands A) where
   module _ (opens : OpensWell s) (moves_fit : MovesFit s)
       (states_after : (first : List ℤ) (m : Simulation A) (w : ℕ) → AreStrands s (length first) → IsKept s first m → HasStates s (move s w m))
       (as_many : (w : ℕ) (m : Simulation A) → length (move s w m).workers ≡ length m.workers) where
-    module _ (first : List ℤ) (from : State) (workers : ℕ) (turn : ℕ → ℕ) (are : AreStrands s (length first)) (turns : (n : ℕ) → turn n < workers) where
+    module _ (first : List ℤ) (from : CoreState) (workers : ℕ) (turn : ℕ → ℕ) (are : AreStrands s (length first)) (turns : (n : ℕ) → turn n < workers) where
       left : (k n : ℕ) (m : Simulation A) → ComesByEvents from m.core → IsKept s first m → length m.workers ≡ workers → is_over m ≡ false → IsLeft from (after_moves s turn k n m)
       left zero n m comes kept many off = record { comes = comes; states = kept.states; ends = inl off }
       left (suc k) n m comes kept many off = by (is_over m) off (λ a b c d. left k (suc n) (move s (turn n) m) a b c d) where
@@ -127,11 +127,11 @@ module _ {A : Type 0} (s : Strands A) where
     count workers some main = let n = length-replicate (workers - 1) idle in omega (arith, n, some)
 
     module _ (first : List ℤ) (room budget workers limit : ℕ) (turn : ℕ → ℕ) (are : AreStrands s (length first)) (some : 0 < room) (turns : (n : ℕ) → turn n < workers) where
-      abbrev from : State
+      abbrev from : CoreState
       from = start first room budget
 
       abbrev m : Simulation A
-      m = opening first room budget workers s.start
+      m = first_simulation first room budget workers s.start
 
       abbrev z : Simulation A
       z = after_moves s turn limit 0 m
@@ -144,20 +144,20 @@ module _ {A : Type 0} (s : Strands A) where
 
       -- the core that is left
       pub core_left : IsCore first z.core
-      core_left = let P : State → Type 0 = λ k. IsCore first k in subst P end.comes.there (lists first room budget end.comes.events some end.comes.fit).2
+      core_left = let P : CoreState → Type 0 = λ k. IsCore first k in subst P end.comes.there (lists first room budget end.comes.events some end.comes.fit).2
 
       run_left : IsClosedRun s first budget z.core.machine (journals_of z.core) z.core.halt (not (is_over z))
       run_left =
-          let P : State → Type 0 = λ k. ReachedInTime (as_told (λ t us w. newest us)) first k.machine in
-          let same : z.core.budget ≡ budget = sym (ap (λ (k : State). k.budget) end.comes.there) ∙ same_budget from end.comes.events in
-          let (before, after, reached, standing) = end.states in
+          let P : CoreState → Type 0 = λ k. ReachedInTime (as_told (λ t us w. newest us)) first k.machine in
+          let same : z.core.budget ≡ budget = sym (ap (λ (k : CoreState). k.budget) end.comes.there) ∙ same_budget from end.comes.events in
+          let (before, after_event, reached, standing) = end.states in
           record {
             reached = subst P end.comes.there (in_time first room budget end.comes.events some end.comes.fit);
             complete = core_left.complete;
             entries = entries_kept first z.core core_left;
             states = (
               before,
-              after,
+              after_event,
               reached,
               standing.states,
               elim end.ends [

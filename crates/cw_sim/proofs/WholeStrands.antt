@@ -4,8 +4,8 @@ use Rattle.cw_strand.specs.declared.want.Want.{Want}
 use Rattle.cw_strand.specs.declared.want.Want.TheVariants.{Load, Store}
 use Rattle.cw_strand.specs.Names.{first_memory}
 use Rattle.cw_strand.specs.Programs.{IsCompiled}
-use Rattle.cw_serial.specs.Jobs.{Job, Takes}
-use Rattle.cw_serial.specs.Room.Strands.{strands_of}
+use Rattle.cw_serial.specs.Jobs.{Job, TakesWords}
+use Rattle.cw_serial.specs.Room.Strands.{strands_of_job}
 use Rattle.cw_serial.proofs.Room.Elements.{NamesThere, wants_there}
 use Rattle.cw_serial.proofs.Room.Lawful.{deep_of, closes_of}
 use Rattle.cw_sim.specs.Laws.{NamesCell, AreStrands}
@@ -15,8 +15,8 @@ names_cell k (Load c) h = h
 names_cell k (Store c v) h = h
 names_cell k w h = tt
 
-pub strands_lawful : (job : Job) → IsCompiled job.program → Takes job.program (length job.words) → AreStrands (strands_of job) (length (first_memory job.program.cells))
+pub strands_lawful : (job : Job) → IsCompiled job.program → TakesWords job.program (length job.words) → AreStrands (strands_of_job job) (length (first_memory job.program.cells))
 strands_lawful job compiled takes = record {
   lawful = record { deep = deep_of job; closes = closes_of job compiled takes };
-  named = λ own a reached. names_cell (length (first_memory job.program.cells)) ((strands_of job).want a) (wants_there job compiled own a reached);
+  named = λ own a reached. names_cell (length (first_memory job.program.cells)) ((strands_of_job job).want a) (wants_there job compiled own a reached);
 }

@@ -3,7 +3,7 @@ use Rattle.std.proofs.Common.{◌≡◌, ◌≢◌, ℕ, zero, suc, ◌<◌, ◌
 use Rattle.std.specs.Prelude.{slice_set}
 use Rattle.std.proofs.lemmas.Bool.{cases_eq, or_cases, or_left, or_right, eqb-true}
 use Rattle.cw_tree.specs.Walks.{has}
-use Rattle.cw_core.specs.State.{State}
+use Rattle.cw_core.specs.State.{CoreState}
 use Rattle.cw_sim.specs.Workers.{Worker, idle, waiting, worker_in}
 use Rattle.cw_sim.specs.Kept.{Runs, IsIdle, Fits, AreWorkers}
 
@@ -36,11 +36,11 @@ pub set_run : (ws : List Worker) (w : ℕ) (x : Worker) (r : Option ℕ) → w <
 set_run ws w x r h = ap (λ v. slice_set (slice_set ws w x) w (record v { runs = r })) (worker_here ws w x h) ∙ set_twice ws w x (record x { runs = r })
 
 -- a worker that runs a strand fits it
-pub runs_in : (k : State) (ws : List Worker) (w x : ℕ) → AreWorkers k ws → (worker_in ws w).runs ≡ Some x → Runs k (worker_in ws w) x
+pub runs_in : (k : CoreState) (ws : List Worker) (w x : ℕ) → AreWorkers k ws → (worker_in ws w).runs ≡ Some x → Runs k (worker_in ws w) x
 runs_in k ws w x old e = let P : Option ℕ → Type 0 = λ r. Fits k (worker_in ws w) r in subst P e (old.fit w)
 
 -- and nothing waits in an idle one
-pub idle_in : (k : State) (ws : List Worker) (w : ℕ) → AreWorkers k ws → (worker_in ws w).runs ≡ None → IsIdle (worker_in ws w)
+pub idle_in : (k : CoreState) (ws : List Worker) (w : ℕ) → AreWorkers k ws → (worker_in ws w).runs ≡ None → IsIdle (worker_in ws w)
 idle_in k ws w old e = let P : Option ℕ → Type 0 = λ r. Fits k (worker_in ws w) r in subst P e (old.fit w)
 
 -- what waits in a list waits in it and one behind
@@ -82,7 +82,7 @@ module _ (ws : List Worker) (w : ℕ) (x : Worker) (h : w < length ws) where
   ]
 
   -- workers fit another core, where each does that is as it was, and the new one does
-  pub workers_after : (k z : State) → AreWorkers k ws → ((v : ℕ) → v ≢ w → Fits z (worker_in ws v) (worker_in ws v).runs) → Fits z x x.runs → ((v y : ℕ) → v ≢ w → x.runs ≡ Some y → (worker_in ws v).runs ≡ Some y → ⊥)
+  pub workers_after : (k z : CoreState) → AreWorkers k ws → ((v : ℕ) → v ≢ w → Fits z (worker_in ws v) (worker_in ws v).runs) → Fits z x x.runs → ((v y : ℕ) → v ≢ w → x.runs ≡ Some y → (worker_in ws v).runs ≡ Some y → ⊥)
       → ((v f : ℕ) → v ≢ w → has (waiting x) f ≡ true → has (waiting (worker_in ws v)) f ≡ true → ⊥) → AreWorkers z vs
   workers_after k z old others new runs waits = record {
     fit = λ v. (let P : Worker → Type 0 = λ y. Fits z y y.runs in elim (cases_eq v w) [

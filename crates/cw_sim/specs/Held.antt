@@ -13,15 +13,15 @@ use Rattle.cw_open.specs.Machine.{has_finished, waits, is_running, is_dying, in_
 use Rattle.cw_core.specs.declared.event.Event.TheVariants as event
 use Rattle.cw_core.specs.Events.{fits}
 use Rattle.cw_core.specs.Laws.{IsCore}
-use Rattle.cw_core.specs.State.{State, is_split, waits_for_left}
+use Rattle.cw_core.specs.State.{CoreState, is_split, waits_for_left}
 use Rattle.cw_serial.specs.declared.standing.Standing.{Standing}
 use Rattle.cw_serial.specs.Jobs.{Job}
-use Rattle.cw_serial.specs.Room.Strands.{StrandState, strands_of, state_of, IsOf}
+use Rattle.cw_serial.specs.Room.Strands.{StrandState, strands_of_job, state_of, IsOf}
 use Rattle.cw_serial.specs.Room.Saves.{IsSavedOf, StandsAs}
-use Rattle.cw_sim.specs.Workers.{Simulation, left_of, right_of, tree, worker, changed, opening}
+use Rattle.cw_sim.specs.Workers.{Simulation, left_node, right_node, tree, worker, changed, first_simulation}
 use Rattle.cw_sim.specs.Moves.{answers}
-use Rattle.cw_sim.specs.Runs.{left_by}
-use Rattle.cw_sim.specs.Kept.{is_current, AreWorkers, GoesOn}
+use Rattle.cw_sim.specs.Runs.{simulation_of}
+use Rattle.cw_sim.specs.Kept.{is_current, AreWorkers, CoreGoesOn}
 use Rattle.cw_sim.specs.HasWants.{HasWants}
 use Rattle.cw_sim.specs.Inside.{HasInside, goes_back}
 use Rattle.cw_sim.specs.HeldThings.{thing_at}
@@ -43,10 +43,10 @@ pub record Seen : Type 0 where
   pub there : ℕ → StrandState
 
 abbrev pub law_of : Seen → Strands StrandState
-law_of z = strands_of z.job
+law_of z = strands_of_job z.job
 
 -- a strand has a body while its own fork is not joined, but while it waits for one that it made
-abbrev pub has_body : State → ℕ → Bool
+abbrev pub has_body : CoreState → ℕ → Bool
 has_body k x = is_current k x && not (waits k.machine x)
 
 -- This is the body of strand x: it stands there, whatever it spent and counted, and where it does not go back it is the strand itself.
@@ -55,7 +55,7 @@ pub record IsBody (z : Seen) (x : ℕ) (body : Standing) : Type 0 where
   pub at : goes_back z.m.core.machine x ≡ false → state_of body ≡ z.m.at x
   pub like : StandsAs (state_of body) (z.there x)
 
-pub record Stands (c : InMemory) (z : Seen) : Type 0 where
+pub record StandsFor (c : InMemory) (z : Seen) : Type 0 where
   pub job : job_of c.task ≡ z.job
   pub core : c.core ≡ z.m.core
   pub is_core : IsCore z.m.core.machine.first z.m.core
@@ -66,14 +66,14 @@ pub record Stands (c : InMemory) (z : Seen) : Type 0 where
 
 -- it stands for this simulation of the same job now, in which bodies stand somewhere inside their blocks
 abbrev pub Comes : InMemory → Seen → Simulation StrandState → Type 0
-Comes c z m = (there : ℕ → StrandState) × (Stands c (record z { m = m; there = there }) × HasInside (law_of z) m there)
+Comes c z m = (there : ℕ → StrandState) × (StandsFor c (record z { m = m; there = there }) × HasInside (law_of z) m there)
 
 -- ## What the rules ask
 
 -- between any two events of a move
 pub record IsSteady (c : InMemory) (z : Seen) : Type 0 where
-  pub stands : Stands c z
-  pub core : GoesOn z.m.core.machine.first z.m.core
+  pub stands : StandsFor c z
+  pub core : CoreGoesOn z.m.core.machine.first z.m.core
   pub inside : HasInside (law_of z) z.m z.there
 
 -- between two moves, and worker w is there
@@ -121,7 +121,7 @@ pub record MayRoll (c : InMemory) (x : ℕ) (z : Seen) : Type 0 where
 
 -- its want was met, and its body is to be told
 pub record MayAnswer (c : InMemory) (x : ℕ) (z : Seen) : Type 0 where
-  pub stands : Stands c z
+  pub stands : StandsFor c z
   pub body : has_body z.m.core x ≡ true
   pub alive : goes_back z.m.core.machine x ≡ false
 
@@ -165,14 +165,14 @@ pub record MayMeet (c : InMemory) (w f : ℕ) (z : Seen) : Type 0 where
 -- both strands of the fork have finished
 pub record MayJoin (c : InMemory) (w f : ℕ) (z : Seen) : Type 0 where
   pub meet : MayMeet c w f z
-  pub left : has_finished z.m.core.machine (left_of f) ≡ true
-  pub right : has_finished z.m.core.machine (right_of f) ≡ true
+  pub left : has_finished z.m.core.machine (left_node f) ≡ true
+  pub right : has_finished z.m.core.machine (right_node f) ≡ true
 
 -- the left strand has finished dead: so may the right one, which stands before its first step
 pub record IsDead (z : Seen) (f : ℕ) : Type 0 where
-  pub left : has_finished z.m.core.machine (left_of f) ≡ true
-  pub fits : fits z.m.core (event.Finish (right_of f) true) ≡ true
-  pub stays : Wants z (right_of f) End → ⊥
+  pub left : has_finished z.m.core.machine (left_node f) ≡ true
+  pub fits : fits z.m.core (event.Finish (right_node f) true) ≡ true
+  pub stays : Wants z (right_node f) End → ⊥
 
 -- the left strand has finished, dead or not, and the right one is still to be started by worker w
 pub record MayTurn (c : InMemory) (w f : ℕ) (dead : Bool) (z : Seen) : Type 0 where
@@ -186,16 +186,16 @@ pub record HasFinished (c : InMemory) (w x : ℕ) (dead : Bool) (z : Seen) : Typ
   pub there : w < length z.m.workers
   pub strand : is_strand (tree z.m) x ≡ true
   pub meet : 0 < x → MayMeet c w (parent_of (tree z.m) x) z
-  pub turn : 0 < x → x ≡ left_of (parent_of (tree z.m) x) → is_split z.m.core (parent_of (tree z.m) x) ≡ false → MayTurn c w (parent_of (tree z.m) x) dead z
+  pub turn : 0 < x → x ≡ left_node (parent_of (tree z.m) x) → is_split z.m.core (parent_of (tree z.m) x) ≡ false → MayTurn c w (parent_of (tree z.m) x) dead z
 
 -- ## The run
 
 -- before the first move
 abbrev pub opened : Job → ℕ → Seen
 opened job workers =
-    let start = (strands_of job).start in
-    record { job = job; m = opening (first_memory job.program.cells) job.limits.strands job.limits.aborts workers start; there = λ x. start }
+    let start = (strands_of_job job).start in
+    record { job = job; m = first_simulation (first_memory job.program.cells) job.limits.strands job.limits.aborts workers start; there = λ x. start }
 
 -- it stands for what the moves of so many workers come to
 abbrev pub Ends : InMemory → Job → (workers : ℕ) → Schedule → Type 0
-Ends c job workers schedule = (there : ℕ → StrandState) × Stands c (record { job = job; m = left_by job workers schedule; there = there })
+Ends c job workers schedule = (there : ℕ → StrandState) × StandsFor c (record { job = job; m = simulation_of job workers schedule; there = there })

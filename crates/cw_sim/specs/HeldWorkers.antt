@@ -13,8 +13,8 @@ abbrev pub workers_of : List InMemory → List Worker
 workers_of ws = map worker_of ws
 
 -- the workers after w, round and round, of so many
-abbrev pub after : (w count : ℕ) → List ℕ
-after w count = map (λ i. (w + suc i) % count) (below (count - 1))
+abbrev pub workers_next : (w count : ℕ) → List ℕ
+workers_next w count = map (λ i. (w + suc i) % count) (below (count - 1))
 
 -- the first of these whose deque is not empty
 abbrev pub first_with_forks : List Worker → List ℕ → Option ℕ

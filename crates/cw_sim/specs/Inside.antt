@@ -7,24 +7,24 @@ use Rattle.cw_tree.specs.declared.node.Node.{Node}
 use Rattle.cw_tree.specs.Nodes.{parent_of, is_strand, is_fork, is_pending}
 use Rattle.cw_tree.specs.Walks.{has}
 use Rattle.cw_tree.specs.Series.{strand_of}
-use Rattle.cw_open.specs.Machine.{Machine, has_finished, finished_dead, waits, is_dying}
-use Rattle.cw_sim.specs.Workers.{Simulation, right_of}
+use Rattle.cw_open.specs.Machine.{OpenMachine, has_finished, finished_dead, waits, is_dying}
+use Rattle.cw_sim.specs.Workers.{Simulation, right_node}
 
 -- ## Strands
 
 -- strand z is y itself, or, where y is the right strand of a fork, so to the strand that forked: so many forks up
 abbrev pub IsRightOf : List Node → (forks y z : ℕ) → Type 0
 IsRightOf t zero y z = y ≡ z
-IsRightOf t (suc n) y z = (f : ℕ) × ((is_fork t f ≡ true) × ((y ≡ right_of f) × IsRightOf t n (strand_of t f) z))
+IsRightOf t (suc n) y z = (f : ℕ) × ((is_fork t f ≡ true) × ((y ≡ right_node f) × IsRightOf t n (strand_of t f) z))
 
 -- the strand's own fork, if it has one, is not joined, and all that it made are
-pub record Stands (m : Machine) (y : ℕ) : Type 0 where
+pub record HasOneOpenFork (m : OpenMachine) (y : ℕ) : Type 0 where
   pub strand : is_strand m.tree y ≡ true
   pub apart : 0 < y → has m.joined (parent_of m.tree y) ≡ false
   pub alone : waits m y ≡ false
 
 -- it is on its way back, or gave up there
-abbrev pub goes_back : Machine → ℕ → Bool
+abbrev pub goes_back : OpenMachine → ℕ → Bool
 goes_back m y = is_dying m y || finished_dead m y
 
 -- ## Where they stand
@@ -45,11 +45,11 @@ module _ {A : Type 0} (s : Strands A) where
 
   -- Each strand that stands is inside each pending block that was begun in it, or where it comes from as a right strand, and does not want
   -- the block's own end where it goes back. A strand that goes back is there where its body stands.
-  pub record AreInside (m : Machine) (at saved there : ℕ → A) : Type 0 where
-    pub same : (y : ℕ) → Stands m y → goes_back m y ≡ false → there y ≡ at y
-    pub lives : (y b n : ℕ) → Stands m y → goes_back m y ≡ false → is_pending m.tree b ≡ true → IsRightOf m.tree n y (strand_of m.tree b)
+  pub record AreInside (m : OpenMachine) (at saved there : ℕ → A) : Type 0 where
+    pub same : (y : ℕ) → HasOneOpenFork m y → goes_back m y ≡ false → there y ≡ at y
+    pub lives : (y b n : ℕ) → HasOneOpenFork m y → goes_back m y ≡ false → is_pending m.tree b ≡ true → IsRightOf m.tree n y (strand_of m.tree b)
         → LivesIn (has_finished m y) (saved b) n (at y)
-    pub back : (y b n : ℕ) → Stands m y → goes_back m y ≡ true → is_pending m.tree b ≡ true → IsRightOf m.tree n y (strand_of m.tree b) → GoesBackIn (saved b) (there y)
+    pub back : (y b n : ℕ) → HasOneOpenFork m y → goes_back m y ≡ true → is_pending m.tree b ≡ true → IsRightOf m.tree n y (strand_of m.tree b) → GoesBackIn (saved b) (there y)
     -- so is the begin of a pending block inside those around it
     pub blocks : (q b n : ℕ) → is_pending m.tree q ≡ true → is_pending m.tree b ≡ true → IsRightOf m.tree n (strand_of m.tree q) (strand_of m.tree b) → (n ≡ 0 → b < q)
         → (inner : ℕ) × Inside s (saved b) n inner (saved q)

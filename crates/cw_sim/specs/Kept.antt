@@ -6,46 +6,46 @@ use Rattle.cw_tree.specs.Walks.{has}
 use Rattle.cw_tree.specs.Series.{strand_of, children, place}
 use Rattle.cw_tree.specs.Names.{strands_on}
 use Rattle.cw_open.specs.Machine.{has_finished, waits, is_running}
-use Rattle.cw_core.specs.State.{State, is_split, has_columns, waits_for_left, spent}
+use Rattle.cw_core.specs.State.{CoreState, is_split, has_columns, waits_for_left, spent}
 use Rattle.cw_core.specs.Laws.{IsCore}
 use Rattle.cw_record.specs.ClosedRun.{AreStates}
-use Rattle.cw_sim.specs.Workers.{Worker, Simulation, waiting, left_of, right_of, tree, worker_in}
+use Rattle.cw_sim.specs.Workers.{Worker, Simulation, waiting, left_node, right_node, tree, worker_in}
 
 -- ## Forks that wait
 
 -- Of strands on the way up from one, innermost first: the forks in whose left strands it stands, outermost first. The way ends with the head
 -- of its trace, whose fork is split.
-abbrev pub lefts : State → List ℕ → List ℕ
+abbrev pub lefts : CoreState → List ℕ → List ℕ
 lefts k [] = []
 lefts k (y ∷ ys) =
     let f = parent_of k.machine.tree y in
-    if is_split k f then [] else if y == left_of f then lefts k ys ++ f ∷ [] else lefts k ys
+    if is_split k f then [] else if y == left_node f then lefts k ys ++ f ∷ [] else lefts k ys
 
 -- the forks that are not split in whose left strands strand x stands, within its trace, outermost first
-abbrev pub forks_around : State → ℕ → List ℕ
+abbrev pub forks_around : CoreState → ℕ → List ℕ
 forks_around k x = lefts k (strands_on k.machine.tree x)
 
 -- Worker w runs strand x: it may go on, and what waits in w are just the forks around it. Those that are inline are inside all others.
-pub record Runs (k : State) (w : Worker) (x : ℕ) : Type 0 where
+pub record Runs (k : CoreState) (w : Worker) (x : ℕ) : Type 0 where
   pub running : is_running k.machine x ≡ true
   pub ready : waits_for_left k x ≡ false
   pub forks : waiting w ≡ forks_around k x
   pub deque : (f : ℕ) → has w.deque f ≡ true → has_columns k f ≡ true
   pub inline : (f : ℕ) → has w.inline f ≡ true → has_columns k f ≡ false
   -- their right strands are still to be started
-  pub to_come : (f : ℕ) → has (waiting w) f ≡ true → has_finished k.machine (right_of f) ≡ false
+  pub to_come : (f : ℕ) → has (waiting w) f ≡ true → has_finished k.machine (right_node f) ≡ false
 
 -- nothing waits in an idle worker
 pub record IsIdle (w : Worker) : Type 0 where
   pub deque : w.deque ≡ []
   pub inline : w.inline ≡ []
 
-abbrev pub Fits : State → Worker → Option ℕ → Type 0
+abbrev pub Fits : CoreState → Worker → Option ℕ → Type 0
 Fits k w None = IsIdle w
 Fits k w (Some x) = Runs k w x
 
 -- the workers fit the core, run different strands, and no fork waits in two of them
-pub record AreWorkers (k : State) (ws : List Worker) : Type 0 where
+pub record AreWorkers (k : CoreState) (ws : List Worker) : Type 0 where
   pub fit : (w : ℕ) → Fits k (worker_in ws w) (worker_in ws w).runs
   pub apart : (v w x : ℕ) → (worker_in ws v).runs ≡ Some x → (worker_in ws w).runs ≡ Some x → v ≡ w
   pub once : (v w f : ℕ) → has (waiting (worker_in ws v)) f ≡ true → has (waiting (worker_in ws w)) f ≡ true → v ≡ w
@@ -53,19 +53,19 @@ pub record AreWorkers (k : State) (ws : List Worker) : Type 0 where
 -- ## The core
 
 -- it goes on, and its forks are as they were made
-pub record GoesOn (first : List ℤ) (k : State) : Type 0 where
+pub record CoreGoesOn (first : List ℤ) (k : CoreState) : Type 0 where
   pub core : IsCore first k
   pub halt : k.halt ≡ None
   pub spent : spent k ≡ None
   pub stopped : k.machine.stopped ≡ []
-  pub forks : (f : ℕ) → is_fork k.machine.tree f ≡ true → children k.machine.tree f ≡ left_of f ∷ right_of f ∷ []
+  pub forks : (f : ℕ) → is_fork k.machine.tree f ≡ true → children k.machine.tree f ≡ left_node f ∷ right_node f ∷ []
   -- forks are split from the outside
   pub outside : (f : ℕ) → is_fork k.machine.tree f ≡ true → has k.machine.joined f ≡ false → is_split k f ≡ true → forks_around k (strand_of k.machine.tree f) ≡ []
 
 -- ## Where strands stand
 
 -- the strand's own fork, if it has one, is not joined
-abbrev pub is_current : State → ℕ → Bool
+abbrev pub is_current : CoreState → ℕ → Bool
 is_current k zero = true
 is_current k (suc x) = is_strand k.machine.tree (suc x) && not (has k.machine.joined (parent_of k.machine.tree (suc x)))
 
@@ -86,6 +86,6 @@ module _ {A : Type 0} (s : Strands A) where
   -- ## The whole
 
   pub record IsKept (first : List ℤ) (m : Simulation A) : Type 0 where
-    pub core : GoesOn first m.core
+    pub core : CoreGoesOn first m.core
     pub workers : AreWorkers m.core m.workers
     pub states : HasStates m

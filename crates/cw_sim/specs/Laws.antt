@@ -4,10 +4,10 @@ use Rattle.cw_strand.specs.declared.want.Want.{Want}
 use Rattle.cw_strand.specs.declared.want.Want.TheVariants.{Load, Store}
 use Rattle.cw_strand.specs.Strands.{Strands, Reached, IsLawful}
 use Rattle.cw_core.specs.declared.event.Event.{Event}
-use Rattle.cw_core.specs.State.{State, is_split}
+use Rattle.cw_core.specs.State.{CoreState, is_split}
 use Rattle.cw_core.specs.Events.{is_early, all_fit, after_events}
 use Rattle.cw_tree.specs.Nodes.{is_fork}
-use Rattle.cw_sim.specs.Workers.{Worker, Simulation, waiting, left_of, tree, worker, opening}
+use Rattle.cw_sim.specs.Workers.{Worker, Simulation, waiting, left_node, tree, worker, first_simulation}
 use Rattle.cw_sim.specs.Moves.{is_over, move}
 use Rattle.cw_sim.specs.Kept.{IsKept}
 
@@ -23,7 +23,7 @@ pub record AreStrands {A : Type 0} (s : Strands A) (cells : ℕ) : Type 0 where
   pub named : (own : List ℕ) (a : A) → Reached s own a → NamesCell cells (s.want a)
 
 -- one state of the core comes of another by events, each of which fits where it comes
-pub record ComesByEvents (from to : State) : Type 0 where
+pub record ComesByEvents (from to : CoreState) : Type 0 where
   pub events : List Event
   pub fit : IsTrue (all_fit from events)
   pub there : after_events from events ≡ to
@@ -33,7 +33,7 @@ pub record ComesByEvents (from to : State) : Type 0 where
 module _ {A : Type 0} (s : Strands A) where
   -- Before the first move all is kept.
   abbrev pub OpensWell : Type 0
-  OpensWell = (first : List ℤ) (room budget workers : ℕ) → 0 < room → IsKept s first (opening first room budget workers s.start)
+  OpensWell = (first : List ℤ) (room budget workers : ℕ) → 0 < room → IsKept s first (first_simulation first room budget workers s.start)
 
   -- Every event that a move makes fits, and while the run is not over all is kept.
   abbrev pub MovesFit : Type 0
@@ -48,11 +48,11 @@ module _ {A : Type 0} (s : Strands A) where
   NoneIsEarly = (first : List ℤ) (m : Simulation A) (w f : ℕ) (fs : List ℕ) → IsKept s first m → (worker m w).deque ≡ f ∷ fs → is_early m.core f ≡ None
 
   -- The newest fork that waits in a worker, in its deque or inline.
-  abbrev pub IsNewest : Worker → ℕ → Type 0
-  IsNewest w f = (fs : List ℕ) × (waiting w ≡ fs ++ f ∷ [])
+  abbrev pub IsNewestWaiting : Worker → ℕ → Type 0
+  IsNewestWaiting w f = (fs : List ℕ) × (waiting w ≡ fs ++ f ∷ [])
 
   -- The fork of a left strand that was not split is the newest that waits in the worker that runs the strand.
   abbrev pub ForksAreThere : Type 0
   ForksAreThere =
-      (first : List ℤ) (m : Simulation A) (w f : ℕ) → IsKept s first m → is_fork (tree m) f ≡ true → (worker m w).runs ≡ Some (left_of f) → is_split m.core f ≡ false
-      → IsNewest (worker m w) f
+      (first : List ℤ) (m : Simulation A) (w f : ℕ) → IsKept s first m → is_fork (tree m) f ≡ true → (worker m w).runs ≡ Some (left_node f) → is_split m.core f ≡ false
+      → IsNewestWaiting (worker m w) f

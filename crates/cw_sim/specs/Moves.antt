@@ -15,8 +15,8 @@ use Rattle.cw_core.specs.declared.event.Event.TheVariants as event
 use Rattle.cw_core.specs.declared.event.Reply.{Reply}
 use Rattle.cw_core.specs.declared.event.Reply.TheVariants as reply
 use Rattle.cw_core.specs.State.{is_split, spent}
-use Rattle.cw_core.specs.Events.{after, reply_to, may_fork}
-use Rattle.cw_sim.specs.Workers.{Simulation, left_of, right_of, changed, with_fork, tree, worker, with_strand, with_worker, with_run}
+use Rattle.cw_core.specs.Events.{after_event, reply_to, may_fork}
+use Rattle.cw_sim.specs.Workers.{Simulation, left_node, right_node, changed, with_fork, tree, worker, with_strand, with_worker, with_run}
 
 -- a read is given the value, a write nothing
 abbrev pub given_for : Option ℤ → ℤ → Given
@@ -26,7 +26,7 @@ given_for (Some written) v = Nothing
 module _ {A : Type 0} where
   -- an event of the core
   abbrev pub does : Event → Simulation A → Simulation A
-  does e m = record m { core = after m.core e }
+  does e m = record m { core = after_event m.core e }
 
   -- a halt, or the end of main
   abbrev pub is_over : Simulation A → Bool
@@ -40,7 +40,7 @@ module _ {A : Type 0} where
 
   -- Worker w takes fork f from worker v: it is split, and its right strand is w's.
   abbrev pub takes : (w v f : ℕ) → List ℕ → Simulation A → Simulation A
-  takes w v f rest m = with_run w (Some (right_of f)) (with_worker v (record (worker m v) { deque = rest }) (does (event.Split f) m))
+  takes w v f rest m = with_run w (Some (right_node f)) (with_worker v (record (worker m v) { deque = rest }) (does (event.Split f) m))
 
   -- the first of these workers whose deque is not empty gives its oldest fork; where there is none, nothing happens
   abbrev pub steals : ℕ → List ℕ → Simulation A → Simulation A
@@ -60,13 +60,13 @@ module _ {A : Type 0} where
     abbrev pub joins : (w f : ℕ) → Simulation A → Simulation A
     joins w f m =
         let p = strand_of (tree m) f in
-        with_run w (Some p) (with_strand p (s.joined (m.at (right_of f)) (m.at (left_of f))) (does (event.Join f) m))
+        with_run w (Some p) (with_strand p (s.joined (m.at (right_node f)) (m.at (left_node f))) (does (event.Join f) m))
 
     -- The left strand of fork f has finished, and its right one waits in worker w. After a live one w goes on with the right one; after a
     -- dead one the right one finishes dead too, and they join.
-    abbrev pub turns : (w f : ℕ) → (dead : Bool) → Simulation A → Simulation A
-    turns w f false m = with_run w (Some (right_of f)) (takes_back w f m)
-    turns w f true m = joins w f (does (event.Finish (right_of f) true) (takes_back w f m))
+    abbrev pub goes_to_right : (w f : ℕ) → (dead : Bool) → Simulation A → Simulation A
+    goes_to_right w f false m = with_run w (Some (right_node f)) (takes_back w f m)
+    goes_to_right w f true m = joins w f (does (event.Finish (right_node f) true) (takes_back w f m))
 
     -- one of the strands of fork f has finished: they join where the other one has too, and else worker w is idle
     abbrev pub meets : (w f : ℕ) → (both : Bool) → Simulation A → Simulation A
@@ -78,9 +78,9 @@ module _ {A : Type 0} where
     follows w zero dead m = with_run w None m
     follows w (suc x) dead m =
         let f = parent_of (tree m) (suc x) in
-        if (suc x == left_of f) && not (is_split m.core f)
-        then turns w f dead m
-        else meets w f (has_finished m.core.machine (left_of f) && has_finished m.core.machine (right_of f)) m
+        if (suc x == left_node f) && not (is_split m.core f)
+        then goes_to_right w f dead m
+        else meets w f (has_finished m.core.machine (left_node f) && has_finished m.core.machine (right_node f)) m
 
     abbrev pub finishes : (w x : ℕ) → (dead : Bool) → Simulation A → Simulation A
     finishes w x dead m = follows w x dead (does (event.Finish x dead) m)
@@ -119,8 +119,8 @@ module _ {A : Type 0} where
     abbrev pub forks : (w x : ℕ) → Simulation A → Simulation A
     forks w x m =
         let f = length (tree m) in
-        let n = with_strand (left_of f) (s.left (m.at x)) (with_strand (right_of f) (s.right (m.at x)) (does (event.Fork x) m)) in
-        with_worker w (record (with_fork (may_fork m.core) f (worker m w)) { runs = Some (left_of f) }) n
+        let n = with_strand (left_node f) (s.left (m.at x)) (with_strand (right_node f) (s.right (m.at x)) (does (event.Fork x) m)) in
+        with_worker w (record (with_fork (may_fork m.core) f (worker m w)) { runs = Some (left_node f) }) n
 
     abbrev pub acts : (w x : ℕ) → Want → Simulation A → Simulation A
     acts w x (want.Load c) m = accesses x c None m

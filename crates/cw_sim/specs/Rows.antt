@@ -13,13 +13,13 @@ use Rattle.cw_strand.specs.Running.{Standing}
 use Rattle.cw_strand.specs.Coded as coded
 use Rattle.cw_strand.specs.Laws.{compiled}
 use Rattle.cw_strand.specs.Rows as sources
-use Rattle.cw_open.specs.Machine.{value_of, has_finished, waits}
+use Rattle.cw_open.specs.Machine.{live_value, has_finished, waits}
 use Rattle.cw_io.specs.declared.schedule.Schedule.TheVariants.{List as Listed, Seeded}
 use Rattle.cw_record.specs.declared.record_end.RecordEnd.TheVariants as ends
 use Rattle.cw_record.specs.declared.items.OrderItem.TheVariants.{Begins}
 use Rattle.cw_record.specs.Items.{items}
-use Rattle.cw_record.specs.Coherent.{shown}
-use Rattle.cw_sim.specs.Workers.{Simulation, tree, opening}
+use Rattle.cw_record.specs.Coherent.{outputs_shown}
+use Rattle.cw_sim.specs.Workers.{Simulation, tree, first_simulation}
 use Rattle.cw_sim.specs.Turns.{worker_at}
 use Rattle.cw_sim.specs.Moves.{is_over, after_moves}
 
@@ -41,10 +41,10 @@ abbrev pub ran : List ℕ → (workers : ℕ) → List ℕ → Limits → Simula
 ran text workers list most =
     let ds = sources.tree text in
     let s = compiled ds [] most in
-    after_moves s (worker_at (Listed list) workers) most.moves 0 (opening (first_memory (cells_of ds)) most.strands most.aborts workers s.start)
+    after_moves s (worker_at (Listed list) workers) most.moves 0 (first_simulation (first_memory (cells_of ds)) most.strands most.aborts workers s.start)
 
 -- what is looked at
-pub record Seen : Type 0 where
+pub record SeenRow : Type 0 where
   pub halt : Option Halt
   pub finished : Bool
   pub memory : List ℤ
@@ -52,22 +52,22 @@ pub record Seen : Type 0 where
   pub clock : ℕ
   pub conflicts : List Conflict
 
-abbrev pub seen : {A : Type 0} → Simulation A → Seen
+abbrev pub seen : {A : Type 0} → Simulation A → SeenRow
 seen m = record {
   halt = m.core.halt;
   finished = has_finished m.core.machine 0;
-  memory = map (value_of m.core.machine) (below (length m.core.machine.first));
-  outputs = shown (tree m) (items (tree m) m.core.machine.conflicts m.core.budget (ends.Finished [] []));
+  memory = map (live_value m.core.machine) (below (length m.core.machine.first));
+  outputs = outputs_shown (tree m) (items (tree m) m.core.machine.conflicts m.core.budget (ends.Finished [] []));
   clock = m.core.machine.clock;
   conflicts = m.core.machine.conflicts;
 }
 
 -- main has ended
-abbrev pub ended : (memory outputs : List ℤ) → (clock : ℕ) → List Conflict → Seen
+abbrev pub ended : (memory outputs : List ℤ) → (clock : ℕ) → List Conflict → SeenRow
 ended memory outputs clock conflicts = record { halt = None; finished = true; memory = memory; outputs = outputs; clock = clock; conflicts = conflicts }
 
 -- the run stopped before
-abbrev pub halted : Halt → (memory : List ℤ) → (clock : ℕ) → List Conflict → Seen
+abbrev pub halted : Halt → (memory : List ℤ) → (clock : ℕ) → List Conflict → SeenRow
 halted h memory clock conflicts = record { halt = Some h; finished = false; memory = memory; outputs = []; clock = clock; conflicts = conflicts }
 
 -- ## Two strands of a block add one to a cell, and one of the sums is lost
@@ -195,7 +195,7 @@ pub record Spent : Type 0 where
 
 -- ## Few columns: forks wait inline
 
-abbrev pub three : (columns : ℕ) → Seen
+abbrev pub three : (columns : ℕ) → SeenRow
 three columns = seen (ran (codes "cell c; fn main() { spawn { atomic { c = c + 1; } } spawn { atomic { c = c + 1; } } spawn { atomic { c = c + 1; } } }") 4 [] (limits 1000 columns 1000))
 
 pub record Inline : Type 0 where

@@ -7,23 +7,23 @@ use Rattle.cw_strand.specs.Strands.{Strands}
 use Rattle.cw_tree.specs.declared.closed.Closed.{Closed}
 use Rattle.cw_tree.specs.InOrder.{in_order, conflicts_in_order, halt_in_order}
 use Rattle.cw_core.specs.Closing.{journals_of}
-use Rattle.cw_serial.specs.Jobs.{Job, Takes}
-use Rattle.cw_serial.specs.Room.Strands.{StrandState, strands_of}
+use Rattle.cw_serial.specs.Jobs.{Job, TakesWords}
+use Rattle.cw_serial.specs.Room.Strands.{StrandState, strands_of_job}
 use Rattle.cw_record.specs.declared.record.Record.{Record}
 use Rattle.cw_record.specs.Order.{order_of}
-use Rattle.cw_record.specs.Records.{job_of, IsCoherentRun, HasItsOutputs, IsNumberedDepthFirst}
+use Rattle.cw_record.specs.Records.{job_of_record, IsCoherentRun, HasItsOutputs, IsNumberedDepthFirst}
 use Rattle.cw_record.specs.ClosedRun.{IsClosedRun}
 use Rattle.cw_record.specs.Built.{end_left}
-use Rattle.cw_sim.specs.Workers.{Simulation, opening}
+use Rattle.cw_sim.specs.Workers.{Simulation, first_simulation}
 use Rattle.cw_sim.specs.Turns.{worker_at, ListsWorkers}
 use Rattle.cw_sim.specs.Moves.{is_over, after_moves}
 use Rattle.cw_sim.specs.Laws.{AreStrands}
 
 -- what the moves of so many workers come to, in the turns of a schedule, where the run ends, or at the limit of moves
-abbrev pub left_by : Job → (workers : ℕ) → Schedule → Simulation StrandState
-left_by job workers schedule =
-    let s = strands_of job in
-    after_moves s (worker_at schedule workers) job.limits.moves 0 (opening (first_memory job.program.cells) job.limits.strands job.limits.aborts workers s.start)
+abbrev pub simulation_of : Job → (workers : ℕ) → Schedule → Simulation StrandState
+simulation_of job workers schedule =
+    let s = strands_of_job job in
+    after_moves s (worker_at schedule workers) job.limits.moves 0 (first_simulation (first_memory job.program.cells) job.limits.strands job.limits.aborts workers s.start)
 
 -- what a simulation leaves, in depth-first order
 abbrev pub closed_of : {A : Type 0} → Simulation A → Closed
@@ -45,11 +45,11 @@ pub record IsRecordOf {A : Type 0} (m : Simulation A) (r : Record) : Type 0 wher
 abbrev pub RunsAreClosed : {A : Type 0} → Strands A → Type 0
 RunsAreClosed s =
     (first : List ℤ) (room budget workers limit : ℕ) (turn : ℕ → ℕ) → AreStrands s (length first) → 0 < room → ((n : ℕ) → turn n < workers)
-    → (let m = after_moves s turn limit 0 (opening first room budget workers s.start) in IsClosedRun s first budget m.core.machine (journals_of m.core) m.core.halt (not (is_over m)))
+    → (let m = after_moves s turn limit 0 (first_simulation first room budget workers s.start) in IsClosedRun s first budget m.core.machine (journals_of m.core) m.core.halt (not (is_over m)))
 
 -- The record of the moves of any workers, of a compiled program with its words, is coherent for the program's strands; its outputs are those
 -- of its output nodes, in its order; and its nodes are numbered depth first.
 abbrev pub RecordsAreCoherent : Type 0
 RecordsAreCoherent =
-    (r : Record) (workers : ℕ) (schedule : Schedule) → IsCompiled r.program → Takes r.program (length r.words) → 0 < r.limits.strands → 0 < workers → ListsWorkers schedule workers
-    → (let m = left_by (job_of r) workers schedule in length m.core.machine.tree < 2 ^ 32 → IsRecordOf m r → IsCoherentRun r × (HasItsOutputs r × IsNumberedDepthFirst r.tree))
+    (r : Record) (workers : ℕ) (schedule : Schedule) → IsCompiled r.program → TakesWords r.program (length r.words) → 0 < r.limits.strands → 0 < workers → ListsWorkers schedule workers
+    → (let m = simulation_of (job_of_record r) workers schedule in length m.core.machine.tree < 2 ^ 32 → IsRecordOf m r → IsCoherentRun r × (HasItsOutputs r × IsNumberedDepthFirst r.tree))

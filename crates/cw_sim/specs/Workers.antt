@@ -1,7 +1,7 @@
 -- The state of a simulation: the core, where the strands of the program stand, and the workers that run them.
 use Rattle.std.specs.Prelude.{ℕ, ℤ, ◌+◌, ◌-◌, ◌==◌, Bool, true, false, List, [], ◌∷◌, ◌++◌, slice_get, slice_set, replicate, Option, Some, None, unwrap_or, if◌then◌else◌}
 use Rattle.cw_tree.specs.declared.node.Node.{Node}
-use Rattle.cw_core.specs.State.{State, start}
+use Rattle.cw_core.specs.State.{CoreState, start}
 
 -- A worker. Of each fork that waits in it the right strand is still to be started, while the worker runs in the left one.
 pub record Worker : Type 0 where
@@ -29,7 +29,7 @@ worker_in ws w = unwrap_or (slice_get ws w) idle
 
 -- Strands, forks and blocks are named by their nodes.
 pub record Simulation (A : Type 0) : Type 0 where
-  pub core : State
+  pub core : CoreState
   -- where each strand stands
   pub at : ℕ → A
   -- where the strand of a pending block stood at its begin
@@ -37,11 +37,11 @@ pub record Simulation (A : Type 0) : Type 0 where
   pub workers : List Worker
 
 -- the strands of a fork are the two nodes behind it
-abbrev pub left_of : ℕ → ℕ
-left_of f = f + 1
+abbrev pub left_node : ℕ → ℕ
+left_node f = f + 1
 
-abbrev pub right_of : ℕ → ℕ
-right_of f = f + 2
+abbrev pub right_node : ℕ → ℕ
+right_node f = f + 2
 
 -- with another value at n
 abbrev pub changed : {A : Type 0} → ℕ → A → (ℕ → A) → ℕ → A
@@ -55,8 +55,8 @@ module _ {A : Type 0} where
   worker m w = worker_in m.workers w
 
   -- before the first move: worker 0 runs main, which stands here, and the others are idle
-  abbrev pub opening : List ℤ → (room budget workers : ℕ) → A → Simulation A
-  opening first room budget workers main = record {
+  abbrev pub first_simulation : List ℤ → (room budget workers : ℕ) → A → Simulation A
+  first_simulation first room budget workers main = record {
     core = start first room budget;
     at = λ x. main;
     saved = λ b. main;

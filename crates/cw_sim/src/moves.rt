@@ -2,10 +2,10 @@ ghost use Rattle.std.specs.Prelude.{◌≡◌, ◌<◌, ◌^◌, ◌∷◌, ℕ,
 ghost use Rattle.cw_strand.specs.declared.want.Want.TheVariants as Want;
 ghost use Rattle.cw_strand.specs.declared.want.Given.TheVariants as given;
 ghost use Rattle.cw_strand.specs.Programs.{IsCompiled};
-ghost use Rattle.cw_serial.specs.Jobs.{Takes};
-ghost use Rattle.cw_sim.specs.Workers.{left_of, right_of, tree, with_strand, worker};
-ghost use Rattle.cw_sim.specs.Moves.{accesses, acts, answers, begins, dies, does, finishes, follows, forks, given_for, is_over, joins, meets, move, others, steals, stops_if_spent, takes, turns};
-ghost use Rattle.cw_sim.specs.Runs.{closed_of, left_by};
+ghost use Rattle.cw_serial.specs.Jobs.{TakesWords};
+ghost use Rattle.cw_sim.specs.Workers.{left_node, right_node, tree, with_strand, worker};
+ghost use Rattle.cw_sim.specs.Moves.{accesses, acts, answers, begins, dies, does, finishes, follows, forks, given_for, is_over, joins, meets, move, others, steals, stops_if_spent, takes, goes_to_right};
+ghost use Rattle.cw_sim.specs.Runs.{closed_of, simulation_of};
 ghost use Rattle.cw_sim.specs.Turns.{ListsWorkers};
 ghost use Rattle.cw_open.specs.Machine.{has_finished};
 ghost use Rattle.cw_tree.specs.Series.{place};
@@ -57,14 +57,14 @@ fn given_for(write: Option<i64>, value: i64) -> Given
 // Each rule is the definition of its name.
 impl<'a> Simulation<'a> {
     ghost use Rattle.cw_sim.specs.HeldTurns.{AreAt};
-    ghost use Rattle.cw_sim.specs.Held.{Comes, Ends, HasFinished, MayAct, MayAnswer, MayDie, MayDo, MayFinish, MayFork, MayJoin, MayMeet, MayMove, MayRoll, MayTake, MayTurn, Seen, Stands, access_of, answered, job_of, law_of, opened};
+    ghost use Rattle.cw_sim.specs.Held.{Comes, Ends, HasFinished, MayAct, MayAnswer, MayDie, MayDo, MayFinish, MayFork, MayJoin, MayMeet, MayMove, MayRoll, MayTake, MayTurn, Seen, StandsFor, access_of, answered, job_of, law_of, opened};
 
     /// Before the first move: worker 0 runs main, and the others are idle.
     fn opening(alloc: Global, task: Task<'a>, workers: u32) -> Result<Simulation<'a>, OutOfMemory>
-        requires words { Takes task.program.now (length task.words.now) }
+        requires words { TakesWords task.program.now (length task.words.now) }
         requires strands { 0 < task.limits.strands }
         requires workers { 0 < workers }
-        ensures { IfOk result (λ z. Stands z (opened (job_of task.entry) workers)) }
+        ensures { IfOk result (λ z. StandsFor z (opened (job_of task.entry) workers)) }
     {
         let memory = first_memory(alloc, task.program.cells.as_slice())?;
         let core = Core::new(alloc, memory.as_slice(), task.limits)?;
@@ -96,8 +96,8 @@ impl<'a> Simulation<'a> {
 
     /// A halt, or the end of main.
     fn is_over(&self) -> bool
-        requires { (z : Seen) × Stands self.now z }
-        ensures { (z : Seen) → Stands self.now z → result ≡ is_over z.m }
+        requires { (z : Seen) × StandsFor self.now z }
+        ensures { (z : Seen) → StandsFor self.now z → result ≡ is_over z.m }
     {
         // nothing has stopped where the core may still stop
         let goes_on = self.core.fits(&Event::Stop { halt: Halt::Memory });
@@ -152,9 +152,9 @@ impl<'a> Simulation<'a> {
 
     /// The left strand of a fork has finished, and its right one waits in worker w: after a live one w goes on with it, after a dead one
     /// it finishes dead, too, and they join.
-    fn turns(&mut self, w: u32, fork: u32, dead: bool) -> Result<(), OutOfMemory>
+    fn goes_to_right(&mut self, w: u32, fork: u32, dead: bool) -> Result<(), OutOfMemory>
         requires { (z : Seen) × MayTurn self.old w fork dead z }
-        ensures { OnOk result ((z : Seen) → MayTurn self.old w fork dead z → Comes self.new z (turns (law_of z) w fork dead z.m)) }
+        ensures { OnOk result ((z : Seen) → MayTurn self.old w fork dead z → Comes self.new z (goes_to_right (law_of z) w fork dead z.m)) }
     {
         take_newest(&mut self.workers, w, fork);
         self.hint();
@@ -170,7 +170,7 @@ impl<'a> Simulation<'a> {
     /// One of the strands of a fork has finished: they join where the other one has, too, and else worker w is idle.
     fn meets(&mut self, w: u32, fork: u32) -> Result<(), OutOfMemory>
         requires { (z : Seen) × MayMeet self.old w fork z }
-        ensures { OnOk result ((z : Seen) → MayMeet self.old w fork z → Comes self.new z (meets (law_of z) w fork (has_finished z.m.core.machine (left_of fork) && has_finished z.m.core.machine (right_of fork)) z.m)) }
+        ensures { OnOk result ((z : Seen) → MayMeet self.old w fork z → Comes self.new z (meets (law_of z) w fork (has_finished z.m.core.machine (left_node fork) && has_finished z.m.core.machine (right_node fork)) z.m)) }
     {
         self.hint();
         if self.core.has_finished(fork + 1) && self.core.has_finished(fork + 2) {
@@ -192,7 +192,7 @@ impl<'a> Simulation<'a> {
         self.hint();
         let fork = self.core.tree().parent(strand);
         if strand == fork + 1 && !self.core.is_split(fork) {
-            return self.turns(w, fork, dead);
+            return self.goes_to_right(w, fork, dead);
         }
         self.meets(w, fork)
     }
@@ -234,7 +234,7 @@ impl<'a> Simulation<'a> {
     /// A strand goes on to its next want, once this one is answered.
     fn answers(&mut self, strand: u32, given: Given) -> Result<(), OutOfMemory>
         requires { (z : Seen) × MayAnswer self.old strand z }
-        ensures { OnOk result ((z : Seen) → MayAnswer self.old strand z → Stands self.new (answered strand given z)) }
+        ensures { OnOk result ((z : Seen) → MayAnswer self.old strand z → StandsFor self.new (answered strand given z)) }
     {
         let mut body = self.bodies.take(strand);
         body.answer(given, self.task.program)?;
@@ -244,7 +244,7 @@ impl<'a> Simulation<'a> {
     /// The run stops.
     fn stops(&mut self, halt: Halt) -> Result<(), OutOfMemory>
         requires { fits self.old.core (event.Stop halt) ≡ true }
-        ensures { OnOk result ((z : Seen) → Stands self.old z → Stands self.new (record z { m = does (event.Stop halt) z.m })) }
+        ensures { OnOk result ((z : Seen) → StandsFor self.old z → StandsFor self.new (record z { m = does (event.Stop halt) z.m })) }
     {
         self.core.step(Event::Stop { halt })?;
         Ok(())
@@ -253,7 +253,7 @@ impl<'a> Simulation<'a> {
     /// It stops where the last attempt that a block or an access may have was refused.
     fn stops_if_spent(&mut self) -> Result<(), OutOfMemory>
         requires { self.old.core.halt ≡ None }
-        ensures { OnOk result ((z : Seen) → Stands self.old z → Stands self.new (record z { m = stops_if_spent (law_of z) z.m })) }
+        ensures { OnOk result ((z : Seen) → StandsFor self.old z → StandsFor self.new (record z { m = stops_if_spent (law_of z) z.m })) }
     {
         match self.core.spent() {
             Some(strand) => self.stops(Halt::Budget { strand }),
@@ -361,9 +361,9 @@ impl<'a> Simulation<'a> {
     /// Moves are made until the run is over, at most as many as the limit says.
     fn runs(&mut self, turns: &mut Turns) -> Result<(), OutOfMemory>
         requires compiled { IsCompiled self.old.task.program.now }
-        requires words { Takes self.old.task.program.now (length self.old.task.words.now) }
+        requires words { TakesWords self.old.task.program.now (length self.old.task.words.now) }
         requires strands { 0 < self.old.task.limits.strands }
-        requires stands { Stands self.old (opened (job_of self.old.task) turns.old.workers) }
+        requires stands { StandsFor self.old (opened (job_of self.old.task) turns.old.workers) }
         requires turns { AreAt turns.old 0 }
         ensures { OnOk result (Ends self.new (job_of self.old.task) turns.old.workers turns.old.schedule.now) }
     {
@@ -388,13 +388,13 @@ pub(crate) fn moved(
     schedule: &Schedule,
 ) -> Result<(Closed, bool), OutOfMemory>
     requires compiled { IsCompiled task.program.now }
-    requires words { Takes task.program.now (length task.words.now) }
+    requires words { TakesWords task.program.now (length task.words.now) }
     requires strands { 0 < task.limits.strands }
     requires workers { 0 < workers }
     requires listed { ListsWorkers schedule.now workers }
-    ensures closed { IfOk result (λ r. r.0 ≡ closed_of (left_by (job_of task.entry) workers schedule.now)) }
-    ensures spent { IfOk result (λ r. r.1 ≡ not (is_over (left_by (job_of task.entry) workers schedule.now))) }
-    ensures few { OnOk result (length (tree (left_by (job_of task.entry) workers schedule.now)) < 2 ^ 32) }
+    ensures closed { IfOk result (λ r. r.0 ≡ closed_of (simulation_of (job_of task.entry) workers schedule.now)) }
+    ensures spent { IfOk result (λ r. r.1 ≡ not (is_over (simulation_of (job_of task.entry) workers schedule.now))) }
+    ensures few { OnOk result (length (tree (simulation_of (job_of task.entry) workers schedule.now)) < 2 ^ 32) }
 {
     let mut simulation = Simulation::opening(alloc, task, workers)?;
     let mut turns = Turns::new(schedule, workers);

@@ -1,11 +1,11 @@
 ghost use Rattle.std.specs.Prelude.{◌≡◌, ◌<◌, ◌↔◌, false, IfOk, length};
 ghost use Rattle.cw_strand.specs.Programs.{IsCompiled};
-ghost use Rattle.cw_serial.specs.Jobs.{Takes};
-ghost use Rattle.cw_record.specs.Records.{HasItsOutputs, IsCoherentRun, IsNumberedDepthFirst, IsReplayed, job_of};
+ghost use Rattle.cw_serial.specs.Jobs.{TakesWords};
+ghost use Rattle.cw_record.specs.Records.{HasItsOutputs, IsCoherentRun, IsNumberedDepthFirst, IsReplayed, job_of_record};
 ghost use Rattle.cw_sim.specs.Turns.{ListsWorkers};
 ghost use Rattle.cw_record.specs.declared.record_end.RecordEnd.TheVariants.{Moves};
 ghost use Rattle.cw_sim.specs.Moves.{is_over};
-ghost use Rattle.cw_sim.specs.Runs.{IsRecordOf, left_by};
+ghost use Rattle.cw_sim.specs.Runs.{IsRecordOf, simulation_of};
 
 use crate::moves::{Task, moved};
 use cw_base::{OutOfMemory, Seq};
@@ -26,15 +26,15 @@ pub fn simulate(
     limits: Limits,
 ) -> Result<Record, OutOfMemory>
     requires compiled { IsCompiled program }
-    requires words { Takes program (length words) }
+    requires words { TakesWords program (length words) }
     requires workers { 0 < workers }
     requires listed { ListsWorkers schedule.now workers }
     requires strands { 0 < limits.strands }
     ensures program { IfOk result (λ r. r.program ≡ program) }
     ensures words { IfOk result (λ r. r.words ≡ words) }
     ensures limits { IfOk result (λ r. r.limits ≡ limits) }
-    ensures moves { IfOk result (λ r. IsRecordOf (left_by (job_of r) workers schedule.now) r) }
-    ensures spent { IfOk result (λ r. r.end ≡ Moves ↔ (is_over (left_by (job_of r) workers schedule.now) ≡ false)) }
+    ensures moves { IfOk result (λ r. IsRecordOf (simulation_of (job_of_record r) workers schedule.now) r) }
+    ensures spent { IfOk result (λ r. r.end ≡ Moves ↔ (is_over (simulation_of (job_of_record r) workers schedule.now) ≡ false)) }
     ensures coherent { IfOk result (λ r. IsCoherentRun r) }
     ensures outputs { IfOk result (λ r. HasItsOutputs r) }
     ensures replays { IfOk result (λ r. IsReplayed r) }

@@ -16,7 +16,7 @@ pub(crate) struct Worker {
     pub(crate) inline: Vec<u32>,
 }
 
-ghost use Rattle.cw_sim.specs.HeldWorkers.{first_with_forks, after, IsLast, without, workers_of};
+ghost use Rattle.cw_sim.specs.HeldWorkers.{first_with_forks, workers_next, IsLast, without, workers_of};
 
 /// A worker in which no fork waits.
 fn resting(alloc: Global, runs: Option<u32>) -> Worker
@@ -47,7 +47,7 @@ pub(crate) fn opening(alloc: Global, workers: u32) -> Result<Vec<Worker>, OutOfM
 /// The first worker after worker w, round and round, from which a fork may be taken.
 pub(crate) fn robbed(workers: &[Worker], w: u32) -> Option<usize>
     requires { w < length workers.now }
-    ensures { result ≡ first_with_forks (workers_of workers.now) (after w (length workers.now)) }
+    ensures { result ≡ first_with_forks (workers_of workers.now) (workers_next w (length workers.now)) }
 {
     let count = workers.len();
     for i in 1..count {

@@ -6,10 +6,10 @@ use Rattle.std.proofs.lemmas.List.{map-append, take-map, length-take-le, length-
 use Rattle.cw_tree.specs.declared.access.Mark.{Mark}
 use Rattle.cw_tree.specs.declared.access.Entry.{Entry}
 use Rattle.cw_tree.specs.Accesses.{cell_value, written}
-use Rattle.cw_tree.specs.Stacks.{written_by, stamps, IsStack}
+use Rattle.cw_tree.specs.Stacks.{written_by, stamps, IsAccessStack}
 use Rattle.cw_tree.proofs.Entries.{Notes, cell_value_more}
 use Rattle.cw_tree.proofs.Stacks.{stacks_tell, stack_extends, with_access}
-use Rattle.cw_stack.specs.Cells.{CellParts, value_of, newest, entry_of, AreSteps, first_value, IsKept, GoesWithTrees}
+use Rattle.cw_stack.specs.Cells.{CellParts, entries_value, newest_entry, entry_of, AreSteps, first_value, IsCellInMemory, GoesWithTrees}
 use Rattle.cw_stack.proofs.Rising.{rising_front, rising_more, above_last}
 
 pub entry_wrote : (mark : Mark) (write : Option ℤ) (v : ℤ) → written_by (entry_of mark write v) ≡ write
@@ -33,8 +33,8 @@ steps_more : (v : ℤ) (es : List Entry) (e : Entry) → e.old ≡ left_by v es 
 steps_more v [] e old value s = (old, value, tt)
 steps_more v (x ∷ es) e old value s = (s.0, s.1, steps_more (unwrap_or (written_by x) v) es e old value s.2)
 
-pub kept_more : (mark : Mark) (write : Option ℤ) (v : ℤ) (es : List Entry) (cleaned : ℕ) → IsKept v es cleaned → IfSome (newest es) (λ e. e.mark.stamp < mark.stamp)
-    → IsKept (unwrap_or write v) (es ++ entry_of mark write v ∷ []) cleaned
+pub kept_more : (mark : Mark) (write : Option ℤ) (v : ℤ) (es : List Entry) (cleaned : ℕ) → IsCellInMemory v es cleaned → IfSome (newest_entry es) (λ e. e.mark.stamp < mark.stamp)
+    → IsCellInMemory (unwrap_or write v) (es ++ entry_of mark write v ∷ []) cleaned
 kept_more mark write v es cleaned k later =
     let e = entry_of mark write v in
     let few = k.few in
@@ -68,7 +68,7 @@ first_front v [] k d h = absurd (omega arith)
 first_front v (x ∷ es) zero d h = refl
 first_front v (x ∷ es) (suc k) d h = refl
 
-pub kept_front : (v : ℤ) (es : List Entry) (cleaned k : ℕ) (d : Entry) → k < length es → cleaned ≤ k → IsKept v es cleaned → IsKept (get_or es k d).old (take k es) cleaned
+pub kept_front : (v : ℤ) (es : List Entry) (cleaned k : ℕ) (d : Entry) → k < length es → cleaned ≤ k → IsCellInMemory v es cleaned → IsCellInMemory (get_or es k d).old (take k es) cleaned
 kept_front v es cleaned k d h le w =
     let first = first_front v es k d h in
     let len = length-take-le k es (omega arith) in
@@ -85,11 +85,11 @@ kept_front v es cleaned k d h le w =
 -- ## In a tree
 
 pub goes_with_trees : (old new : CellParts) (mark : Mark) (write : Option ℤ) (answer : ℤ)
-    → new.first ≡ old.first → new.entries ≡ old.entries ++ entry_of mark write (value_of old) ∷ [] → answer ≡ unwrap_or write (value_of old) → GoesWithTrees old new mark.stamp write answer
+    → new.first ≡ old.first → new.entries ≡ old.entries ++ entry_of mark write (entries_value old) ∷ [] → answer ≡ unwrap_or write (entries_value old) → GoesWithTrees old new mark.stamp write answer
 goes_with_trees old new mark write answer first entries is t c p us r hp w free =
     let tell : left_by old.first old.entries ≡ cell_value old.first (map (written t) us) = ap (cell_value old.first) (stacks_tell t c old.first us old.entries w).0 in
-    let e = entry_of mark write (value_of old) in
+    let e = entry_of mark write (entries_value old) in
     let note : Notes e mark.stamp (is_some write) answer (cell_value old.first (map (written t) us)) = record { stamp = refl; wrote = refl; value = sym is; old = tell } in
-    let P : ℤ → List Entry → Type 0 = λ v es. IsStack (with_access t r c p hp write answer mark.stamp) c v (us ++ length t ∷ []) es in
+    let P : ℤ → List Entry → Type 0 = λ v es. IsAccessStack (with_access t r c p hp write answer mark.stamp) c v (us ++ length t ∷ []) es in
     let more = stack_extends t r c p hp write answer mark.stamp old.first us old.entries e w free (is ∙ ap (unwrap_or write) tell) note in
     subst (λ (v : ℤ). P v new.entries) (sym first) (subst (λ (es : List Entry). P old.first es) (sym entries) more)

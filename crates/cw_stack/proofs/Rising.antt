@@ -7,7 +7,7 @@ use Rattle.std.proofs.lemmas.List.{get_or-take, get_or-drop, get_or_push, length
 use Rattle.std.proofs.lemmas.Option.{same_Some}
 use Rattle.cw_tree.specs.declared.access.Entry.{Entry}
 use Rattle.cw_tree.specs.Stacks.{stamps}
-use Rattle.cw_stack.specs.Cells.{newest}
+use Rattle.cw_stack.specs.Cells.{newest_entry}
 
 -- an earlier number is less than a later one
 pub earlier_less : (ns : List ℕ) → IsStrictlyIncreasing ns → (i j : ℕ) → i < j → j < length ns → get_or ns i 0 < get_or ns j 0
@@ -69,7 +69,7 @@ get_some (x ∷ es) zero h = (x, refl)
 get_some (x ∷ es) (suc k) h = get_some es k (omega arith)
 
 -- a stamp above the newest entry's is above the last stamp
-pub above_last : (es : List Entry) (s : ℕ) → IfSome (newest es) (λ e. e.mark.stamp < s) → 0 < length (stamps es) → get_or (stamps es) (length (stamps es) - 1) 0 < s
+pub above_last : (es : List Entry) (s : ℕ) → IfSome (newest_entry es) (λ e. e.mark.stamp < s) → 0 < length (stamps es) → get_or (stamps es) (length (stamps es) - 1) 0 < s
 above_last es s later h =
     let len : length (stamps es) ≡ length es = length-map es (λ e. e.mark.stamp) in
     let w = get_some es (length es - 1) (omega arith) in

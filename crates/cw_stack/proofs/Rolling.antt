@@ -9,7 +9,7 @@ use Rattle.cw_tree.specs.declared.node.Node.{Node}
 use Rattle.cw_tree.specs.declared.access.Entry.{Entry}
 use Rattle.cw_tree.specs.Nodes.{stamp_of, is_pending}
 use Rattle.cw_tree.specs.Walks.{IsRooted, is_above}
-use Rattle.cw_tree.specs.Stacks.{stamps, IsStack}
+use Rattle.cw_tree.specs.Stacks.{stamps, IsAccessStack}
 use Rattle.cw_tree.proofs.Chains.{beneath_is_end}
 use Rattle.cw_tree.proofs.Stacks.{stack_there, stacks_tell, fronts_of_stacks}
 use Rattle.cw_stack.proofs.Rising.{earlier_less, filter_front, stamp_at, contains_rest}
@@ -61,7 +61,7 @@ get_behind (x ∷ xs) ys n d = get_behind xs ys n d
 
 -- the entries from that of the first access beneath a pending block on are those of the accesses beneath it
 pub beneath_taken : (t : List Node) (c b n : ℕ) (v : ℤ) (us : List ℕ) (es : List Entry) (k s : ℕ)
-    → IsRooted t → IsStack t c v us es → is_pending t b ≡ true → find (is_above t b) us ≡ Some n → stamp_of t n ≡ s
+    → IsRooted t → IsAccessStack t c v us es → is_pending t b ≡ true → find (is_above t b) us ≡ Some n → stamp_of t n ≡ s
     → IsStrictlyIncreasing (stamps es) → k < length es → get_or (stamps es) k 0 ≡ s → drop k us ≡ filter (is_above t b) us
 beneath_taken t c b n v us es k s r w pending first stamp rise h at =
     let test : ℕ → Bool = is_above t b in
@@ -84,9 +84,9 @@ beneath_taken t c b n v us es k s r w pending first stamp rise h at =
     ∙ drop_at before (filter test us) (length before) refl
 
 -- what is left of the entries goes with what is left of the accesses
-pub stays : (t : List Node) (c k : ℕ) (v : ℤ) (us : List ℕ) (es : List Entry) → k < length es → IsStack t c v us es → IsStack t c v (take (length (take k es)) us) (take k es)
+pub stays : (t : List Node) (c k : ℕ) (v : ℤ) (us : List ℕ) (es : List Entry) → k < length es → IsAccessStack t c v us es → IsAccessStack t c v (take (length (take k es)) us) (take k es)
 stays t c k v us es h w =
-    let P : ℕ → Type 0 = λ n. IsStack t c v (take n us) (take k es) in
+    let P : ℕ → Type 0 = λ n. IsAccessStack t c v (take n us) (take k es) in
     subst P (sym (length-take-le k es (omega arith))) (fronts_of_stacks t c k v us es w)
 
 -- ## The place of a stamp

@@ -7,7 +7,7 @@ use Rattle.cw_tree.specs.declared.access.Entry.{Entry}
 use Rattle.cw_tree.specs.Nodes.{is_pending, stamp_of, fresh_node}
 use Rattle.cw_tree.specs.Walks.{IsRooted, is_above}
 use Rattle.cw_tree.specs.Accesses.{cell_value}
-use Rattle.cw_tree.specs.Stacks.{newest_conflicts, access_kind, written_by, stamps, IsStack}
+use Rattle.cw_tree.specs.Stacks.{newest_conflicts, access_kind, written_by, stamps, IsAccessStack}
 
 pub record CellParts : Type 0 where
   pub first : ℤ
@@ -16,12 +16,12 @@ pub record CellParts : Type 0 where
   pub room : ℕ
 
 -- the cell's value: what its entries left of its first one
-abbrev pub value_of : CellParts → ℤ
-value_of c = cell_value c.first (map written_by c.entries)
+abbrev pub entries_value : CellParts → ℤ
+entries_value c = cell_value c.first (map written_by c.entries)
 
 -- the newest of some entries
-abbrev pub newest : List Entry → Option Entry
-newest es = slice_get es (length es - 1)
+abbrev pub newest_entry : List Entry → Option Entry
+newest_entry es = slice_get es (length es - 1)
 
 -- the entry of an access that met value v
 abbrev pub entry_of : Mark → Option ℤ → ℤ → Entry
@@ -40,7 +40,7 @@ first_value v [] = v
 first_value v (e ∷ es) = e.old
 
 -- what the fields of every cell are to each other
-pub record IsKept (now : ℤ) (es : List Entry) (cleaned : ℕ) : Type 0 where
+pub record IsCellInMemory (now : ℤ) (es : List Entry) (cleaned : ℕ) : Type 0 where
   pub rising : IsStrictlyIncreasing (stamps es)
   pub few : cleaned ≤ length es
   pub steps : AreSteps (first_value now es) es
@@ -53,18 +53,18 @@ pub record IsKept (now : ℤ) (es : List Entry) (cleaned : ℕ) : Type 0 where
 abbrev pub GoesWithTrees : CellParts → CellParts → ℕ → Option ℤ → ℤ → Type 0
 GoesWithTrees old new stamp write answer =
     (t : List Node) (c p : ℕ) (us : List ℕ)
-    → IsRooted t → p < length t → IsStack t c old.first us old.entries → newest_conflicts t us p ≡ false
-    → IsStack (t ++ fresh_node p (access_kind c write answer) stamp ∷ []) c new.first (us ++ length t ∷ []) new.entries
+    → IsRooted t → p < length t → IsAccessStack t c old.first us old.entries → newest_conflicts t us p ≡ false
+    → IsAccessStack (t ++ fresh_node p (access_kind c write answer) stamp ∷ []) c new.first (us ++ length t ∷ []) new.entries
 
 -- a roll goes with every tree: what is left are the entries of the accesses that are left
 abbrev pub StaysWithTrees : CellParts → CellParts → Type 0
 StaysWithTrees old new =
     (t : List Node) (c : ℕ) (us : List ℕ)
-    → IsStack t c old.first us old.entries → IsStack t c new.first (take (length new.entries) us) new.entries
+    → IsAccessStack t c old.first us old.entries → IsAccessStack t c new.first (take (length new.entries) us) new.entries
 
 -- where the stamp is that of the first access beneath a pending block, those taken away are just the accesses beneath that block
 abbrev pub TakesWhatIsBeneath : CellParts → CellParts → ℕ → Type 0
 TakesWhatIsBeneath old new first =
     (t : List Node) (c b n : ℕ) (us : List ℕ)
-    → IsRooted t → IsStack t c old.first us old.entries → IsTrue (is_pending t b) → find (is_above t b) us ≡ Some n → stamp_of t n ≡ first
+    → IsRooted t → IsAccessStack t c old.first us old.entries → IsTrue (is_pending t b) → find (is_above t b) us ≡ Some n → stamp_of t n ≡ first
     → drop (length new.entries) us ≡ filter (is_above t b) us

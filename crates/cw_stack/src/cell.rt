@@ -4,7 +4,7 @@ ghost use Rattle.std.specs.List.Sorted.{IsStrictlyIncreasing};
 ghost use Rattle.cw_tree.specs.declared.access.Entry.{Entry};
 ghost use Rattle.cw_tree.specs.Stacks.{stamps};
 ghost use Rattle.cw_tree.specs.Newest.{last_eight};
-ghost use Rattle.cw_stack.specs.Cells.{value_of, newest, entry_of, AreSteps, GoesWithTrees, StaysWithTrees, TakesWhatIsBeneath};
+ghost use Rattle.cw_stack.specs.Cells.{entries_value, newest_entry, entry_of, AreSteps, GoesWithTrees, StaysWithTrees, TakesWhatIsBeneath};
 
 use cw_base::OutOfMemory;
 use cw_tree::{Entry, Mark};
@@ -21,13 +21,13 @@ pub struct Cell {
 
 impl Model for Cell {
     ghost use Rattle.std.specs.Prelude.{◌-◌, vec_len, vec_capacity};
-    ghost use Rattle.cw_stack.specs.Cells.{CellParts, first_value, IsKept};
+    ghost use Rattle.cw_stack.specs.Cells.{CellParts, first_value, IsCellInMemory};
 
     ghost Value = { CellParts };
 
     ghost view = { λ c. record { first = first_value c.value c.entries.items; entries = c.entries.items; cleaned = c.cleaned; room = vec_capacity c.entries - vec_len c.entries } };
 
-    ghost invariant = { λ c. IsKept c.value c.entries.items c.cleaned };
+    ghost invariant = { λ c. IsCellInMemory c.value c.entries.items c.cleaned };
 }
 
 impl Cell {
@@ -61,10 +61,10 @@ impl Cell {
     /// An access that reads, or writes a value. Answers the cell's value after it. Takes no memory.
     pub fn access(&mut self, mark: Mark, write: Option<i64>) -> i64
         requires room { 0 < self.old.room }
-        requires later { IfSome (newest self.old.entries) (λ e. e.mark.stamp < mark.stamp) }
-        ensures answer { result ≡ unwrap_or write (value_of self.old) }
-        ensures entries { self.new.entries ≡ self.old.entries ++ entry_of mark write (value_of self.old) ∷ [] }
-        ensures value { value_of self.new ≡ result }
+        requires later { IfSome (newest_entry self.old.entries) (λ e. e.mark.stamp < mark.stamp) }
+        ensures answer { result ≡ unwrap_or write (entries_value self.old) }
+        ensures entries { self.new.entries ≡ self.old.entries ++ entry_of mark write (entries_value self.old) ∷ [] }
+        ensures value { entries_value self.new ≡ result }
         ensures first { self.new.first ≡ self.old.first }
         ensures cleaned { self.new.cleaned ≡ self.old.cleaned }
         ensures room { self.new.room + 1 ≡ self.old.room }
@@ -96,7 +96,7 @@ impl Cell {
     pub fn roll(&mut self, first: u64)
         requires { Contains (stamps (drop self.old.cleaned self.old.entries)) first }
         ensures entries { self.new.entries ≡ filter (λ e. nat_lt e.mark.stamp first) self.old.entries }
-        ensures value { (es : List Entry) (e : Entry) (fs : List Entry) → self.old.entries ≡ es ++ e ∷ fs → e.mark.stamp ≡ first → value_of self.new ≡ e.old }
+        ensures value { (es : List Entry) (e : Entry) (fs : List Entry) → self.old.entries ≡ es ++ e ∷ fs → e.mark.stamp ≡ first → entries_value self.new ≡ e.old }
         ensures first { self.new.first ≡ self.old.first }
         ensures cleaned { self.new.cleaned ≡ self.old.cleaned }
         ensures room { self.new.room + length self.new.entries ≡ self.old.room + length self.old.entries }
@@ -110,7 +110,7 @@ impl Cell {
 
     /// The value.
     pub fn value(&self) -> i64
-        ensures { result ≡ value_of self.now }
+        ensures { result ≡ entries_value self.now }
     {
         self.value
     }
@@ -118,7 +118,7 @@ impl Cell {
     /// The mark of the newest entry.
     pub fn last(&self) -> Option<Mark>
         ensures none { IsNone result ↔ (self.now.entries ≡ []) }
-        ensures newest { result ≡ option_map (λ e. e.mark) (newest self.now.entries) }
+        ensures newest { result ≡ option_map (λ e. e.mark) (newest_entry self.now.entries) }
     {
         self.entries.last().map(|entry| entry.mark)
     }

@@ -22,7 +22,7 @@ use Rattle.cw_strand.specs.Running.{Standing, on, wants, stuck, stand}
 use Rattle.cw_strand.specs.Meaning.{one_more, most_frames}
 use Rattle.cw_strand.specs.Arithmetic.{is_zero}
 use Rattle.cw_strand.specs.Coded as coded
-use Rattle.cw_strand.specs.Coded.{Frame, State, Step, index, goes_to, with_value, joined, counted, counts, spends, result, in_range, read_local, write_local, returned, wait_in, strands_of}
+use Rattle.cw_strand.specs.Coded.{Frame, State, Step, index, goes_to, with_value, joined, counted, counts, spends, result, in_range, read_local, write_local, returned, wait_in, strands_of_code}
 use Rattle.cw_strand.specs.Standing.{StandsWanting}
 use Rattle.cw_strand.specs.Saving.{inner_after, StaysIn, Inside, begun, answered, goes_right, joins, lowest, StillStands}
 use Rattle.cw_strand.proofs.Bounding.{bounded}
@@ -346,7 +346,7 @@ module _ (code : Code) (ok : faults code ≡ []) (start : State) (deep : ℕ) (s
         (λ s t h is. goes_on n s t h is) (λ s t w h is. comes n s t w h is) (λ s h is. λ stays. h) s h
 
     module _ (begin : Standing State) (first : HoldsMore 0 begin.state) where
-      inside_holds : {forks n : ℕ} {x : Standing State} → Inside (strands_of code main words limits) begin forks n x → HoldsAt n x.want x.state
+      inside_holds : {forks n : ℕ} {x : Standing State} → Inside (strands_of_code code main words limits) begin forks n x → HoldsAt n x.want x.state
       inside_holds begun = stands_so 0 begin.state first
       inside_holds (answered {inner = n} {a = a} h g is stays) = stands_so (inner_after a.want n) (with_value g a.state) (given (inner_after a.want n) a.state g (inside_holds h stays))
       inside_holds (goes_right {inner = n} {a = a} h is) = stands_so n a.state (at_fork a.want is (inside_holds h))
@@ -369,7 +369,7 @@ module _ (code : Code) (ok : faults code ≡ []) (start : State) (deep : ℕ) (s
       }
 
 module _ (code : Code) (ok : faults code ≡ []) (main : ℕ) (words : List ℤ) (limits : Limits) where
-  pub stays_below : (begin x : Standing State) (forks inner : ℕ) → begin.want ≡ Begin → StandsWanting code Begin begin.state → Inside (strands_of code main words limits) begin forks inner x → StaysIn x.want inner → StillStands begin.state x.state
+  pub stays_below : (begin x : Standing State) (forks inner : ℕ) → begin.want ≡ Begin → StandsWanting code Begin begin.state → Inside (strands_of_code code main words limits) begin forks inner x → StaysIn x.want inner → StillStands begin.state x.state
   stays_below begin x forks inner is stands inside stays =
       let s = begin.state in
       let b = stands.begun refl in

@@ -15,7 +15,7 @@ use Rattle.cw_strand.specs.Meaning as m
 use Rattle.cw_strand.specs.Meaning.{Function, Locals, Task, function_of, bound_to, most_frames, perform, wait, value, enter, back_to}
 use Rattle.cw_strand.specs.Coded as c
 use Rattle.cw_strand.specs.Coded.{Frame, locals_for}
-use Rattle.cw_strand.specs.Compilation.{Slots, code_of, function_names, number_from, calls, with_params}
+use Rattle.cw_strand.specs.Compilation.{Slots, code_of, function_names, number_from, calls, slots_with_params}
 use Rattle.cw_strand.specs.Compilation as instr
 use Rattle.cw_strand.proofs.StandingNames.{IsFunction}
 use Rattle.cw_strand.proofs.Numbering.{Agree, scope_of, function_there}
@@ -58,7 +58,7 @@ module _ (ds : List Declaration) (words : List ℤ) (limits : Limits) where
       abbrev f : Function
       f = q.function
 
-      abbrev begun : Shared ds words limits (with_params f.params []) (length (locals_for code.func vs)) (waiting code.func.params ∷ fs)
+      abbrev begun : Shared ds words limits (slots_with_params f.params []) (length (locals_for code.func vs)) (waiting code.func.params ∷ fs)
       begun = record {
         locals = bound_to (reverse f.params) vs;
         numbers = locals_for code.func vs;

@@ -23,7 +23,7 @@ wants_of_the_source ds words limits faultless =
 
 pub code_ends_only_when_done : CodeEndsOnlyWhenDone
 code_ends_only_when_done ds words limits faultless = λ own x way is.
-    let s = meaning.strands_of ds words limits in
+    let s = meaning.strands_of_syntax ds words limits in
     let t = compiled ds words limits in
     let same = wants_of_the_source ds words limits faultless in
     let h = reached s t same way in
@@ -36,5 +36,5 @@ code_is_lawful ds words limits faultless =
     let main = main_function ds in
     record {
       deep = deep (coded.runs code main words limits) (bounding.bounded code main words limits (breaks_no_rule ds faultless.named));
-      closes = closes (meaning.strands_of ds words limits) (compiled ds words limits) (wants_of_the_source ds words limits faultless) (lawful ds words limits faultless).closes;
+      closes = closes (meaning.strands_of_syntax ds words limits) (compiled ds words limits) (wants_of_the_source ds words limits faultless) (lawful ds words limits faultless).closes;
     }

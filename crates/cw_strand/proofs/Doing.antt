@@ -12,7 +12,7 @@ use Rattle.cw_strand.specs.Names.{find, used, indexed, called, count_of, in_term
 use Rattle.cw_strand.specs.Meaning.{Locals, cell_of, Task, value, lift, join, enter, perform, bind, store_in, load_at, store_at, show, choose_by, test, repeat_by, forget, wait, commit, finish, finish_main, back_to, leave, arguments, unwound, lifted, joining, lifts, joins}
 use Rattle.cw_strand.specs.Meaning as meaning
 use Rattle.cw_strand.specs.Coded.{Frame}
-use Rattle.cw_strand.specs.Compilation.{Slots, slot_of, function_names, calls, term_code, terms_code, statement_code, block_code, most, plain, number_of, lift_code, join_code, writes, loads_at, stores_at, set}
+use Rattle.cw_strand.specs.Compilation.{Slots, slot_of, function_names, calls, term_code, terms_code, statement_code, block_code, most, plain, operator_number, lift_code, join_code, writes, loads_at, stores_at, set}
 use Rattle.cw_strand.specs.Compilation as instr
 use Rattle.cw_strand.proofs.StandingNames.{no_fault}
 use Rattle.cw_strand.proofs.Numbering.{Agree, scope_of, slots_behind}
@@ -76,8 +76,8 @@ module _ (ds : List Declaration) (code : List Instr) where
     -- The code at a place does these tasks, with so many locals of which these are visible, so many operands, and these callers.
     pub data Does : ℕ → Slots → ℕ → List Task → ℕ → List Frame → Type 0 where
       does_value : {n h p : ℕ} {g : Slots} {e : Term} {k : List Task} {fs : List Frame} → in_term (scope_of ds g) e ≡ None → HasAt code p (term_code (cells_of ds) (function_names ds) g e) → Does n g (suc h) k (p + length (term_code (cells_of ds) (function_names ds) g e)) fs → Does n g h (value e ∷ k) p fs
-      does_lift : {n h p : ℕ} {g : Slots} {o : Operator} {k : List Task} {fs : List Frame} → effect_at (number_of o) ≡ Some (effect.Lift o) → slice_get code p ≡ Some (plain (number_of o)) → Does n g (suc h) k (p + 1) fs → Does n g (suc h) (lift o ∷ k) p fs
-      does_join : {n h p : ℕ} {g : Slots} {o : Operator} {k : List Task} {fs : List Frame} → effect_at (number_of o) ≡ Some (effect.Join o) → slice_get code p ≡ Some (plain (number_of o)) → Does n g (suc h) k (p + 1) fs → Does n g (suc (suc h)) (join o ∷ k) p fs
+      does_lift : {n h p : ℕ} {g : Slots} {o : Operator} {k : List Task} {fs : List Frame} → effect_at (operator_number o) ≡ Some (effect.Lift o) → slice_get code p ≡ Some (plain (operator_number o)) → Does n g (suc h) k (p + 1) fs → Does n g (suc h) (lift o ∷ k) p fs
+      does_join : {n h p : ℕ} {g : Slots} {o : Operator} {k : List Task} {fs : List Frame} → effect_at (operator_number o) ≡ Some (effect.Join o) → slice_get code p ≡ Some (plain (operator_number o)) → Does n g (suc h) k (p + 1) fs → Does n g (suc (suc h)) (join o ∷ k) p fs
       does_enter : {n h p a : ℕ} {g : Slots} {x : List ℕ} {k : List Task} {fs : List Frame} (line : ℕ) → called (find x (scope_of ds g)) a line ≡ None → a ≤ h → slice_get code p ≡ Some (calls (cells_of ds) (function_names ds) x) → Does n g (suc (h - a)) k (p + 1) fs → Does n g h (enter x a ∷ k) p fs
       does_discard : {n h p : ℕ} {g : Slots} {k : List Task} {fs : List Frame} → slice_get code p ≡ Some instr.discard → Does n g h k (p + 1) fs → Does n g (suc h) (meaning.discard ∷ k) p fs
       does_perform : {n h p : ℕ} {g : Slots} {b : Block} {k : List Task} {fs : List Frame} (inside : Bool) → in_block (scope_of ds g) inside b ≡ None → most (length g) b ≤ n → HasAt code p (block_code (cells_of ds) (function_names ds) g p b) → Does n (slots_behind b g) h k (p + length (block_code (cells_of ds) (function_names ds) g p b)) fs → Does n g h (perform b ∷ k) p fs
@@ -135,7 +135,7 @@ module _ (ds : List Declaration) (code : List Instr) where
   -- an operator of one operand, if there is one, lifts
   abbrev pub Lifts : Option Operator → Type 0
   Lifts None = Unit {0}
-  Lifts (Some o) = effect_at (number_of o) ≡ Some (effect.Lift o)
+  Lifts (Some o) = effect_at (operator_number o) ≡ Some (effect.Lift o)
 
   pub lifted_lifts : (o : Op) → Lifts (lifted o)
   lifted_lifts op.Neg = refl
@@ -152,7 +152,7 @@ module _ (ds : List Declaration) (code : List Instr) where
   -- an operator of two operands, if there is one, joins
   abbrev pub Joins : Option Operator → Type 0
   Joins None = Unit {0}
-  Joins (Some o) = effect_at (number_of o) ≡ Some (effect.Join o)
+  Joins (Some o) = effect_at (operator_number o) ≡ Some (effect.Join o)
 
   pub joining_joins : (o : Op) → Joins (joining o)
   joining_joins op.Neg = tt

@@ -112,7 +112,7 @@ module _ (code : Code) where
 
     module _ (main : ℕ) (words : List ℤ) (limits : Limits) where
       abbrev strands : Strands (Standing State)
-      strands = coded.strands_of code main words limits
+      strands = coded.strands_of_code code main words limits
 
       stand_names : (s : State) → NamesElement code (stand (coded.runs code main words limits) s).want
       stand_names s =

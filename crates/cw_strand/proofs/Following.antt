@@ -4,7 +4,7 @@ use Rattle.cw_strand.specs.declared.want.Want.{Want}
 use Rattle.cw_strand.specs.declared.want.Want.TheVariants.{Load, Store, Out, Begin, End, Fork, Sync, Done, Fault}
 use Rattle.cw_strand.specs.declared.want.Given.{Given}
 use Rattle.cw_strand.specs.Strands.{IsAnswer, is_over}
-use Rattle.cw_strand.specs.Running.{Step, on, wants, stuck, Standing, Running, stand, strands, ComesTo, here, lacks, goes_on, Settles}
+use Rattle.cw_strand.specs.Running.{LocalStep, on, wants, stuck, Standing, Running, stand, strands, ComesTo, here, lacks, goes_on, Settles}
 use Rattle.cw_strand.specs.Pasts.{Past, start, answered, left_of, right_of, joined_of, became, CanBe, WantTheSame}
 
 module _ {T : Type 0} (r : Running T) where
@@ -36,13 +36,13 @@ module _ {S T : Type 0} (a : Running S) (b : Running T) (M : S → T → Type 0)
   Kept w s c = M s c
 
   -- b does from the state c what a does by this step
-  abbrev pub Follows : Step S → T → Type 0
+  abbrev pub Follows : LocalStep S → T → Type 0
   Follows (on t) c = (d : T) × GoesOn b c d × M t d
   Follows (wants w t) c = (d : T) × (e : T) × GoesOn b c d × (b.step d ≡ wants w e) × Kept w t e
   Follows stuck c = ⊥
 
   -- a step of b first
-  pub after_step : (x : Step S) (c d : T) → b.step c ≡ on d → Follows x d → Follows x c
+  pub after_step : (x : LocalStep S) (c d : T) → b.step c ≡ on d → Follows x d → Follows x c
   after_step (on t) c d is h = (h.0, goes is h.1, h.2)
   after_step (wants w t) c d is h = (h.0, h.1, goes is h.2, h.3, h.4)
   after_step stuck c d is h = h

@@ -11,7 +11,7 @@ use Rattle.cw_code.specs.declared.instruction.Func.{Func}
 use Rattle.cw_strand.specs.Names.{globals, in_block, in_functions, cells_of}
 use Rattle.cw_strand.specs.Meaning.{Function, Task, function_of, bound_to, perform, wait, value}
 use Rattle.cw_strand.specs.Coded.{Frame, locals_for}
-use Rattle.cw_strand.specs.Compilation.{code_of, function_names, number_from, instrs_from, funcs_from, function_code, block_code, with_params, most, push}
+use Rattle.cw_strand.specs.Compilation.{code_of, function_names, number_from, instrs_from, funcs_from, function_code, block_code, slots_with_params, most, push}
 use Rattle.cw_strand.specs.Compilation as instr
 use Rattle.cw_strand.proofs.StandingNames.{no_fault}
 use Rattle.cw_strand.proofs.Numbering.{most_from, Agree, scope_of, scope_of_params, count_of_params, agree_arguments}
@@ -33,7 +33,7 @@ module _ (ds : List Declaration) where
     pub numbered : slice_get (code_of ds).funcs (number_from k n (function_names rest)) ≡ Some func
     pub params : func.params ≡ length f.params
     pub locals : func.locals ≡ most (length f.params) f.body
-    pub named : in_block (scope_of ds (with_params f.params [])) false f.body ≡ None
+    pub named : in_block (scope_of ds (slots_with_params f.params [])) false f.body ≡ None
     pub stands : HasAt instrs func.start (function_code cells function_list func.start f.params f.body)
 
   code_in : (rest : List Declaration) (p k : ℕ) (n : List ℕ) (f : Function) → HasAt instrs p (instrs_from cells function_list p rest) → ((j : ℕ) → slice_get (funcs_from cells function_list p rest) j ≡ slice_get (code_of ds).funcs (k + j))
@@ -84,16 +84,16 @@ module _ (ds : List Declaration) where
 
   module _ (n : List ℕ) (f : Function) (c : FunctionCode ds 0 n f) (vs : List ℤ) (enough : length f.params ≤ length vs) where
     -- its locals are the arguments
-    pub arguments_agree : Agree (bound_to (reverse f.params) vs) (with_params f.params []) (locals_for c.func vs)
+    pub arguments_agree : Agree (bound_to (reverse f.params) vs) (slots_with_params f.params []) (locals_for c.func vs)
     arguments_agree =
         let zeros = replicate (c.func.locals - c.func.params) (pos 0) in
-        subst (λ z. Agree (bound_to (reverse f.params) vs) (with_params f.params []) (reverse (take z vs) ++ zeros)) (sym c.params) (agree_arguments f.params vs zeros enough)
+        subst (λ z. Agree (bound_to (reverse f.params) vs) (slots_with_params f.params []) (reverse (take z vs) ++ zeros)) (sym c.params) (agree_arguments f.params vs zeros enough)
 
     -- and its code does its body, gives 0 at its end, and does what comes behind that
     pub function_does : (todo : List Task) (fs : List Frame) → Ending ds instrs todo fs
-        → Does ds instrs (length (locals_for c.func vs)) (with_params f.params []) 0 (perform f.body ∷ wait ∷ value (number (pos 0)) ∷ todo) c.func.start fs
+        → Does ds instrs (length (locals_for c.func vs)) (slots_with_params f.params []) 0 (perform f.body ∷ wait ∷ value (number (pos 0)) ∷ todo) c.func.start fs
     function_does todo fs ending =
-        let g = with_params f.params [] in
+        let g = slots_with_params f.params [] in
         let numbers = locals_for c.func vs in
         let body = block_code cells function_list g c.func.start f.body in
         let last = instr.wait ∷ push (pos 0) ∷ instr.ret ∷ [] in

@@ -11,7 +11,7 @@ use Rattle.cw_strand.specs.Names.{globals, in_functions}
 use Rattle.cw_strand.specs.Strands.{is_over, IsAnswer, own_after, MayWant, GoesTo, stays, answered, joins, Reached, of_main, of_left, of_right, IsLawful}
 use Rattle.cw_strand.specs.Running as running
 use Rattle.cw_strand.specs.Running.{Standing, stand}
-use Rattle.cw_strand.specs.Meaning.{State, Function, function_of, params_in, with_value, left, joined, at_main, runs, strands_of}
+use Rattle.cw_strand.specs.Meaning.{State, Function, function_of, params_in, with_value, left, joined, at_main, runs, strands_of_syntax}
 use Rattle.cw_strand.specs.Laws.{HasDoneAll, IsFaultless}
 use Rattle.cw_strand.proofs.LocalWork.{bounded}
 use Rattle.cw_strand.proofs.Settling.{stand_holds, deep}
@@ -81,7 +81,7 @@ module _ (ds : List Declaration) (words : List ℤ) (limits : Limits) (faultless
   start_fits : Stands (0 ∷ []) (stand run (at_main (function_of ds (codes "main")) words))
   start_fits = stand_fits (0 ∷ []) _ (main_fits (function_of ds (codes "main")) refl faultless.takes)
 
-  goes_to_fits : {from own : List ℕ} {a b : Standing State} → GoesTo (strands_of ds words limits) from a own b → Stands from a → Stands own b
+  goes_to_fits : {from own : List ℕ} {a b : Standing State} → GoesTo (strands_of_syntax ds words limits) from a own b → Stands from a → Stands own b
   goes_to_fits stays h = h
   goes_to_fits (answered {own = own} {b = b} goes given is) h =
       let fit : fits (own_after b.want own) b.state = answer_fits b.want own b.state given is (goes_to_fits goes h).after in
@@ -92,14 +92,14 @@ module _ (ds : List Declaration) (words : List ℤ) (limits : Limits) (faultless
       let at = joined_fits own n b.state right.want right.state fit over there.may there.after in
       stand_fits own (joined limits right.state l.state) (record { open_scopes = at.open_scopes; counted = at.counted; scoped = at.scoped; fits = at.fits })
 
-  reached_fits : {own : List ℕ} {a : Standing State} → Reached (strands_of ds words limits) own a → Stands own a
+  reached_fits : {own : List ℕ} {a : Standing State} → Reached (strands_of_syntax ds words limits) own a → Stands own a
   reached_fits (of_main goes) = goes_to_fits goes start_fits
   reached_fits (of_left {above = above} {f = f} reached fork goes) = goes_to_fits goes (left_fits above f.state (fork_fits above f fork (reached_fits reached)))
   reached_fits (of_right {above = above} {f = f} reached fork goes) = goes_to_fits goes (right_fits above f.state (fork_fits above f fork (reached_fits reached)))
 
-  pub ends_only_when_done : (own : List ℕ) (x : Standing State) → Reached (strands_of ds words limits) own x → x.want ≡ Done → HasDoneAll x
+  pub ends_only_when_done : (own : List ℕ) (x : Standing State) → Reached (strands_of_syntax ds words limits) own x → x.want ≡ Done → HasDoneAll x
   ends_only_when_done own x reached done =
       subst (λ w. FitAfter ds limits w own x.state) done (reached_fits reached).after
 
-  pub lawful : IsLawful (strands_of ds words limits)
+  pub lawful : IsLawful (strands_of_syntax ds words limits)
   lawful = record { deep = deep run (bounded ds words limits); closes = λ own x reached. (reached_fits reached).may }

@@ -9,7 +9,7 @@ use Rattle.cw_strand.specs.Names.{globals, in_functions, naming_fault}
 use Rattle.cw_strand.specs.Meaning as m
 use Rattle.cw_strand.specs.Meaning.{Function, function_of, params_in, finish_main}
 use Rattle.cw_strand.specs.Coded as c
-use Rattle.cw_strand.specs.Compilation.{code_of, main_function, with_params}
+use Rattle.cw_strand.specs.Compilation.{code_of, main_function, slots_with_params}
 use Rattle.cw_strand.specs.Laws.{IsFaultless}
 use Rattle.cw_strand.proofs.StandingNames.{no_fault, main_there}
 use Rattle.cw_strand.proofs.Doing.{ends_main}
@@ -56,7 +56,7 @@ module _ (ds : List Declaration) (words : List ℤ) (limits : Limits) (faultless
       let vs = reverse words in
       let enough : length f.params ≤ length vs = omega (arith, count, length-reverse words) in
       record {
-        slots = with_params f.params [];
+        slots = slots_with_params f.params [];
         height = 0;
         does = function_does ds (codes "main") f code vs enough (finish_main ∷ []) [] ends_main;
         agree = arguments_agree ds (codes "main") f code vs enough;

@@ -12,7 +12,7 @@ use Rattle.cw_code.specs.Rules.{below, cells_below, called, effect_of, faults, p
 use Rattle.cw_code.proofs.Sound.{below_names, both_true, contained, laid, tested}
 use Rattle.cw_strand.specs.Coded.{State, index}
 use Rattle.cw_strand.specs.Standing.{NoneOver, StandsIn}
-use Rattle.cw_strand.specs.Acting.{Needs, Takes}
+use Rattle.cw_strand.specs.Acting.{Needs, HasArguments}
 use Rattle.cw_strand.proofs.Standing.{Here, next}
 use Rattle.cw_strand.proofs.Elements.{cell_below}
 
@@ -21,7 +21,7 @@ array_below (pos m) len cells e = leb-true (m + len) cells (both_true (nat_lt m 
 array_below (negsuc m) len cells e = absurd cc
 
 module _ (code : Code) (ok : faults code ≡ []) where
-  takes : (i : Instr) (s : State) (f : Func) → slice_get code.funcs (index i.a) ≡ Some f → below i.a (length code.funcs) ≡ true → called code i.a ≤ length s.current.operands → Takes f s
+  takes : (i : Instr) (s : State) (f : Func) → slice_get code.funcs (index i.a) ≡ Some f → below i.a (length code.funcs) ≡ true → called code i.a ≤ length s.current.operands → HasArguments f s
   takes i s f is named room =
       let n = below_names i.a (length code.funcs) named in
       let at : slice_get code.funcs n.0 ≡ Some f = subst (λ z. slice_get code.funcs (index z) ≡ Some f) n.1 is in

@@ -11,7 +11,7 @@ use Rattle.cw_strand.specs.Names.{Scope, a_local, a_function, globals, find, use
 use Rattle.cw_strand.proofs.StandingNames.{IsCell, IsFunction, with_names, name_indexed, name_called}
 use Rattle.cw_strand.specs.Names as names
 use Rattle.cw_strand.specs.Meaning.{Locals, local_of, with_local, bound_to, element_of, cell_of}
-use Rattle.cw_strand.specs.Compilation.{Slots, slot_of, slots_after, with_params, most, visible_after}
+use Rattle.cw_strand.specs.Compilation.{Slots, slot_of, slots_after, slots_with_params, most, visible_after}
 
 -- the names of the locals that are visible, and the program's
 abbrev pub scope_of : List Declaration → Slots → Scope
@@ -49,11 +49,11 @@ most_from n (first s b) = let one = visible n s in let rest = most_from (visible
     visible n (declare w e) = omega arith
     visible n s = omega arith
 
-pub scope_of_params : (ds : List Declaration) (ps : List Word) (g : Slots) → names.with_params (scope_of ds g) ps ≡ scope_of ds (with_params ps g)
+pub scope_of_params : (ds : List Declaration) (ps : List Word) (g : Slots) → names.scope_with_params (scope_of ds g) ps ≡ scope_of ds (slots_with_params ps g)
 scope_of_params ds [] g = refl
 scope_of_params ds (w ∷ ps) g = scope_of_params ds ps (w.name ∷ g)
 
-pub count_of_params : (ps : List Word) (g : Slots) → length (with_params ps g) ≡ length ps + length g
+pub count_of_params : (ps : List Word) (g : Slots) → length (slots_with_params ps g) ≡ length ps + length g
 count_of_params [] g = omega arith
 count_of_params (w ∷ ps) g = let e = count_of_params ps (w.name ∷ g) in omega (arith, e)
 
@@ -213,7 +213,7 @@ agree_bound (w ∷ rs) (v ∷ vs) zs le =
     subst (λ l. Agree ((w.name, v) ∷ bound_to rs vs) (w.name ∷ map (λ w. w.name) rs) l) (sym turned)
     (refl, ap (slice_get (reverse xs ++ v ∷ zs)) len ∙ get_past (reverse xs) v zs, agree_bound rs vs (v ∷ zs) (omega arith))
 
-names_turned : (ws : List Word) (g : Slots) → with_params ws g ≡ map (λ w. w.name) (reverse ws) ++ g
+names_turned : (ws : List Word) (g : Slots) → slots_with_params ws g ≡ map (λ w. w.name) (reverse ws) ++ g
 names_turned [] g = refl
 names_turned (w ∷ ws) g =
     names_turned ws (w.name ∷ g)
@@ -221,7 +221,7 @@ names_turned (w ∷ ws) g =
     ∙ ap (λ l. l ++ g) (sym (map-append (λ w. w.name) (reverse ws) (w ∷ [])))
     ∙ ap (λ l. map (λ w. w.name) l ++ g) (sym (reverse-append (w ∷ []) ws))
 
-pub agree_arguments : (ws : List Word) (vs zs : List ℤ) → length ws ≤ length vs → Agree (bound_to (reverse ws) vs) (with_params ws []) (reverse (take (length ws) vs) ++ zs)
+pub agree_arguments : (ws : List Word) (vs zs : List ℤ) → length ws ≤ length vs → Agree (bound_to (reverse ws) vs) (slots_with_params ws []) (reverse (take (length ws) vs) ++ zs)
 agree_arguments ws vs zs le =
     let n = length-reverse ws in
     let h = agree_bound (reverse ws) vs zs (omega (arith, n)) in

@@ -21,5 +21,5 @@ module _ (ds : List Declaration) (words : List ℤ) (limits : Limits) (faultless
   }
 
   -- where both settle
-  pub same_wants : Settles (over_syntax ds words limits) → Settles (over_code ds words limits) → WantTheSame (meaning.strands_of ds words limits) (compiled ds words limits)
+  pub same_wants : Settles (over_syntax ds words limits) → Settles (over_code ds words limits) → WantTheSame (meaning.strands_of_syntax ds words limits) (compiled ds words limits)
   same_wants settles settled = want_the_same (over_syntax ds words limits) (over_code ds words limits) (Alike ds words limits) is_followed settles settled

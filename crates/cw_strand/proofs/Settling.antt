@@ -4,14 +4,14 @@ use Rattle.std.specs.Prelude.{max}
 use Rattle.cw_strand.specs.declared.want.Want.{Want}
 use Rattle.cw_strand.specs.declared.want.Want.TheVariants.{Fork, Sync, Done, Fault}
 use Rattle.cw_strand.specs.Strands.{IsDeep, takes_answer}
-use Rattle.cw_strand.specs.Running.{Step, on, wants, stuck, Standing, Running, stand_by, stand_within, stand, depth_of, strands, ComesTo, here, lacks, goes_on, Settles, IsBounded}
+use Rattle.cw_strand.specs.Running.{LocalStep, on, wants, stuck, Standing, Running, stand_by, stand_within, stand, depth_of, strands, ComesTo, here, lacks, goes_on, Settles, IsBounded}
 
 module _ {S : Type 0} (r : Running S) (falls : (s t : S) → r.step s ≡ on t → r.bound t < r.bound s) where
   module _ (P : S → Type 0) (Q : Standing S → Type 0)
       (goes : (s t : S) → P s → r.step s ≡ on t → P t)
       (comes : (s t : S) (w : Want) → P s → r.step s ≡ wants w t → Q (record { want = w; state = t }))
       (lacking : (s : S) → P s → r.step s ≡ stuck → Q (record { want = Done; state = s })) where
-    holds_by : (s : S) (x : Step S) (go : S → Standing S) → P s → r.step s ≡ x → ((t : S) → r.step s ≡ on t → P t → Q (go t)) → Q (stand_by r s x go)
+    holds_by : (s : S) (x : LocalStep S) (go : S → Standing S) → P s → r.step s ≡ x → ((t : S) → r.step s ≡ on t → P t → Q (go t)) → Q (stand_by r s x go)
     holds_by s (on t) go h is later = later t is (goes s t h is)
     holds_by s (wants w t) go h is later = comes s t w h is
     holds_by s stuck go h is later = lacking s h is

@@ -25,7 +25,7 @@ use Rattle.cw_strand.specs.Arithmetic.{is_zero}
 use Rattle.cw_strand.specs.Meaning.{in_place, one_more, both_counts, most_frames}
 use Rattle.cw_strand.specs.Coded as coded
 use Rattle.cw_strand.specs.Coded.{Frame, State, Step, index, goes_to, with_value, locals_for, joined, counted, counts, spends, result, in_range, read_local, write_local, returned, wait_in, starts_at}
-use Rattle.cw_strand.specs.Standing.{StandsAt, WaitAt, NoneOver, StandsIn, HasBegun, StandsWanting, Stands}
+use Rattle.cw_strand.specs.Standing.{StandsAt, WaitAt, NoneOver, StandsIn, HasBegun, StandsWanting, StepStands}
 
 there : {X : Type 0} (xs : List X) (n : ℕ) → n < length xs → (x : X) × (slice_get xs n ≡ Some x)
 there [] n lt = absurd (omega arith)
@@ -49,7 +49,7 @@ over_more m (k ∷ ns) low = (omega (arith, low.0), over_less m (m + 1) ns (omeg
 -- ## Steps
 
 module _ (code : Code) where
-  stands_either : (b : Bool) (x y : Step) → (b ≡ true → Stands code x) → (b ≡ false → Stands code y) → Stands code (if b then x else y)
+  stands_either : (b : Bool) (x y : Step) → (b ≡ true → StepStands code x) → (b ≡ false → StepStands code y) → StepStands code (if b then x else y)
   stands_either true x y g h = g refl
   stands_either false x y g h = h refl
 
@@ -57,7 +57,7 @@ module _ (code : Code) where
   at_want : (w : Want) (s : State) → (w ≡ Fork → ⊥) → (w ≡ Begin → ⊥) → StandsIn code s → StandsWanting code w s
   at_want w s no_fork no_begin h = record { stands = h; beside = λ is. absurd (no_fork is); begun = λ is. absurd (no_begin is) }
 
-  at_fault : (k : FaultKind) (s : State) → StandsIn code s → Stands code (wants (Fault k) s)
+  at_fault : (k : FaultKind) (s : State) → StandsIn code s → StepStands code (wants (Fault k) s)
   at_fault k s h = at_want (Fault k) s (λ is. cc) (λ is. cc) h
 
   pub given_stands : (given : Given) (s : State) → StandsIn code s → StandsIn code (with_value given s)
@@ -120,38 +120,38 @@ module _ (code : Code) (ok : faults code ≡ []) where
       } in
       subst (λ k. StandsAt code k n m) (sym (ap index to.1)) here
 
-  counted_stands : (s : State) (go : State → Step) → StandsIn code s → Stands code (go (record s { size = s.size + 1 })) → Stands code (counted s go)
+  counted_stands : (s : State) (go : State → Step) → StandsIn code s → StepStands code (go (record s { size = s.size + 1 })) → StepStands code (counted s go)
   counted_stands s go f g = stands_either code (nat_le s.limits.size s.size) _ _ (λ e. at_fault code Size s f) (λ e. g)
 
-  wants_counted : (w : Want) (s : State) → (w ≡ Fork → ⊥) → (w ≡ Begin → ⊥) → StandsIn code s → Stands code (counts w s)
+  wants_counted : (w : Want) (s : State) → (w ≡ Fork → ⊥) → (w ≡ Begin → ⊥) → StandsIn code s → StepStands code (counts w s)
   wants_counted w s no_fork no_begin f = counted_stands s (λ u. wants w u) f (at_want code w (record s { size = s.size + 1 }) no_fork no_begin (record { current = f.current; callers = f.callers; scopes = over_less s.size (s.size + 1) s.scopes (omega arith) f.scopes }))
 
-  spent_stands : (s : State) (go : State → Step) → StandsIn code s → Stands code (go (record s { fuel = s.fuel + 1 })) → Stands code (spends s go)
+  spent_stands : (s : State) (go : State → Step) → StandsIn code s → StepStands code (go (record s { fuel = s.fuel + 1 })) → StepStands code (spends s go)
   spent_stands s go f g = stands_either code (nat_le s.limits.fuel s.fuel) _ _ (λ e. at_fault code Fuel s f) (λ e. g)
 
-  result_stands : (r : Result ℤ FaultKind) (p : ℕ) (vs : List ℤ) (s : State) → StandsIn code s → StandsAt code p (length s.current.locals) (suc (length vs)) → Stands code (result r p vs s)
+  result_stands : (r : Result ℤ FaultKind) (p : ℕ) (vs : List ℤ) (s : State) → StandsIn code s → StandsAt code p (length s.current.locals) (suc (length vs)) → StepStands code (result r p vs s)
   result_stands (Ok v) p vs s f h = record { current = h; callers = f.callers; scopes = f.scopes }
   result_stands (Err k) p vs s f h = at_fault code k s f
 
-  range_stands : (len : ℕ) (z : ℤ) (s : State) (go : Step) → StandsIn code s → Stands code go → Stands code (in_range len z s go)
+  range_stands : (len : ℕ) (z : ℤ) (s : State) (go : Step) → StandsIn code s → StepStands code go → StepStands code (in_range len z s go)
   range_stands len (negsuc n) s go f g = at_fault code Range s f
   range_stands len (pos n) s go f g = stands_either code (nat_lt n len) _ _ (λ e. g) (λ e. at_fault code Range s f)
 
-  read_stands : (o : Option ℤ) (x : ℤ) → o ≡ Some x → (p : ℕ) (vs : List ℤ) (s : State) → StandsIn code s → StandsAt code p (length s.current.locals) (suc (length vs)) → Stands code (read_local o p vs s)
+  read_stands : (o : Option ℤ) (x : ℤ) → o ≡ Some x → (p : ℕ) (vs : List ℤ) (s : State) → StandsIn code s → StandsAt code p (length s.current.locals) (suc (length vs)) → StepStands code (read_local o p vs s)
   read_stands o x e p vs s f h = rw e (record { current = h; callers = f.callers; scopes = f.scopes })
 
-  write_stands : (n : ℕ) (v : ℤ) (p : ℕ) (vs : List ℤ) (s : State) → n < length s.current.locals → StandsIn code s → StandsAt code p (length s.current.locals) (length vs) → Stands code (write_local n v p vs s)
+  write_stands : (n : ℕ) (v : ℤ) (p : ℕ) (vs : List ℤ) (s : State) → n < length s.current.locals → StandsIn code s → StandsAt code p (length s.current.locals) (length vs) → StepStands code (write_local n v p vs s)
   write_stands n v p vs s lt f h =
       stands_either code (nat_lt n (length s.current.locals)) _ _
       (λ e. record { current = subst (λ m. StandsAt code p m (length vs)) (sym (length-set s.current.locals n v)) h; callers = f.callers; scopes = f.scopes })
       (λ e. absurd (omega (arith, lt, ltb-false n (length s.current.locals) e)))
 
-  waited_stands : (ns : List ℕ) (p : ℕ) (vs : List ℤ) (s : State) → NoneOver s.size ns → StandsIn code s → StandsIn code (goes_to p vs s) → Stands code (wait_in ns p vs s)
+  waited_stands : (ns : List ℕ) (p : ℕ) (vs : List ℤ) (s : State) → NoneOver s.size ns → StandsIn code s → StandsIn code (goes_to p vs s) → StepStands code (wait_in ns p vs s)
   waited_stands [] p vs s low f g = g
   waited_stands (zero ∷ ns) p vs s low f g = g
   waited_stands (suc n ∷ ns) p vs s low f g = at_want code Sync (record s { scopes = n ∷ ns }) (λ is. cc) (λ is. cc) (record { current = f.current; callers = f.callers; scopes = (omega (arith, low.0), low.1) })
 
-  returned_stands : (fs : List Frame) (v : ℤ) (s : State) → StandsIn code s → WaitAt code fs → Stands code (returned fs v s)
+  returned_stands : (fs : List Frame) (v : ℤ) (s : State) → StandsIn code s → WaitAt code fs → StepStands code (returned fs v s)
   returned_stands [] v s f w = at_want code Done s (λ is. cc) (λ is. cc) f
   returned_stands (g ∷ fs) v s f w = record { current = w.0; callers = w.1; scopes = over_behind s.size s.scopes f.scopes }
 
@@ -163,7 +163,7 @@ module _ (code : Code) (ok : faults code ≡ []) where
       let len : g.locals ≡ length (locals_for g vs) = simp (length-append, length-reverse, length-replicate, length-take-le g.params vs le) (omega arith) in
       record { func = g; declared = co; within = inside_is code g g.start (omega arith) li.starts; situation = at_start; known = start_known code g li.starts; operands_there = refl; locals_there = len }
 
-  called_stands : (o : Option Func) (g : Func) → o ≡ Some g → Contains code.funcs g → (p : ℕ) (vs : List ℤ) (s : State) → g.params ≤ length vs → StandsIn code s → StandsAt code p (length s.current.locals) (suc (length (drop g.params vs))) → Stands code (coded.called o p vs s)
+  called_stands : (o : Option Func) (g : Func) → o ≡ Some g → Contains code.funcs g → (p : ℕ) (vs : List ℤ) (s : State) → g.params ≤ length vs → StandsIn code s → StandsAt code p (length s.current.locals) (suc (length (drop g.params vs))) → StepStands code (coded.called o p vs s)
   called_stands o g e co p vs s le f h =
       rw e (stands_either code (nat_lt (length vs) g.params) _ _
       (λ few. absurd (omega (arith, le, ltb-true (length vs) g.params few)))
@@ -185,7 +185,7 @@ module _ (code : Code) (ok : faults code ≡ []) where
       within = let some : 0 < w.at.situation.blocks + 1 = omega arith in some;
     }
 
-    act_stands : (e : Effect) (vs : List ℤ) → Here s.current.place (length s.current.locals) (length vs) i e → Stands code (coded.act code e i (s.current.place + 1) vs s)
+    act_stands : (e : Effect) (vs : List ℤ) → Here s.current.place (length s.current.locals) (length vs) i e → StepStands code (coded.act code e i (s.current.place + 1) vs s)
     act_stands t.Push vs w = moved _ (i.a ∷ vs) (onward w refl _ (omega arith))
     act_stands t.Local vs w =
         let n = below_names i.a w.at.func.locals (tested _ _ _ w.operands) in
@@ -275,13 +275,13 @@ module _ (code : Code) (ok : faults code ≡ []) where
       record { instr = i; effect = e.0; does = e.1; here = record { at = at; is = is.1; operands = ops2; around = sit2; room = omega (arith, sit2.room, at.operands_there) } }
 
   -- no step of a strand that stands is stuck, and what it leads to stands
-  pub step_stands : (s : State) → StandsIn code s → Stands code (coded.step code s)
+  pub step_stands : (s : State) → StandsIn code s → StepStands code (coded.step code s)
   step_stands s f =
       let n = next s f in
       stands_either code (nat_lt s.limits.size s.size) _ _
       (λ e. at_fault code Size s f)
-      (λ e. subst (λ o. Stands code (coded.step_at code o s)) (sym n.here.is)
-      (subst (λ o. Stands code (coded.act_of code o n.instr s)) (sym n.does)
+      (λ e. subst (λ o. StepStands code (coded.step_at code o s)) (sym n.here.is)
+      (subst (λ o. StepStands code (coded.act_of code o n.instr s)) (sym n.does)
       (act_stands n.instr s f n.effect s.current.operands n.here)))
 
   module _ (main : ℕ) (words : List ℤ) (limits : Limits) (takes : coded.MainTakes code main (length words)) where
@@ -298,12 +298,12 @@ module _ (code : Code) (ok : faults code ≡ []) where
 
     pub visited_stands : (s : State) → Visits (coded.runs code main words limits) s → StandsIn code s
     visited_stands s starts = first_stands
-    visited_stands t (steps {s = s} v is) = subst (Stands code) is (step_stands s (visited_stands s v))
-    visited_stands u (answers {s = s} {t = t} v is given) = given_stands code given t (subst (Stands code) is (step_stands s (visited_stands s v))).stands
-    visited_stands u (goes_left {s = s} v is) = (subst (Stands code) is (step_stands s (visited_stands s v))).beside refl
-    visited_stands u (goes_right {s = s} v is) = (subst (Stands code) is (step_stands s (visited_stands s v))).stands
-    visited_stands u (joins {s = s} {t = t} {v = y} v is w js) = joined_stands code t y (subst (Stands code) is (step_stands s (visited_stands s v))).stands
+    visited_stands t (steps {s = s} v is) = subst (StepStands code) is (step_stands s (visited_stands s v))
+    visited_stands u (answers {s = s} {t = t} v is given) = given_stands code given t (subst (StepStands code) is (step_stands s (visited_stands s v))).stands
+    visited_stands u (goes_left {s = s} v is) = (subst (StepStands code) is (step_stands s (visited_stands s v))).beside refl
+    visited_stands u (goes_right {s = s} v is) = (subst (StepStands code) is (step_stands s (visited_stands s v))).stands
+    visited_stands u (joins {s = s} {t = t} {v = y} v is w js) = joined_stands code t y (subst (StepStands code) is (step_stands s (visited_stands s v))).stands
 
     -- no strand of verified code ever lacks what it needs
     pub never_stuck : (s : State) → Visits (coded.runs code main words limits) s → coded.step code s ≡ stuck → ⊥
-    never_stuck s v is = subst (Stands code) is (step_stands s (visited_stands s v))
+    never_stuck s v is = subst (StepStands code) is (step_stands s (visited_stands s v))

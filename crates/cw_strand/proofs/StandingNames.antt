@@ -10,7 +10,7 @@ use Rattle.std.specs.Str.{bytes_eq}
 use Rattle.cw_text.specs.declared.ast.Word.{Word}
 use Rattle.cw_text.specs.Syntax.{Declaration, cell, func}
 use Rattle.cw_code.specs.declared.CellInfo.{CellInfo}
-use Rattle.cw_strand.specs.Names.{Thing, a_local, a_function, cell_thing, Scope, ◌then◌, find, used, indexed, called, elements, globals, with_params, in_block, in_functions, main_from, without_main, cells_from, cells_of}
+use Rattle.cw_strand.specs.Names.{Thing, a_local, a_function, cell_thing, Scope, ◌then◌, find, used, indexed, called, elements, globals, scope_with_params, in_block, in_functions, main_from, without_main, cells_from, cells_of}
 use Rattle.cw_strand.specs.Names as names
 use Rattle.cw_strand.specs.declared.naming.NameKind.TheVariants.{WrongCount}
 use Rattle.cw_strand.specs.Meaning.{Locals, Function, function_of, local_of, with_local, bound_to, element_of, cell_of}
@@ -173,7 +173,7 @@ bound_names [] vs is = refl
 bound_names (w ∷ ws) [] is = absurd (omega (arith, is))
 bound_names (w ∷ ws) (v ∷ vs) is = ap (λ (ns : List (List ℕ)). w.name ∷ ns) (bound_names ws vs (omega (arith, is)))
 
-params_named : (ws : List Word) (g : Scope) → with_params g ws ≡ with_names (map name_of (reverse ws)) g
+params_named : (ws : List Word) (g : Scope) → scope_with_params g ws ≡ with_names (map name_of (reverse ws)) g
 params_named [] g = refl
 params_named (w ∷ ws) g =
     let turned : map name_of (reverse ws) ++ w.name ∷ [] ≡ map name_of (reverse (w ∷ ws)) =
@@ -182,7 +182,7 @@ params_named (w ∷ ws) g =
     ∙ (sym (with_names_behind (map name_of (reverse ws)) w.name g) ∙ ap (λ (ns : List (List ℕ)). with_names ns g) turned)
 
 abbrev HasNoFault : Scope → Function → Type 0
-HasNoFault g f = in_block (with_params g f.params) false f.body ≡ None
+HasNoFault g f = in_block (scope_with_params g f.params) false f.body ≡ None
 
 first_or_later : (g : Scope) (b : Bool) (f h : Function) (p : Option Function) → cond b (Some f) p ≡ Some h → HasNoFault g f → (p ≡ Some h → HasNoFault g h) → HasNoFault g h
 first_or_later g true f h p is fine later = subst (λ (e : Function). HasNoFault g e) (same_Some f h is) fine

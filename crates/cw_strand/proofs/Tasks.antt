@@ -23,7 +23,7 @@ use Rattle.cw_strand.specs.Meaning as m
 use Rattle.cw_strand.specs.Meaning.{Function, function_of, arguments, enter, Task, value, lift, join, discard, perform, bind, store_in, load_at, store_at, show, choose_by, test, repeat_by, forget, wait, commit, local_of, with_local, element_of, cell_of, lifted, joining, lifts, joins}
 use Rattle.cw_strand.specs.Coded as c
 use Rattle.cw_strand.specs.Coded.{Frame}
-use Rattle.cw_strand.specs.Compilation.{Slots, code_of, function_names, calls, slot_of, term_code, terms_code, statement_code, block_code, most, plain, number_of, lift_code, join_code, reads, writes, loads_at, stores_at, element, push, set}
+use Rattle.cw_strand.specs.Compilation.{Slots, code_of, function_names, calls, slot_of, term_code, terms_code, statement_code, block_code, most, plain, operator_number, lift_code, join_code, reads, writes, loads_at, stores_at, element, push, set}
 use Rattle.cw_strand.specs.Compilation as instr
 use Rattle.cw_strand.proofs.Numbering.{Agree, scope_of, Slotted, slotted, find_out, element_there, get_set, agree_newer, same_count, agree_drop, dropped_behind, array_there}
 use Rattle.cw_strand.proofs.StandingNames.{IsCell}
@@ -119,11 +119,11 @@ module _ (ds : List Declaration) (words : List ℤ) (limits : Limits) {g : Slots
   result_follows (Ok v) us vs k step rest = moves ds words limits x p us x k (p + 1) (v ∷ vs) step rest refl
   result_follows (Err e) us vs k step rest = both_want ds words limits x p us (Fault e) (source k us) (coded p us) step tt
 
-  pub lift_follows : (o : Operator) (v : ℤ) (vs : List ℤ) (k : List Task) → effect_at (number_of o) ≡ Some (effect.Lift o) → slice_get instrs p ≡ Some (plain (number_of o)) → DoesNext (suc (length vs)) k → Follows (m.act cells functions limits (lift o) (v ∷ vs) k (source (lift o ∷ k) (v ∷ vs))) (v ∷ vs)
-  lift_follows o v vs k does there rest = result_follows (one o v) (v ∷ vs) vs k (acts ds words limits x p (v ∷ vs) small (plain (number_of o)) (effect.Lift o) there does) rest
+  pub lift_follows : (o : Operator) (v : ℤ) (vs : List ℤ) (k : List Task) → effect_at (operator_number o) ≡ Some (effect.Lift o) → slice_get instrs p ≡ Some (plain (operator_number o)) → DoesNext (suc (length vs)) k → Follows (m.act cells functions limits (lift o) (v ∷ vs) k (source (lift o ∷ k) (v ∷ vs))) (v ∷ vs)
+  lift_follows o v vs k does there rest = result_follows (one o v) (v ∷ vs) vs k (acts ds words limits x p (v ∷ vs) small (plain (operator_number o)) (effect.Lift o) there does) rest
 
-  pub join_follows : (o : Operator) (v w : ℤ) (vs : List ℤ) (k : List Task) → effect_at (number_of o) ≡ Some (effect.Join o) → slice_get instrs p ≡ Some (plain (number_of o)) → DoesNext (suc (length vs)) k → Follows (m.act cells functions limits (join o) (v ∷ w ∷ vs) k (source (join o ∷ k) (v ∷ w ∷ vs))) (v ∷ w ∷ vs)
-  join_follows o v w vs k does there rest = result_follows (two o w v) (v ∷ w ∷ vs) vs k (acts ds words limits x p (v ∷ w ∷ vs) small (plain (number_of o)) (effect.Join o) there does) rest
+  pub join_follows : (o : Operator) (v w : ℤ) (vs : List ℤ) (k : List Task) → effect_at (operator_number o) ≡ Some (effect.Join o) → slice_get instrs p ≡ Some (plain (operator_number o)) → DoesNext (suc (length vs)) k → Follows (m.act cells functions limits (join o) (v ∷ w ∷ vs) k (source (join o ∷ k) (v ∷ w ∷ vs))) (v ∷ w ∷ vs)
+  join_follows o v w vs k does there rest = result_follows (two o w v) (v ∷ w ∷ vs) vs k (acts ds words limits x p (v ∷ w ∷ vs) small (plain (operator_number o)) (effect.Join o) there does) rest
 
   pub discard_follows : (v : ℤ) (vs : List ℤ) (k : List Task) → slice_get instrs p ≡ Some instr.discard → DoesNext (length vs) k → Follows (m.act cells functions limits discard (v ∷ vs) k (source (discard ∷ k) (v ∷ vs))) (v ∷ vs)
   discard_follows v vs k there rest = moves ds words limits x p (v ∷ vs) x k (p + 1) vs (acts ds words limits x p (v ∷ vs) small instr.discard effect.Drop there refl) rest refl

@@ -20,7 +20,7 @@ abbrev pub Acts : Code → Effect → Instr → ℕ → State → Led → State 
 Acts code e i p s l t = act code e i p s.current.operands s ≡ led_to l t
 
 -- the arguments are there, and are among the function's locals
-pub record Takes (f : Func) (s : State) : Type 0 where
+pub record HasArguments (f : Func) (s : State) : Type 0 where
   pub room : f.params ≤ length s.current.operands
   pub fits : f.params ≤ f.locals
 
@@ -43,7 +43,7 @@ Needs c store_at i s = (index i.a + i.b ≤ 2 ^ 32) × (1 < length s.current.ope
 Needs c (lift o) i s = 0 < length s.current.operands
 Needs c (join o) i s = 1 < length s.current.operands
 Needs c jump_zero i s = 0 < length s.current.operands
-Needs c call i s = (index i.a < length c.funcs) × ((f : Func) → slice_get c.funcs (index i.a) ≡ Some f → Takes f s)
+Needs c call i s = (index i.a < length c.funcs) × ((f : Func) → slice_get c.funcs (index i.a) ≡ Some f → HasArguments f s)
 Needs c ret i s = 0 < length s.current.operands
 Needs c drop_top i s = 0 < length s.current.operands
 Needs c out i s = 0 < length s.current.operands

@@ -43,7 +43,7 @@ pub record State : Type 0 where
   pub limits : Limits
 
 abbrev pub Step : Type 0
-Step = running.Step State
+Step = running.LocalStep State
 
 -- an operand that names a place, a local, a cell or a function
 abbrev pub index : ℤ → ℕ
@@ -209,5 +209,5 @@ module _ (code : Code) where
   }
 
   -- The strands of code.
-  abbrev pub strands_of : (main : ℕ) → List ℤ → Limits → Strands (Standing State)
-  strands_of main words limits = running.strands (runs main words limits)
+  abbrev pub strands_of_code : (main : ℕ) → List ℤ → Limits → Strands (Standing State)
+  strands_of_code main words limits = running.strands (runs main words limits)

@@ -86,30 +86,30 @@ abbrev pub tick : Instr
 tick = plain 32
 
 -- the number of an operator's instruction
-abbrev pub number_of : Operator → ℕ
-number_of add = 8
-number_of sub = 9
-number_of mul = 10
-number_of div = 11
-number_of rem = 12
-number_of neg = 13
-number_of logical_not = 14
-number_of eq = 15
-number_of ne = 16
-number_of lt = 17
-number_of le = 18
-number_of gt = 19
-number_of ge = 20
+abbrev pub operator_number : Operator → ℕ
+operator_number add = 8
+operator_number sub = 9
+operator_number mul = 10
+operator_number div = 11
+operator_number rem = 12
+operator_number neg = 13
+operator_number logical_not = 14
+operator_number eq = 15
+operator_number ne = 16
+operator_number lt = 17
+operator_number le = 18
+operator_number gt = 19
+operator_number ge = 20
 
 -- an operator of one operand, which else changes nothing
 abbrev pub lift_code : Option Operator → List Instr
 lift_code None = []
-lift_code (Some o) = plain (number_of o) ∷ []
+lift_code (Some o) = plain (operator_number o) ∷ []
 
 -- an operator of two operands, which else gives the first
 abbrev pub join_code : Option Operator → Instr
 join_code None = discard
-join_code (Some o) = plain (number_of o)
+join_code (Some o) = plain (operator_number o)
 
 -- ## Names
 
@@ -121,9 +121,9 @@ abbrev pub slot_of : Slots → List ℕ → Option ℕ
 slot_of [] n = None
 slot_of (x ∷ xs) n = if bytes_eq n x then Some (length xs) else slot_of xs n
 
-abbrev pub with_params : List Word → Slots → Slots
-with_params [] g = g
-with_params (w ∷ ws) g = with_params ws (w.name ∷ g)
+abbrev pub slots_with_params : List Word → Slots → Slots
+slots_with_params [] g = g
+slots_with_params (w ∷ ws) g = slots_with_params ws (w.name ∷ g)
 
 abbrev pub slots_after : Statement → Slots → Slots
 slots_after (declare w e) g = w.name ∷ g
@@ -213,7 +213,7 @@ module _ (cells : List CellInfo) (functions : List (List ℕ)) where
 
   -- the function's value is 0 where it has no `return`
   abbrev pub function_code : ℕ → List Word → Block → List Instr
-  function_code p params body = block_code (with_params params []) p body ++ (wait ∷ push (pos 0) ∷ ret ∷ [])
+  function_code p params body = block_code (slots_with_params params []) p body ++ (wait ∷ push (pos 0) ∷ ret ∷ [])
 
 -- how many locals are visible at once at most, where so many are visible before
 abbrev mutual

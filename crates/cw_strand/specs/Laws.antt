@@ -13,7 +13,7 @@ use Rattle.cw_strand.specs.Names.{naming_fault}
 use Rattle.cw_strand.specs.Meaning as meaning
 use Rattle.cw_strand.specs.Meaning.{State, Task, finish, finish_main}
 use Rattle.cw_strand.specs.Coded as coded
-use Rattle.cw_strand.specs.Standing.{StandsIn, StandsWanting, Stands}
+use Rattle.cw_strand.specs.Standing.{StandsIn, StandsWanting, StepStands}
 use Rattle.cw_strand.specs.Saving.{StaysIn, Inside, StillStands}
 use Rattle.cw_strand.specs.Compilation.{code_of, main_function}
 
@@ -25,7 +25,7 @@ LocalWorkEnds = (ds : List Declaration) (words : List ℤ) (limits : Limits) →
 
 -- Whatever a strand is answered, no more forks and answers follow each other than its depth says.
 abbrev pub ForksEnd : Type 0
-ForksEnd = (ds : List Declaration) (words : List ℤ) (limits : Limits) → IsDeep (meaning.strands_of ds words limits)
+ForksEnd = (ds : List Declaration) (words : List ℤ) (limits : Limits) → IsDeep (meaning.strands_of_syntax ds words limits)
 
 -- Its end alone is left to a strand, and no operand is left over but main's own value.
 abbrev pub AllIsDone : List Task → List ℤ → Type 0
@@ -46,16 +46,16 @@ pub record IsFaultless (ds : List Declaration) (words : List ℤ) : Type 0 where
 abbrev pub EndsOnlyWhenDone : Type 0
 EndsOnlyWhenDone =
     (ds : List Declaration) (words : List ℤ) (limits : Limits) → IsFaultless ds words
-    → let s = meaning.strands_of ds words limits in
+    → let s = meaning.strands_of_syntax ds words limits in
     (own : List ℕ) (x : Standing State) → Reached s own x → s.want x ≡ Done → HasDoneAll x
 
 -- In a program without a naming fault a block ends in the strand that began it, and a strand ends only once its own blocks have ended.
 abbrev pub BlocksClose : Type 0
-BlocksClose = (ds : List Declaration) (words : List ℤ) (limits : Limits) → IsFaultless ds words → Closes (meaning.strands_of ds words limits)
+BlocksClose = (ds : List Declaration) (words : List ℤ) (limits : Limits) → IsFaultless ds words → Closes (meaning.strands_of_syntax ds words limits)
 
 -- The strands of every program without a naming fault keep the law.
 abbrev pub StrandsAreLawful : Type 0
-StrandsAreLawful = (ds : List Declaration) (words : List ℤ) (limits : Limits) → IsFaultless ds words → IsLawful (meaning.strands_of ds words limits)
+StrandsAreLawful = (ds : List Declaration) (words : List ℤ) (limits : Limits) → IsFaultless ds words → IsLawful (meaning.strands_of_syntax ds words limits)
 
 -- ## Over code that breaks no rule
 
@@ -67,7 +67,7 @@ CodeIsNeverStuck =
 
 -- Where each function of a strand stands at a place of the code, with what stands there, it does so wherever the strand's next step leads.
 abbrev pub StandsOn : Type 0
-StandsOn = (code : Code) (s : coded.State) → faults code ≡ [] → StandsIn code s → Stands code (coded.step code s)
+StandsOn = (code : Code) (s : coded.State) → faults code ≡ [] → StandsIn code s → StepStands code (coded.step code s)
 
 -- Each state stands so through which the strands of a main go, whatever they are answered and whichever are joined.
 abbrev pub VisitedStand : Type 0
@@ -81,7 +81,7 @@ CodeWorkEnds = (code : Code) (main : ℕ) (words : List ℤ) (limits : Limits) �
 
 -- Whatever a strand is answered, no more forks and answers follow each other than its depth says.
 abbrev pub CodeForksEnd : Type 0
-CodeForksEnd = (code : Code) (main : ℕ) (words : List ℤ) (limits : Limits) → faults code ≡ [] → IsDeep (coded.strands_of code main words limits)
+CodeForksEnd = (code : Code) (main : ℕ) (words : List ℤ) (limits : Limits) → faults code ≡ [] → IsDeep (coded.strands_of_code code main words limits)
 
 -- a want names only elements of the cells
 abbrev pub NamesElement : Code → Want → Type 0
@@ -93,14 +93,14 @@ NamesElement code w = Unit {0}
 abbrev pub CodeNamesElements : Type 0
 CodeNamesElements =
     (code : Code) (main : ℕ) (words : List ℤ) (limits : Limits) → faults code ≡ []
-    → let s = coded.strands_of code main words limits in
+    → let s = coded.strands_of_code code main words limits in
     (own : List ℕ) (x : Standing coded.State) → Reached s own x → NamesElement code (s.want x)
 
 -- What stood below the begin of a block stands there still for each strand inside the block that does not want its end.
 abbrev pub BeginStaysBelow : Type 0
 BeginStaysBelow =
     (code : Code) (main : ℕ) (words : List ℤ) (limits : Limits) → faults code ≡ []
-    → let s = coded.strands_of code main words limits in
+    → let s = coded.strands_of_code code main words limits in
     (begin x : Standing coded.State) (forks inner : ℕ) → s.want begin ≡ Begin → StandsWanting code Begin begin.state
     → Inside s begin forks inner x → StaysIn (s.want x) inner → StillStands begin.state x.state
 
@@ -112,19 +112,19 @@ BreaksNoRule = (ds : List Declaration) → naming_fault ds ≡ None → faults (
 
 -- the strands of a program's code
 abbrev pub compiled : List Declaration → List ℤ → Limits → Strands (Standing coded.State)
-compiled ds words limits = coded.strands_of (code_of ds) (main_function ds) words limits
+compiled ds words limits = coded.strands_of_code (code_of ds) (main_function ds) words limits
 
 -- Compiled code wants what the source wants.
 abbrev pub WantsOfTheSource : Type 0
 WantsOfTheSource =
     (ds : List Declaration) (words : List ℤ) (limits : Limits) → IsFaultless ds words
-    → WantTheSame (meaning.strands_of ds words limits) (compiled ds words limits)
+    → WantTheSame (meaning.strands_of_syntax ds words limits) (compiled ds words limits)
 
 -- A strand of compiled code is done only where the strand of the source to which the same has happened has done all that it had to do.
 abbrev pub CodeEndsOnlyWhenDone : Type 0
 CodeEndsOnlyWhenDone =
     (ds : List Declaration) (words : List ℤ) (limits : Limits) → IsFaultless ds words
-    → let s = meaning.strands_of ds words limits in
+    → let s = meaning.strands_of_syntax ds words limits in
     let t = compiled ds words limits in
     (own : List ℕ) (x : Standing coded.State) → Reached t own x → t.want x ≡ Done
     → (p : Past) × (CanBe s p × ((x ≡ became t p) × HasDoneAll (became s p)))

@@ -165,7 +165,7 @@ pub record State : Type 0 where
   pub beside : Block
 
 abbrev pub Step : Type 0
-Step = running.Step State
+Step = running.LocalStep State
 
 abbrev pub to_do : List Task → State → State
 to_do k s = record s { todo = k }
@@ -424,5 +424,5 @@ runs ds words limits = record {
 }
 
 -- The strands of a program.
-abbrev pub strands_of : List Declaration → List ℤ → Limits → Strands (Standing State)
-strands_of ds words limits = running.strands (runs ds words limits)
+abbrev pub strands_of_syntax : List Declaration → List ℤ → Limits → Strands (Standing State)
+strands_of_syntax ds words limits = running.strands (runs ds words limits)

@@ -118,9 +118,9 @@ abbrev pub in_params : Scope → List Word → Fault
 in_params g [] = None
 in_params g (w ∷ ws) = declared_new (find w.name g) w.line then in_params ((w.name, a_local) ∷ g) ws
 
-abbrev pub with_params : Scope → List Word → Scope
-with_params g [] = g
-with_params g (w ∷ ws) = with_params ((w.name, a_local) ∷ g) ws
+abbrev pub scope_with_params : Scope → List Word → Scope
+scope_with_params g [] = g
+scope_with_params g (w ∷ ws) = scope_with_params ((w.name, a_local) ∷ g) ws
 
 -- ## The whole program
 
@@ -152,7 +152,7 @@ in_items g n (func x l ps b ∷ ds) = declared_new (find x g) l then in_items ((
 abbrev pub in_functions : Scope → List Declaration → Fault
 in_functions g [] = None
 in_functions g (cell x l len i ∷ ds) = in_functions g ds
-in_functions g (func x l ps b ∷ ds) = in_params g ps then in_block (with_params g ps) false b then in_functions g ds
+in_functions g (func x l ps b ∷ ds) = in_params g ps then in_block (scope_with_params g ps) false b then in_functions g ds
 
 -- the number of the item, counted from one on, that is the function main
 abbrev pub main_from : ℕ → List Declaration → Option ℕ

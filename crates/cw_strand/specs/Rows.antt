@@ -13,7 +13,7 @@ use Rattle.cw_strand.specs.declared.want.Given.{Given}
 use Rattle.cw_strand.specs.declared.want.Given.TheVariants.{Nothing, Value}
 use Rattle.cw_strand.specs.Names as names
 use Rattle.cw_strand.specs.Strands.{Strands}
-use Rattle.cw_strand.specs.Running.{Step, on, wants, stuck}
+use Rattle.cw_strand.specs.Running.{LocalStep, on, wants, stuck}
 use Rattle.cw_strand.specs.Meaning as meaning
 use Rattle.cw_strand.specs.Meaning.{Task, enter, finish_main, function_of}
 use Rattle.cw_strand.specs.Coded as coded
@@ -94,7 +94,7 @@ abbrev pub within : ℕ → ℕ → Limits
 within fuel size = record { fuel = fuel; size = size; aborts = 1; strands = 1; moves = 1 }
 
 abbrev pub trace : List ℤ → ℕ → ℕ → List ℕ → List ℤ → List Want
-trace words fuel size text vs = let s = meaning.strands_of (tree text) words (within fuel size) in asked s 20 vs [] s.start
+trace words fuel size text vs = let s = meaning.strands_of_syntax (tree text) words (within fuel size) in asked s 20 vs [] s.start
 
 -- the same over its code
 abbrev pub code_trace : List ℤ → ℕ → ℕ → List ℕ → List ℤ → List Want
@@ -187,7 +187,7 @@ Returns =
     × Wants 99 9 (codes "fn f() { atomic { spawn { out 1; } } return 2; } fn main() { spawn { } out f(); }") [] (Fork ∷ Done ∷ Begin ∷ Fork ∷ Out (pos 1) ∷ Done ∷ Sync ∷ End ∷ Out (pos 2) ∷ Sync ∷ Done ∷ [])
 
 -- what a step stops at, where it does not go on by itself
-abbrev pub stop_of : {S : Type 0} → Step S → Option Want
+abbrev pub stop_of : {S : Type 0} → LocalStep S → Option Want
 stop_of (on s) = None
 stop_of (wants w s) = Some w
 stop_of stuck = Some Done
@@ -267,10 +267,10 @@ after_answers s (g ∷ gs) = s.answer (after_answers s gs) g
 
 -- what a strand stands at and what it has to do once that is answered, once it got these answers, the newest first
 abbrev pub standing : List ℕ → List Given → Want × List Task
-standing text given = let x = after_answers (meaning.strands_of (tree text) [] (within 9 9)) given in (x.want, x.state.todo)
+standing text given = let x = after_answers (meaning.strands_of_syntax (tree text) [] (within 9 9)) given in (x.want, x.state.todo)
 
 -- Both are over, the second one too early: its name stands for nothing.
 abbrev pub Endings : Type 0
 Endings =
     (standing (codes "cell c; fn main() { let x = c; out x * x; }") (Nothing ∷ Value (pos 3) ∷ []) ≡ (Done, finish_main ∷ []))
-    × ((after_answers (meaning.strands_of (tree (codes "fn main() { out x; }")) [] (within 9 9)) []).want ≡ Done)
+    × ((after_answers (meaning.strands_of_syntax (tree (codes "fn main() { out x; }")) [] (within 9 9)) []).want ≡ Done)

@@ -7,10 +7,10 @@ use Rattle.cw_strand.specs.Strands.{Strands}
 
 -- One step of a strand: it goes on by itself; or it wants something, and has this state then; or it lacks what it needs. From a want it
 -- goes on once it is answered; as the right strand of the fork that it wants; or, at a sync, as the strand that forked.
-pub data Step (S : Type 0) : Type 0 where
-  on : S → Step S
-  wants : Want → S → Step S
-  stuck : Step S
+pub data LocalStep (S : Type 0) : Type 0 where
+  on : S → LocalStep S
+  wants : Want → S → LocalStep S
+  stuck : LocalStep S
 
 -- a strand at its want, and the state from which it goes on
 pub record Standing (S : Type 0) : Type 0 where
@@ -20,7 +20,7 @@ pub record Standing (S : Type 0) : Type 0 where
 pub record Running (S : Type 0) : Type 0 where
   -- the strand of main, before its first step
   pub first : S
-  pub step : S → Step S
+  pub step : S → LocalStep S
   -- what an answer makes of a state
   pub answered : Given → S → S
   -- the left strand of the newest fork, before its first step
@@ -32,7 +32,7 @@ pub record Running (S : Type 0) : Type 0 where
 
 module _ {S : Type 0} (r : Running S) where
   -- where a step leads, and what is done where it goes on by itself; a strand that lacks what it needs is done
-  abbrev pub stand_by : S → Step S → (S → Standing S) → Standing S
+  abbrev pub stand_by : S → LocalStep S → (S → Standing S) → Standing S
   stand_by s (on t) go = go t
   stand_by s (wants w t) go = record { want = w; state = t }
   stand_by s stuck go = record { want = Done; state = s }

@@ -9,7 +9,7 @@ use Rattle.cw_strand.specs.declared.want.Given.{Given}
 use Rattle.cw_strand.specs.declared.want.Given.TheVariants.{Nothing}
 use Rattle.cw_strand.specs.Strands.{Strands, IsAnswer}
 use Rattle.cw_strand.specs.Running.{Standing}
-use Rattle.cw_strand.specs.Coded.{Frame, State, strands_of}
+use Rattle.cw_strand.specs.Coded.{Frame, State, strands_of_code}
 use Rattle.cw_strand.specs.Standing.{StandsWanting}
 
 -- ## Inside a block
@@ -96,6 +96,6 @@ pub record MayGoBack (kept : Kept) (now : State) : Type 0 where
   pub there : Standing State
   pub forks : ℕ
   pub inner : ℕ
-  pub inside : Inside (strands_of code main words limits) begin forks inner there
+  pub inside : Inside (strands_of_code code main words limits) begin forks inner there
   pub stays : StaysIn there.want inner
   pub like : StandsLike now there.state

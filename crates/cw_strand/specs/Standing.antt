@@ -53,10 +53,10 @@ module _ (code : Code) where
     pub begun : w ≡ Begin → HasBegun s
 
   -- so does what its next step leads to, and there is one
-  abbrev pub Stands : Step → Type 0
-  Stands (on s) = StandsIn s
-  Stands (wants w s) = StandsWanting w s
-  Stands stuck = ⊥
+  abbrev pub StepStands : Step → Type 0
+  StepStands (on s) = StandsIn s
+  StepStands (wants w s) = StandsWanting w s
+  StepStands stuck = ⊥
 
   -- The want to which a strand comes by itself once it was given this, and the state at it: in every run of the code.
   abbrev pub NextFrom : State → Given → Want → State → Type 0

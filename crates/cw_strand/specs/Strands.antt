@@ -29,9 +29,9 @@ is_over Sync = true
 is_over Done = true
 is_over w = false
 
-abbrev pub is_fork : Want → Bool
-is_fork Fork = true
-is_fork w = false
+abbrev pub wants_fork : Want → Bool
+wants_fork Fork = true
+wants_fork w = false
 
 -- a strand that wants this goes on once it is answered
 abbrev pub takes_answer : Want → Bool

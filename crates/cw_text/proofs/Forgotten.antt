@@ -9,7 +9,7 @@ use Rattle.cw_text.specs.declared.terminal.Terminal.TheVariants as m
 use Rattle.cw_text.specs.Lexemes.{Token, Lexemes, end_on, comes, terminal, end, name as a_name, number as a_number}
 use Rattle.cw_text.specs.Syntax.{Declaration, sync}
 use Rattle.cw_text.specs.Grammar as g
-use Rattle.cw_text.specs.Grammar.{Value, Values, Symbol, Next, State, take, skip, refuse, declared, act, lifted, read_from, brackets, closing, exactly, expansion, feed, go_on, opened, pending, newest_height, push, read, then_read, program_in, program_of, word, items, params, block, cell_size, cell_init, size, init, negated, more_params, stmts, assignment, otherwise, expr, operand, products, sums, comparison, args, more_args, infix_by, operand_by, product_of, sum_of, comparison_of, only, rest_of_expr}
+use Rattle.cw_text.specs.Grammar.{Value, Values, Symbol, Next, ReadingState, take, skip, refuse, declared, act, lifted, read_from, brackets, closing, exactly, expansion, feed, go_on, opened, pending, newest_height, push, read, then_read, program_in, program_of, word, items, params, block, cell_size, cell_init, size, init, negated, more_params, stmts, assignment, otherwise, expr, operand, products, sums, comparison, args, more_args, infix_by, operand_by, product_of, sum_of, comparison_of, only, rest_of_expr}
 use Rattle.cw_text.specs.WithoutLines.{tree_without_lines, tokens_without_lines}
 use Rattle.cw_text.proofs.Forgetting.{Forgets, arg_done_forgets, assign_at_done_forgets, assign_done_forgets, atomic_done_forgets, call_done_forgets, cell_done_forgets, choose_done_forgets, func_done_forgets, index_done_forgets, join_forgets, let_done_forgets, lift_forgets, newest_without, out_done_forgets, param_done_forgets, repeat_done_forgets, return_done_forgets, run_done_forgets, spawn_done_forgets, stated_forgets, value_without, values_without, with_init_forgets, with_size_forgets, without_newest_forgets}
 
@@ -172,12 +172,12 @@ expansion_alike (read_from k) is t l = absurd is
 
 -- ## One token
 
-abbrev StateAlike : Result State TextFault → Result State TextFault → Type 0
+abbrev StateAlike : Result ReadingState TextFault → Result ReadingState TextFault → Type 0
 StateAlike (Ok s) (Ok u) = AllAlike s.0 u.0 × (values_without s.1 ≡ u.1)
 StateAlike (Err e) (Err f) = Unit {0}
 StateAlike r q = ⊥
 
-guarded_alike : (b c : Bool) (e f : TextFault) (r q : Result State TextFault) → b ≡ c → StateAlike r q → StateAlike (cond b (Err e) r) (cond c (Err f) q)
+guarded_alike : (b c : Bool) (e f : TextFault) (r q : Result ReadingState TextFault) → b ≡ c → StateAlike r q → StateAlike (cond b (Err e) r) (cond c (Err f) q)
 guarded_alike true true e f r q is h = tt
 guarded_alike false false e f r q is h = h
 guarded_alike true false e f r q is h = cc
@@ -186,7 +186,7 @@ guarded_alike false true e f r q is h = cc
 opened_alike : {k j : List Symbol} (vs : Values) (l : ℕ) → AllAlike k j → StateAlike (opened k vs l) (opened j (values_without vs) 1)
 opened_alike {k} {j} vs l h = guarded_alike (nat_lt 200 (pending k)) (nat_lt 200 (pending j)) _ _ (Ok (k, vs)) (Ok (j, values_without vs)) (ap (nat_lt 200) (pending_alike h)) (h, refl)
 
-go_on_alike : {a b : Next} {k j : List Symbol} (vs : Values) (l : ℕ) (r q : Result State TextFault) → NextAlike a b → AllAlike k j → StateAlike r q →
+go_on_alike : {a b : Next} {k j : List Symbol} (vs : Values) (l : ℕ) (r q : Result ReadingState TextFault) → NextAlike a b → AllAlike k j → StateAlike r q →
     StateAlike (go_on a k vs l r) (go_on b j (values_without vs) 1 q)
 go_on_alike vs l r q (takes h) rest later = opened_alike vs l (append_alike h rest)
 go_on_alike vs l r q skips rest later = later
@@ -221,7 +221,7 @@ ValuesAlike (Ok vs) (Ok ws) = values_without vs ≡ ws
 ValuesAlike (Err e) (Err f) = Unit {0}
 ValuesAlike r q = ⊥
 
-then_alike : (r q : Result State TextFault) (go on : List Symbol → Values → Result Values TextFault) → StateAlike r q →
+then_alike : (r q : Result ReadingState TextFault) (go on : List Symbol → Values → Result Values TextFault) → StateAlike r q →
     ((k j : List Symbol) (vs : Values) → AllAlike k j → ValuesAlike (go k vs) (on j (values_without vs))) → ValuesAlike (then_read r go) (then_read q on)
 then_alike (Ok s) (Ok u) go on h next = subst (λ ws. ValuesAlike (go s.0 s.1) (on u.0 ws)) h.1 (next s.0 u.0 s.1 h.0)
 then_alike (Err e) (Err f) go on h next = tt

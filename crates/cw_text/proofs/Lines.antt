@@ -4,7 +4,7 @@ use Rattle.cw_text.specs.declared.fault.TextFault.{TextFault}
 use Rattle.cw_text.specs.declared.terminal.Terminal.TheVariants as m
 use Rattle.cw_text.specs.Lexemes.{Token, Lexemes, end_on, comes, terminal, name as a_name, number as a_number, end}
 use Rattle.cw_text.specs.Syntax.{Declaration}
-use Rattle.cw_text.specs.Grammar.{Symbol, Values, State, Next, take, skip, refuse, act, arg_done, args, assignment, expansion, block, brackets, cell_init, cell_size, closing, comparison, comparison_of, declared, expr, feed, go_on, infix_by, operand_by, init, items, lift, lifted, more_args, more_params, newest_height, opened, operand, otherwise, pending, product_of, products, program_in, program_of, read, read_from, rest_of_expr, size, stmts, sum_of, sums, then_read}
+use Rattle.cw_text.specs.Grammar.{Symbol, Values, ReadingState, Next, take, skip, refuse, act, arg_done, args, assignment, expansion, block, brackets, cell_init, cell_size, closing, comparison, comparison_of, declared, expr, feed, go_on, infix_by, operand_by, init, items, lift, lifted, more_args, more_params, newest_height, opened, operand, otherwise, pending, product_of, products, program_in, program_of, read, read_from, rest_of_expr, size, stmts, sum_of, sums, then_read}
 use Rattle.cw_text.specs.Printed.{only_tree_lines}
 
 -- ## Symbols without their lines
@@ -41,11 +41,11 @@ plain_next (take ss) = take (plain ss)
 plain_next skip = skip
 plain_next (refuse why) = refuse why
 
-abbrev without_lines : State → State
+abbrev without_lines : ReadingState → ReadingState
 without_lines s = (plain s.0, s.1)
 
 -- none after a fault
-abbrev plain_state : Result State TextFault → Option State
+abbrev plain_state : Result ReadingState TextFault → Option ReadingState
 plain_state (Ok s) = Some (without_lines s)
 plain_state (Err e) = None
 
@@ -110,7 +110,7 @@ brackets-plain n (terminal m.SquareOpen) i l = refl
 brackets-plain n (terminal m.ParenOpen) i l = refl
 brackets-plain n t i l = refl
 
-guard-plain : (b c : Bool) (f g : TextFault) (r q : Result State TextFault) → b ≡ c → plain_state r ≡ plain_state q → plain_state (cond b (Err f) r) ≡ plain_state (cond c (Err g) q)
+guard-plain : (b c : Bool) (f g : TextFault) (r q : Result ReadingState TextFault) → b ≡ c → plain_state r ≡ plain_state q → plain_state (cond b (Err f) r) ≡ plain_state (cond c (Err g) q)
 guard-plain true true f g r q same h = refl
 guard-plain true false f g r q same h = cc
 guard-plain false true f g r q same h = cc
@@ -123,7 +123,7 @@ opened-plain : (j k : List Symbol) (vs : Values) (i l : ℕ) → plain j ≡ pla
 opened-plain j k vs i l same =
     guard-plain (nat_lt 200 (pending j)) (nat_lt 200 (pending k)) _ _ (Ok (j, vs)) (Ok (k, vs)) (ap (nat_lt 200) (pending-same j k same)) (ap (λ k. Some (k, vs)) same)
 
-go_on-plain : (m n : Next) (k : List Symbol) (vs : Values) (i l : ℕ) (r q : Result State TextFault) → plain_next m ≡ plain_next n → plain_state r ≡ plain_state q →
+go_on-plain : (m n : Next) (k : List Symbol) (vs : Values) (i l : ℕ) (r q : Result ReadingState TextFault) → plain_next m ≡ plain_next n → plain_state r ≡ plain_state q →
     plain_state (go_on m (plain k) vs i r) ≡ plain_state (go_on n k vs l q)
 go_on-plain (take ss) (take ts) k vs i l r q same h =
     let e : plain ss ≡ plain ts = cc in
@@ -155,7 +155,7 @@ abbrev values_of : Result Values TextFault → Option Values
 values_of (Ok vs) = Some vs
 values_of (Err e) = None
 
-then_read-same : (r q : Result State TextFault) (go on : List Symbol → Values → Result Values TextFault) → plain_state r ≡ plain_state q →
+then_read-same : (r q : Result ReadingState TextFault) (go on : List Symbol → Values → Result Values TextFault) → plain_state r ≡ plain_state q →
     ((j k : List Symbol) (vs : Values) → plain j ≡ plain k → values_of (go j vs) ≡ values_of (on k vs)) → values_of (then_read r go) ≡ values_of (then_read q on)
 then_read-same (Ok s) (Ok u) go on same h =
     let e : without_lines s ≡ without_lines u = cc in

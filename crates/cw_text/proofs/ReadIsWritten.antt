@@ -12,7 +12,7 @@ use Rattle.cw_text.specs.declared.terminal.Terminal.{Terminal}
 use Rattle.cw_text.specs.declared.terminal.Terminal.TheVariants as m
 use Rattle.cw_text.specs.Lexemes.{Token, Lexemes, end_on, comes, terminal, name as a_name, number as a_number, end, spelling, keywords, front, Front, found}
 use Rattle.cw_text.specs.Syntax.{Term, number, name, at, call, unary, binary, Terms, none, more, Statement, declare, assign, assign_at, run, out, choose, repeat, atomic, spawn, sync, return, Block, empty, first, with_statement, Declaration, cell, func}
-use Rattle.cw_text.specs.Grammar.{Symbol, Values, State, a_line, a_term, a_word, a_size, a_block, an_init, act, arg_done, args, assignment, assign_done, assign_at_done, atomic_done, block, brackets, call_done, cell_done, cell_init, cell_size, choose_done, closing, comparison, comparison_of, declared, exactly, expr, feed, func_done, go_on, index_done, infix_by, init, items, join, let_done, lift, lifted, more_args, more_params, negated, newest_height, opened, operand, operand_by, otherwise, out_done, param_done, params, pending, product_of, products, program_in, program_of, push, read, read_from, refuse, repeat_done, rest_of_expr, return_done, run_done, same_terminal, size, some_terms, some_words, spawn_done, stated, stmts, sum_of, sums, sync_done, take, then_read, with_init, with_size, without_newest, word, word_at}
+use Rattle.cw_text.specs.Grammar.{Symbol, Values, ReadingState, a_line, a_term, a_word, a_size, a_block, an_init, act, arg_done, args, assignment, assign_done, assign_at_done, atomic_done, block, brackets, call_done, cell_done, cell_init, cell_size, choose_done, closing, comparison, comparison_of, declared, exactly, expr, feed, func_done, go_on, index_done, infix_by, init, items, join, let_done, lift, lifted, more_args, more_params, negated, newest_height, opened, operand, operand_by, otherwise, out_done, param_done, params, pending, product_of, products, program_in, program_of, push, read, read_from, refuse, repeat_done, rest_of_expr, return_done, run_done, same_terminal, size, some_terms, some_words, spawn_done, stated, stmts, sum_of, sums, sync_done, take, then_read, with_init, with_size, without_newest, word, word_at}
 use Rattle.cw_text.specs.Written as w
 use Rattle.cw_text.proofs.Blocks.{joined, joined_empty, with_terms, with_terms_one}
 
@@ -101,7 +101,7 @@ line_of (end_on l) = l
 line_of (comes t l xs) = l
 
 -- Behind a token the symbols that may come then owe the rest, and behind the end all is as it should be.
-abbrev Leads : (List Declaration → Type 0) → Lexemes → Result State TextFault → Type 0
+abbrev Leads : (List Declaration → Type 0) → Lexemes → Result ReadingState TextFault → Type 0
 Leads P xs (Err e) = Unit {0}
 Leads P (end_on l) (Ok s) = HasDeclared P s.1
 Leads P (comes end l xs) (Ok s) = s.0 ≡ []
@@ -119,19 +119,19 @@ terminal_spelled a = refl
 spelled_alike : (a b : Terminal) → true ≡ same_terminal a b → a ≡ b
 spelled_alike a b same = sym (terminal_spelled a) ∙ ap (λ s. terminal_in (front keywords s)) (same_text (spelling a) (spelling b) same) ∙ terminal_spelled b
 
-unless : (P : List Declaration → Type 0) (b : Bool) (xs : Lexemes) (f : TextFault) (r : Result State TextFault) → (b ≡ false → Leads P xs r) → Leads P xs (cond b (Err f) r)
+unless : (P : List Declaration → Type 0) (b : Bool) (xs : Lexemes) (f : TextFault) (r : Result ReadingState TextFault) → (b ≡ false → Leads P xs r) → Leads P xs (cond b (Err f) r)
 unless P b xs f r h = cond_both b (Err f) r (Leads P xs) (λ _. tt) h
 
 opened_leads : (P : List Declaration → Type 0) (k : List Symbol) (vs : Values) (xs : Lexemes) (l : ℕ) → (pending k ≤ 200 → Leads P xs (Ok (k, vs))) → Leads P xs (opened k vs l)
 opened_leads P k vs xs l h = unless P (nat_lt 200 (pending k)) xs _ (Ok (k, vs)) (λ few. h (ltb-false 200 (pending k) few))
 
-only_leads : (P : List Declaration → Type 0) (same : Bool) (k : List Symbol) (vs : Values) (a b : Terminal) (l : ℕ) (xs : Lexemes) (rest : Result State TextFault) →
+only_leads : (P : List Declaration → Type 0) (same : Bool) (k : List Symbol) (vs : Values) (a b : Terminal) (l : ℕ) (xs : Lexemes) (rest : Result ReadingState TextFault) →
     same ≡ same_terminal a b → ((i : ℕ) (ys : Lexemes) → comes (terminal b) l xs ≡ comes (terminal a) i ys → Owes P k vs ys) →
     Leads P (comes (terminal b) l xs) (go_on (cond same (take []) (refuse Unexpected)) k vs l rest)
 only_leads P true k vs a b l xs rest is owes = opened_leads P k vs (comes (terminal b) l xs) l (λ _. owes l xs (ap (λ c. comes (terminal c) l xs) (sym (spelled_alike a b is))))
 only_leads P false k vs a b l xs rest is owes = tt
 
-infix_leads : (P : List Declaration → Type 0) (found : Option Op) (right following k : List Symbol) (vs : Values) (a : Terminal) (l : ℕ) (xs : Lexemes) (rest : Result State TextFault) →
+infix_leads : (P : List Declaration → Type 0) (found : Option Op) (right following k : List Symbol) (vs : Values) (a : Terminal) (l : ℕ) (xs : Lexemes) (rest : Result ReadingState TextFault) →
     ((o : Op) → found ≡ Some o → Owes P ((operand ∷ right ++ act (join o) ∷ read_from l ∷ following) ++ k) vs xs) →
     Leads P (comes (terminal a) l xs) rest → Leads P (comes (terminal a) l xs) (go_on (infix_by found right following l) k vs l rest)
 infix_leads P None right following k vs a l xs rest taken skipped = skipped
@@ -142,7 +142,7 @@ infix_leads P (Some o) right following k vs a l xs rest taken skipped =
 abbrev OwesOperand : (List Declaration → Type 0) → List Symbol → Values → Lexemes → Type 0
 OwesOperand P k vs xs = (e : Term) (ys : Lexemes) → w.IsUnary (pending k) e xs ys → Owes P k (a_term e ∷ vs) ys
 
-operand_leads : (P : List Declaration → Type 0) (ss k : List Symbol) (vs : Values) (xs : Lexemes) (rest : Result State TextFault) →
+operand_leads : (P : List Declaration → Type 0) (ss k : List Symbol) (vs : Values) (xs : Lexemes) (rest : Result ReadingState TextFault) →
     OwesOperand P (ss ++ k) vs xs → Leads P xs (go_on (operand_by ss (token_of xs) (line_of xs)) k vs (line_of xs) rest)
 operand_leads P ss k vs (comes (a_number n) l xs) rest owes =
     opened_leads P (act (push (a_term (number (pos n)))) ∷ (ss ++ k)) vs (comes (a_number n) l xs) l
@@ -359,11 +359,11 @@ none_follow : (P : List Declaration → Type 0) (vs : Values) (xs : Lexemes) →
 none_follow P vs (end_on l) = tt
 none_follow P vs (comes t l xs) = tt
 
-end_led : (P : List Declaration → Type 0) (l : ℕ) (r : Result State TextFault) → Leads P (end_on l) r → Declares P (then_read r (λ _ vs. Ok vs))
+end_led : (P : List Declaration → Type 0) (l : ℕ) (r : Result ReadingState TextFault) → Leads P (end_on l) r → Declares P (then_read r (λ _ vs. Ok vs))
 end_led P l (Ok s) h = h
 end_led P l (Err e) h = tt
 
-led_on : (P : List Declaration → Type 0) (t : Token) (l : ℕ) (xs : Lexemes) (r : Result State TextFault) → Leads P (comes t l xs) r →
+led_on : (P : List Declaration → Type 0) (t : Token) (l : ℕ) (xs : Lexemes) (r : Result ReadingState TextFault) → Leads P (comes t l xs) r →
     ((k : List Symbol) (vs : Values) → Owes P k vs xs → Declares P (read k vs xs)) → Declares P (then_read r (λ k vs. read k vs xs))
 led_on P end l xs (Ok s) h on = subst (λ k. Declares P (read k s.1 xs)) (sym h) (none_follow P s.1 xs)
 led_on P t l xs (Ok s) h on = on s.0 s.1 h

@@ -14,7 +14,7 @@ use Rattle.std.specs.Prelude.{nat_le}
 use Rattle.std.specs.Str.{IsAscii, IsUtf8}
 use Rattle.cw_text.specs.declared.terminal.Terminal.TheVariants as m
 use Rattle.cw_text.specs.Lexemes.{Token, Lexemes, name as a_name, number as a_number, terminal, bad, end, after_digits, end_on, found, front, is_blank, is_letter, is_word, keywords, lexemes, lexemes_from, line_after, value_of_digits}
-use Rattle.cw_text.specs.Printed.{Placed, before}
+use Rattle.cw_text.specs.Printed.{Placed, tokens_before}
 use Rattle.cw_text.specs.PrintedText.{AreSpellable, IsName, IsSpellable, blank_behind, more, none, spelled, text_of}
 use Rattle.cw_text.specs.WithoutLines.{tokens_without_lines}
 use Rattle.cw_text.proofs.Digits.{value_on}
@@ -112,12 +112,12 @@ token_first t line bytes rest is =
     ∙ ap (λ rest. lexemes_from keywords behind 0 rest) (drop-append_seam bytes (blank_behind t ∷ rest))
     ∙ blank_passed behind (blank_behind t) rest (blank_is t)))
 
-scanned_from : (ps : List Placed) (line : ℕ) → AreSpellable ps → tokens_without_lines (lexemes_from keywords line 0 (text_of ps)) ≡ tokens_without_lines (before ps (end_on 1))
+scanned_from : (ps : List Placed) (line : ℕ) → AreSpellable ps → tokens_without_lines (lexemes_from keywords line 0 (text_of ps)) ≡ tokens_without_lines (tokens_before ps (end_on 1))
 scanned_from [] line none = refl
 scanned_from ((t, l) ∷ ps) line (more is rest) =
     rw (token_first t line (spelled t) (text_of ps) (spelled_is_front t (text_of ps) is)) (ap (λ xs. Lexemes.comes t 1 xs) (scanned_from ps _ rest))
 
-pub scanned : (ps : List Placed) → AreSpellable ps → tokens_without_lines (lexemes keywords (text_of ps)) ≡ tokens_without_lines (before ps (end_on 1))
+pub scanned : (ps : List Placed) → AreSpellable ps → tokens_without_lines (lexemes keywords (text_of ps)) ≡ tokens_without_lines (tokens_before ps (end_on 1))
 scanned ps are = scanned_from ps 1 are
 
 -- ## Characters

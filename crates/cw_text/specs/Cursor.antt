@@ -11,8 +11,8 @@ abbrev pub before : Token → ℕ → Lexemes → Lexemes
 before token.End line xs = end_on line
 before t line xs = comes (lexeme_of t) line xs
 
-abbrev pub left_of : Cursor → Lexemes
-left_of c = before c.token c.line (lexemes_from keywords c.rest_line 0 c.rest.now)
+abbrev pub tokens_left : Cursor → Lexemes
+tokens_left c = before c.token c.line (lexemes_from keywords c.rest_line 0 c.rest.now)
 
 abbrev pub rest_of : Lexemes → Lexemes
 rest_of (end_on line) = end_on line

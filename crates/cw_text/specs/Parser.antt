@@ -8,13 +8,13 @@ use Rattle.cw_text.specs.declared.fault.TextRefusal.{TextRefusal}
 use Rattle.cw_text.specs.declared.fault.TextRefusal.TheVariants.{Text, OutOfMemory}
 use Rattle.cw_text.specs.declared.parser.Parser.{Parser}
 use Rattle.cw_text.specs.Lexemes.{Lexemes, end_on, comes}
-use Rattle.cw_text.specs.Cursor.{left_of, rest_of, count_of}
+use Rattle.cw_text.specs.Cursor.{tokens_left, rest_of, count_of}
 use Rattle.cw_text.specs.Syntax.{Declaration, declaration_of, statement_of}
 use Rattle.cw_text.specs.Grammar.{Symbol, Values, declared, items, opened, pending, read, stated, stmts, then_read, why}
 
 -- the tokens that a parser has left
 abbrev pub ahead : Parser → Lexemes
-ahead p = left_of p.cursor
+ahead p = tokens_left p.cursor
 
 -- the fault of the next token, where it may not stand
 abbrev pub fault_at : Lexemes → TextFault

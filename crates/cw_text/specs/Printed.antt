@@ -14,9 +14,9 @@ abbrev pub Placed : Type 0
 Placed = Token × ℕ
 
 -- these tokens, and others behind them
-abbrev pub before : List Placed → Lexemes → Lexemes
-before [] xs = xs
-before (p ∷ ps) xs = comes p.0 p.1 (before ps xs)
+abbrev pub tokens_before : List Placed → Lexemes → Lexemes
+tokens_before [] xs = xs
+tokens_before (p ∷ ps) xs = comes p.0 p.1 (tokens_before ps xs)
 
 -- A name and a `return` have their lines in the tree. Every other token is put on line 1.
 abbrev pub named : List ℕ → ℕ → List Placed
@@ -152,7 +152,7 @@ tokens ds = flat_map declaration_tokens ds
 
 -- a program, which ends on line 1
 abbrev pub printed : List Declaration → Lexemes
-printed ds = before (tokens ds) (end_on 1)
+printed ds = tokens_before (tokens ds) (end_on 1)
 
 -- ## What can be read
 

@@ -27,19 +27,19 @@ pub struct Cursor<'a> {
 }
 
 impl<'a> Cursor<'a> {
-    ghost use Rattle.cw_text.specs.Cursor.{left_of, rest_of};
+    ghost use Rattle.cw_text.specs.Cursor.{tokens_left, rest_of};
 
     /// The first token of a text.
     pub fn new(text: &'a [u8]) -> Cursor<'a>
         requires { length text.now ≤ 2 ^ 20 }
-        ensures { left_of result ≡ lexemes keywords text.now }
+        ensures { tokens_left result ≡ lexemes keywords text.now }
     {
         Cursor::first_in(text, 1)
     }
 
     /// Goes on to the next token. The end stays where it is.
     pub fn advance(&mut self)
-        ensures { left_of self.new ≡ rest_of (left_of self.old) }
+        ensures { tokens_left self.new ≡ rest_of (tokens_left self.old) }
     {
         if !matches!(self.token, Token::End) {
             *self = Cursor::first_in(self.rest, self.rest_line);
@@ -50,7 +50,7 @@ impl<'a> Cursor<'a> {
     #[tactic(auto, using(crate::proofs::Fronts::front_width, crate::proofs::Passing::begun))]
     fn first_in(text: &'a [u8], line: u32) -> Cursor<'a>
         requires { line + length text.now ≤ 2 ^ 20 + 1 }
-        ensures { left_of result ≡ lexemes_from keywords line 0 text.now }
+        ensures { tokens_left result ≡ lexemes_from keywords line 0 text.now }
     {
         let (mut rest, mut rest_line) = (text, line);
         while !rest.is_empty() {

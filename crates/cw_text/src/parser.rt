@@ -1,5 +1,5 @@
 ghost use Rattle.std.specs.Prelude.{◌≡◌, ◌≤◌, ◌<◌, ◌+◌, List, ◌∷◌, IfOk, OnOk};
-ghost use Rattle.cw_text.specs.Cursor.{count_of, left_of, rest_of};
+ghost use Rattle.cw_text.specs.Cursor.{count_of, tokens_left, rest_of};
 ghost use Rattle.cw_text.specs.Grammar.{Symbol, Values, a_word, exactly, pending, program_of, read, word, word_at};
 ghost use Rattle.cw_text.specs.Parser.{GoesOn, ahead, fault_at, taken};
 ghost use Rattle.cw_text.specs.Text.{Reads};
@@ -100,7 +100,7 @@ impl<'a> Parser<'a> {
 
 /// Reads all that a cursor has left.
 pub(crate) fn program(alloc: Global, cursor: Cursor<'_>) -> Result<Ast, TextRefusal>
-    ensures { Reads result (program_of (left_of cursor.entry)) }
+    ensures { Reads result (program_of (tokens_left cursor.entry)) }
 {
     let mut parser = Parser {
         alloc,

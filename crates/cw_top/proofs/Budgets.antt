@@ -6,12 +6,12 @@ use Rattle.cw_tree.specs.declared.conflict.Conflict.{Conflict}
 use Rattle.cw_tree.specs.Nodes.{is_fork}
 use Rattle.cw_tree.specs.Refusals.{MaySpend, Spent, may_be_last, telling, tells}
 use Rattle.cw_tree.proofs.Visits.{all_come}
-use Rattle.cw_serial.specs.Room.Strands.{strands_of}
+use Rattle.cw_serial.specs.Room.Strands.{strands_of_job}
 use Rattle.cw_record.specs.declared.record.Record.{Record}
 use Rattle.cw_record.specs.declared.record_end.RecordEnd.{RecordEnd}
 use Rattle.cw_record.specs.declared.record_end.RecordEnd.TheVariants.{Finished, Fault, Budget, Moves}
 use Rattle.cw_record.specs.Coherent.{halt_of}
-use Rattle.cw_record.specs.Records.{job_of}
+use Rattle.cw_record.specs.Records.{job_of_record}
 use Rattle.cw_record.specs.Replay.{IsSpent, SameEnd}
 use Rattle.cw_record.proofs.OneRun.{same_end}
 use Rattle.cw_replay.proofs.Found.{find_contains}
@@ -50,7 +50,7 @@ module _ (c : Command) (left : Option (List ℕ)) (r : Record) (run : IsRunBy c 
         at_refusal = record {
           machine = run.replays.machine;
           acts = run.replays.acts;
-          stands = subst (λ (e : RecordEnd). IsSpent (strands_of (job_of r)) r.tree r.conflicts r.limits.aborts e run.replays.machine) is run.replays.spent;
+          stands = subst (λ (e : RecordEnd). IsSpent (strands_of_job (job_of_record r)) r.tree r.conflicts r.limits.aborts e run.replays.machine) is run.replays.spent;
         };
         attempts = records_attempts r.tree (first_memory r.program.cells) r.journals r.conflicts history (all_come r.tree tree.rooted) r.limits.aborts x spent;
         forks = forks;

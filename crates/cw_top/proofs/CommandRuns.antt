@@ -3,7 +3,7 @@ use Rattle.std.proofs.Common.{◌≡◌, ℕ, ℤ, List, length, Option, subst, 
 use Rattle.std.specs.Prelude.{IfSome}
 use Rattle.cw_code.specs.declared.program.Program.{Program}
 use Rattle.cw_strand.specs.Programs.{IsCompiled}
-use Rattle.cw_serial.specs.Jobs.{Takes}
+use Rattle.cw_serial.specs.Jobs.{TakesWords}
 use Rattle.cw_record.specs.declared.record.Record.{Record}
 use Rattle.cw_record.specs.Records.{HasItsOutputs, IsCoherentRun, IsNumberedDepthFirst, IsReplayed}
 use Rattle.cw_top.specs.declared.command.Command.{Command}
@@ -11,15 +11,15 @@ use Rattle.cw_top.specs.Outcome.{IsRunBy}
 use Rattle.cw_top.specs.Refusals.{Spells}
 use Rattle.cw_top.specs.Words.{limits_of, words_of}
 
-module _ (co : Command) (left : Option (List ℕ)) (p : Program) (spelled : IfSome left (λ bytes. Spells bytes p)) (compiled : IsCompiled p) (takes : Takes p (length (words_of co))) where
+module _ (co : Command) (left : Option (List ℕ)) (p : Program) (spelled : IfSome left (λ bytes. Spells bytes p)) (compiled : IsCompiled p) (takes : TakesWords p (length (words_of co))) where
   pub is_run : (r : Record) → r.program ≡ p → r.words ≡ words_of co → r.limits ≡ limits_of co → IsCoherentRun r → HasItsOutputs r → IsReplayed r → IsNumberedDepthFirst r.tree → IsRunBy co left r
   is_run r program words limits coherent outputs replays numbered =
-      let same : Takes p (length r.words) = subst (λ (ws : List ℤ). Takes p (length ws)) (sym words) takes in
+      let same : TakesWords p (length r.words) = subst (λ (ws : List ℤ). TakesWords p (length ws)) (sym words) takes in
       record {
         spelled = subst (λ (q : Program). IfSome left (λ bytes. Spells bytes q)) (sym program) spelled;
         words = words;
         limits = limits;
-        coherent = record { program = subst IsCompiled (sym program) compiled; words = subst (λ (q : Program). Takes q (length r.words)) (sym program) same; coherent = coherent };
+        coherent = record { program = subst IsCompiled (sym program) compiled; words = subst (λ (q : Program). TakesWords q (length r.words)) (sym program) same; coherent = coherent };
         outputs = outputs;
         replays = replays;
         numbered = numbered;

@@ -3,7 +3,7 @@ use Rattle.std.proofs.Common.{ℕ, ℤ, List, length, Option, Some, None, subst}
 use Rattle.std.specs.Prelude.{IfSome}
 use Rattle.cw_code.specs.declared.Limits.{Limits}
 use Rattle.cw_strand.specs.Names.{cells_of, first_memory}
-use Rattle.cw_strand.specs.Meaning.{MainTakes, strands_of}
+use Rattle.cw_strand.specs.Meaning.{MainTakes, strands_of_syntax}
 use Rattle.cw_serial.proofs.Room.Lawful.{source_takes}
 use Rattle.cw_record.specs.declared.record.Record.{Record}
 use Rattle.cw_record.specs.Replay.{Replays}
@@ -18,7 +18,7 @@ of_syntax co bytes r run =
     let (ds, (spelled, is)) = run.spelled in
     let takes : MainTakes ds (length r.words) = source_takes ds r.program is (length r.words) run.coherent.words in
     let replays = (over_source ds r is takes).0 run.replays in
-    let P : List ℤ → Limits → Type 0 = λ ws ls. Replays (strands_of ds ws ls) (first_memory (cells_of ds)) ls.aborts r.tree r.conflicts r.order r.end in
+    let P : List ℤ → Limits → Type 0 = λ ws ls. Replays (strands_of_syntax ds ws ls) (first_memory (cells_of ds)) ls.aborts r.tree r.conflicts r.order r.end in
     record {
       source = ds;
       spelled = spelled;

@@ -10,12 +10,12 @@ use Rattle.cw_strand.specs.Compilation.{code_of}
 use Rattle.cw_strand.specs.Meaning.{MainTakes, params_in}
 use Rattle.cw_strand.specs.Programs.{IsProgramOf}
 use Rattle.cw_strand.proofs.MainCode.{main_code}
-use Rattle.cw_serial.specs.Jobs.{Takes}
+use Rattle.cw_serial.specs.Jobs.{TakesWords}
 use Rattle.cw_serial.proofs.Room.Lawful.{source_takes}
 use Rattle.cw_top.specs.Refusals.{AsksFor, IsMisfit, Spells, named, of_reading}
 
 module _ (ds : List Declaration) (p : Program) (is : IsProgramOf ds p) (n : ℕ) where
-  code_takes : MainTakes ds n → Takes p n
+  code_takes : MainTakes ds n → TakesWords p n
   code_takes h =
       let m = main_code ds is.named in
       let same : m.func.params ≡ n = m.params ∙ (sym (ap params_in m.found) ∙ h) in
@@ -25,20 +25,20 @@ module _ (ds : List Declaration) (p : Program) (is : IsProgramOf ds p) (n : ℕ)
       takes
 
 module _ (n : ℕ) (bytes : List ℕ) (p : Program) (spells : Spells bytes p) where
-  pub takes : AsksFor bytes n → Takes p n
+  pub takes : AsksFor bytes n → TakesWords p n
   takes asks =
       let same : asks.0 ≡ spells.0 = same_Some asks.0 spells.0 (sym (ap result_ok asks.1.0) ∙ ap result_ok spells.1.0) in
       code_takes spells.0 p spells.1.1 n (subst (λ (ds : List Declaration). MainTakes ds n) same asks.1.1)
 
-  pub asks : Takes p n → AsksFor bytes n
+  pub asks : TakesWords p n → AsksFor bytes n
   asks t = (spells.0, (spells.1.0, source_takes spells.0 p spells.1.1 n t))
 
 -- the words do not fit where the program takes another number of them
-pub misfits : (left : Option (List ℕ)) (words : List ℤ) (p : Program) → IfSome left (λ bytes. Spells bytes p) → (Takes p (length words) → ⊥) → IfSome left (IsMisfit words)
+pub misfits : (left : Option (List ℕ)) (words : List ℤ) (p : Program) → IfSome left (λ bytes. Spells bytes p) → (TakesWords p (length words) → ⊥) → IfSome left (IsMisfit words)
 misfits None words p spells other = tt
 misfits (Some bytes) words p spells other = (ap of_reading spells.1.0 ∙ ap named spells.1.1.named, λ a. other (takes (length words) bytes p spells a))
 
 -- words that a program takes do fit
-pub fits : (left : Option (List ℕ)) (words : List ℤ) (p : Program) → IfSome left (λ bytes. Spells bytes p) → Takes p (length words) → IsSomeAnd left (IsMisfit words) → ⊥
+pub fits : (left : Option (List ℕ)) (words : List ℤ) (p : Program) → IfSome left (λ bytes. Spells bytes p) → TakesWords p (length words) → IsSomeAnd left (IsMisfit words) → ⊥
 fits None words p spells t misfit = misfit
 fits (Some bytes) words p spells t misfit = misfit.1 (asks (length words) bytes p spells t)

@@ -1,7 +1,7 @@
 -- Bytes that come from a source one piece after another.
 use Rattle.std.proofs.Common.{◌≡◌, ℕ, List, [], ◌∷◌, ◌++◌, length, Option, Some, None, ap, ◌∙◌, sym, append_assoc, arith}
 use Rattle.std.proofs.Common.{◌≤◌, ◌-◌, length-append, subst}
-use Rattle.cw_io.specs.Outside.{Takes, Keeps}
+use Rattle.cw_io.specs.Outside.{Takes, TakesNothing}
 use Rattle.cw_top.specs.Outcome.{GivesOn, TakesAtMost}
 
 -- a piece, and another one behind it
@@ -20,6 +20,6 @@ pub Takes-gives : (a b c : Option (List ℕ)) (old new : List ℕ) (count : ℕ)
 Takes-gives a b c old new count h (xs, many, is, k) = subst (λ z. Takes a c z) (sym is) (Takes-append a b c old xs h k)
 
 -- Where no byte may be taken, all that was to come is still to come.
-pub TakesAtMost-none : (a b : Option (List ℕ)) (most : ℕ) → TakesAtMost most a b → most ≡ 0 → Keeps a b
+pub TakesAtMost-none : (a b : Option (List ℕ)) (most : ℕ) → TakesAtMost most a b → most ≡ 0 → TakesNothing a b
 TakesAtMost-none a b most ([], few, h) none = h
 TakesAtMost-none a b most (x ∷ xs, few, h) none = absurd (omega arith)

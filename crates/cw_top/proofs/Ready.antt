@@ -6,7 +6,7 @@ use Rattle.std.specs.Str.Parse.{digits_value}
 use Rattle.cw_code.specs.declared.Limits.{Limits}
 use Rattle.cw_io.specs.declared.schedule.Schedule.TheVariants.{List as Listed, Seeded}
 use Rattle.cw_sim.specs.Turns.{ListsWorkers}
-use Rattle.cw_top.specs.Options.{Given, GivenOption, NumberOption, are_known, given, integers_of, list_below, number_in, number_of, number_within, numbers_below, parts_of, value_of}
+use Rattle.cw_top.specs.Options.{Given, GivenOption, NumberOption, are_known, given, integers_of, list_below, number_in, number_given, number_within, numbers_below, parts_of, option_value}
 use Rattle.cw_top.specs.Words.{IsReady, aborts_option, command_of, fuel_option, limits_given, moves_option, run_given, run_options, schedule_given, schedule_in, sim_given, sim_options, size_option, strands_option, workers_option, most_listed}
 
 -- ## Values that may be missing
@@ -41,8 +41,8 @@ within least most (d ∷ ds) =
     go n true true e false f = tt
     go n true true e true f = let l : least ≤ n = search rules in let m : n ≤ most = search rules in (l, m)
 
-at_least : (o : NumberOption) (os : List GivenOption) → o.least ≤ o.default → IfSome (number_of o os) (λ n. o.least ≤ n)
-at_least o os d = each_some (λ n. o.least ≤ n) (number_in o) (value_of o.name os) go
+at_least : (o : NumberOption) (os : List GivenOption) → o.least ≤ o.default → IfSome (number_given o os) (λ n. o.least ≤ n)
+at_least o os d = each_some (λ n. o.least ≤ n) (number_in o) (option_value o.name os) go
   where
     weaker : (r : Option ℕ) → IfSome r (λ n. (o.least ≤ n) × (n ≤ o.most)) → IfSome r (λ n. o.least ≤ n)
     weaker None h = tt
@@ -87,8 +87,8 @@ listed workers (Some v) (Some w) some = tt
 column : (os : List GivenOption) → IfSome (limits_given os) (λ ls. 0 < ls.strands)
 column os =
     let P : Limits → Type 0 = λ ls. 0 < ls.strands in
-    each_some P _ (number_of fuel_option os) (λ f. each_some P _ (number_of size_option os) (λ n. each_some P _ (number_of aborts_option os) (λ b.
-    then_some (λ m. 1 ≤ m) P _ (number_of strands_option os) (at_least strands_option os (omega arith)) (λ m l. map_some P _ (number_of moves_option os) (λ c. omega arith)))))
+    each_some P _ (number_given fuel_option os) (λ f. each_some P _ (number_given size_option os) (λ n. each_some P _ (number_given aborts_option os) (λ b.
+    then_some (λ m. 1 ≤ m) P _ (number_given strands_option os) (at_least strands_option os (omega arith)) (λ m l. map_some P _ (number_given moves_option os) (λ c. omega arith)))))
 
 run_ready : (g : Given) → IfSome (run_given g) IsReady
 run_ready g = where_true IsReady (are_known run_options g.options) _ (each_some IsReady _ (limits_given g.options) (λ ls. map_some IsReady _ (integers_of g.words) (λ ns. tt)))
@@ -96,8 +96,8 @@ run_ready g = where_true IsReady (are_known run_options g.options) _ (each_some 
 sim_ready : (g : Given) → IfSome (sim_given g) IsReady
 sim_ready g = where_true IsReady (are_known sim_options g.options) _
     (then_some (λ (ls : Limits). 0 < ls.strands) IsReady _ (limits_given g.options) (column g.options) (λ ls l.
-    then_some (λ w. 1 ≤ w) IsReady _ (number_of workers_option g.options) (at_least workers_option g.options (omega arith)) (λ w m.
-    then_some (λ s. ListsWorkers s w) IsReady _ (schedule_given w g.options) (each_some (λ s. ListsWorkers s w) _ (value_of (codes "schedule") g.options) (λ list. each_some (λ s. ListsWorkers s w) _ (value_of (codes "seed") g.options) (λ seed. listed w list seed (omega arith)))) (λ s a.
+    then_some (λ w. 1 ≤ w) IsReady _ (number_given workers_option g.options) (at_least workers_option g.options (omega arith)) (λ w m.
+    then_some (λ s. ListsWorkers s w) IsReady _ (schedule_given w g.options) (each_some (λ s. ListsWorkers s w) _ (option_value (codes "schedule") g.options) (λ list. each_some (λ s. ListsWorkers s w) _ (option_value (codes "seed") g.options) (λ seed. listed w list seed (omega arith)))) (λ s a.
     map_some IsReady _ (integers_of g.words) (λ ns. (omega arith, a, l))))))
 
 pub ready : (words : List (List ℕ)) → IfSome (command_of words) IsReady

@@ -7,7 +7,7 @@ use Rattle.cw_tree.specs.declared.picks.Picks.{Picks}
 use Rattle.cw_tree.specs.Shape.{IsTree}
 use Rattle.cw_serial.specs.declared.ends.SerialEnd.{SerialEnd}
 use Rattle.cw_serial.specs.declared.ends.SerialEnd.TheVariants as last
-use Rattle.cw_serial.specs.Jobs.{Takes}
+use Rattle.cw_serial.specs.Jobs.{TakesWords}
 use Rattle.cw_record.specs.declared.record.Record.{Record}
 use Rattle.cw_record.specs.declared.record_end.RecordEnd.{RecordEnd}
 use Rattle.cw_record.specs.declared.record_end.RecordEnd.TheVariants.{Finished, Fault, Budget, Moves}
@@ -112,7 +112,7 @@ fitting (Some bytes) words h misfit = misfit.1 h.1
 
 -- where there is a run the words fit
 run_fits : (co : Command) (left : Option (List ℕ)) (x : Record) → IsRunBy co left x → IsSomeAnd left (IsMisfit (words_of co)) → ⊥
-run_fits co left x run = fits left (words_of co) x.program run.spelled (subst (λ (vs : List ℤ). Takes x.program (length vs)) run.words run.coherent.words)
+run_fits co left x run = fits left (words_of co) x.program run.spelled (subst (λ (vs : List ℤ). TakesWords x.program (length vs)) run.words run.coherent.words)
 
 pub misused : (command : Option Command) (kept : Option Record) (status : ℕ) (n : Note) (left : Option (List ℕ)) (r w : Type 0) → IsStatus kept status n → HasCause command n left r w → IfSome kept (IsRunOf command left) → IsSurelyMisused command left → (r → ⊥) → MayBeMisusedWith command status
 misused None kept status n left r w is cause run misfit no_r = of_none kept status n cause is

@@ -112,8 +112,8 @@ one_of [] = Some None
 one_of (v ∷ []) = Some (Some v)
 one_of (v ∷ w ∷ vs) = None
 
-abbrev pub value_of : (name : List ℕ) → List GivenOption → Option (Option (List ℕ))
-value_of name os = one_of (values_of name os)
+abbrev pub option_value : (name : List ℕ) → List GivenOption → Option (Option (List ℕ))
+option_value name os = one_of (values_of name os)
 
 -- an option whose value is a number: its name, the least number that it may be, the greatest, and the one that stands for it where it is
 -- not given
@@ -127,8 +127,8 @@ abbrev pub number_in : NumberOption → (value : Option (List ℕ)) → Option �
 number_in o None = Some o.default
 number_in o (Some v) = number_within o.least o.most v
 
-abbrev pub number_of : NumberOption → List GivenOption → Option ℕ
-number_of o os = option_and_then (number_in o) (value_of o.name os)
+abbrev pub number_given : NumberOption → List GivenOption → Option ℕ
+number_given o os = option_and_then (number_in o) (option_value o.name os)
 
 -- Each option that is given has one of these names.
 abbrev pub are_known : (names : List (List ℕ)) → List GivenOption → Bool

@@ -10,16 +10,16 @@ use Rattle.cw_serial.specs.declared.ends.SerialEnd.{SerialEnd}
 use Rattle.cw_serial.specs.declared.ends.SerialEnd.TheVariants as last
 use Rattle.cw_serial.specs.Machine.{Machine}
 use Rattle.cw_serial.specs.MachineOf.{end_under, machine_of}
-use Rattle.cw_serial.specs.Room.Strands.{StrandState, strands_of}
+use Rattle.cw_serial.specs.Room.Strands.{StrandState, strands_of_job}
 use Rattle.cw_record.specs.declared.record.Record.{Record}
 use Rattle.cw_record.specs.declared.record_end.RecordEnd.{RecordEnd}
 use Rattle.cw_record.specs.declared.record_end.RecordEnd.TheVariants.{Finished, Fault, Budget, Moves}
 use Rattle.cw_record.specs.Items.{items}
 use Rattle.cw_record.specs.Replay.{DoesAll, StandsRefused}
-use Rattle.cw_record.specs.Records.{job_of, BlocksEnded, HasEnded, HasItsOutputs, IsCoherentRecord, IsReplayed, IsDepthFirst, IsNumberedDepthFirst}
+use Rattle.cw_record.specs.Records.{job_of_record, BlocksEnded, HasEnded, HasItsOutputs, IsCoherentRecord, IsReplayed, IsDepthFirst, IsNumberedDepthFirst}
 use Rattle.cw_replay.specs.Attempts.{RecordsAttempts}
 use Rattle.cw_sim.specs.Moves.{is_over}
-use Rattle.cw_sim.specs.Runs.{IsRecordOf, left_by}
+use Rattle.cw_sim.specs.Runs.{IsRecordOf, simulation_of}
 use Rattle.cw_top.specs.declared.command.Command.{Command}
 use Rattle.cw_top.specs.declared.command.Command.TheVariants.{Run, Sim}
 use Rattle.cw_top.specs.declared.outcome.Note.{Note}
@@ -116,7 +116,7 @@ pub record IsOfOneWorker (r : Record) : Type 0 where
 -- How a command's run is done: by one worker; or by the moves of so many workers in the turns of a schedule, of which it is the record.
 abbrev pub IsDoneBy : Command → Record → Type 0
 IsDoneBy (Run words limits) r = IsOfOneWorker r
-IsDoneBy (Sim words limits workers schedule) r = IsRecordOf (left_by (job_of r) workers schedule) r
+IsDoneBy (Sim words limits workers schedule) r = IsRecordOf (simulation_of (job_of_record r) workers schedule) r
 
 abbrev pub IsDoneAs : Option Command → Record → Type 0
 IsDoneAs command r = IsSomeAnd command (λ c. IsDoneBy c r)
@@ -141,7 +141,7 @@ Writes command (Some r) n old new = Appends old new (text_of command r)
 
 -- how one memory ends in the order that is kept
 abbrev pub end_of_one_memory : Record → SerialEnd
-end_of_one_memory r = end_under (job_of r) r.order
+end_of_one_memory r = end_under (job_of_record r) r.order
 
 -- One memory, in the order that is kept, finishes, and what was written is the command's text of its outputs and of itself.
 pub record WritesEndOfOneMemory (command : Option Command) (r : Record) (old new : Option (List ℕ)) : Type 0 where
@@ -156,8 +156,8 @@ pub record WritesEndOfOneMemory (command : Option Command) (r : Record) (old new
 -- block, or at an access.
 pub record StandsAtRefusal (r : Record) (x : ℕ) : Type 0 where
   pub machine : Machine StrandState
-  pub acts : DoesAll (strands_of (job_of r)) r.tree (machine_of (job_of r)) (items r.tree r.conflicts r.limits.aborts r.end) machine
-  pub stands : StandsRefused (strands_of (job_of r)) (telling r.tree r.conflicts r.limits.aborts x) machine (name_of r.tree x)
+  pub acts : DoesAll (strands_of_job (job_of_record r)) r.tree (machine_of (job_of_record r)) (items r.tree r.conflicts r.limits.aborts r.end) machine
+  pub stands : StandsRefused (strands_of_job (job_of_record r)) (telling r.tree r.conflicts r.limits.aborts x) machine (name_of r.tree x)
 
 -- The run ended because one of its strands spent its budget. One memory stands at that strand, and each attempt at that one block, or each
 -- refusal of that one access, is a conflict that is kept, with the numbers from 1 to the limit. So strands ran at the same time.
@@ -171,7 +171,7 @@ pub record SpentItsBudget (r : Record) : Type 0 where
 
 -- All moves of a command were made, as many as its limit, and the run had not come to its end.
 abbrev pub HasSpentMoves : Option Command → Record → Type 0
-HasSpentMoves (Some (Sim words limits workers schedule)) r = is_over (left_by (job_of r) workers schedule) ≡ false
+HasSpentMoves (Some (Sim words limits workers schedule)) r = is_over (simulation_of (job_of_record r) workers schedule) ≡ false
 HasSpentMoves command r = ⊥
 
 -- ## The statuses that come, and their causes

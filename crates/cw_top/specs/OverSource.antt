@@ -5,7 +5,7 @@ use Rattle.cw_text.specs.Syntax.{Declaration}
 use Rattle.cw_text.specs.Text.{program}
 use Rattle.cw_code.specs.declared.Limits.{Limits}
 use Rattle.cw_strand.specs.Names.{naming_fault, cells_of, first_memory}
-use Rattle.cw_strand.specs.Meaning.{MainTakes, strands_of}
+use Rattle.cw_strand.specs.Meaning.{MainTakes, strands_of_syntax}
 use Rattle.cw_record.specs.declared.record.Record.{Record}
 use Rattle.cw_record.specs.Replay.{Replays}
 use Rattle.cw_replay.specs.Spawning.{any_spawns}
@@ -22,7 +22,7 @@ pub record IsRunOfSyntax (words : List ℤ) (limits : Limits) (bytes : List ℕ)
   pub takes : MainTakes source (length words)
   -- the cells of the text that is written are those that it declares
   pub cells : r.program.cells ≡ cells_of source
-  pub replays : Replays (strands_of source words limits) (first_memory (cells_of source)) limits.aborts r.tree r.conflicts r.order r.end
+  pub replays : Replays (strands_of_syntax source words limits) (first_memory (cells_of source)) limits.aborts r.tree r.conflicts r.order r.end
 
 -- Only a command leaves a run, and where the source's bytes are told it is its own over the source too.
 abbrev pub IsRunOfSource : Option Command → (left : Option (List ℕ)) → Record → Type 0

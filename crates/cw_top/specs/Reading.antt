@@ -4,7 +4,7 @@ use Rattle.std.specs.Option.{option_map_or}
 use Rattle.std.specs.Borrow.{Bor}
 use Rattle.cw_code.specs.declared.Limits.{Limits}
 use Rattle.cw_io.specs.declared.schedule.Schedule.{Schedule}
-use Rattle.cw_top.specs.Options.{Given, NumberOption, are_known, integers_of, number_of, parts_of, value_of}
+use Rattle.cw_top.specs.Options.{Given, NumberOption, are_known, integers_of, number_given, parts_of, option_value}
 use Rattle.cw_top.specs.Words.{limits_given, schedule_given}
 
 -- the parts of what stands behind a comma, if there is one
@@ -22,10 +22,10 @@ abbrev pub known_in : (names : List (List ℕ)) → Option Given → Bool
 known_in names g = option_map_or (λ h. are_known names h.options) g false
 
 abbrev pub value_in : (name : List ℕ) → Option Given → Option (Option (List ℕ))
-value_in name g = option_and_then (λ h. value_of name h.options) g
+value_in name g = option_and_then (λ h. option_value name h.options) g
 
 abbrev pub number_in : NumberOption → Option Given → Option ℕ
-number_in o g = option_and_then (λ h. number_of o h.options) g
+number_in o g = option_and_then (λ h. number_given o h.options) g
 
 abbrev pub limits_in : Option Given → Option Limits
 limits_in g = option_and_then (λ h. limits_given h.options) g

@@ -8,7 +8,7 @@ use Rattle.cw_io.specs.declared.schedule.Schedule.TheVariants.{List as Listed, S
 use Rattle.cw_sim.specs.Turns.{ListsWorkers}
 use Rattle.cw_top.specs.declared.command.Command.{Command}
 use Rattle.cw_top.specs.declared.command.Command.TheVariants.{Run, Sim}
-use Rattle.cw_top.specs.Options.{Given, GivenOption, NumberOption, are_known, given, integers_of, list_below, number_of, number_within, value_of}
+use Rattle.cw_top.specs.Options.{Given, GivenOption, NumberOption, are_known, given, integers_of, list_below, number_given, number_within, option_value}
 
 -- ## Options
 
@@ -44,7 +44,7 @@ abbrev pub limits_given : List GivenOption → Option Limits
 limits_given os =
     option_and_then (λ f. option_and_then (λ n. option_and_then (λ b. option_and_then (λ m. option_map (λ c.
     record { fuel = f; size = n; aborts = b; strands = m; moves = c })
-    (number_of moves_option os)) (number_of strands_option os)) (number_of aborts_option os)) (number_of size_option os)) (number_of fuel_option os)
+    (number_given moves_option os)) (number_given strands_option os)) (number_given aborts_option os)) (number_given size_option os)) (number_given fuel_option os)
 
 -- ## Schedules
 
@@ -62,7 +62,7 @@ schedule_in workers (Some v) (Some w) = None
 
 abbrev pub schedule_given : (workers : ℕ) → List GivenOption → Option Schedule
 schedule_given workers os =
-    option_and_then (λ list. option_and_then (λ seed. schedule_in workers list seed) (value_of (codes "seed") os)) (value_of (codes "schedule") os)
+    option_and_then (λ list. option_and_then (λ seed. schedule_in workers list seed) (option_value (codes "seed") os)) (option_value (codes "schedule") os)
 
 -- ## Commands
 
@@ -77,7 +77,7 @@ abbrev pub sim_given : Given → Option Command
 sim_given g =
     if are_known sim_options g.options then
     option_and_then (λ limits. option_and_then (λ workers. option_and_then (λ schedule. option_map (λ ns. Sim ns limits workers schedule)
-    (integers_of g.words)) (schedule_given workers g.options)) (number_of workers_option g.options)) (limits_given g.options)
+    (integers_of g.words)) (schedule_given workers g.options)) (number_given workers_option g.options)) (limits_given g.options)
     else None
 
 -- The first word says which command it is.

@@ -1,8 +1,8 @@
 ghost use Rattle.std.specs.Prelude.{◌≡◌, ◌≤◌, ◌↔◌, None, Some, length, IfOk, IfErr, IfSome, IsErrOf, IsSomeAnd, IsTrue, OnOk, OnSome, []};
-ghost use Rattle.cw_io.specs.Outside.{Appends, AppendsFront, Keeps, Rose, RunsDry, TellsOn};
+ghost use Rattle.cw_io.specs.Outside.{Appends, AppendsFront, TakesNothing, Rose, RunsDry, TellsOn};
 ghost use Rattle.cw_tree.specs.Nodes.{is_strand};
 ghost use Rattle.cw_strand.specs.Programs.{IsCompiled};
-ghost use Rattle.cw_serial.specs.Jobs.{Takes};
+ghost use Rattle.cw_serial.specs.Jobs.{TakesWords};
 ghost use Rattle.cw_record.specs.Order.{ending_strand};
 ghost use Rattle.cw_record.specs.Records.{HasItsOutputs, IsCoherentRun, IsNumberedDepthFirst, IsReplayed};
 ghost use Rattle.cw_top.specs.declared.outcome.Note.TheVariants.{Nothing};
@@ -43,7 +43,7 @@ fn status_of_end(end: &RecordEnd) -> u8
 // Runs a program as a command says: depth first, or by the moves of several virtual workers.
 fn done(alloc: Global, command: Command, program: Program) -> Result<Record, cw_base::OutOfMemory>
     requires compiled { IsCompiled program }
-    requires takes { Takes program (length (words_of command)) }
+    requires takes { TakesWords program (length (words_of command)) }
     requires ready { IsReady command }
     ensures program { IfOk result (λ r. r.program ≡ program) }
     ensures words { IfOk result (λ r. r.words ≡ words_of command) }
@@ -247,7 +247,7 @@ pub fn cwstm<R: Threads + Wait + Sync, S: Source, K: Sink, G: Gate>(
     // Status 9 comes exactly where all moves of a simulation were made without an end, and the text was written.
     ensures moves { result.status ≡ 9 ↔ ((result.note ≡ Nothing) × IsSomeAnd result.kept (HasSpentMoves (command_in words.now))) }
 
-    ensures unread { most_read (command_in words.now) ≡ 0 → Keeps (S.left source.old) (S.left source.new) }
+    ensures unread { most_read (command_in words.now) ≡ 0 → TakesNothing (S.left source.old) (S.left source.new) }
     ensures taken { TakesAtMost (most_read (command_in words.now)) (S.left source.old) (S.left source.new) }
 
     // Reading ends with the first read that gives no byte: at the end of the source, at a failure, or into an empty buffer.

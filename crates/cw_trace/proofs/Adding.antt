@@ -11,9 +11,9 @@ use Rattle.cw_tree.specs.Walks.{is_ancestor, has}
 use Rattle.cw_tree.specs.Shape.{IsTree}
 use Rattle.cw_tree.proofs.Ancestors.{ancestor_up}
 use Rattle.cw_tree.proofs.Growing.{get_append, ancestor_grown}
-use Rattle.cw_trace.specs.Columns.{Columns, used, owner, gap, left_of, begun_word}
-use Rattle.cw_trace.specs.Stands.{GoesOn, column, fork_column, outermost, stamp_or_0}
-use Rattle.cw_trace.specs.Segments.{IsOpen, Start, IsCut, IsTrace, IsLive, Within, Segments, Active, Ups}
+use Rattle.cw_trace.specs.Columns.{ColumnTable, used, owner, gap, left_column_of, begun_word}
+use Rattle.cw_trace.specs.Stands.{GoesOn, column, fork_column, outermost_pending, stamp_or_0}
+use Rattle.cw_trace.specs.Segments.{IsOpen, SegmentStart, IsCut, IsTrace, IsLive, Within, Segments, Active, Ups}
 use Rattle.cw_trace.specs.Keeps.{Keeps}
 use Rattle.cw_trace.proofs.Counting.{none_below, some_below, fork_column_pass}
 use Rattle.cw_trace.proofs.InRange.{pending_low, fork_low}
@@ -35,7 +35,7 @@ pub record OneMore (pend : ℕ → Bool) (col : ℕ → ℕ) (pend2 : ℕ → Bo
   pub back : (b : ℕ) → pend2 b ≡ true → (b ≡ n) ⊎ ((b < n) × (pend b ≡ true) × (col2 b ≡ col b))
   pub forth : (b : ℕ) → pend b ≡ true → (b < n) × (pend2 b ≡ true) × (col2 b ≡ col b)
 
-module _ (c : Columns) (cuts joins : List ℕ) (pend : ℕ → Bool) (col : ℕ → ℕ) (pend2 : ℕ → Bool) (col2 : ℕ → ℕ) (n i : ℕ) (one : OneMore pend col pend2 col2 n i) (a : Active c cuts joins i) (g : Segments c cuts joins pend col) where
+module _ (c : ColumnTable) (cuts joins : List ℕ) (pend : ℕ → Bool) (col : ℕ → ℕ) (pend2 : ℕ → Bool) (col2 : ℕ → ℕ) (n i : ℕ) (one : OneMore pend col pend2 col2 n i) (a : Active c cuts joins i) (g : Segments c cuts joins pend col) where
   abbrev t : ℕ
   t = owner c i
 
@@ -51,16 +51,16 @@ module _ (c : Columns) (cuts joins : List ℕ) (pend : ℕ → Bool) (col : ℕ 
   live_t : (x s : ℕ) → x ≡ t → IsLive c cuts joins x s
   live_t x s e = λ k w q. (let P : ℕ → Type 0 = λ x. IsCut c cuts joins x k in a.uncut k (subst P e w))
 
-  is_start : (x : ℕ) → x ≡ t → Start c joins x a.start
-  is_start x e = let P : ℕ → Type 0 = λ x. Start c joins x a.start in subst P (sym e) a.starts
+  is_start : (x : ℕ) → x ≡ t → SegmentStart c joins x a.start
+  is_start x e = let P : ℕ → Type 0 = λ x. SegmentStart c joins x a.start in subst P (sym e) a.starts
 
-  is_last : (x s : ℕ) → x ≡ t → Start c joins x s → s ≤ a.start
-  is_last x s e w = let P : ℕ → Type 0 = λ x. Start c joins x s in a.last s (subst P e w)
+  is_last : (x s : ℕ) → x ≡ t → SegmentStart c joins x s → s ≤ a.start
+  is_last x s e w = let P : ℕ → Type 0 = λ x. SegmentStart c joins x s in a.last s (subst P e w)
 
   trace_t : IsTrace c cuts joins t
   trace_t = Rattle.cw_trace.proofs.Lines.own_trace c cuts joins pend col g i a.low
 
-  gap_owned2 : (x s b : ℕ) → IsTrace c cuts joins x → Start c joins x s → IsLive c cuts joins x s → pend2 b ≡ true → gap c (col2 b) ≡ gap c s → (owner c (col2 b) ≡ x) × (s ≤ col2 b)
+  gap_owned2 : (x s b : ℕ) → IsTrace c cuts joins x → SegmentStart c joins x s → IsLive c cuts joins x s → pend2 b ≡ true → gap c (col2 b) ≡ gap c s → (owner c (col2 b) ≡ x) × (s ≤ col2 b)
   gap_owned2 x s b k st l p e = elim (one.back b p) [
     | inr z ↦ (let w = g.gap_owned x s b k st l z.1 (sym (ap (gap c) z.2) ∙ e) in (ap (owner c) z.2 ∙ w.0, omega (arith, z.2, w.1)))
     | inl q ↦ (
@@ -70,7 +70,7 @@ module _ (c : Columns) (cuts joins : List ℕ) (pend : ℕ → Bool) (col : ℕ 
         (ap (owner c) (is_col b q) ∙ same, omega (arith, is_col b q)))
   ]
 
-  gap_first2 : (x s b : ℕ) → IsTrace c cuts joins x → Start c joins x s → IsLive c cuts joins x s → Within c pend2 col2 x s b → (e : ℕ) × (e ≤ b) × (pend2 e ≡ true) × (gap c (col2 e) ≡ gap c s)
+  gap_first2 : (x s b : ℕ) → IsTrace c cuts joins x → SegmentStart c joins x s → IsLive c cuts joins x s → Within c pend2 col2 x s b → (e : ℕ) × (e ≤ b) × (pend2 e ≡ true) × (gap c (col2 e) ≡ gap c s)
   gap_first2 x s b k st l w = elim (one.back b w.pending) [
     | inr z ↦ forward b (g.gap_first x s b k st l (within_back x s b z.1 z.2 w))
     | inl q ↦ (
@@ -92,7 +92,7 @@ module _ (c : Columns) (cuts joins : List ℕ) (pend : ℕ → Bool) (col : ℕ 
     weaken : {u v : ℕ} → u ≤ v → (e : ℕ) × (e ≤ u) × (pend2 e ≡ true) × (gap c (col2 e) ≡ gap c s) → (e : ℕ) × (e ≤ v) × (pend2 e ≡ true) × (gap c (col2 e) ≡ gap c s)
     weaken h z = (let le = z.1 in (z.0, omega arith, z.2, z.3))
 
-  shared2 : (x s r b : ℕ) → IsTrace c cuts joins x → Start c joins x s → Start c joins x r → s < r → gap c s ≡ gap c r → Within c pend2 col2 x s b → col2 b < r → ⊥
+  shared2 : (x s r b : ℕ) → IsTrace c cuts joins x → SegmentStart c joins x s → SegmentStart c joins x r → s < r → gap c s ≡ gap c r → Within c pend2 col2 x s b → col2 b < r → ⊥
   shared2 x s r b k st sr lt e w h = elim (one.back b w.pending) [
     | inr z ↦ g.shared x s r b k st sr lt e (within_back x s b z.1 z.2 w) (omega (arith, z.2))
     | inl q ↦ (
@@ -139,13 +139,13 @@ module _ (c : Columns) (cuts joins : List ℕ) (pend : ℕ → Bool) (col : ℕ 
     up_some = λ x b p k pb o. elim (one.back b pb) [
       | inr z ↦ u.up_some x b p k z.1 (sym (ap (owner c) z.2) ∙ o)
       | inl q ↦ absurd (
-          let P : ℕ → Type 0 = λ y. IsCut c cuts joins y (left_of x) in
-          a.uncut (left_of x) (subst P (sym o ∙ ap (owner c) (is_col b q)) (cut_of c cuts joins pend col g x p k)))
+          let P : ℕ → Type 0 = λ y. IsCut c cuts joins y (left_column_of x) in
+          a.uncut (left_column_of x) (subst P (sym o ∙ ap (owner c) (is_col b q)) (cut_of c cuts joins pend col g x p k)))
     ];
     up_none = λ x p k none. u.up_none x p k (λ b pb o. let z = one.forth b pb in none b z.1 (ap (owner c) z.2 ∙ o));
   }
 
-module _ (c : Columns) (words : List ℕ) (t : List Node) (cuts joins : List ℕ) (tr : IsTree t) (k : Keeps c words t cuts joins) (x : Node) (p : ℕ) (hp : p < length t) (under : x.parent ≡ p) (no_strand : is_strand_kind x.kind ≡ false) (no_fork : is_fork_kind x.kind ≡ false)
+module _ (c : ColumnTable) (words : List ℕ) (t : List Node) (cuts joins : List ℕ) (tr : IsTree t) (k : Keeps c words t cuts joins) (x : Node) (p : ℕ) (hp : p < length t) (under : x.parent ≡ p) (no_strand : is_strand_kind x.kind ≡ false) (no_fork : is_fork_kind x.kind ≡ false)
     (goes : GoesOn c t (column t (used c) p) p) (tr2 : IsTree (t ++ x ∷ [])) where
   abbrev col : ℕ → ℕ
   col = column t (used c)
@@ -231,7 +231,7 @@ module _ (c : Columns) (words : List ℕ) (t : List Node) (cuts joins : List ℕ
   forks_new : (f : ℕ) → is_fork grown f ≡ true → IsTrue (nat_le (fork_column grown f + 2) c.room) ↔ (fork_column grown f + 1 < used c)
   forks_new f e = (let w = fork_old f e in let P : ℕ → Type 0 = λ k. IsTrue (nat_le (k + 2) c.room) ↔ (k + 1 < used c) in subst P (sym (fc f (le_of f w.0))) (k.forks f w.1))
 
-  all_used_new : (j : ℕ) → j < used c → 0 < j → (f : ℕ) × (is_fork grown f ≡ true) × (fork_column grown f ≡ left_of j)
+  all_used_new : (j : ℕ) → j < used c → 0 < j → (f : ℕ) × (is_fork grown f ≡ true) × (fork_column grown f ≡ left_column_of j)
   all_used_new j h q = (let w = k.all_used j h q in (w.0, fork_new w.0 w.1, fc w.0 (le_of w.0 (fork_low t w.0 w.1)) ∙ w.2))
 
   forked_from_new : (f : ℕ) → is_fork grown f ≡ true → fork_column grown f + 1 < used c → slice_index c.parents (fork_column grown f) ≡ column grown (used c) f
@@ -266,7 +266,7 @@ module _ (c : Columns) (words : List ℕ) (t : List Node) (cuts joins : List ℕ
     same : SamePending pend col (is_pending grown) (column grown (used c))
     same = record { back = λ b e. (let z = pending_old b e in (z.1, cols b z.0)); forth = λ b e. (pending_new b e, cols b (pending_low t b e)) }
 
-    first_old : (y : ℕ) → outermost grown (used c) (λ j. nat_eq (gap c j) y) ≡ outermost t (used c) (λ j. nat_eq (gap c j) y)
+    first_old : (y : ℕ) → outermost_pending grown (used c) (λ j. nat_eq (gap c j) y) ≡ outermost_pending t (used c) (λ j. nat_eq (gap c j) y)
     first_old y =
         first_of_both (λ b. is_pending grown b && nat_eq (gap c (column grown (used c) b)) y) (λ b. is_pending t b && nat_eq (gap c (col b)) y) (length grown) n
         (λ b h e. let z = both_true (is_pending t b) (nat_eq (gap c (col b)) y) e in
@@ -276,7 +276,7 @@ module _ (c : Columns) (words : List ℕ) (t : List Node) (cuts joins : List ℕ
         let le : b ≤ b = omega arith in
         (b, le, w.0, and_true (is_pending t b) (nat_eq (gap c (col b)) y) w.1 (sym (ap (λ v. nat_eq (gap c v) y) (cols b w.0)) ∙ z.1)))
 
-    stamp_first : (o : Option ℕ) (y : ℕ) → outermost t (used c) (λ j. nat_eq (gap c j) y) ≡ o → stamp_or_0 grown o ≡ stamp_or_0 t o
+    stamp_first : (o : Option ℕ) (y : ℕ) → outermost_pending t (used c) (λ j. nat_eq (gap c j) y) ≡ o → stamp_or_0 grown o ≡ stamp_or_0 t o
     stamp_first None y e = refl
     stamp_first (Some b) y e = stamp_old b (some_below (λ b. is_pending t b && nat_eq (gap c (col b)) y) n b e).low
 
@@ -292,7 +292,7 @@ module _ (c : Columns) (words : List ℕ) (t : List Node) (cuts joins : List ℕ
       all_forks = λ h. last_column ∙ k.all_forks h;
       all_used = all_used_new;
       forked_from = forked_from_new;
-      words_are = λ y h. k.words_are y h ∙ sym (ap (stamp_or_0 grown) (first_old y) ∙ stamp_first (outermost t (used c) (λ j. nat_eq (gap c j) y)) y refl);
+      words_are = λ y h. k.words_are y h ∙ sym (ap (stamp_or_0 grown) (first_old y) ∙ stamp_first (outermost_pending t (used c) (λ j. nat_eq (gap c j) y)) y refl);
       spare_words = k.spare_words;
       contains = λ b m h j e o s. (let z = pending_old b e in contains_old b m z.0 z.1 j o s);
       lines = λ b f e ff h u o. (let z = pending_old b e in lines_old b f z.0 z.1 ff h u o);
@@ -318,7 +318,7 @@ module _ (c : Columns) (words : List ℕ) (t : List Node) (cuts joins : List ℕ
     low_gap = omega (arith, gap_le c cuts joins (is_pending t) (column t (used c)) g i (low p), low p)
 
     -- where the old tree has an outermost pending block of a gap, it stays
-    first_stays : (y b : ℕ) → outermost t (used c) (λ j. nat_eq (gap c j) y) ≡ Some b → outermost grown (used c) (λ j. nat_eq (gap c j) y) ≡ Some b
+    first_stays : (y b : ℕ) → outermost_pending t (used c) (λ j. nat_eq (gap c j) y) ≡ Some b → outermost_pending grown (used c) (λ j. nat_eq (gap c j) y) ≡ Some b
     first_stays y b e = same_first ∙ e where
       found : (b < n) × ((is_pending t b && nat_eq (gap c (col b)) y) ≡ true)
       found = let w = some_below (λ b. is_pending t b && nat_eq (gap c (col b)) y) n b e in (w.low, w.passed)
@@ -329,7 +329,7 @@ module _ (c : Columns) (words : List ℕ) (t : List Node) (cuts joins : List ℕ
         | inr w ↦ (let l = found.0 in (b, omega (arith, w.0), found.0, found.1))
       ]
 
-      same_first : outermost grown (used c) (λ j. nat_eq (gap c j) y) ≡ outermost t (used c) (λ j. nat_eq (gap c j) y)
+      same_first : outermost_pending grown (used c) (λ j. nat_eq (gap c j) y) ≡ outermost_pending t (used c) (λ j. nat_eq (gap c j) y)
       same_first =
           first_of_both (λ b. is_pending grown b && nat_eq (gap c (column grown (used c) b)) y) (λ b. is_pending t b && nat_eq (gap c (col b)) y) (length grown) n
           (λ v h f. let z = both_true (is_pending t v) (nat_eq (gap c (col v)) y) f in
@@ -337,12 +337,12 @@ module _ (c : Columns) (words : List ℕ) (t : List Node) (cuts joins : List ℕ
           (λ v h f. by_which v (both_true (is_pending grown v) (nat_eq (gap c (column grown (used c) v)) y) f))
 
     -- where it has none, the new block is the first, if it is of that gap
-    first_here : outermost t (used c) (λ j. nat_eq (gap c j) (gap c i)) ≡ None → outermost grown (used c) (λ j. nat_eq (gap c j) (gap c i)) ≡ Some n
-    first_here e = by_found (outermost grown (used c) (λ j. nat_eq (gap c j) (gap c i))) refl where
+    first_here : outermost_pending t (used c) (λ j. nat_eq (gap c j) (gap c i)) ≡ None → outermost_pending grown (used c) (λ j. nat_eq (gap c j) (gap c i)) ≡ Some n
+    first_here e = by_found (outermost_pending grown (used c) (λ j. nat_eq (gap c j) (gap c i))) refl where
       here_passes : (is_pending grown n && nat_eq (gap c (column grown (used c) n)) (gap c i)) ≡ true
       here_passes = and_true (is_pending grown n) (nat_eq (gap c (column grown (used c) n)) (gap c i)) pending_here (eq-eqb _ _ (ap (gap c) col_here))
 
-      by_found : (o : Option ℕ) → outermost grown (used c) (λ j. nat_eq (gap c j) (gap c i)) ≡ o → outermost grown (used c) (λ j. nat_eq (gap c j) (gap c i)) ≡ Some n
+      by_found : (o : Option ℕ) → outermost_pending grown (used c) (λ j. nat_eq (gap c j) (gap c i)) ≡ o → outermost_pending grown (used c) (λ j. nat_eq (gap c j) (gap c i)) ≡ Some n
       by_found None f = absurd (cc (none_below (λ b. is_pending grown b && nat_eq (gap c (column grown (used c) b)) (gap c i)) (length grown) f n (omega (arith, new_length)), here_passes))
       by_found (Some b) f =
           let w = some_below (λ b. is_pending grown b && nat_eq (gap c (column grown (used c) b)) (gap c i)) (length grown) b f in
@@ -352,9 +352,9 @@ module _ (c : Columns) (words : List ℕ) (t : List Node) (cuts joins : List ℕ
             | inl v ↦ absurd (cc (none_below (λ b. is_pending t b && nat_eq (gap c (col b)) (gap c i)) n e b v.0, and_true (is_pending t b) (nat_eq (gap c (col b)) (gap c i)) v.1 (sym (ap (λ u. nat_eq (gap c u) (gap c i)) (cols b v.0)) ∙ z.1)))
           ]
 
-    none_stays : (y : ℕ) → y ≢ gap c i → outermost t (used c) (λ j. nat_eq (gap c j) y) ≡ None → outermost grown (used c) (λ j. nat_eq (gap c j) y) ≡ None
-    none_stays y ne e = by_found (outermost grown (used c) (λ j. nat_eq (gap c j) y)) refl where
-      by_found : (o : Option ℕ) → outermost grown (used c) (λ j. nat_eq (gap c j) y) ≡ o → outermost grown (used c) (λ j. nat_eq (gap c j) y) ≡ None
+    none_stays : (y : ℕ) → y ≢ gap c i → outermost_pending t (used c) (λ j. nat_eq (gap c j) y) ≡ None → outermost_pending grown (used c) (λ j. nat_eq (gap c j) y) ≡ None
+    none_stays y ne e = by_found (outermost_pending grown (used c) (λ j. nat_eq (gap c j) y)) refl where
+      by_found : (o : Option ℕ) → outermost_pending grown (used c) (λ j. nat_eq (gap c j) y) ≡ o → outermost_pending grown (used c) (λ j. nat_eq (gap c j) y) ≡ None
       by_found None f = f
       by_found (Some b) f =
           let w = some_below (λ b. is_pending grown b && nat_eq (gap c (column grown (used c) b)) y) (length grown) b f in
@@ -370,15 +370,15 @@ module _ (c : Columns) (words : List ℕ) (t : List Node) (cuts joins : List ℕ
       by_test true = get_or-set_other words (gap c i) y x.stamp 0 ne
       by_test false = refl
 
-    words_new : (y : ℕ) → y < used c → slice_index words2 y ≡ stamp_or_0 grown (outermost grown (used c) (λ j. nat_eq (gap c j) y))
-    words_new y h = by_first (outermost t (used c) (λ j. nat_eq (gap c j) y)) refl (same_or y (gap c i)) where
-      old_word : (o : Option ℕ) → outermost t (used c) (λ j. nat_eq (gap c j) y) ≡ o → slice_index words y ≡ stamp_or_0 t o
+    words_new : (y : ℕ) → y < used c → slice_index words2 y ≡ stamp_or_0 grown (outermost_pending grown (used c) (λ j. nat_eq (gap c j) y))
+    words_new y h = by_first (outermost_pending t (used c) (λ j. nat_eq (gap c j) y)) refl (same_or y (gap c i)) where
+      old_word : (o : Option ℕ) → outermost_pending t (used c) (λ j. nat_eq (gap c j) y) ≡ o → slice_index words y ≡ stamp_or_0 t o
       old_word o e = k.words_are y h ∙ ap (stamp_or_0 t) e
 
       room : gap c i < length words
       room = omega (arith, low_gap, k.room.0, k.room.1)
 
-      by_first : (o : Option ℕ) → outermost t (used c) (λ j. nat_eq (gap c j) y) ≡ o → (y ≡ gap c i) ⊎ (y ≢ gap c i) → slice_index words2 y ≡ stamp_or_0 grown (outermost grown (used c) (λ j. nat_eq (gap c j) y))
+      by_first : (o : Option ℕ) → outermost_pending t (used c) (λ j. nat_eq (gap c j) y) ≡ o → (y ≡ gap c i) ⊎ (y ≢ gap c i) → slice_index words2 y ≡ stamp_or_0 grown (outermost_pending grown (used c) (λ j. nat_eq (gap c j) y))
       by_first None e (inr ne) = word_other y ne ∙ old_word None e ∙ sym (ap (stamp_or_0 grown) (none_stays y ne e))
       by_first (Some b) e (inr ne) =
           word_other y ne ∙ old_word (Some b) e ∙ sym (ap (stamp_or_0 grown) (first_stays y b e) ∙ stamp_old b (some_below (λ b. is_pending t b && nat_eq (gap c (col b)) y) n b e).low)
@@ -386,7 +386,7 @@ module _ (c : Columns) (words : List ℕ) (t : List Node) (cuts joins : List ℕ
           let zero_word : slice_index words (gap c i) ≡ 0 = ap (λ u. slice_index words u) (sym q) ∙ old_word None e in
           ap (λ u. slice_index words2 u) q ∙ ap (λ b. slice_index (if b then slice_set words (gap c i) x.stamp else words) (gap c i)) (eq-eqb _ _ zero_word)
           ∙ get_or-set_same words (gap c i) x.stamp 0 room
-          ∙ sym (ap (λ u. stamp_or_0 grown (outermost grown (used c) (λ j. nat_eq (gap c j) u))) q ∙ ap (stamp_or_0 grown) (first_here (ap (λ u. outermost t (used c) (λ j. nat_eq (gap c j) u)) (sym q) ∙ e)) ∙ stamp_here)
+          ∙ sym (ap (λ u. stamp_or_0 grown (outermost_pending grown (used c) (λ j. nat_eq (gap c j) u))) q ∙ ap (stamp_or_0 grown) (first_here (ap (λ u. outermost_pending t (used c) (λ j. nat_eq (gap c j) u)) (sym q) ∙ e)) ∙ stamp_here)
       by_first (Some b) e (inl q) =
           let w = some_below (λ b. is_pending t b && nat_eq (gap c (col b)) y) n b e in
           let pb : is_pending t b ≡ true = (both_true (is_pending t b) (nat_eq (gap c (col b)) y) w.passed).0 in

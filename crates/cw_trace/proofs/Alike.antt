@@ -1,6 +1,6 @@
 -- The division into segments and the ups speak of pending blocks' columns alone.
 use Rattle.std.proofs.Common.{◌≡◌, ℕ, ◌<◌, List, ap, sym, ◌∙◌, arith, Bool, true}
-use Rattle.cw_trace.specs.Columns.{Columns, owner, gap}
+use Rattle.cw_trace.specs.Columns.{ColumnTable, owner, gap}
 use Rattle.cw_trace.specs.Segments.{Within, Segments, Ups}
 
 -- the same blocks are pending, in the same columns
@@ -8,7 +8,7 @@ pub record SamePending (pend : ℕ → Bool) (col : ℕ → ℕ) (pend2 : ℕ �
   pub back : (b : ℕ) → pend2 b ≡ true → (pend b ≡ true) × (col2 b ≡ col b)
   pub forth : (b : ℕ) → pend b ≡ true → (pend2 b ≡ true) × (col2 b ≡ col b)
 
-module _ (c : Columns) (cuts joins : List ℕ) (pend : ℕ → Bool) (col : ℕ → ℕ) (pend2 : ℕ → Bool) (col2 : ℕ → ℕ) (same : SamePending pend col pend2 col2) where
+module _ (c : ColumnTable) (cuts joins : List ℕ) (pend : ℕ → Bool) (col : ℕ → ℕ) (pend2 : ℕ → Bool) (col2 : ℕ → ℕ) (same : SamePending pend col pend2 col2) where
   within_back : (t s b : ℕ) → Within c pend2 col2 t s b → Within c pend col t s b
   within_back t s b w = let z = same.back b w.pending in record { pending = z.0; owned = sym (ap (owner c) z.1) ∙ w.owned; after = omega (arith, z.1, w.after) }
 

@@ -13,7 +13,7 @@ use Rattle.cw_tree.proofs.Ancestors.{ancestor_trans, above_ancestor, ancestor_ab
 use Rattle.cw_tree.proofs.Forks.{same_truth}
 use Rattle.cw_trace.specs.declared.verdict.Verdict.{Verdict}
 use Rattle.cw_trace.specs.declared.verdict.Verdict.TheVariants.{Free, Within, Against}
-use Rattle.cw_trace.specs.Columns.{Columns, used, owner, inside}
+use Rattle.cw_trace.specs.Columns.{ColumnTable, used, owner, inside}
 use Rattle.cw_trace.specs.Query.{verdict, covers}
 use Rattle.cw_trace.specs.Stands.{Stands, column}
 use Rattle.cw_trace.specs.Verdicts.{Tells, mark_of, Decides, DecidesByReading, DecidesInRuns, CoversBlocks, FindsVictims}
@@ -73,7 +73,7 @@ decides_in_runs c words t cuts joins cell u p r s w access =
 
 -- ## Which pending blocks are above an access
 
-module _ (c : Columns) (words : List ℕ) (t : List Node) (cuts joins : List ℕ) (tr : IsTree t) (st : Stands c words t cuts joins) (s : AreStamps t) (cell u b : ℕ) (access : touches t cell u ≡ true) (pb : is_pending t b ≡ true) where
+module _ (c : ColumnTable) (words : List ℕ) (t : List Node) (cuts joins : List ℕ) (tr : IsTree t) (st : Stands c words t cuts joins) (s : AreStamps t) (cell u b : ℕ) (access : touches t cell u ≡ true) (pb : is_pending t b ≡ true) where
   abbrev own : ℕ → ℕ
   own n = owner c (column t (used c) n)
 

@@ -8,7 +8,7 @@ use Rattle.cw_tree.specs.Names.{is_right}
 use Rattle.cw_tree.specs.Shape.{IsTree}
 use Rattle.cw_tree.proofs.Ancestors.{ancestor_self, ancestor_up, ancestor_trans, ancestor_le}
 use Rattle.cw_tree.proofs.Kin.{ancestor_linear, children_apart}
-use Rattle.cw_trace.specs.Columns.{Columns, used, owner, is_trace, left_of, before_split}
+use Rattle.cw_trace.specs.Columns.{ColumnTable, used, owner, is_trace, left_column_of, before_split}
 use Rattle.cw_trace.specs.Stands.{column, fork_column, around}
 use Rattle.cw_trace.specs.Segments.{Segments, IsOpen, outward, next_outward}
 use Rattle.cw_trace.specs.Keeps.{Keeps}
@@ -23,7 +23,7 @@ use Rattle.cw_trace.proofs.Sides.{right_of, strand_in, InFork, on_side}
 use Rattle.cw_trace.proofs.GoingOn.{open_above}
 use Rattle.cw_trace.proofs.FromTree.{fork_at, left_pair, same_parent, uncut, odd_pos}
 
-module _ (c : Columns) (words : List ℕ) (t : List Node) (cuts joins : List ℕ) (k : Keeps c words t cuts joins) (tr : IsTree t) where
+module _ (c : ColumnTable) (words : List ℕ) (t : List Node) (cuts joins : List ℕ) (k : Keeps c words t cuts joins) (tr : IsTree t) where
   abbrev g : Segments c cuts joins (is_pending t) (column t (used c))
   g = k.segments
 
@@ -32,13 +32,13 @@ module _ (c : Columns) (words : List ℕ) (t : List Node) (cuts joins : List ℕ
   walk_left s m fm at zero p x hx e low w = absurd (cc w)
   walk_left s m fm at (suc j) zero x hx e low w = absurd (cc w)
   walk_left s m fm at (suc j) (suc n) x hx e low w =
-      by_cut (λ p x hx e low w. walk_left s m fm at j p x hx e low w) (has cuts (left_of (suc n))) (nat_eq (suc n % 2) 1) refl w where
+      by_cut (λ p x hx e low w. walk_left s m fm at j p x hx e low w) (has cuts (left_column_of (suc n))) (nat_eq (suc n % 2) 1) refl w where
         p : ℕ
         p = suc n
 
-        is_even : nat_eq (p % 2) 1 ≡ false → p ≡ left_of p + 1
+        is_even : nat_eq (p % 2) 1 ≡ false → p ≡ left_column_of p + 1
         is_even q = by_parity (λ o. cc (eq-eqb (p % 2) 1 o, q)) where
-          by_parity : p % 2 ≢ 1 → p ≡ left_of p + 1
+          by_parity : p % 2 ≢ 1 → p ≡ left_column_of p + 1
           by_parity o = omega (arith, o)
 
         on : ((q y : ℕ) → y < length t → column t (used c) y ≡ q → q < used c → outward cuts c.parents j q ≡ Some s → InFork t tr (used c) m y false) → nat_eq (p % 2) 1 ≡ false → outward cuts c.parents j (slice_index c.parents p) ≡ Some s → InFork t tr (used c) m x false
@@ -130,7 +130,7 @@ module _ (c : Columns) (words : List ℕ) (t : List Node) (cuts joins : List ℕ
         let w = x.open_fork in
         let pos = odd_pos s w.left in
         let z = fork_at c words t cuts joins k tr s pos w.low in
-        let own_left : left_of s ≡ s = left_of_odd s w.left in
+        let own_left : left_column_of s ≡ s = left_of_odd s w.left in
         let here : fork_column t z.node ≡ s = z.at ∙ own_left in
         let parent_low : slice_index c.parents f < f = g.rooted f (odd_pos f left) low in
         let y = walk_left s z.node z.is here f (slice_index c.parents f) n hn (sym parent_is) (omega (arith, low)) v in
@@ -166,10 +166,10 @@ module _ (c : Columns) (words : List ℕ) (t : List Node) (cuts joins : List ℕ
                 by_parity : (a f : ℕ) → a % 2 ≡ 1 → f % 2 ≡ 1 → a < f → a + 1 < f
                 by_parity a f p q l = omega arith
 
-pub none_bars_ok : {A E : Type 0} → (r : Result A E) (f : ℕ) (c : Columns) → f < used c → f % 2 ≡ 1 → is_trace c f ≡ false → OnOk r (before_split c f ≡ None) → OnOk r (NoneBars f c)
+pub none_bars_ok : {A E : Type 0} → (r : Result A E) (f : ℕ) (c : ColumnTable) → f < used c → f % 2 ≡ 1 → is_trace c f ≡ false → OnOk r (before_split c f ≡ None) → OnOk r (NoneBars f c)
 none_bars_ok (Ok x) f c low left whole e = λ words t cuts joins is_open n k tr o fn at un. none_bars c words t cuts joins k tr is_open o f n fn at un low left whole e
 none_bars_ok (Err x) f c low left whole e = tt
 
-pub next_bars_err : {A E : Type 0} → (r : Result A E) (b : E → ℕ) (f : ℕ) (c : Columns) → f < used c → f % 2 ≡ 1 → is_trace c f ≡ false → IfErr r (λ x. before_split c f ≡ Some (b x)) → IfErr r (λ x. NextBars f (b x) c)
+pub next_bars_err : {A E : Type 0} → (r : Result A E) (b : E → ℕ) (f : ℕ) (c : ColumnTable) → f < used c → f % 2 ≡ 1 → is_trace c f ≡ false → IfErr r (λ x. before_split c f ≡ Some (b x)) → IfErr r (λ x. NextBars f (b x) c)
 next_bars_err (Ok x) b f c low left whole e = tt
 next_bars_err (Err x) b f c low left whole e = λ words t cuts joins is_open n k tr o fn at un. next_bars c words t cuts joins k tr is_open o f n fn at un low left whole (b x) e

@@ -5,7 +5,7 @@ use Rattle.std.specs.List.{slice_get}
 use Rattle.std.proofs.lemmas.Option.{slice_get_past}
 use Rattle.cw_tree.specs.Walks.{has}
 use Rattle.cw_trace.specs.declared.tier.Trace.{Trace}
-use Rattle.cw_trace.specs.Columns.{Columns, used, trace_in, is_trace, opening, closing, marks}
+use Rattle.cw_trace.specs.Columns.{ColumnTable, used, trace_in, is_trace, opening_mark, closing_mark, marks}
 use Rattle.cw_trace.specs.Tier.{trace_count, AreSound}
 use Rattle.cw_trace.proofs.Edits.{set_get_same, set_get_other}
 use Rattle.cw_trace.proofs.Lines.{le_or_lt}
@@ -58,7 +58,7 @@ pub named_low : (ts : List (Option Trace)) (i : ℕ) → named_at ts i ≡ true 
 named_low ts i h = elim (le_or_lt (length ts) i) [ inl l ↦ absurd (cc (ap (λ o. is_some (trace_in o)) (slice_get_past ts i l), h)) | inr l ↦ l ]
 
 -- the lists that go with the owners
-pub record SameLengths (c : Columns) : Type 0 where
+pub record SameLengths (c : ColumnTable) : Type 0 where
   pub parents : length c.parents ≡ used c
   pub traces : length c.traces ≡ used c
   pub outers : length c.outers ≡ used c
@@ -71,10 +71,10 @@ odd_apart s f a b e = by_eq s f a b e where
   by_eq : (s f : ℕ) → s % 2 ≡ 1 → f % 2 ≡ 1 → s ≡ f + 1 → ⊥
   by_eq s f a b e = omega arith
 
-pub half_opening : (x : ℕ) → opening x / 2 ≡ x
+pub half_opening : (x : ℕ) → opening_mark x / 2 ≡ x
 half_opening x = omega arith
 
-pub half_closing : (x : ℕ) → closing x / 2 ≡ x
+pub half_closing : (x : ℕ) → closing_mark x / 2 ≡ x
 half_closing x = omega arith
 
 -- a mark of the fork's two traces
@@ -84,18 +84,18 @@ half_marks f b h =
     let half : b / 2 ≡ w.0 = elim w.2 [ inl e ↦ ap (λ n. n / 2) e ∙ half_opening w.0 | inr e ↦ ap (λ n. n / 2) e ∙ half_closing w.0 ] in
     elim w.1 [ inl e ↦ inl (half ∙ e) | inr e ↦ inr (half ∙ e) ]
 
-pub marks_has : (f : ℕ) → (has (marks f) (opening f) ≡ true) × (has (marks f) (closing f) ≡ true) × (has (marks f) (opening (f + 1)) ≡ true) × (has (marks f) (closing (f + 1)) ≡ true)
+pub marks_has : (f : ℕ) → (has (marks f) (opening_mark f) ≡ true) × (has (marks f) (closing_mark f) ≡ true) × (has (marks f) (opening_mark (f + 1)) ≡ true) × (has (marks f) (closing_mark (f + 1)) ≡ true)
 marks_has f =
-    let last = closing (f + 1) ∷ [] in
-    let two = opening (f + 1) ∷ last in
-    let three = closing f ∷ two in (
-      has_here (opening f) three (opening f) refl,
-      has_later (opening f) three (closing f) (has_here (closing f) two (closing f) refl),
-      has_later (opening f) three (opening (f + 1)) (has_later (closing f) two (opening (f + 1)) (has_here (opening (f + 1)) last (opening (f + 1)) refl)),
-      has_later (opening f) three (closing (f + 1)) (has_later (closing f) two (closing (f + 1)) (has_later (opening (f + 1)) last (closing (f + 1)) (has_here (closing (f + 1)) [] (closing (f + 1)) refl))),
+    let last = closing_mark (f + 1) ∷ [] in
+    let two = opening_mark (f + 1) ∷ last in
+    let three = closing_mark f ∷ two in (
+      has_here (opening_mark f) three (opening_mark f) refl,
+      has_later (opening_mark f) three (closing_mark f) (has_here (closing_mark f) two (closing_mark f) refl),
+      has_later (opening_mark f) three (opening_mark (f + 1)) (has_later (closing_mark f) two (opening_mark (f + 1)) (has_here (opening_mark (f + 1)) last (opening_mark (f + 1)) refl)),
+      has_later (opening_mark f) three (closing_mark (f + 1)) (has_later (closing_mark f) two (closing_mark (f + 1)) (has_later (opening_mark (f + 1)) last (closing_mark (f + 1)) (has_here (closing_mark (f + 1)) [] (closing_mark (f + 1)) refl))),
     )
 
-module _ (c : Columns) (s : AreSound c) (l : SameLengths c) where
+module _ (c : ColumnTable) (s : AreSound c) (l : SameLengths c) where
   -- a mark of what names no trace is not there
   pub lacks_mark : (x b : ℕ) → is_trace c x ≡ false → b / 2 ≡ x → has c.brackets b ≡ false
   lacks_mark x b h e = by_case (has c.brackets b) refl where

@@ -13,7 +13,7 @@ use Rattle.cw_tree.proofs.Ancestors.{ancestor_above, ancestor_trans, ancestor_le
 use Rattle.cw_tree.proofs.Upward.{Found, find_found, find_none}
 use Rattle.cw_trace.specs.declared.verdict.Verdict.{Verdict}
 use Rattle.cw_trace.specs.declared.verdict.Verdict.TheVariants.{Free, Within, Against}
-use Rattle.cw_trace.specs.Columns.{Columns, used, owner, up, lead, inside}
+use Rattle.cw_trace.specs.Columns.{ColumnTable, used, owner, up, lead, inside}
 use Rattle.cw_trace.specs.Query.{verdict, verdict_of, stands_in, verdict_around}
 use Rattle.cw_trace.specs.Stands.{Stands, column, fork_column, Descends, names_trace, is_cut_at, stamp_or_0, word_of}
 use Rattle.cw_trace.proofs.WithStamps.{pending_marked, pending_is_block}
@@ -31,7 +31,7 @@ or_none : (a b : Bool) → (a || b) ≡ false → (a ≡ false) × (b ≡ false)
 or_none true b e = absurd (cc e)
 or_none false b e = (refl, e)
 
-module _ (c : Columns) (words : List ℕ) (t : List Node) (cuts merges : List ℕ) (tr : IsTree t) (st : Stands c words t cuts merges) where
+module _ (c : ColumnTable) (words : List ℕ) (t : List Node) (cuts merges : List ℕ) (tr : IsTree t) (st : Stands c words t cuts merges) where
   abbrev own : ℕ → ℕ
   own n = owner c (column t (used c) n)
 

@@ -13,9 +13,9 @@ use Rattle.cw_tree.proofs.Ancestors.{ancestor_le}
 use Rattle.cw_tree.proofs.Members.{filter_same, any_same}
 use Rattle.cw_tree.proofs.Kept.{KeepsParents, ancestor_kept, strand_of_kept}
 use Rattle.cw_tree.proofs.Strands.{strand_of_le}
-use Rattle.cw_trace.specs.Columns.{Columns, used, owner, gap, left_of, closed_word}
-use Rattle.cw_trace.specs.Stands.{GoesOn, column, column_in, fork_column, outermost, stamp_or_0}
-use Rattle.cw_trace.specs.Segments.{Start, IsCut, IsTrace, IsLive, Within, Segments, Active, Ups}
+use Rattle.cw_trace.specs.Columns.{ColumnTable, used, owner, gap, left_column_of, closed_word}
+use Rattle.cw_trace.specs.Stands.{GoesOn, column, column_in, fork_column, outermost_pending, stamp_or_0}
+use Rattle.cw_trace.specs.Segments.{SegmentStart, IsCut, IsTrace, IsLive, Within, Segments, Active, Ups}
 use Rattle.cw_trace.specs.Keeps.{Keeps}
 use Rattle.cw_trace.proofs.Counting.{none_below, some_below}
 use Rattle.cw_trace.proofs.InRange.{pending_low, fork_low}
@@ -24,17 +24,17 @@ use Rattle.cw_trace.proofs.UpsKept.{cut_of}
 use Rattle.cw_trace.proofs.Meaning.{column_low, first_of_both}
 
 -- one block fewer is pending: q, after which none of its trace was begun
-pub record OneFewer (c : Columns) (pend : ℕ → Bool) (col : ℕ → ℕ) (pend2 : ℕ → Bool) (col2 : ℕ → ℕ) (q : ℕ) : Type 0 where
+pub record OneFewer (c : ColumnTable) (pend : ℕ → Bool) (col : ℕ → ℕ) (pend2 : ℕ → Bool) (col2 : ℕ → ℕ) (q : ℕ) : Type 0 where
   pub pending : pend q ≡ true
   pub back : (b : ℕ) → pend2 b ≡ true → (pend b ≡ true) × (b ≢ q) × (col2 b ≡ col b)
   pub forth : (b : ℕ) → pend b ≡ true → b ≢ q → (pend2 b ≡ true) × (col2 b ≡ col b)
   pub last : (b : ℕ) → pend b ≡ true → owner c (col b) ≡ owner c (col q) → b ≤ q
 
-module _ (c : Columns) (cuts joins : List ℕ) (pend : ℕ → Bool) (col : ℕ → ℕ) (pend2 : ℕ → Bool) (col2 : ℕ → ℕ) (q : ℕ) (one : OneFewer c pend col pend2 col2 q) (a : Active c cuts joins (col q)) (g : Segments c cuts joins pend col) where
+module _ (c : ColumnTable) (cuts joins : List ℕ) (pend : ℕ → Bool) (col : ℕ → ℕ) (pend2 : ℕ → Bool) (col2 : ℕ → ℕ) (q : ℕ) (one : OneFewer c pend col pend2 col2 q) (a : Active c cuts joins (col q)) (g : Segments c cuts joins pend col) where
   within_back : (x s b : ℕ) → Within c pend2 col2 x s b → Within c pend col x s b
   within_back x s b w = let z = one.back b w.pending in record { pending = z.0; owned = sym (ap (owner c) z.2) ∙ w.owned; after = omega (arith, z.2, w.after) }
 
-  gap_first2 : (x s b : ℕ) → IsTrace c cuts joins x → Start c joins x s → IsLive c cuts joins x s → Within c pend2 col2 x s b → (e : ℕ) × (e ≤ b) × (pend2 e ≡ true) × (gap c (col2 e) ≡ gap c s)
+  gap_first2 : (x s b : ℕ) → IsTrace c cuts joins x → SegmentStart c joins x s → IsLive c cuts joins x s → Within c pend2 col2 x s b → (e : ℕ) × (e ≤ b) × (pend2 e ≡ true) × (gap c (col2 e) ≡ gap c s)
   gap_first2 x s b k st l w =
       let v = within_back x s b w in
       let z = g.gap_first x s b k st l v in
@@ -49,7 +49,7 @@ module _ (c : Columns) (cuts joins : List ℕ) (pend : ℕ → Bool) (col : ℕ 
             omega (arith, e, ne))
       ]
 
-  parted2 : (x s r : ℕ) → IsTrace c cuts joins x → Start c joins x s → Start c joins x r → s < r → (gap c s ≡ gap c r → ⊥) → (b : ℕ) × (col2 b < r) × Within c pend2 col2 x s b
+  parted2 : (x s r : ℕ) → IsTrace c cuts joins x → SegmentStart c joins x s → SegmentStart c joins x r → s < r → (gap c s ≡ gap c r → ⊥) → (b : ℕ) × (col2 b < r) × Within c pend2 col2 x s b
   parted2 x s r k st sr lt ne =
       let z = g.parted x s r k st sr lt ne in
       let w = z.2 in
@@ -57,7 +57,7 @@ module _ (c : Columns) (cuts joins : List ℕ) (pend : ℕ → Bool) (col : ℕ 
       elim (same_or z.0 q) [
         | inr n ↦ (let u = one.forth z.0 w.pending n in (z.0, omega (arith, u.1), record { pending = u.0; owned = ap (owner c) u.1 ∙ w.owned; after = omega (arith, u.1, w.after) }))
         | inl e ↦ absurd (
-            let P : ℕ → Type 0 = λ y. Start c joins y r in
+            let P : ℕ → Type 0 = λ y. SegmentStart c joins y r in
             let le : r ≤ a.start = a.last r (subst P (sym w.owned ∙ ap (λ m. owner c (col m)) e) sr) in
             let lo : a.start ≤ col q = a.before in
             omega (arith, ap col e))
@@ -100,7 +100,7 @@ module _ (c : Columns) (cuts joins : List ℕ) (pend : ℕ → Bool) (col : ℕ 
     up_some = λ x b p k pb o. (let z = one.back b pb in u.up_some x b p k z.0 (sym (ap (owner c) z.2) ∙ o));
     up_none = λ x p k none. u.up_none x p k (λ b pb o. elim (same_or b q) [
       | inr n ↦ (let z = one.forth b pb n in none b z.0 (ap (owner c) z.1 ∙ o))
-      | inl e ↦ (let P : ℕ → Type 0 = λ y. IsCut c cuts joins y (left_of x) in a.uncut (left_of x) (subst P (sym o ∙ ap (λ m. owner c (col m)) e) (cut_of c cuts joins pend col g x p k)))
+      | inl e ↦ (let P : ℕ → Type 0 = λ y. IsCut c cuts joins y (left_column_of x) in a.uncut (left_column_of x) (subst P (sym o ∙ ap (λ m. owner c (col m)) e) (cut_of c cuts joins pend col g x p k)))
     ]);
   }
 
@@ -154,7 +154,7 @@ module _ (t u : List Node) (rooted : IsRooted t) (s : SameShape t u) where
   pub column_same : (size n : ℕ) → n < length t → column u size n ≡ column t size n
   column_same size n h = let le : strand_of t n ≤ n = strand_of_le t rooted n h in ap (λ x. column_in u size x x) (strand_same n h) ∙ in_same size (strand_of t n) (strand_of t n) (omega arith)
 
-module _ (c : Columns) (words : List ℕ) (t u : List Node) (cuts joins : List ℕ) (tr : IsTree t) (k : Keeps c words t cuts joins) (s : SameShape t u) (q : ℕ) (pq : is_pending t q ≡ true) (goes : GoesOn c t (column t (used c) q) q)
+module _ (c : ColumnTable) (words : List ℕ) (t u : List Node) (cuts joins : List ℕ) (tr : IsTree t) (k : Keeps c words t cuts joins) (s : SameShape t u) (q : ℕ) (pq : is_pending t q ≡ true) (goes : GoesOn c t (column t (used c) q) q)
     (a : Active c cuts joins (column t (used c) q)) (closes : (b : ℕ) → is_pending u b ≡ true → (is_pending t b ≡ true) × (b ≢ q)) (stays : (b : ℕ) → is_pending t b ≡ true → b ≢ q → is_pending u b ≡ true)
     (distinct : (b : ℕ) → is_pending t b ≡ true → stamp_of t b ≡ stamp_of t q → b ≡ q) where
   abbrev col : ℕ → ℕ
@@ -193,7 +193,7 @@ module _ (c : Columns) (words : List ℕ) (t u : List Node) (cuts joins : List �
   low_gap = omega (arith, gap_le c cuts joins (is_pending t) (column t (used c)) g (column t (used c) q) (low q), low q)
 
   -- where the first of a gap is not the one that closes, it stays the first
-  first_stays : (y b : ℕ) → outermost t (used c) (λ j. nat_eq (gap c j) y) ≡ Some b → b ≢ q → outermost u (used c) (λ j. nat_eq (gap c j) y) ≡ Some b
+  first_stays : (y b : ℕ) → outermost_pending t (used c) (λ j. nat_eq (gap c j) y) ≡ Some b → b ≢ q → outermost_pending u (used c) (λ j. nat_eq (gap c j) y) ≡ Some b
   first_stays y b e n = sym same ∙ e where
     w : (b < length t) × (is_pending t b ≡ true) × (gap c (col b) ≡ y)
     w = let v = some_below (of_gap y) (length t) b e in let z = both_true (is_pending t b) (nat_eq (gap c (column t (used c) b)) y) v.passed in (v.low, z.0, eqb-true _ _ z.1)
@@ -201,7 +201,7 @@ module _ (c : Columns) (words : List ℕ) (t u : List Node) (cuts joins : List �
     least : (v : ℕ) → is_pending t v ≡ true → gap c (col v) ≡ y → b ≤ v
     least v p x = elim (le_or_lt b v) [ inl l ↦ l | inr l ↦ absurd (cc ((some_below (of_gap y) (length t) b e).first v l, and_true (is_pending t v) (nat_eq (gap c (column t (used c) v)) y) p (eq-eqb _ _ x))) ]
 
-    same : outermost t (used c) (λ j. nat_eq (gap c j) y) ≡ outermost u (used c) (λ j. nat_eq (gap c j) y)
+    same : outermost_pending t (used c) (λ j. nat_eq (gap c j) y) ≡ outermost_pending u (used c) (λ j. nat_eq (gap c j) y)
     same =
         first_of_both (of_gap y) (λ b. is_pending u b && nat_eq (gap c (column u (used c) b)) y) (length t) (length u)
         (λ v h f. let z = both_true (is_pending u v) (nat_eq (gap c (column u (used c) v)) y) f in
@@ -211,16 +211,16 @@ module _ (c : Columns) (words : List ℕ) (t u : List Node) (cuts joins : List �
         (λ v h f. let z = both_true (is_pending t v) (nat_eq (gap c (column t (used c) v)) y) f in
         (b, least v z.0 (eqb-true _ _ z.1), omega (arith, w.0, s.lengths), and_true (is_pending u b) (nat_eq (gap c (column u (used c) b)) y) (stays b w.1 n) (eq-eqb _ _ (ap (gap c) (cols b w.0) ∙ w.2))))
 
-  none_stays : (y : ℕ) → ((b : ℕ) → is_pending u b ≡ true → gap c (column u (used c) b) ≡ y → ⊥) → outermost u (used c) (λ j. nat_eq (gap c j) y) ≡ None
-  none_stays y none = by_found (outermost u (used c) (λ j. nat_eq (gap c j) y)) refl where
-    by_found : (o : Option ℕ) → outermost u (used c) (λ j. nat_eq (gap c j) y) ≡ o → outermost u (used c) (λ j. nat_eq (gap c j) y) ≡ None
+  none_stays : (y : ℕ) → ((b : ℕ) → is_pending u b ≡ true → gap c (column u (used c) b) ≡ y → ⊥) → outermost_pending u (used c) (λ j. nat_eq (gap c j) y) ≡ None
+  none_stays y none = by_found (outermost_pending u (used c) (λ j. nat_eq (gap c j) y)) refl where
+    by_found : (o : Option ℕ) → outermost_pending u (used c) (λ j. nat_eq (gap c j) y) ≡ o → outermost_pending u (used c) (λ j. nat_eq (gap c j) y) ≡ None
     by_found None e = e
     by_found (Some b) e =
         let v = some_below (λ b. is_pending u b && nat_eq (gap c (column u (used c) b)) y) (length u) b e in
         let z = both_true (is_pending u b) (nat_eq (gap c (column u (used c) b)) y) v.passed in
         absurd (none b z.0 (eqb-true _ _ z.1))
 
-  gone : (y : ℕ) → outermost t (used c) (λ j. nat_eq (gap c j) y) ≡ None → outermost u (used c) (λ j. nat_eq (gap c j) y) ≡ None
+  gone : (y : ℕ) → outermost_pending t (used c) (λ j. nat_eq (gap c j) y) ≡ None → outermost_pending u (used c) (λ j. nat_eq (gap c j) y) ≡ None
   gone y e = none_stays y none where
     none : (b : ℕ) → is_pending u b ≡ true → gap c (column u (used c) b) ≡ y → ⊥
     none b p x =
@@ -240,16 +240,16 @@ module _ (c : Columns) (words : List ℕ) (t u : List Node) (cuts joins : List �
     by_test true = length-set words (gap c (col q)) 0
     by_test false = refl
 
-  words_new : (y : ℕ) → y < used c → slice_index words2 y ≡ stamp_or_0 u (outermost u (used c) (λ j. nat_eq (gap c j) y))
-  words_new y h = by_first (outermost t (used c) (λ j. nat_eq (gap c j) y)) refl where
-    old_word : (o : Option ℕ) → outermost t (used c) (λ j. nat_eq (gap c j) y) ≡ o → slice_index words y ≡ stamp_or_0 t o
+  words_new : (y : ℕ) → y < used c → slice_index words2 y ≡ stamp_or_0 u (outermost_pending u (used c) (λ j. nat_eq (gap c j) y))
+  words_new y h = by_first (outermost_pending t (used c) (λ j. nat_eq (gap c j) y)) refl where
+    old_word : (o : Option ℕ) → outermost_pending t (used c) (λ j. nat_eq (gap c j) y) ≡ o → slice_index words y ≡ stamp_or_0 t o
     old_word o e = k.words_are y h ∙ ap (stamp_or_0 t) e
 
     room : gap c (col q) < length words
     room = omega (arith, low_gap, k.room.0, k.room.1)
 
     -- the word is not that of the block that closes, or is another gap's
-    unchanged : (b : ℕ) → outermost t (used c) (λ j. nat_eq (gap c j) y) ≡ Some b → b ≢ q → slice_index words2 y ≡ slice_index words y
+    unchanged : (b : ℕ) → outermost_pending t (used c) (λ j. nat_eq (gap c j) y) ≡ Some b → b ≢ q → slice_index words2 y ≡ slice_index words y
     unchanged b e n = elim (same_or y (gap c (col q))) [
       | inr m ↦ word_other y m
       | inl m ↦ (
@@ -259,7 +259,7 @@ module _ (c : Columns) (words : List ℕ) (t u : List Node) (cuts joins : List �
           ap (λ z. slice_index (if z then slice_set words (gap c (col q)) 0 else words) y) (ne_eqb _ _ ne))
     ]
 
-    by_first : (o : Option ℕ) → outermost t (used c) (λ j. nat_eq (gap c j) y) ≡ o → slice_index words2 y ≡ stamp_or_0 u (outermost u (used c) (λ j. nat_eq (gap c j) y))
+    by_first : (o : Option ℕ) → outermost_pending t (used c) (λ j. nat_eq (gap c j) y) ≡ o → slice_index words2 y ≡ stamp_or_0 u (outermost_pending u (used c) (λ j. nat_eq (gap c j) y))
     by_first None e = elim (same_or y (gap c (col q))) [
       | inr m ↦ word_other y m ∙ old_word None e ∙ sym (ap (stamp_or_0 u) (gone y e))
       | inl m ↦ absurd (cc (none_below (of_gap y) (length t) e q (pending_low t q pq), and_true (is_pending t q) (nat_eq (gap c (column t (used c) q)) y) pq (eq-eqb _ _ (sym m))))

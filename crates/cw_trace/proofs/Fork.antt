@@ -4,21 +4,21 @@ use Rattle.std.specs.Prelude.{◌⊎◌, ◌%◌, ◌==◌, slice_index, if◌th
 use Rattle.std.proofs.lemmas.Bool.{ne_eqb}
 use Rattle.std.proofs.lemmas.List.{get_or_append_left, get_or-append-add}
 use Rattle.cw_tree.proofs.Growing.{get_append}
-use Rattle.cw_trace.specs.Columns.{Columns, used, owner, gap, trace, trace_in, head_in, lead_in, left_of, forked}
+use Rattle.cw_trace.specs.Columns.{ColumnTable, used, owner, gap, trace, trace_in, head_in, lead_in, left_column_of, forked}
 use Rattle.cw_tree.specs.Walks.{has}
 use Rattle.cw_trace.specs.Stands.{around, is_apart}
-use Rattle.cw_trace.specs.Segments.{IsOpen, Start, IsCut, IsTrace, IsLive, Within, Segments, Active}
+use Rattle.cw_trace.specs.Segments.{IsOpen, SegmentStart, IsCut, IsTrace, IsLive, Within, Segments, Active}
 use Rattle.cw_trace.proofs.Lines.{same_or, le_or_lt, or_cases, left_of_odd, left_of_next, apart_parts, right_used, gap_le}
 
 append_at : (xs ys : List ℕ) (n k i : ℕ) → length xs ≡ n → i ≡ n + k → slice_index (xs ++ ys) i ≡ slice_index ys k
 append_at xs ys n k i e q = ap (λ j. slice_index (xs ++ ys) j) (q ∙ ap (λ m. m + k) (sym e)) ∙ get_or-append-add xs ys k 0
 
-module _ (c : Columns) (cuts joins : List ℕ) (pend : ℕ → Bool) (col : ℕ → ℕ) (g : Segments c cuts joins pend col) (word i : ℕ) (a : Active c cuts joins i)
+module _ (c : ColumnTable) (cuts joins : List ℕ) (pend : ℕ → Bool) (col : ℕ → ℕ) (g : Segments c cuts joins pend col) (word i : ℕ) (a : Active c cuts joins i)
     (free : word ≡ 0 → (b : ℕ) → pend b ≡ true → gap c (col b) ≡ gap c i → ⊥) (taken : word ≢ 0 → (b : ℕ) × (pend b ≡ true) × (gap c (col b) ≡ gap c i)) where
   abbrev t : ℕ
   t = owner c i
 
-  abbrev d : Columns
+  abbrev d : ColumnTable
   d = forked word i c
 
   abbrev u : ℕ
@@ -122,17 +122,17 @@ module _ (c : Columns) (cuts joins : List ℕ) (pend : ℕ → Bool) (col : ℕ 
     | inl e ↦ (let z : x ≡ 0 = eqb-true _ _ e in record { low = (let p : i < u = a.low in omega arith); named = n.named })
     | inr e ↦ record {
       low =
-          let k : left_of x < u = not_cut (left_of x) (apart_parts cuts joins x e).0 in
+          let k : left_column_of x < u = not_cut (left_column_of x) (apart_parts cuts joins x e).0 in
           elim (column_of x n.low) [
             | before h ↦ h
-            | on_left q ↦ absurd (omega (arith, ap left_of q, left_of_odd u g.odd))
-            | on_right q ↦ absurd (omega (arith, ap left_of q, left_of_next u g.odd))
+            | on_left q ↦ absurd (omega (arith, ap left_column_of q, left_of_odd u g.odd))
+            | on_right q ↦ absurd (omega (arith, ap left_column_of q, left_of_next u g.odd))
           ];
       named = n.named;
     }
   ]
 
-  pub start_of : (x s : ℕ) → IsTrace c cuts joins x → Start d joins x s → (Start c joins x s × (s < u)) ⊎ ((s ≡ u) × (x ≡ t))
+  pub start_of : (x s : ℕ) → IsTrace c cuts joins x → SegmentStart d joins x s → (SegmentStart c joins x s × (s < u)) ⊎ ((s ≡ u) × (x ≡ t))
   start_of x s n (inl e) = inl (inl e, omega (arith, e, n.low))
   start_of x s n (inr o) = elim (opened_of x s o) [ earlier w ↦ inl (inr w, w.low) | here e q ↦ inr (e, q) ]
 
@@ -151,11 +151,11 @@ module _ (c : Columns) (cuts joins : List ℕ) (pend : ℕ → Bool) (col : ℕ 
   live_t : (x s : ℕ) → x ≡ t → IsLive c cuts joins x s
   live_t x s e = λ k w q. (let P : ℕ → Type 0 = λ x. IsCut c cuts joins x k in a.uncut k (subst P e w))
 
-  is_start : (x : ℕ) → x ≡ t → Start c joins x a.start
-  is_start x e = let P : ℕ → Type 0 = λ x. Start c joins x a.start in subst P (sym e) a.starts
+  is_start : (x : ℕ) → x ≡ t → SegmentStart c joins x a.start
+  is_start x e = let P : ℕ → Type 0 = λ x. SegmentStart c joins x a.start in subst P (sym e) a.starts
 
-  is_last : (x s : ℕ) → x ≡ t → Start c joins x s → s ≤ a.start
-  is_last x s e w = let P : ℕ → Type 0 = λ x. Start c joins x s in a.last s (subst P e w)
+  is_last : (x s : ℕ) → x ≡ t → SegmentStart c joins x s → s ≤ a.start
+  is_last x s e w = let P : ℕ → Type 0 = λ x. SegmentStart c joins x s in a.last s (subst P e w)
 
   start_low : a.start < u
   start_low = let p : i < u = a.low in let q : a.start ≤ i = a.before in omega arith
@@ -175,7 +175,7 @@ module _ (c : Columns) (cuts joins : List ℕ) (pend : ℕ → Bool) (col : ℕ 
   word_or : (word ≡ 0) ⊎ (word ≢ 0)
   word_or = same_or word 0
 
-  gap_owned2 : (x s b : ℕ) → IsTrace d cuts joins x → Start d joins x s → IsLive d cuts joins x s → pend b ≡ true → gap d (col b) ≡ gap d s → (owner d (col b) ≡ x) × (s ≤ col b)
+  gap_owned2 : (x s b : ℕ) → IsTrace d cuts joins x → SegmentStart d joins x s → IsLive d cuts joins x s → pend b ≡ true → gap d (col b) ≡ gap d s → (owner d (col b) ≡ x) × (s ≤ col b)
   gap_owned2 x s b n st l p e = let k = was_trace x n in elim (start_of x s k st) [
     | inl z ↦ (let v = g.gap_owned x s b k z.0 (live_old x s z.1 l) p (sym (gap_col b p) ∙ e ∙ gap_old s z.1) in (own_col b p ∙ v.0, v.1))
     | inr z ↦ absurd (elim word_or [
@@ -184,15 +184,15 @@ module _ (c : Columns) (cuts joins : List ℕ) (pend : ℕ → Bool) (col : ℕ 
     ])
   ]
 
-  gap_first2 : (x s b : ℕ) → IsTrace d cuts joins x → Start d joins x s → IsLive d cuts joins x s → Within d pend col x s b → (e : ℕ) × (e ≤ b) × (pend e ≡ true) × (gap d (col e) ≡ gap d s)
+  gap_first2 : (x s b : ℕ) → IsTrace d cuts joins x → SegmentStart d joins x s → IsLive d cuts joins x s → Within d pend col x s b → (e : ℕ) × (e ≤ b) × (pend e ≡ true) × (gap d (col e) ≡ gap d s)
   gap_first2 x s b n st l w = let k = was_trace x n in elim (start_of x s k st) [
     | inl z ↦ (let v = g.gap_first x s b k z.0 (live_old x s z.1 l) (within_old x s b w) in (v.0, v.1, v.2, gap_col v.0 v.2 ∙ v.3 ∙ sym (gap_old s z.1)))
     | inr z ↦ absurd (omega (arith, z.0, w.after, g.there b w.pending))
   ]
 
-  shared2 : (x s r b : ℕ) → IsTrace d cuts joins x → Start d joins x s → Start d joins x r → s < r → gap d s ≡ gap d r → Within d pend col x s b → col b < r → ⊥
+  shared2 : (x s r b : ℕ) → IsTrace d cuts joins x → SegmentStart d joins x s → SegmentStart d joins x r → s < r → gap d s ≡ gap d r → Within d pend col x s b → col b < r → ⊥
   shared2 x s r b n st sr lt e w h = let k = was_trace x n in by_both k (start_of x s k st) (start_of x r k sr) where
-    by_both : IsTrace c cuts joins x → (Start c joins x s × (s < u)) ⊎ ((s ≡ u) × (x ≡ t)) → (Start c joins x r × (r < u)) ⊎ ((r ≡ u) × (x ≡ t)) → ⊥
+    by_both : IsTrace c cuts joins x → (SegmentStart c joins x s × (s < u)) ⊎ ((s ≡ u) × (x ≡ t)) → (SegmentStart c joins x r × (r < u)) ⊎ ((r ≡ u) × (x ≡ t)) → ⊥
     by_both k (inl z) (inl y) = g.shared x s r b k z.0 y.0 lt (sym (gap_old s z.1) ∙ e ∙ gap_old r y.1) (within_old x s b w) h
     by_both k (inl z) (inr y) =
         let q : gap c s ≡ new_gap = sym (gap_old s z.1) ∙ e ∙ gap_left r y.0 in
@@ -203,9 +203,9 @@ module _ (c : Columns) (cuts joins : List ℕ) (pend : ℕ → Bool) (col : ℕ 
     by_both k (inr z) (inl y) = absurd (omega (arith, z.0, y.1))
     by_both k (inr z) (inr y) = absurd (omega (arith, z.0, y.0))
 
-  parted2 : (x s r : ℕ) → IsTrace d cuts joins x → Start d joins x s → Start d joins x r → s < r → (gap d s ≡ gap d r → ⊥) → (b : ℕ) × (col b < r) × Within d pend col x s b
+  parted2 : (x s r : ℕ) → IsTrace d cuts joins x → SegmentStart d joins x s → SegmentStart d joins x r → s < r → (gap d s ≡ gap d r → ⊥) → (b : ℕ) × (col b < r) × Within d pend col x s b
   parted2 x s r n st sr lt ne = let k = was_trace x n in by_both k (start_of x s k st) (start_of x r k sr) where
-    by_both : IsTrace c cuts joins x → (Start c joins x s × (s < u)) ⊎ ((s ≡ u) × (x ≡ t)) → (Start c joins x r × (r < u)) ⊎ ((r ≡ u) × (x ≡ t)) → (b : ℕ) × (col b < r) × Within d pend col x s b
+    by_both : IsTrace c cuts joins x → (SegmentStart c joins x s × (s < u)) ⊎ ((s ≡ u) × (x ≡ t)) → (SegmentStart c joins x r × (r < u)) ⊎ ((r ≡ u) × (x ≡ t)) → (b : ℕ) × (col b < r) × Within d pend col x s b
     by_both k (inl z) (inl y) = let v = g.parted x s r k z.0 y.0 lt (λ q. ne (gap_old s z.1 ∙ q ∙ sym (gap_old r y.1))) in (v.0, v.1, within_new x s v.0 v.2)
     by_both k (inl z) (inr y) = elim word_or [
       | inl v ↦ (
@@ -225,26 +225,26 @@ module _ (c : Columns) (cuts joins : List ℕ) (pend : ℕ → Bool) (col : ℕ 
     by_both k (inr z) (inl y) = absurd (omega (arith, z.0, y.1))
     by_both k (inr z) (inr y) = absurd (omega (arith, z.0, y.0))
 
-  one_trace2 : (x y s r : ℕ) → IsTrace d cuts joins x → IsTrace d cuts joins y → Start d joins x s → Start d joins y r → IsLive d cuts joins x s → IsLive d cuts joins y r → gap d s ≡ gap d r → x ≡ y
+  one_trace2 : (x y s r : ℕ) → IsTrace d cuts joins x → IsTrace d cuts joins y → SegmentStart d joins x s → SegmentStart d joins y r → IsLive d cuts joins x s → IsLive d cuts joins y r → gap d s ≡ gap d r → x ≡ y
   one_trace2 x y s r n k st sr l h e = let nx = was_trace x n in let ny = was_trace y k in by_both nx ny (start_of x s nx st) (start_of y r ny sr) where
-    one_new : (x y s r : ℕ) → IsTrace c cuts joins x → IsTrace c cuts joins y → Start c joins x s → s < u → IsLive c cuts joins x s → y ≡ t → gap c s ≡ new_gap → x ≡ y
+    one_new : (x y s r : ℕ) → IsTrace c cuts joins x → IsTrace c cuts joins y → SegmentStart c joins x s → s < u → IsLive c cuts joins x s → y ≡ t → gap c s ≡ new_gap → x ≡ y
     one_new x y s r nx ny w hs lx q e = elim word_or [
       | inl v ↦ g.one_trace x y s a.start nx ny w (is_start y q) lx (live_t y a.start q) (e ∙ gap_shared v ∙ a.same)
       | inr v ↦ absurd (omega (arith, e, gap_fresh v, gap_low s hs, hs))
     ]
 
-    by_both : IsTrace c cuts joins x → IsTrace c cuts joins y → (Start c joins x s × (s < u)) ⊎ ((s ≡ u) × (x ≡ t)) → (Start c joins y r × (r < u)) ⊎ ((r ≡ u) × (y ≡ t)) → x ≡ y
+    by_both : IsTrace c cuts joins x → IsTrace c cuts joins y → (SegmentStart c joins x s × (s < u)) ⊎ ((s ≡ u) × (x ≡ t)) → (SegmentStart c joins y r × (r < u)) ⊎ ((r ≡ u) × (y ≡ t)) → x ≡ y
     by_both nx ny (inl z) (inl w) = g.one_trace x y s r nx ny z.0 w.0 (live_old x s z.1 l) (live_old y r w.1 h) (sym (gap_old s z.1) ∙ e ∙ gap_old r w.1)
     by_both nx ny (inl z) (inr w) = one_new x y s r nx ny z.0 z.1 (live_old x s z.1 l) w.1 (sym (gap_old s z.1) ∙ e ∙ gap_left r w.0)
     by_both nx ny (inr z) (inl w) = sym (one_new y x r s ny nx w.0 w.1 (live_old y r w.1 h) z.1 (sym (gap_old r w.1) ∙ sym e ∙ gap_left s z.0))
     by_both nx ny (inr z) (inr w) = z.1 ∙ sym w.1
 
-  nested2 : (x s j : ℕ) → IsTrace d cuts joins x → Start d joins x s → j < used d → s + 1 < j → around d j ≡ x → s ≤ slice_index d.parents j
+  nested2 : (x s j : ℕ) → IsTrace d cuts joins x → SegmentStart d joins x s → j < used d → s + 1 < j → around d j ≡ x → s ≤ slice_index d.parents j
   nested2 x s j n st h lt e = let k = was_trace x n in by_both k (start_of x s k st) (column_of j h) where
-    below : (x ≡ t) → Start c joins x s → s ≤ i
+    below : (x ≡ t) → SegmentStart c joins x s → s ≤ i
     below q w = let le : s ≤ a.start = is_last x s q w in let lo : a.start ≤ i = a.before in omega arith
 
-    by_both : IsTrace c cuts joins x → (Start c joins x s × (s < u)) ⊎ ((s ≡ u) × (x ≡ t)) → Col j → s ≤ slice_index d.parents j
+    by_both : IsTrace c cuts joins x → (SegmentStart c joins x s × (s < u)) ⊎ ((s ≡ u) × (x ≡ t)) → Col j → s ≤ slice_index d.parents j
     by_both k (inl z) (before l) = omega (arith, parent_old j l, g.nested x s j k z.0 l lt (sym (around_old j (omega arith) l) ∙ e))
     by_both k (inl z) (on_left q) = omega (arith, parent_left j q, below (sym e ∙ around_left j q) z.0)
     by_both k (inl z) (on_right q) = omega (arith, parent_right j q, below (sym e ∙ around_right j q) z.0)
@@ -265,14 +265,14 @@ module _ (c : Columns) (cuts joins : List ℕ) (pend : ℕ → Bool) (col : ℕ 
     | here e q ↦ absurd (z.1 q)
   ]
 
-  unjoined_above2 : (s : ℕ) → s < used d → s % 2 ≡ 1 → has joins s ≡ false → 0 < slice_index d.parents s → has joins (left_of (slice_index d.parents s)) ≡ false
+  unjoined_above2 : (s : ℕ) → s < used d → s % 2 ≡ 1 → has joins s ≡ false → 0 < slice_index d.parents s → has joins (left_column_of (slice_index d.parents s)) ≡ false
   unjoined_above2 s h o un p = by_col (column_of s h) where
     P : ℕ → Type 0
-    P x = has joins (left_of x) ≡ false
+    P x = has joins (left_column_of x) ≡ false
 
-    by_col : Col s → has joins (left_of (slice_index d.parents s)) ≡ false
-    by_col (before l) = ap (λ x. has joins (left_of x)) (parent_old s l) ∙ g.unjoined_above s l o un (omega (arith, parent_old s l))
-    by_col (on_left q) = ap (λ x. has joins (left_of x)) (parent_left s q) ∙ a.unjoined (omega (arith, parent_left s q))
+    by_col : Col s → has joins (left_column_of (slice_index d.parents s)) ≡ false
+    by_col (before l) = ap (λ x. has joins (left_column_of x)) (parent_old s l) ∙ g.unjoined_above s l o un (omega (arith, parent_old s l))
+    by_col (on_left q) = ap (λ x. has joins (left_column_of x)) (parent_left s q) ∙ a.unjoined (omega (arith, parent_left s q))
     by_col (on_right q) = absurd (no_even s q o)
 
   together2 : (j : ℕ) → 0 < j → j < used d → is_apart cuts joins j ≡ false → owner d j ≡ around d j
@@ -282,32 +282,32 @@ module _ (c : Columns) (cuts joins : List ℕ) (pend : ℕ → Bool) (col : ℕ 
     | on_right q ↦ owner_right j q ∙ sym (around_right j q)
   ]
 
-  not_apart : (j : ℕ) → left_of j ≡ u → is_apart cuts joins j ≡ true → ⊥
-  not_apart j e q = omega (arith, e, not_cut (left_of j) (apart_parts cuts joins j q).0)
+  not_apart : (j : ℕ) → left_column_of j ≡ u → is_apart cuts joins j ≡ true → ⊥
+  not_apart j e q = omega (arith, e, not_cut (left_column_of j) (apart_parts cuts joins j q).0)
 
   apart2 : (j : ℕ) → 0 < j → j < used d → is_apart cuts joins j ≡ true → owner d j ≡ j
   apart2 j p h e = elim (column_of j h) [
     | before l ↦ owner_old j l ∙ g.apart j p l e
-    | on_left q ↦ absurd (not_apart j (ap left_of q ∙ left_of_odd u g.odd) e)
-    | on_right q ↦ absurd (not_apart j (ap left_of q ∙ left_of_next u g.odd) e)
+    | on_left q ↦ absurd (not_apart j (ap left_column_of q ∙ left_of_odd u g.odd) e)
+    | on_right q ↦ absurd (not_apart j (ap left_column_of q ∙ left_of_next u g.odd) e)
   ]
 
-  gap_step2 : (j : ℕ) → 0 < j → j < used d → (gap d j ≡ gap d (slice_index d.parents j)) ⊎ ((left_of j ≤ gap d j) × (gap d j ≤ j))
+  gap_step2 : (j : ℕ) → 0 < j → j < used d → (gap d j ≡ gap d (slice_index d.parents j)) ⊎ ((left_column_of j ≤ gap d j) × (gap d j ≤ j))
   gap_step2 j p h = by_col (column_of j h) where
     old_parent : j < u → slice_index c.parents j < u
     old_parent l = let y : slice_index c.parents j < j = g.rooted j p l in omega arith
 
-    by_word : gap d j ≡ new_gap → slice_index d.parents j ≡ i → left_of j ≡ u → u ≤ j → (word ≡ 0) ⊎ (word ≢ 0) → (gap d j ≡ gap d (slice_index d.parents j)) ⊎ ((left_of j ≤ gap d j) × (gap d j ≤ j))
+    by_word : gap d j ≡ new_gap → slice_index d.parents j ≡ i → left_column_of j ≡ u → u ≤ j → (word ≡ 0) ⊎ (word ≢ 0) → (gap d j ≡ gap d (slice_index d.parents j)) ⊎ ((left_column_of j ≤ gap d j) × (gap d j ≤ j))
     by_word e q f le (inl w) = inl (e ∙ gap_shared w ∙ sym (ap (gap d) q ∙ gap_old i a.low))
     by_word e q f le (inr w) = inr (omega (arith, e, gap_fresh w, f), omega (arith, e, gap_fresh w))
 
-    by_col : Col j → (gap d j ≡ gap d (slice_index d.parents j)) ⊎ ((left_of j ≤ gap d j) × (gap d j ≤ j))
+    by_col : Col j → (gap d j ≡ gap d (slice_index d.parents j)) ⊎ ((left_column_of j ≤ gap d j) × (gap d j ≤ j))
     by_col (before l) = elim (g.gap_step j p l) [
       | inl q ↦ inl (gap_old j l ∙ q ∙ sym (ap (gap d) (parent_old j l) ∙ gap_old (slice_index c.parents j) (old_parent l)))
       | inr q ↦ inr (omega (arith, gap_old j l, q.0), omega (arith, gap_old j l, q.1))
     ]
-    by_col (on_left q) = by_word (gap_left j q) (parent_left j q) (ap left_of q ∙ left_of_odd u g.odd) (omega (arith, q)) word_or
-    by_col (on_right q) = by_word (gap_right j q) (parent_right j q) (ap left_of q ∙ left_of_next u g.odd) (omega (arith, q)) word_or
+    by_col (on_left q) = by_word (gap_left j q) (parent_left j q) (ap left_column_of q ∙ left_of_odd u g.odd) (omega (arith, q)) word_or
+    by_col (on_right q) = by_word (gap_right j q) (parent_right j q) (ap left_column_of q ∙ left_of_next u g.odd) (omega (arith, q)) word_or
 
   right_gap2 : (s : ℕ) → s % 2 ≡ 1 → s < used d → has cuts s ≡ false → gap d (s + 1) ≡ gap d s
   right_gap2 s o h e = elim (column_of s h) [

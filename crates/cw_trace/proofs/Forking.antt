@@ -13,8 +13,8 @@ use Rattle.cw_tree.specs.Shape.{IsTree}
 use Rattle.cw_tree.proofs.Ancestors.{ancestor_up}
 use Rattle.cw_tree.proofs.Upward.{find_found}
 use Rattle.cw_tree.proofs.Growing.{get_append, ancestor_grown}
-use Rattle.cw_trace.specs.Columns.{Columns, used, owner, gap, left_of, forked}
-use Rattle.cw_trace.specs.Stands.{GoesOn, column, column_in, fork_column, outermost, stamp_or_0}
+use Rattle.cw_trace.specs.Columns.{ColumnTable, used, owner, gap, left_column_of, forked}
+use Rattle.cw_trace.specs.Stands.{GoesOn, column, column_in, fork_column, outermost_pending, stamp_or_0}
 use Rattle.cw_trace.specs.Segments.{Segments, Active}
 use Rattle.cw_trace.specs.Keeps.{KeepsAt, Keeps}
 use Rattle.cw_trace.proofs.Counting.{none_below, some_below, fork_column_lt, fork_column_suc, fork_column_pass}
@@ -54,7 +54,7 @@ module _ (t : List Node) (tr : IsTree t) (size more : ℕ) (all : (f : ℕ) → 
         ap (λ b. if b then (if is_right t (suc s) then fork_column t (parent_of t (suc s)) + 1 else fork_column t (parent_of t (suc s))) else column_in t size s (strand_of t (parent_of t (suc s)))) (lt-ltb _ _ z.0)
         ∙ sym (ap (λ b. if b then (if is_right t (suc s) then fork_column t (parent_of t (suc s)) + 1 else fork_column t (parent_of t (suc s))) else column_in t more s (strand_of t (parent_of t (suc s)))) (lt-ltb _ _ z.1))
 
-module _ (c : Columns) (words : List ℕ) (t : List Node) (cuts joins : List ℕ) (tr : IsTree t) (k : Keeps c words t cuts joins) (begun : (b : ℕ) → is_pending t b ≡ true → 0 < stamp_of t b)
+module _ (c : ColumnTable) (words : List ℕ) (t : List Node) (cuts joins : List ℕ) (tr : IsTree t) (k : Keeps c words t cuts joins) (begun : (b : ℕ) → is_pending t b ≡ true → 0 < stamp_of t b)
     (p stamp : ℕ) (hp : p < length t) (roomy : used c + 2 ≤ c.room) (a : Active c cuts joins (column t (used c) p)) (goes : GoesOn c t (column t (used c) p) p) where
   abbrev col : ℕ → ℕ
   col = column t (used c)
@@ -71,7 +71,7 @@ module _ (c : Columns) (words : List ℕ) (t : List Node) (cuts joins : List ℕ
   abbrev word : ℕ
   word = slice_index words (gap c i)
 
-  abbrev d : Columns
+  abbrev d : ColumnTable
   d = forked word i c
 
   abbrev n : ℕ
@@ -89,12 +89,12 @@ module _ (c : Columns) (words : List ℕ) (t : List Node) (cuts joins : List ℕ
   low : (m : ℕ) → col m < used c
   low m = column_low t (used c) m (used_some c cuts joins pend col g)
 
-  word_is : word ≡ stamp_or_0 t (outermost t (used c) (λ j. nat_eq (gap c j) (gap c i)))
+  word_is : word ≡ stamp_or_0 t (outermost_pending t (used c) (λ j. nat_eq (gap c j) (gap c i)))
   word_is = k.words_are (gap c i) (omega (arith, gap_le c cuts joins pend col g i (low p), low p))
 
   free : word ≡ 0 → (b : ℕ) → pend b ≡ true → gap c (col b) ≡ gap c i → ⊥
-  free e b pb q = by_first (outermost t (used c) (λ j. nat_eq (gap c j) (gap c i))) refl where
-    by_first : (o : Option ℕ) → outermost t (used c) (λ j. nat_eq (gap c j) (gap c i)) ≡ o → ⊥
+  free e b pb q = by_first (outermost_pending t (used c) (λ j. nat_eq (gap c j) (gap c i))) refl where
+    by_first : (o : Option ℕ) → outermost_pending t (used c) (λ j. nat_eq (gap c j) (gap c i)) ≡ o → ⊥
     by_first None f = cc (none_below (λ b. is_pending t b && nat_eq (gap c (col b)) (gap c i)) (length t) f b (pending_low t b pb), and_true (is_pending t b) (nat_eq (gap c (col b)) (gap c i)) pb (eq-eqb _ _ q))
     by_first (Some b) f =
         let v = some_below (λ b. is_pending t b && nat_eq (gap c (col b)) (gap c i)) (length t) b f in
@@ -103,8 +103,8 @@ module _ (c : Columns) (words : List ℕ) (t : List Node) (cuts joins : List ℕ
         omega (arith, z, begun b y.0)
 
   taken : word ≢ 0 → (b : ℕ) × (pend b ≡ true) × (gap c (col b) ≡ gap c i)
-  taken ne = by_first (outermost t (used c) (λ j. nat_eq (gap c j) (gap c i))) refl where
-    by_first : (o : Option ℕ) → outermost t (used c) (λ j. nat_eq (gap c j) (gap c i)) ≡ o → (b : ℕ) × (pend b ≡ true) × (gap c (col b) ≡ gap c i)
+  taken ne = by_first (outermost_pending t (used c) (λ j. nat_eq (gap c j) (gap c i))) refl where
+    by_first : (o : Option ℕ) → outermost_pending t (used c) (λ j. nat_eq (gap c j) (gap c i)) ≡ o → (b : ℕ) × (pend b ≡ true) × (gap c (col b) ≡ gap c i)
     by_first None f = absurd (ne (word_is ∙ ap (stamp_or_0 t) f))
     by_first (Some b) f =
         let v = some_below (λ b. is_pending t b && nat_eq (gap c (col b)) (gap c i)) (length t) b f in
@@ -208,7 +208,7 @@ module _ (c : Columns) (words : List ℕ) (t : List Node) (cuts joins : List ℕ
     own_fork = ap (owner d) col_fork ∙ owner_old i (low p)
 
     -- the outermost pending block of a gap
-    first_old : (x : ℕ) → outermost grown size (λ j. nat_eq (gap d j) x) ≡ outermost t (used c) (λ j. nat_eq (gap c j) x)
+    first_old : (x : ℕ) → outermost_pending grown size (λ j. nat_eq (gap d j) x) ≡ outermost_pending t (used c) (λ j. nat_eq (gap c j) x)
     first_old x =
         first_of_both (λ b. is_pending grown b && nat_eq (gap d (column grown size b)) x) (λ b. is_pending t b && nat_eq (gap c (col b)) x) (length grown) n
         (λ b h e. let z = both_true (is_pending t b) (nat_eq (gap c (col b)) x) e in
@@ -218,23 +218,23 @@ module _ (c : Columns) (words : List ℕ) (t : List Node) (cuts joins : List ℕ
         let le : b ≤ b = omega arith in
         (b, le, w.0, and_true (is_pending t b) (nat_eq (gap c (col b)) x) w.1 (sym (ap (λ y. nat_eq y x) (ap (gap d) (cols b w.0) ∙ gap_old (col b) (low b))) ∙ z.1)))
 
-    stamp_first : (o : Option ℕ) (x : ℕ) → outermost t (used c) (λ j. nat_eq (gap c j) x) ≡ o → stamp_or_0 grown o ≡ stamp_or_0 t o
+    stamp_first : (o : Option ℕ) (x : ℕ) → outermost_pending t (used c) (λ j. nat_eq (gap c j) x) ≡ o → stamp_or_0 grown o ≡ stamp_or_0 t o
     stamp_first None x e = refl
     stamp_first (Some b) x e = stamp_old b (some_below (λ b. is_pending t b && nat_eq (gap c (col b)) x) n b e).low
 
-    word_old : (x : ℕ) → stamp_or_0 grown (outermost grown size (λ j. nat_eq (gap d j) x)) ≡ stamp_or_0 t (outermost t (used c) (λ j. nat_eq (gap c j) x))
-    word_old x = ap (stamp_or_0 grown) (first_old x) ∙ stamp_first (outermost t (used c) (λ j. nat_eq (gap c j) x)) x refl
+    word_old : (x : ℕ) → stamp_or_0 grown (outermost_pending grown size (λ j. nat_eq (gap d j) x)) ≡ stamp_or_0 t (outermost_pending t (used c) (λ j. nat_eq (gap c j) x))
+    word_old x = ap (stamp_or_0 grown) (first_old x) ∙ stamp_first (outermost_pending t (used c) (λ j. nat_eq (gap c j) x)) x refl
 
-    no_block : (x : ℕ) → used c ≤ x → outermost t (used c) (λ j. nat_eq (gap c j) x) ≡ None
-    no_block x h = by_first (outermost t (used c) (λ j. nat_eq (gap c j) x)) refl where
-      by_first : (o : Option ℕ) → outermost t (used c) (λ j. nat_eq (gap c j) x) ≡ o → outermost t (used c) (λ j. nat_eq (gap c j) x) ≡ None
+    no_block : (x : ℕ) → used c ≤ x → outermost_pending t (used c) (λ j. nat_eq (gap c j) x) ≡ None
+    no_block x h = by_first (outermost_pending t (used c) (λ j. nat_eq (gap c j) x)) refl where
+      by_first : (o : Option ℕ) → outermost_pending t (used c) (λ j. nat_eq (gap c j) x) ≡ o → outermost_pending t (used c) (λ j. nat_eq (gap c j) x) ≡ None
       by_first None e = e
       by_first (Some b) e =
           let v = some_below (λ b. is_pending t b && nat_eq (gap c (col b)) x) n b e in
           let y = both_true (is_pending t b) (nat_eq (gap c (col b)) x) v.passed in
           absurd (omega (arith, eqb-true _ _ y.1, gap_le c cuts joins pend col g (col b) (low b), low b))
 
-    words_new : (x : ℕ) → x < size → slice_index words x ≡ stamp_or_0 grown (outermost grown size (λ j. nat_eq (gap d j) x))
+    words_new : (x : ℕ) → x < size → slice_index words x ≡ stamp_or_0 grown (outermost_pending grown size (λ j. nat_eq (gap d j) x))
     words_new x h = elim (le_or_lt (used c) x) [
       | inr l ↦ k.words_are x l ∙ sym (word_old x)
       | inl l ↦ k.spare_words x l ∙ sym (word_old x ∙ ap (stamp_or_0 t) (no_block x l))
@@ -290,8 +290,8 @@ module _ (c : Columns) (words : List ℕ) (t : List Node) (cuts joins : List ℕ
       contains = λ b m h q e o s. contains_new b m e o s;
       lines = lines_new;
     } where
-      new_left : (j : ℕ) → used c ≤ j → j < used c + 2 → left_of j ≡ used c
-      new_left j l h = elim (same_or j (used c)) [ inl e ↦ ap left_of e ∙ left_of_odd (used c) g.odd | inr e ↦ ap left_of (next j (used c) l h e) ∙ left_of_next (used c) g.odd ] where
+      new_left : (j : ℕ) → used c ≤ j → j < used c + 2 → left_column_of j ≡ used c
+      new_left j l h = elim (same_or j (used c)) [ inl e ↦ ap left_column_of e ∙ left_of_odd (used c) g.odd | inr e ↦ ap left_column_of (next j (used c) l h e) ∙ left_of_next (used c) g.odd ] where
         next : (j u : ℕ) → u ≤ j → j < u + 2 → j ≢ u → j ≡ u + 1
         next j u a b e = omega (arith, e)
 

@@ -4,7 +4,7 @@ use Rattle.std.specs.Prelude.{◌⊎◌, ◌%◌, ◌==◌, ◌&&◌, ◌||◌, 
 use Rattle.std.proofs.lemmas.Bool.{ne_eqb}
 use Rattle.cw_tree.specs.Walks.{has}
 use Rattle.cw_tree.proofs.Growing.{get_append, get_next}
-use Rattle.cw_trace.specs.Columns.{Columns, used, owner, trace, is_trace, outer, outer_at, fork_in, unless_split, before_split, forked, split_at, merged, first_tier, left_of}
+use Rattle.cw_trace.specs.Columns.{ColumnTable, used, owner, trace, is_trace, outer, outer_at, fork_in, unless_split, before_split, forked, split_at, merged, first_tier, left_column_of}
 use Rattle.cw_trace.specs.Stands.{around, is_apart, names_trace}
 use Rattle.cw_trace.specs.Segments.{Segments, MaySplit, MayMerge, Active, Forks, outward, next_outward}
 use Rattle.cw_trace.proofs.Edits.{has_cons_same, has_cons_other}
@@ -23,14 +23,14 @@ odd_left s f a b = λ e. by_eq s f a b e where
 odd_some : (s : ℕ) → s % 2 ≡ 1 → 0 < s
 odd_some s e = omega arith
 
-module _ (c : Columns) (cuts joins : List ℕ) (pend : ℕ → Bool) (col : ℕ → ℕ) (g : Segments c cuts joins pend col) (w : Forks c cuts joins) where
+module _ (c : ColumnTable) (cuts joins : List ℕ) (pend : ℕ → Bool) (col : ℕ → ℕ) (g : Segments c cuts joins pend col) (w : Forks c cuts joins) where
   low : (s : ℕ) → s < used c → s % 2 ≡ 1 → slice_index c.parents s < used c
   low s h o = let l : slice_index c.parents s < s = g.rooted s (odd_some s o) h in omega arith
 
   -- ## A split
 
   module _ (f : ℕ) (m : MaySplit c cuts joins pend col f) (early : next_outward c cuts f ≡ None) where
-    abbrev d : Columns
+    abbrev d : ColumnTable
     d = split_at f c
 
     abbrev t : ℕ
@@ -44,7 +44,7 @@ module _ (c : Columns) (cuts joins : List ℕ) (pend : ℕ → Bool) (col : ℕ 
       | inr n ↦ ap is_some (split.trace_O c cuts joins pend col g f m early x (record { not_t = n; not_f = a; not_r = b }))
     ]
 
-    apart_new : (i : ℕ) → left_of i ≡ f → 0 < i → names_trace (f ∷ cuts) joins i ≡ true
+    apart_new : (i : ℕ) → left_column_of i ≡ f → 0 < i → names_trace (f ∷ cuts) joins i ≡ true
     apart_new i e p =
         ap (λ b. b || is_apart (f ∷ cuts) joins i) (ne_eqb i 0 (λ q. omega (arith, q)))
         ∙ ap (λ x. has (f ∷ cuts) x && not (has joins x)) e
@@ -54,21 +54,21 @@ module _ (c : Columns) (cuts joins : List ℕ) (pend : ℕ → Bool) (col : ℕ 
     names i h = elim (same_or i f) [
       | inl e ↦
           ap (is_trace d) e ∙ ap is_some (split.trace_L c cuts joins pend col g f m early)
-          ∙ sym (apart_new i (ap left_of e ∙ left_of_odd f m.left) (omega (arith, e, odd_some f m.left)))
+          ∙ sym (apart_new i (ap left_column_of e ∙ left_of_odd f m.left) (omega (arith, e, odd_some f m.left)))
       | inr a ↦ elim (same_or i (f + 1)) [
         | inl e ↦
             ap (is_trace d) e ∙ ap is_some (split.trace_R c cuts joins pend col g f m early)
-            ∙ sym (apart_new i (ap left_of e ∙ left_of_next f m.left) (omega (arith, e)))
-        | inr b ↦ same_trace i a b ∙ w.named i h ∙ ap (λ q. (nat_eq i 0) || (q && not (has joins (left_of i)))) (sym (has_cons_other cuts f (left_of i) (not_left i a b))) ∙ at_root i
+            ∙ sym (apart_new i (ap left_column_of e ∙ left_of_next f m.left) (omega (arith, e)))
+        | inr b ↦ same_trace i a b ∙ w.named i h ∙ ap (λ q. (nat_eq i 0) || (q && not (has joins (left_column_of i)))) (sym (has_cons_other cuts f (left_column_of i) (not_left i a b))) ∙ at_root i
       ]
     ] where
-      not_left : (i : ℕ) → i ≢ f → i ≢ f + 1 → left_of i ≢ f
+      not_left : (i : ℕ) → i ≢ f → i ≢ f + 1 → left_column_of i ≢ f
       not_left i a b q = elim (same_or i 0) [
-        | inl z ↦ omega (arith, q, odd_some f m.left, ap left_of z)
+        | inl z ↦ omega (arith, q, odd_some f m.left, ap left_column_of z)
         | inr z ↦ elim (left_of_cases i (omega (arith, z))) [ inl y ↦ a (y ∙ q) | inr y ↦ b (omega (arith, y, q)) ]
       ]
 
-      at_root : (i : ℕ) → (nat_eq i 0 || (has (f ∷ cuts) (left_of i) && not (has joins (left_of i)))) ≡ names_trace (f ∷ cuts) joins i
+      at_root : (i : ℕ) → (nat_eq i 0 || (has (f ∷ cuts) (left_column_of i) && not (has joins (left_column_of i)))) ≡ names_trace (f ∷ cuts) joins i
       at_root i = refl
 
     reads : (o : Option ℕ) → ((x : ℕ) → o ≡ Some x → x % 2 ≡ 1) → unless_split d o ≡ except f (unless_split c o)
@@ -107,7 +107,7 @@ module _ (c : Columns) (cuts joins : List ℕ) (pend : ℕ → Bool) (col : ℕ 
   -- ## A merge
 
   module _ (f : ℕ) (m : MayMerge c cuts joins pend col f) where
-    abbrev d2 : Columns
+    abbrev d2 : ColumnTable
     d2 = merged f c
 
     -- no unjoined fork stands inside the fork, so none has it as the next outward
@@ -126,7 +126,7 @@ module _ (c : Columns) (cuts joins : List ℕ) (pend : ℕ → Bool) (col : ℕ 
           let q : ℕ = z.0 in
           let lower : slice_index c.parents s < s = g.rooted s (odd_some s o) h in
           let up : slice_index c.parents s ≡ q + 1 = z.2 in
-          let open_q : has joins q ≡ false = ap (has joins) (sym (ap left_of up ∙ left_of_next q z.1)) ∙ g.unjoined_above s h o u (omega (arith, up)) in
+          let open_q : has joins q ≡ false = ap (has joins) (sym (ap left_column_of up ∙ left_of_next q z.1)) ∙ g.unjoined_above s h o u (omega (arith, up)) in
           more q (omega (arith, up)) (omega (arith, up)) z.1 open_q z.3
 
     same_trace2 : (x : ℕ) → x ≢ f → x ≢ f + 1 → is_trace d2 x ≡ is_trace c x
@@ -137,7 +137,7 @@ module _ (c : Columns) (cuts joins : List ℕ) (pend : ℕ → Bool) (col : ℕ 
       | inr n ↦ ap is_some (merge.trace_other c cuts joins pend col g f m x n a b)
     ]
 
-    apart_gone : (i : ℕ) → left_of i ≡ f → 0 < i → false ≡ names_trace cuts (f ∷ joins) i
+    apart_gone : (i : ℕ) → left_column_of i ≡ f → 0 < i → false ≡ names_trace cuts (f ∷ joins) i
     apart_gone i e p =
         sym (ap (λ b. b || is_apart cuts (f ∷ joins) i) (ne_eqb i 0 (λ q. omega (arith, q)))
         ∙ ap (λ x. has cuts x && not (has (f ∷ joins) x)) e
@@ -150,17 +150,17 @@ module _ (c : Columns) (cuts joins : List ℕ) (pend : ℕ → Bool) (col : ℕ 
     names2 i h = elim (same_or i f) [
       | inl e ↦
           ap (is_trace d2) e ∙ ap is_some (merge.trace_f_gone c cuts joins pend col g f m)
-          ∙ apart_gone i (ap left_of e ∙ left_of_odd f m.left) (omega (arith, e, odd_some f m.left))
+          ∙ apart_gone i (ap left_column_of e ∙ left_of_odd f m.left) (omega (arith, e, odd_some f m.left))
       | inr a ↦ elim (same_or i (f + 1)) [
         | inl e ↦
             ap (is_trace d2) e ∙ ap is_some (merge.trace_r_gone c cuts joins pend col g f m)
-            ∙ apart_gone i (ap left_of e ∙ left_of_next f m.left) (omega (arith, e))
-        | inr b ↦ same_trace2 i a b ∙ w.named i h ∙ ap (λ q. nat_eq i 0 || (has cuts (left_of i) && not q)) (sym (has_cons_other joins f (left_of i) (not_left i a b)))
+            ∙ apart_gone i (ap left_column_of e ∙ left_of_next f m.left) (omega (arith, e))
+        | inr b ↦ same_trace2 i a b ∙ w.named i h ∙ ap (λ q. nat_eq i 0 || (has cuts (left_column_of i) && not q)) (sym (has_cons_other joins f (left_column_of i) (not_left i a b)))
       ]
     ] where
-      not_left : (i : ℕ) → i ≢ f → i ≢ f + 1 → left_of i ≢ f
+      not_left : (i : ℕ) → i ≢ f → i ≢ f + 1 → left_column_of i ≢ f
       not_left i a b q = elim (same_or i 0) [
-        | inl z ↦ omega (arith, q, odd_some f m.left, ap left_of z)
+        | inl z ↦ omega (arith, q, odd_some f m.left, ap left_column_of z)
         | inr z ↦ elim (left_of_cases i (omega (arith, z))) [ inl y ↦ a (y ∙ q) | inr y ↦ b (omega (arith, y, q)) ]
       ]
 
@@ -187,7 +187,7 @@ module _ (c : Columns) (cuts joins : List ℕ) (pend : ℕ → Bool) (col : ℕ 
 
   module _ (word p : ℕ) (a : Active c cuts joins p) (free : word ≡ 0 → (b : ℕ) → pend b ≡ true → Rattle.cw_trace.specs.Columns.gap c (col b) ≡ Rattle.cw_trace.specs.Columns.gap c p → ⊥)
       (taken : word ≢ 0 → (b : ℕ) × (pend b ≡ true) × (Rattle.cw_trace.specs.Columns.gap c (col b) ≡ Rattle.cw_trace.specs.Columns.gap c p)) where
-    abbrev d3 : Columns
+    abbrev d3 : ColumnTable
     d3 = forked word p c
 
     abbrev u : ℕ
@@ -206,16 +206,16 @@ module _ (c : Columns) (cuts joins : List ℕ) (pend : ℕ → Bool) (col : ℕ 
     trace_old x h = ap is_some (fork.trace_old c cuts joins pend col g word p a free taken x h)
 
     -- a column's own fork is split where the column names a trace
-    cut_of : (x : ℕ) → 0 < x → x < u → has joins (left_of x) ≡ false → is_trace c x ≡ has cuts (left_of x)
+    cut_of : (x : ℕ) → 0 < x → x < u → has joins (left_column_of x) ≡ false → is_trace c x ≡ has cuts (left_column_of x)
     cut_of x q h un =
-        w.named x h ∙ ap (λ b. b || is_apart cuts joins x) (ne_eqb x 0 (λ e. omega (arith, e))) ∙ ap (λ b. has cuts (left_of x) && not b) un ∙ whole (has cuts (left_of x)) where
+        w.named x h ∙ ap (λ b. b || is_apart cuts joins x) (ne_eqb x 0 (λ e. omega (arith, e))) ∙ ap (λ b. has cuts (left_column_of x) && not b) un ∙ whole (has cuts (left_column_of x)) where
           whole : (b : Bool) → (b && true) ≡ b
           whole true = refl
           whole false = refl
 
-    even_left : (n : ℕ) → nat_eq (suc n % 2) 1 ≡ false → (n % 2 ≡ 1) × (left_of (suc n) ≡ n)
+    even_left : (n : ℕ) → nat_eq (suc n % 2) 1 ≡ false → (n % 2 ≡ 1) × (left_column_of (suc n) ≡ n)
     even_left n e = by_even (λ q. cc (eq-eqb (suc n % 2) 1 q, e)) where
-      by_even : (suc n % 2 ≢ 1) → (n % 2 ≡ 1) × (left_of (suc n) ≡ n)
+      by_even : (suc n % 2 ≢ 1) → (n % 2 ≡ 1) × (left_column_of (suc n) ≡ n)
       by_even ne = (omega (arith, ne), omega (arith, ne))
 
     -- what is set at the fork is what the walk finds then
@@ -227,10 +227,10 @@ module _ (c : Columns) (cuts joins : List ℕ) (pend : ℕ → Bool) (col : ℕ 
       here : suc n < u
       here = let l : p < u = a.low in omega (arith, e)
 
-      un : has joins (left_of (suc n)) ≡ false
-      un = ap (λ x. has joins (left_of x)) e ∙ a.unjoined (omega (arith, e))
+      un : has joins (left_column_of (suc n)) ≡ false
+      un = ap (λ x. has joins (left_column_of x)) e ∙ a.unjoined (omega (arith, e))
 
-      walks : (x y : Bool) → has cuts (left_of (suc n)) ≡ x → nat_eq (suc n % 2) 1 ≡ y → outward cuts c.parents (suc k) (suc n) ≡ (if x then None else if y then Some (suc n) else outward cuts c.parents k (slice_index c.parents (suc n)))
+      walks : (x y : Bool) → has cuts (left_column_of (suc n)) ≡ x → nat_eq (suc n % 2) 1 ≡ y → outward cuts c.parents (suc k) (suc n) ≡ (if x then None else if y then Some (suc n) else outward cuts c.parents k (slice_index c.parents (suc n)))
       walks x y p q = ap (λ b. if b then None else if suc n % 2 == 1 then Some (suc n) else outward cuts c.parents k (slice_index c.parents (suc n))) p ∙ ap (λ b. if x then None else if b then Some (suc n) else outward cuts c.parents k (slice_index c.parents (suc n))) q
 
       sets : (x y : Bool) → is_trace c (suc n) ≡ x → nat_eq (suc n % 2) 1 ≡ y → outer_at c (suc n) ≡ (if x then None else if y then Some (suc n) else outer c n)
@@ -285,8 +285,8 @@ module _ (c : Columns) (cuts joins : List ℕ) (pend : ℕ → Bool) (col : ℕ 
     names3 : (i : ℕ) → i < used d3 → is_trace d3 i ≡ names_trace cuts joins i
     names3 i h = elim (fork.column_of c cuts joins pend col g word p a free taken i h) [
       | fork.before l ↦ trace_old i l ∙ w.named i l
-      | fork.on_left e ↦ ap (is_trace d3) (e ∙ sym g.lengths.2) ∙ ap (λ x. is_some (Rattle.cw_trace.specs.Columns.trace_in x)) (get_next c.traces None (None ∷ [])) ∙ sym (unnamed i (ap left_of e ∙ left_of_odd u g.odd) (omega (arith, e, odd_some u g.odd)))
-      | fork.on_right e ↦ ap (is_trace d3) (e ∙ ap (λ x. x + 1) (sym g.lengths.2)) ∙ ap (λ x. is_some (Rattle.cw_trace.specs.Columns.trace_in x)) (get_right c.traces) ∙ sym (unnamed i (ap left_of e ∙ left_of_next u g.odd) (omega (arith, e)))
+      | fork.on_left e ↦ ap (is_trace d3) (e ∙ sym g.lengths.2) ∙ ap (λ x. is_some (Rattle.cw_trace.specs.Columns.trace_in x)) (get_next c.traces None (None ∷ [])) ∙ sym (unnamed i (ap left_column_of e ∙ left_of_odd u g.odd) (omega (arith, e, odd_some u g.odd)))
+      | fork.on_right e ↦ ap (is_trace d3) (e ∙ ap (λ x. x + 1) (sym g.lengths.2)) ∙ ap (λ x. is_some (Rattle.cw_trace.specs.Columns.trace_in x)) (get_right c.traces) ∙ sym (unnamed i (ap left_column_of e ∙ left_of_next u g.odd) (omega (arith, e)))
     ] where
       get_right : {A : Type 0} → (xs : List (Option A)) → Rattle.std.specs.List.slice_get (xs ++ None ∷ None ∷ []) (length xs + 1) ≡ Some None
       get_right [] = refl
@@ -298,7 +298,7 @@ module _ (c : Columns) (cuts joins : List ℕ) (pend : ℕ → Bool) (col : ℕ 
       no_cut (inr e) = e
       no_cut (inl e) = absurd (let l : u < u = (g.cut_left u e).1 in omega arith)
 
-      unnamed : (i : ℕ) → left_of i ≡ u → 0 < i → names_trace cuts joins i ≡ false
+      unnamed : (i : ℕ) → left_column_of i ≡ u → 0 < i → names_trace cuts joins i ≡ false
       unnamed i e p = ap (λ b. b || is_apart cuts joins i) (ne_eqb i 0 (λ q. omega (arith, q))) ∙ ap (λ x. has cuts x && not (has joins x)) e ∙ ap (λ b. b && not (has joins u)) (no_cut (bool_or (has cuts u)))
 
     reads3 : (o : Option ℕ) → ((x : ℕ) → o ≡ Some x → x < u) → unless_split d3 o ≡ unless_split c o

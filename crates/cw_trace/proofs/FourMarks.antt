@@ -4,7 +4,7 @@ use Rattle.std.specs.Prelude.{◌*◌, ◌&&◌, ◌||◌}
 use Rattle.std.specs.List.{filter}
 use Rattle.std.proofs.lemmas.Bool.{ne_eqb, cases_eq}
 use Rattle.cw_tree.specs.Walks.{has}
-use Rattle.cw_trace.specs.Columns.{place_after, opening, closing, is_mark_of}
+use Rattle.cw_trace.specs.Columns.{place_after, opening_mark, closing_mark, is_mark_of}
 use Rattle.cw_trace.specs.Keeps.{Distinct}
 use Rattle.cw_trace.proofs.Marking.{has_place, distinct_filter, has_filter}
 use Rattle.cw_trace.proofs.Numbering.{has_cases, lacks_parts}
@@ -90,19 +90,19 @@ out m xs = filter (λ b. not (nat_eq b m)) xs
 abbrev pub all_out : ℕ → List ℕ → List ℕ
 all_out f xs = filter (λ b. not (is_mark_of f b || is_mark_of (f + 1) b)) xs
 
-pub next_opening : (f : ℕ) → 2 * f + 2 ≡ opening (f + 1)
+pub next_opening : (f : ℕ) → 2 * f + 2 ≡ opening_mark (f + 1)
 next_opening f = omega arith
 
-pub next_closing : (f : ℕ) → 2 * f + 3 ≡ closing (f + 1)
+pub next_closing : (f : ℕ) → 2 * f + 3 ≡ closing_mark (f + 1)
 next_closing f = omega arith
 
 pub four_out : (f : ℕ) (xs : List ℕ) → out (2 * f + 3) (out (2 * f + 2) (out (2 * f + 1) (out (2 * f) xs))) ≡ all_out f xs
 four_out f xs =
     ap (λ n. out (2 * f + 3) (out n (out (2 * f + 1) (out (2 * f) xs)))) (next_opening f)
-    ∙ ap (λ n. out n (out (opening (f + 1)) (out (2 * f + 1) (out (2 * f) xs)))) (next_closing f)
-    ∙ ap (λ ys. out (closing (f + 1)) (out (opening (f + 1)) ys)) (filter_both _ _ (λ b. not (nat_eq b (opening f)) && not (nat_eq b (closing f))) (λ x. refl) xs)
-    ∙ filter_both _ _ (λ b. not (nat_eq b (opening (f + 1))) && not (nat_eq b (closing (f + 1)))) (λ x. refl) (filter (λ b. not (nat_eq b (opening f)) && not (nat_eq b (closing f))) xs)
-    ∙ filter_both _ _ (λ b. not (is_mark_of f b || is_mark_of (f + 1) b)) (λ b. four (nat_eq b (opening f)) (nat_eq b (closing f)) (nat_eq b (opening (f + 1))) (nat_eq b (closing (f + 1)))) xs where
+    ∙ ap (λ n. out n (out (opening_mark (f + 1)) (out (2 * f + 1) (out (2 * f) xs)))) (next_closing f)
+    ∙ ap (λ ys. out (closing_mark (f + 1)) (out (opening_mark (f + 1)) ys)) (filter_both _ _ (λ b. not (nat_eq b (opening_mark f)) && not (nat_eq b (closing_mark f))) (λ x. refl) xs)
+    ∙ filter_both _ _ (λ b. not (nat_eq b (opening_mark (f + 1))) && not (nat_eq b (closing_mark (f + 1)))) (λ x. refl) (filter (λ b. not (nat_eq b (opening_mark f)) && not (nat_eq b (closing_mark f))) xs)
+    ∙ filter_both _ _ (λ b. not (is_mark_of f b || is_mark_of (f + 1) b)) (λ b. four (nat_eq b (opening_mark f)) (nat_eq b (closing_mark f)) (nat_eq b (opening_mark (f + 1))) (nat_eq b (closing_mark (f + 1)))) xs where
       four : (p q r s : Bool) → not ((p || q) || (r || s)) ≡ ((not p && not q) && (not r && not s))
       four true q r s = refl
       four false true r s = refl
@@ -114,7 +114,7 @@ four_out f xs =
 pub stays_out : (m b : ℕ) (xs : List ℕ) → b ≢ m → has xs b ≡ true → has (out m xs) b ≡ true
 stays_out m b xs n h = has_filter (λ b. not (nat_eq b m)) xs b (ap not (ne_eqb b m n)) ∙ h
 
-pub length_four : (f : ℕ) (xs : List ℕ) → Distinct xs → has xs (opening f) ≡ true → has xs (closing f) ≡ true → has xs (opening (f + 1)) ≡ true → has xs (closing (f + 1)) ≡ true → length (all_out f xs) + 4 ≡ length xs
+pub length_four : (f : ℕ) (xs : List ℕ) → Distinct xs → has xs (opening_mark f) ≡ true → has xs (closing_mark f) ≡ true → has xs (opening_mark (f + 1)) ≡ true → has xs (closing_mark (f + 1)) ≡ true → length (all_out f xs) + 4 ≡ length xs
 length_four f xs d a b e g =
     let xs1 = out (2 * f) xs in
     let xs2 = out (2 * f + 1) xs1 in

@@ -6,7 +6,7 @@ use Rattle.cw_tree.specs.declared.node.Node.{Node}
 use Rattle.cw_tree.specs.Nodes.{is_fork, is_pending, is_strand}
 use Rattle.cw_tree.specs.Walks.{has}
 use Rattle.cw_tree.specs.Shape.{IsTree}
-use Rattle.cw_trace.specs.Columns.{Columns, used, owner, is_trace, left_of, before_split, split_at, merged}
+use Rattle.cw_trace.specs.Columns.{ColumnTable, used, owner, is_trace, left_column_of, before_split, split_at, merged}
 use Rattle.cw_trace.specs.Stands.{column, fork_column, is_apart, around}
 use Rattle.cw_trace.specs.Segments.{Segments, IsOpen, MaySplit, MayMerge}
 use Rattle.cw_trace.specs.Keeps.{Keeps}
@@ -24,7 +24,7 @@ use Rattle.cw_trace.proofs.Keeping.{keeps_split, keeps_merge}
 pub odd_pos : (f : ℕ) → f % 2 ≡ 1 → 0 < f
 odd_pos f e = omega arith
 
-module _ (c : Columns) (words : List ℕ) (t : List Node) (cuts joins : List ℕ) (k : Keeps c words t cuts joins) (tr : IsTree t) where
+module _ (c : ColumnTable) (words : List ℕ) (t : List Node) (cuts joins : List ℕ) (k : Keeps c words t cuts joins) (tr : IsTree t) where
   abbrev g : Segments c cuts joins (is_pending t) (column t (used c))
   g = k.segments
 
@@ -32,12 +32,12 @@ module _ (c : Columns) (words : List ℕ) (t : List Node) (cuts joins : List ℕ
   pub record ForkAt (i : ℕ) : Type 0 where
     pub node : ℕ
     pub is : is_fork t node ≡ true
-    pub at : fork_column t node ≡ left_of i
-    pub from : slice_index c.parents (left_of i) ≡ column t (used c) node
+    pub at : fork_column t node ≡ left_column_of i
+    pub from : slice_index c.parents (left_column_of i) ≡ column t (used c) node
 
-  pub left_pair : (i : ℕ) → 0 < i → i < used c → left_of i + 1 < used c
+  pub left_pair : (i : ℕ) → 0 < i → i < used c → left_column_of i + 1 < used c
   left_pair i p h = by_odd (used c) i p h g.odd where
-    by_odd : (n i : ℕ) → 0 < i → i < n → n % 2 ≡ 1 → left_of i + 1 < n
+    by_odd : (n i : ℕ) → 0 < i → i < n → n % 2 ≡ 1 → left_column_of i + 1 < n
     by_odd n i p h o = omega arith
 
   pub fork_at : (i : ℕ) → 0 < i → i < used c → ForkAt i
@@ -45,13 +45,13 @@ module _ (c : Columns) (words : List ℕ) (t : List Node) (cuts joins : List ℕ
       let z = k.all_used i h p in
       record { node = z.0; is = z.1; at = z.2; from = ap (slice_index c.parents) (sym z.2) ∙ k.forked_from z.0 z.1 (let l = left_pair i p h in omega (arith, z.2)) }
 
-  left_odd : (i : ℕ) → 0 < i → left_of i % 2 ≡ 1
+  left_odd : (i : ℕ) → 0 < i → left_column_of i % 2 ≡ 1
   left_odd i p = omega arith
 
-  pub same_parent : (i : ℕ) → 0 < i → i < used c → slice_index c.parents i ≡ slice_index c.parents (left_of i)
+  pub same_parent : (i : ℕ) → 0 < i → i < used c → slice_index c.parents i ≡ slice_index c.parents (left_column_of i)
   same_parent i p h = elim (left_of_cases i p) [
     | inl e ↦ ap (slice_index c.parents) e
-    | inr e ↦ ap (slice_index c.parents) e ∙ g.pairs (left_of i) (left_odd i p) (let l = left_pair i p h in omega arith)
+    | inr e ↦ ap (slice_index c.parents) e ∙ g.pairs (left_column_of i) (left_odd i p) (let l = left_pair i p h in omega arith)
   ]
 
   -- a fork that was not joined and whose columns name no traces was not split
@@ -113,7 +113,7 @@ module _ (c : Columns) (words : List ℕ) (t : List Node) (cuts joins : List ℕ
     nothing_open x h ox e ns =
         let st = stands_of c words t cuts joins k in
         let some : 0 < owner c (column t (used c) x) = elim e [ inl q ↦ omega (arith, q, odd_pos f left) | inr q ↦ omega (arith, q) ] in
-        let is_left : left_of (owner c (column t (used c) x)) ≡ f = elim e [ inl q ↦ ap left_of q ∙ left_of_odd f left | inr q ↦ ap left_of q ∙ left_of_next f left ] in
+        let is_left : left_column_of (owner c (column t (used c) x)) ≡ f = elim e [ inl q ↦ ap left_column_of q ∙ left_of_odd f left | inr q ↦ ap left_column_of q ∙ left_of_next f left ] in
         let w = head_of c words t cuts joins tr st x h some in
         let y = w.1 in
         let same : w.0 ≡ done.fork = fork_column_one t w.0 done.fork y.fork done.is (y.column_is ∙ is_left ∙ sym done.at) in
@@ -141,7 +141,7 @@ module _ (c : Columns) (words : List ℕ) (t : List Node) (cuts joins : List ℕ
       in_fork s w e =
           let p = odd_pos s w.left in
           let z = fork_at s p w.low in
-          let own_left : left_of s ≡ s = left_of_odd s w.left in
+          let own_left : left_column_of s ≡ s = left_of_odd s w.left in
           let pair : fork_column t z.node + 1 < used c = let l = left_pair s p w.low in omega (arith, z.at) in
           let opened = o.forks z.node z.is pair (ap (has joins) (z.at ∙ own_left) ∙ w.unjoined) in
           let same : owner c (column t (used c) z.node) ≡ around c s = ap (owner c) (sym z.from ∙ ap (slice_index c.parents) own_left) in
@@ -161,7 +161,7 @@ module _ (c : Columns) (words : List ℕ) (t : List Node) (cuts joins : List ℕ
         uncut = m.uncut;
         no_fork = λ s h odd un p e.
             (let z = fork_at s (odd_pos s odd) h in
-            let own_left : left_of s ≡ s = left_of_odd s odd in
+            let own_left : left_column_of s ≡ s = left_of_odd s odd in
             let from : slice_index c.parents s ≡ column t (used c) z.node = ap (slice_index c.parents) (sym own_left) ∙ z.from in
             let pair : fork_column t z.node + 1 < used c = let l = left_pair s (odd_pos s odd) h in omega (arith, z.at) in
             let opened = o.forks z.node z.is pair (ap (has joins) (z.at ∙ own_left) ∙ un) in

@@ -9,9 +9,9 @@ use Rattle.cw_tree.proofs.Strands.{strand_of_root}
 use Rattle.cw_tree.proofs.Climbs.{by_parent}
 use Rattle.cw_tree.proofs.Ancestors.{ancestor_up, ancestor_self, ancestor_root, ancestor_le}
 use Rattle.cw_tree.proofs.Upward.{ancestor_cases}
-use Rattle.cw_trace.specs.Columns.{Columns, used, owner, gap, left_of}
+use Rattle.cw_trace.specs.Columns.{ColumnTable, used, owner, gap, left_column_of}
 use Rattle.cw_trace.specs.Stands.{GoesOn, column, column_in, fork_column, around, Descends, child, further}
-use Rattle.cw_trace.specs.Segments.{IsOpen, Start, IsCut, Segments, Active}
+use Rattle.cw_trace.specs.Segments.{IsOpen, SegmentStart, IsCut, Segments, Active}
 use Rattle.cw_trace.specs.Keeps.{Keeps}
 use Rattle.cw_trace.specs.Running.{IsUnsplit, IsOrdered, MayGoOn}
 use Rattle.cw_trace.proofs.Counting.{fork_column_lt, fork_no_strand, pending_no_strand}
@@ -21,7 +21,7 @@ use Rattle.cw_trace.proofs.Lines.{order, same_or, le_or_lt, bool_or, both_true, 
 use Rattle.cw_trace.proofs.Sides.{child_to, above_all, right_of, is_left, strand_in, bare, left, right, side}
 use Rattle.cw_trace.proofs.Meaning.{column_low, stands_of, odd_column}
 
-module _ (c : Columns) (words : List ℕ) (t : List Node) (cuts joins : List ℕ) (tr : IsTree t) (k : Keeps c words t cuts joins) (is_open : ℕ → Bool) (o : IsOrdered c t cuts joins is_open) where
+module _ (c : ColumnTable) (words : List ℕ) (t : List Node) (cuts joins : List ℕ) (tr : IsTree t) (k : Keeps c words t cuts joins) (is_open : ℕ → Bool) (o : IsOrdered c t cuts joins is_open) where
   abbrev g : Segments c cuts joins (is_pending t) (column t (used c))
   g = k.segments
 
@@ -152,7 +152,7 @@ module _ (c : Columns) (words : List ℕ) (t : List Node) (cuts joins : List ℕ
 
   apart_own : (i f : ℕ) → fork_column t f + 1 < used c → has cuts (fork_column t f) ≡ true → has joins (fork_column t f) ≡ false → (i ≡ fork_column t f) ⊎ (i ≡ fork_column t f + 1) → owner c i ≡ i
   apart_own i f h cut un e =
-      let left : left_of i ≡ fork_column t f = elim e [ inl q ↦ ap left_of q ∙ left_of_odd (fork_column t f) (odd_column t f) | inr q ↦ ap left_of q ∙ left_of_next (fork_column t f) (odd_column t f) ] in
+      let left : left_column_of i ≡ fork_column t f = elim e [ inl q ↦ ap left_column_of q ∙ left_of_odd (fork_column t f) (odd_column t f) | inr q ↦ ap left_column_of q ∙ left_of_next (fork_column t f) (odd_column t f) ] in
       let some : 0 < i = elim e [ inl q ↦ omega (arith, q, odd_pos (fork_column t f) (odd_column t f)) | inr q ↦ omega (arith, q) ] in
       let lo : i < used c = elim e [ inl q ↦ omega (arith, q) | inr q ↦ omega (arith, q) ] in
       g.apart i some lo (is_split cuts joins i (ap (has cuts) left ∙ cut) (ap (has joins) left ∙ un))
@@ -252,10 +252,10 @@ module _ (c : Columns) (words : List ℕ) (t : List Node) (cuts joins : List ℕ
   -- the segment in which an open node stands
   pub record Segment (n : ℕ) : Type 0 where
     pub start : ℕ
-    pub starts : Start c joins (own n) start
+    pub starts : SegmentStart c joins (own n) start
     pub before : start ≤ col n
     pub same : gap c (col n) ≡ gap c start
-    pub unjoined : 0 < col n → has joins (left_of (col n)) ≡ false
+    pub unjoined : 0 < col n → has joins (left_column_of (col n)) ≡ false
     pub last : (f : ℕ) → is_fork t f ≡ true → fork_column t f + 1 < used c → is_ancestor t f n ≡ true → f ≢ n → fork_column t f ≤ start
 
   pub segment_of : (n : ℕ) → n < length t → is_open n ≡ true → Segment n
@@ -276,10 +276,10 @@ module _ (c : Columns) (words : List ℕ) (t : List Node) (cuts joins : List ℕ
     passed_on : (m : ℕ) → 0 < m → m < length t → col m ≡ col (parent_of t m) → ((f : ℕ) → is_fork t f ≡ true → fork_column t f + 1 < used c → f ≢ parent_of t m) → Segment (parent_of t m) → Segment m
     passed_on m p h q ne w = record {
       start = w.start;
-      starts = (let P : ℕ → Type 0 = λ x. Start c joins x w.start in subst P (sym (ap (owner c) q)) w.starts);
+      starts = (let P : ℕ → Type 0 = λ x. SegmentStart c joins x w.start in subst P (sym (ap (owner c) q)) w.starts);
       before = omega (arith, q, w.before);
       same = ap (gap c) q ∙ w.same;
-      unjoined = λ z. ap (λ x. has joins (left_of x)) q ∙ w.unjoined (omega (arith, q));
+      unjoined = λ z. ap (λ x. has joins (left_column_of x)) q ∙ w.unjoined (omega (arith, q));
       last = λ f e i a n. elim (ancestor_cases t tr.rooted f m p h a) [ inl z ↦ absurd (n (sym z)) | inr z ↦ w.last f e i z (ne f e i) ];
     }
 
@@ -294,8 +294,8 @@ module _ (c : Columns) (words : List ℕ) (t : List Node) (cuts joins : List ℕ
       un : has joins (fork_column t (parent_of t m)) ≡ false
       un = o.joined (parent_of t m) ff i (o.outer m p h e)
 
-      left : left_of (col m) ≡ fork_column t (parent_of t m)
-      left = elim q [ inl z ↦ ap left_of z ∙ left_of_odd (fork_column t (parent_of t m)) (odd_column t (parent_of t m)) | inr z ↦ ap left_of z ∙ left_of_next (fork_column t (parent_of t m)) (odd_column t (parent_of t m)) ]
+      left : left_column_of (col m) ≡ fork_column t (parent_of t m)
+      left = elim q [ inl z ↦ ap left_column_of z ∙ left_of_odd (fork_column t (parent_of t m)) (odd_column t (parent_of t m)) | inr z ↦ ap left_column_of z ∙ left_of_next (fork_column t (parent_of t m)) (odd_column t (parent_of t m)) ]
 
       some : 0 < col m
       some = elim q [ inl z ↦ omega (arith, z, odd_pos (fork_column t (parent_of t m)) (odd_column t (parent_of t m))) | inr z ↦ omega (arith, z) ]

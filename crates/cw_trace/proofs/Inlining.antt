@@ -10,8 +10,8 @@ use Rattle.cw_tree.specs.Walks.{is_ancestor, has}
 use Rattle.cw_tree.specs.Shape.{IsTree}
 use Rattle.cw_tree.proofs.Ancestors.{ancestor_up}
 use Rattle.cw_tree.proofs.Growing.{node_grown, number_grown, ancestor_grown}
-use Rattle.cw_trace.specs.Columns.{Columns, used, owner, gap, left_of}
-use Rattle.cw_trace.specs.Stands.{GoesOn, column, fork_column, outermost, stamp_or_0}
+use Rattle.cw_trace.specs.Columns.{ColumnTable, used, owner, gap, left_column_of}
+use Rattle.cw_trace.specs.Stands.{GoesOn, column, fork_column, outermost_pending, stamp_or_0}
 use Rattle.cw_trace.specs.Segments.{Segments}
 use Rattle.cw_trace.specs.Keeps.{Keeps}
 use Rattle.cw_tree.specs.NextNodes.{fork_nodes}
@@ -24,7 +24,7 @@ use Rattle.cw_trace.proofs.Lines.{same_or, le_or_lt, both_true, and_true}
 use Rattle.cw_trace.proofs.Meaning.{first_of_both, odd_column}
 use Rattle.cw_trace.proofs.Owners.{column_other, column_strand}
 
-module _ (c : Columns) (words : List ℕ) (t : List Node) (cuts joins : List ℕ) (tr : IsTree t) (k : Keeps c words t cuts joins) (p stamp : ℕ) (hp : p < length t) (full : c.room < used c + 2) (goes : GoesOn c t (column t (used c) p) p)
+module _ (c : ColumnTable) (words : List ℕ) (t : List Node) (cuts joins : List ℕ) (tr : IsTree t) (k : Keeps c words t cuts joins) (p stamp : ℕ) (hp : p < length t) (full : c.room < used c + 2) (goes : GoesOn c t (column t (used c) p) p)
     (tr2 : IsTree (t ++ fork_nodes (length t) p stamp)) where
   abbrev n : ℕ
   n = length t
@@ -44,7 +44,7 @@ module _ (c : Columns) (words : List ℕ) (t : List Node) (cuts joins : List ℕ
   -- no fork of the tree has columns that are not in use
   columns_out : used c ≤ fork_column t n
   columns_out = by_used (used c) g.odd (λ i h q. k.all_used i h q) where
-    by_used : (u : ℕ) → u % 2 ≡ 1 → ((i : ℕ) → i < u → 0 < i → (f : ℕ) × (is_fork t f ≡ true) × (fork_column t f ≡ left_of i)) → u ≤ fork_column t n
+    by_used : (u : ℕ) → u % 2 ≡ 1 → ((i : ℕ) → i < u → 0 < i → (f : ℕ) × (is_fork t f ≡ true) × (fork_column t f ≡ left_column_of i)) → u ≤ fork_column t n
     by_used zero e all = omega arith
     by_used (suc zero) e all = odd_pos (fork_column t n) (odd_column t n) where
       odd_pos : (m : ℕ) → m % 2 ≡ 1 → 1 ≤ m
@@ -52,9 +52,9 @@ module _ (c : Columns) (words : List ℕ) (t : List Node) (cuts joins : List ℕ
     by_used (suc (suc u)) e all =
         let z = all (suc u) (omega arith) (omega arith) in
         let l = fork_column_lt t z.0 n (fork_low t z.0 z.1) z.1 in
-        let at : left_of (suc u) ≡ u = even_left u e in
+        let at : left_column_of (suc u) ≡ u = even_left u e in
         omega (arith, l, z.2, at) where
-          even_left : (u : ℕ) → suc (suc u) % 2 ≡ 1 → left_of (suc u) ≡ u
+          even_left : (u : ℕ) → suc (suc u) % 2 ≡ 1 → left_column_of (suc u) ≡ u
           even_left u e = omega arith
 
   -- the new nodes
@@ -145,7 +145,7 @@ module _ (c : Columns) (words : List ℕ) (t : List Node) (cuts joins : List ℕ
         ((λ x. absurd (let l : fork_column grown f + 2 ≤ c.room = leb-true _ _ x in omega arith)), (λ x. absurd (omega arith))))
   ]
 
-  first_same : (y : ℕ) → outermost grown (used c) (λ j. nat_eq (gap c j) y) ≡ outermost t (used c) (λ j. nat_eq (gap c j) y)
+  first_same : (y : ℕ) → outermost_pending grown (used c) (λ j. nat_eq (gap c j) y) ≡ outermost_pending t (used c) (λ j. nat_eq (gap c j) y)
   first_same y =
       first_of_both (λ b. is_pending grown b && nat_eq (gap c (column grown (used c) b)) y) (λ b. is_pending t b && nat_eq (gap c (column t (used c) b)) y) (length grown) n
       (λ b h e. let z = both_true (is_pending t b) (nat_eq (gap c (column t (used c) b)) y) e in
@@ -158,7 +158,7 @@ module _ (c : Columns) (words : List ℕ) (t : List Node) (cuts joins : List ℕ
   stamp_old : (m : ℕ) → m < n → stamp_of grown m ≡ stamp_of t m
   stamp_old m l = number_grown t more (λ y. y.stamp) m l
 
-  stamp_first : (o : Option ℕ) (y : ℕ) → outermost t (used c) (λ j. nat_eq (gap c j) y) ≡ o → stamp_or_0 grown o ≡ stamp_or_0 t o
+  stamp_first : (o : Option ℕ) (y : ℕ) → outermost_pending t (used c) (λ j. nat_eq (gap c j) y) ≡ o → stamp_or_0 grown o ≡ stamp_or_0 t o
   stamp_first None y e = refl
   stamp_first (Some b) y e = stamp_old b (some_below (λ b. is_pending t b && nat_eq (gap c (column t (used c) b)) y) n b e).low
 
@@ -183,7 +183,7 @@ module _ (c : Columns) (words : List ℕ) (t : List Node) (cuts joins : List ℕ
         let l : f < n = w.0 in
         let s = fc f (omega arith) in
         ap (slice_index c.parents) s ∙ k.forked_from f w.1 (omega (arith, s)) ∙ sym (cols f l));
-    words_are = λ y h. k.words_are y h ∙ sym (ap (stamp_or_0 grown) (first_same y) ∙ stamp_first (outermost t (used c) (λ j. nat_eq (gap c j) y)) y refl);
+    words_are = λ y h. k.words_are y h ∙ sym (ap (stamp_or_0 grown) (first_same y) ∙ stamp_first (outermost_pending t (used c) (λ j. nat_eq (gap c j) y)) y refl);
     spare_words = k.spare_words;
     contains = λ b m h j e q s. contains_new b m j (pending_old b e) q s (le_or_lt n m);
     lines = λ b f e ff h u q.

@@ -3,22 +3,22 @@ use Rattle.std.proofs.Common.{◌≡◌, ◌≢◌, ℕ, ◌<◌, List, ◌∷�
 use Rattle.std.specs.Prelude.{◌⊎◌, ◌%◌, ◌&&◌, ◌||◌, not, slice_index}
 use Rattle.cw_tree.specs.declared.node.Node.{Node}
 use Rattle.cw_tree.specs.Nodes.{is_pending}
-use Rattle.cw_trace.specs.Columns.{Columns, used, left_of}
+use Rattle.cw_trace.specs.Columns.{ColumnTable, used, left_column_of}
 use Rattle.cw_tree.specs.Walks.{has}
 use Rattle.cw_trace.specs.Stands.{column, fork_column, is_apart}
-use Rattle.cw_trace.specs.Segments.{IsOpen, Start, IsCut, IsTrace, IsLive, Segments}
+use Rattle.cw_trace.specs.Segments.{IsOpen, SegmentStart, IsCut, IsTrace, IsLive, Segments}
 use Rattle.cw_trace.specs.Keeps.{Keeps}
 use Rattle.cw_trace.proofs.Lines.{or_cases, bool_or}
 use Rattle.cw_trace.proofs.Edits.{has_cons_same, has_cons_other}
 
 -- a fork that was not split is joined: both its strands have finished, and no fork in them is unjoined
-pub record MayJoin (c : Columns) (cuts joins : List ℕ) (f : ℕ) : Type 0 where
+pub record MayJoin (c : ColumnTable) (cuts joins : List ℕ) (f : ℕ) : Type 0 where
   pub low : f < used c
   pub left : f % 2 ≡ 1
   pub uncut : has cuts f ≡ false
-  pub no_fork : (s : ℕ) → s < used c → s % 2 ≡ 1 → has joins s ≡ false → 0 < slice_index c.parents s → left_of (slice_index c.parents s) ≡ f → ⊥
+  pub no_fork : (s : ℕ) → s < used c → s % 2 ≡ 1 → has joins s ≡ false → 0 < slice_index c.parents s → left_column_of (slice_index c.parents s) ≡ f → ⊥
 
-module _ (c : Columns) (cuts joins : List ℕ) (f : ℕ) (m : MayJoin c cuts joins f) where
+module _ (c : ColumnTable) (cuts joins : List ℕ) (f : ℕ) (m : MayJoin c cuts joins f) where
   abbrev joins2 : List ℕ
   joins2 = f ∷ joins
 
@@ -30,7 +30,7 @@ module _ (c : Columns) (cuts joins : List ℕ) (f : ℕ) (m : MayJoin c cuts joi
   open_old : (x s : ℕ) → IsOpen c joins2 x s → IsOpen c joins x s
   open_old x s o = record { low = o.low; left = o.left; unjoined = (unjoined s o.unjoined).1; outside = o.outside }
 
-  start_old : (x s : ℕ) → Start c joins2 x s → Start c joins x s
+  start_old : (x s : ℕ) → SegmentStart c joins2 x s → SegmentStart c joins x s
   start_old x s (inl e) = inl e
   start_old x s (inr o) = inr (open_old x s o)
 
@@ -48,10 +48,10 @@ module _ (c : Columns) (cuts joins : List ℕ) (f : ℕ) (m : MayJoin c cuts joi
 
   -- the join of a fork that was not split takes no trace away
   pub apart_same : (i : ℕ) → is_apart cuts joins2 i ≡ is_apart cuts joins i
-  apart_same i = by_cut (bool_or (has cuts (left_of i))) where
-    by_cut : (has cuts (left_of i) ≡ true) ⊎ (has cuts (left_of i) ≡ false) → is_apart cuts joins2 i ≡ is_apart cuts joins i
-    by_cut (inl e) = ap (λ b. has cuts (left_of i) && not b) (has_cons_other joins f (left_of i) (λ q. cc (sym (ap (has cuts) q) ∙ e, m.uncut)))
-    by_cut (inr e) = ap (λ b. b && not (has joins2 (left_of i))) e ∙ sym (ap (λ b. b && not (has joins (left_of i))) e)
+  apart_same i = by_cut (bool_or (has cuts (left_column_of i))) where
+    by_cut : (has cuts (left_column_of i) ≡ true) ⊎ (has cuts (left_column_of i) ≡ false) → is_apart cuts joins2 i ≡ is_apart cuts joins i
+    by_cut (inl e) = ap (λ b. has cuts (left_column_of i) && not b) (has_cons_other joins f (left_column_of i) (λ q. cc (sym (ap (has cuts) q) ∙ e, m.uncut)))
+    by_cut (inr e) = ap (λ b. b && not (has joins2 (left_column_of i))) e ∙ sym (ap (λ b. b && not (has joins (left_column_of i))) e)
 
   trace_old : (x : ℕ) → IsTrace c cuts joins2 x → IsTrace c cuts joins x
   trace_old x n = record { low = n.low; named = ap (λ b. nat_eq x 0 || b) (sym (apart_same x)) ∙ n.named }
@@ -71,7 +71,7 @@ module _ (c : Columns) (cuts joins : List ℕ) (f : ℕ) (m : MayJoin c cuts joi
         | inl q ↦ (let z : f ≡ k = eqb-true _ _ q in (ap (λ n. n % 2) (sym z) ∙ m.left, omega (arith, z, m.low)))
         | inr q ↦ g.join_left k q
       ];
-      unjoined_above = λ s h o u p. (let z = unjoined s u in has_cons_other joins f (left_of (slice_index c.parents s)) (λ q. m.no_fork s h o z.1 p q) ∙ g.unjoined_above s h o z.1 p);
+      unjoined_above = λ s h o u p. (let z = unjoined s u in has_cons_other joins f (left_column_of (slice_index c.parents s)) (λ q. m.no_fork s h o z.1 p q) ∙ g.unjoined_above s h o z.1 p);
       root = g.root;
       together = λ i p h e. g.together i p h (sym (apart_same i) ∙ e);
       apart = λ i p h e. g.apart i p h (sym (apart_same i) ∙ e);
@@ -94,7 +94,7 @@ module _ (c : Columns) (cuts joins : List ℕ) (f : ℕ) (m : MayJoin c cuts joi
       one_trace = λ x y s r n k st sr l h e. g.one_trace x y s r (trace_old x n) (trace_old y k) (start_old x s st) (start_old y r sr) (live_old x s l) (live_old y r h) e;
     }
 
-module _ (c : Columns) (words : List ℕ) (t : List Node) (cuts joins : List ℕ) (k : Keeps c words t cuts joins) (f : ℕ) (m : MayJoin c cuts joins f) where
+module _ (c : ColumnTable) (words : List ℕ) (t : List Node) (cuts joins : List ℕ) (k : Keeps c words t cuts joins) (f : ℕ) (m : MayJoin c cuts joins f) where
   -- the tier stays as it is
   pub keeps_join : Keeps c words t cuts (f ∷ joins)
   keeps_join = record {

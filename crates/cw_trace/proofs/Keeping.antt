@@ -6,7 +6,7 @@ use Rattle.cw_tree.specs.Nodes.{stamp_of, is_fork, is_pending}
 use Rattle.cw_tree.specs.Walks.{is_ancestor, has}
 use Rattle.cw_tree.specs.Shape.{IsTree}
 use Rattle.cw_tree.proofs.Ancestors.{ancestor_trans}
-use Rattle.cw_trace.specs.Columns.{Columns, used, owner, gap, left_of, split_at, merged}
+use Rattle.cw_trace.specs.Columns.{ColumnTable, used, owner, gap, left_column_of, split_at, merged}
 use Rattle.cw_trace.specs.Stands.{column, fork_column, stamp_or_0, around}
 use Rattle.cw_trace.specs.Segments.{Segments, MaySplit, MayMerge, next_outward}
 use Rattle.cw_trace.specs.Keeps.{KeepsAt, Keeps}
@@ -19,7 +19,7 @@ use Rattle.cw_trace.proofs.Meaning.{column_low, outermost_agrees, stands_of}
 use Rattle.cw_trace.proofs.Split as split
 use Rattle.cw_trace.proofs.Merge as merge
 
-module _ (c : Columns) (words : List ℕ) (t : List Node) (cuts joins : List ℕ) (k : Keeps c words t cuts joins) where
+module _ (c : ColumnTable) (words : List ℕ) (t : List Node) (cuts joins : List ℕ) (k : Keeps c words t cuts joins) where
   abbrev col : ℕ → ℕ
   col = column t (used c)
 
@@ -33,7 +33,7 @@ module _ (c : Columns) (words : List ℕ) (t : List Node) (cuts joins : List ℕ
   low n = column_low t (used c) n (used_some c cuts joins pend col g)
 
   module _ (f : ℕ) (m : MaySplit c cuts joins pend col f) (early : next_outward c cuts f ≡ None) where
-    abbrev d : Columns
+    abbrev d : ColumnTable
     d = split_at f c
 
     -- who has the owner of a pending block's column after the split had it before
@@ -69,7 +69,7 @@ module _ (c : Columns) (words : List ℕ) (t : List Node) (cuts joins : List ℕ
     keeps_split = let P : ℕ → Type 0 = λ n. KeepsAt n d words t (f ∷ cuts) joins in subst P (sym (split.used_same c cuts joins pend col g f m early)) split_at_size
 
   module _ (tr : IsTree t) (f : ℕ) (m : MayMerge c cuts joins pend col f) where
-    abbrev d2 : Columns
+    abbrev d2 : ColumnTable
     d2 = merged f c
 
     -- what the two traces did stands beneath each pending block of the trace that they go back to
@@ -77,7 +77,7 @@ module _ (c : Columns) (words : List ℕ) (t : List Node) (cuts joins : List ℕ
     beneath b n hb hn p o e =
         let st = stands_of c words t cuts joins k in
         let pos : 0 < f = merge.pos c cuts joins pend col g f m in
-        let left : left_of (owner c (col n)) ≡ f = elim e [ inl q ↦ ap left_of q ∙ left_of_odd f m.left | inr q ↦ ap left_of q ∙ left_of_next f m.left ] in
+        let left : left_column_of (owner c (col n)) ≡ f = elim e [ inl q ↦ ap left_column_of q ∙ left_of_odd f m.left | inr q ↦ ap left_column_of q ∙ left_of_next f m.left ] in
         let some : 0 < owner c (col n) = elim e [ inl q ↦ omega (arith, q, pos) | inr q ↦ omega (arith, q) ] in
         let w = head_of c words t cuts joins tr st n hn some in
         let h = w.1 in

@@ -1,10 +1,10 @@
 -- What the division into segments tells: owners and gaps go down, owners are traces, a segment's strands have its gap or newer ones.
 use Rattle.std.proofs.Common.{◌≡◌, ◌≢◌, ℕ, zero, suc, ◌+◌, ◌<◌, ◌≤◌, List, refl, ap, sym, ◌∙◌, arith, Bool, true, false, nat_eq, inl, inr, subst, eqb-true}
 use Rattle.std.specs.Prelude.{◌⊎◌, ◌%◌, ◌&&◌, ◌||◌, not, slice_index}
-use Rattle.cw_trace.specs.Columns.{Columns, used, owner, gap, left_of}
+use Rattle.cw_trace.specs.Columns.{ColumnTable, used, owner, gap, left_column_of}
 use Rattle.cw_tree.specs.Walks.{has}
 use Rattle.cw_trace.specs.Stands.{around, is_apart}
-use Rattle.cw_trace.specs.Segments.{IsOpen, Start, IsCut, IsTrace, Segments}
+use Rattle.cw_trace.specs.Segments.{IsOpen, SegmentStart, IsCut, IsTrace, Segments}
 
 pub order : (n m : ℕ) → (n < m) ⊎ ((n ≡ m) ⊎ (m < n))
 order n m = grind arith
@@ -20,20 +20,20 @@ pub le_or_lt : (n m : ℕ) → (n ≤ m) ⊎ (m < n)
 le_or_lt n m = grind arith
 
 -- a number is odd, and its own left column, or has its left column right before it, or is 0
-pub left_of_odd : (s : ℕ) → s % 2 ≡ 1 → left_of s ≡ s
+pub left_of_odd : (s : ℕ) → s % 2 ≡ 1 → left_column_of s ≡ s
 left_of_odd s e = omega arith
 
-pub left_of_next : (s : ℕ) → s % 2 ≡ 1 → left_of (s + 1) ≡ s
+pub left_of_next : (s : ℕ) → s % 2 ≡ 1 → left_column_of (s + 1) ≡ s
 left_of_next s e = omega arith
 
-pub left_of_is_odd : (i : ℕ) → 0 < i → left_of i % 2 ≡ 1
+pub left_of_is_odd : (i : ℕ) → 0 < i → left_column_of i % 2 ≡ 1
 left_of_is_odd i h = omega arith
 
-pub left_of_le : (i : ℕ) → 0 < i → (left_of i ≤ i) × (i ≤ left_of i + 1)
+pub left_of_le : (i : ℕ) → 0 < i → (left_column_of i ≤ i) × (i ≤ left_column_of i + 1)
 left_of_le i h = (omega arith, omega arith)
 
-pub left_of_cases : (i : ℕ) → 0 < i → (i ≡ left_of i) ⊎ (i ≡ left_of i + 1)
-left_of_cases i h = elim (same_or i (left_of i)) [ inl e ↦ inl e | inr n ↦ inr (let w = left_of_le i h in omega (arith, n)) ]
+pub left_of_cases : (i : ℕ) → 0 < i → (i ≡ left_column_of i) ⊎ (i ≡ left_column_of i + 1)
+left_of_cases i h = elim (same_or i (left_column_of i)) [ inl e ↦ inl e | inr n ↦ inr (let w = left_of_le i h in omega (arith, n)) ]
 
 pub and_true : (a b : Bool) → a ≡ true → b ≡ true → (a && b) ≡ true
 and_true true b e f = f
@@ -64,14 +64,14 @@ or_cases true b e = inl refl
 or_cases false b e = inr e
 
 -- a fork that was not split, or was joined, has strands that are not apart
-pub unsplit : (cuts joins : List ℕ) (i : ℕ) → has cuts (left_of i) ≡ false → is_apart cuts joins i ≡ false
-unsplit cuts joins i e = ap (λ b. b && not (has joins (left_of i))) e
+pub unsplit : (cuts joins : List ℕ) (i : ℕ) → has cuts (left_column_of i) ≡ false → is_apart cuts joins i ≡ false
+unsplit cuts joins i e = ap (λ b. b && not (has joins (left_column_of i))) e
 
-pub is_split : (cuts joins : List ℕ) (i : ℕ) → has cuts (left_of i) ≡ true → has joins (left_of i) ≡ false → is_apart cuts joins i ≡ true
-is_split cuts joins i e f = ap (λ b. b && not (has joins (left_of i))) e ∙ ap not f
+pub is_split : (cuts joins : List ℕ) (i : ℕ) → has cuts (left_column_of i) ≡ true → has joins (left_column_of i) ≡ false → is_apart cuts joins i ≡ true
+is_split cuts joins i e f = ap (λ b. b && not (has joins (left_column_of i))) e ∙ ap not f
 
-pub apart_parts : (cuts joins : List ℕ) (i : ℕ) → is_apart cuts joins i ≡ true → (has cuts (left_of i) ≡ true) × (has joins (left_of i) ≡ false)
-apart_parts cuts joins i e = let z = both_true (has cuts (left_of i)) (not (has joins (left_of i))) e in (z.0, not_false _ z.1)
+pub apart_parts : (cuts joins : List ℕ) (i : ℕ) → is_apart cuts joins i ≡ true → (has cuts (left_column_of i) ≡ true) × (has joins (left_column_of i) ≡ false)
+apart_parts cuts joins i e = let z = both_true (has cuts (left_column_of i)) (not (has joins (left_column_of i))) e in (z.0, not_false _ z.1)
 
 strong_to : (P : ℕ → Type 0) → ((n : ℕ) → ((m : ℕ) → m < n → P m) → P n) → (k n : ℕ) → n < k → P n
 strong_to P h zero n l = absurd (omega arith)
@@ -81,7 +81,7 @@ strong_to P h (suc k) n l = h n (λ m q. strong_to P h k m (omega arith))
 pub strong : (P : ℕ → Type 0) → ((n : ℕ) → ((m : ℕ) → m < n → P m) → P n) → (n : ℕ) → P n
 strong P h n = strong_to P h (suc n) n (omega arith)
 
-module _ (c : Columns) (cuts joins : List ℕ) (pend : ℕ → Bool) (col : ℕ → ℕ) (s : Segments c cuts joins pend col) where
+module _ (c : ColumnTable) (cuts joins : List ℕ) (pend : ℕ → Bool) (col : ℕ → ℕ) (s : Segments c cuts joins pend col) where
   -- a column is the root's, or its strand is apart, or it has the owner of the column that it was forked from
   pub data Made (i : ℕ) : Type 0 where
     first : i ≡ 0 → Made i
@@ -152,16 +152,16 @@ module _ (c : Columns) (cuts joins : List ℕ) (pend : ℕ → Bool) (col : ℕ 
       let q : owner c (slice_index c.parents f) ≤ slice_index c.parents f = own_le (slice_index c.parents f) (omega (arith, o.low)) in
       omega (arith, o.outside)
 
-  pub start_used : (t r : ℕ) → IsTrace c cuts joins t → Start c joins t r → r < used c
+  pub start_used : (t r : ℕ) → IsTrace c cuts joins t → SegmentStart c joins t r → r < used c
   start_used t r n (inl e) = omega (arith, n.low, e)
   start_used t r n (inr o) = o.low
 
-  pub start_after : (t r : ℕ) → Start c joins t r → t ≤ r
+  pub start_after : (t r : ℕ) → SegmentStart c joins t r → t ≤ r
   start_after t r (inl e) = omega (arith, e)
   start_after t r (inr o) = let l : t < r = open_after t r o in omega arith
 
   -- a trace's start that was not split is owned by it
-  pub start_owner : (t r : ℕ) → IsTrace c cuts joins t → Start c joins t r → (IsCut c cuts joins t r → ⊥) → owner c r ≡ t
+  pub start_owner : (t r : ℕ) → IsTrace c cuts joins t → SegmentStart c joins t r → (IsCut c cuts joins t r → ⊥) → owner c r ≡ t
   start_owner t r n (inl e) u = ap (owner c) e ∙ own_self t n
   start_owner t r n (inr o) u = open_owner t r o (by_cut (has cuts r) refl) where
     by_cut : (b : Bool) → has cuts r ≡ b → has cuts r ≡ false
@@ -175,18 +175,18 @@ module _ (c : Columns) (cuts joins : List ℕ) (pend : ℕ → Bool) (col : ℕ 
     by_cut false e = e
 
   -- a strand of a trace after a start, but for the start's own right strand, was forked after it
-  pub forked_after : (t r i : ℕ) → IsTrace c cuts joins t → Start c joins t r → i < used c → owner c i ≡ t → r < i → (IsOpen c joins t r → i ≢ r + 1) → r ≤ slice_index c.parents i
+  pub forked_after : (t r i : ℕ) → IsTrace c cuts joins t → SegmentStart c joins t r → i < used c → owner c i ≡ t → r < i → (IsOpen c joins t r → i ≢ r + 1) → r ≤ slice_index c.parents i
   forked_after t r i n w h e g ne = elim (made i h) [
     | first q ↦ absurd (omega (arith, q))
     | split_off p a o ↦ absurd (omega (arith, o, e, start_after t r w))
     | forked p a l o ↦ by_start w l o
   ] where
-    by_start : Start c joins t r → slice_index c.parents i < i → owner c i ≡ around c i → r ≤ slice_index c.parents i
+    by_start : SegmentStart c joins t r → slice_index c.parents i < i → owner c i ≡ around c i → r ≤ slice_index c.parents i
     by_start (inl z) l o = let q : owner c (slice_index c.parents i) ≤ slice_index c.parents i = own_le (slice_index c.parents i) (omega arith) in omega (arith, z, o, e)
     by_start (inr z) l o = s.nested t r i n (inr z) h (omega (arith, g, ne z)) (sym o ∙ e)
 
   -- the strands of a trace from a start on have the start's gap or a newer one
-  pub later_gap : (t r : ℕ) → IsTrace c cuts joins t → Start c joins t r → (IsCut c cuts joins t r → ⊥) → (i : ℕ) → i < used c → owner c i ≡ t → r ≤ i → (gap c i ≡ gap c r) ⊎ (r ≤ gap c i)
+  pub later_gap : (t r : ℕ) → IsTrace c cuts joins t → SegmentStart c joins t r → (IsCut c cuts joins t r → ⊥) → (i : ℕ) → i < used c → owner c i ≡ t → r ≤ i → (gap c i ≡ gap c r) ⊎ (r ≤ gap c i)
   later_gap t r n w u =
       strong (λ i. i < used c → owner c i ≡ t → r ≤ i → (gap c i ≡ gap c r) ⊎ (r ≤ gap c i)) (λ i more h e g. elim (same_or i r) [
         | inl q ↦ inl (ap (gap c) q)
@@ -202,7 +202,7 @@ module _ (c : Columns) (cuts joins : List ℕ) (pend : ℕ → Bool) (col : ℕ 
           ]
         ]
 
-        by_right : (i : ℕ) → ((m : ℕ) → m < i → m < used c → owner c m ≡ t → r ≤ m → (gap c m ≡ gap c r) ⊎ (r ≤ gap c m)) → i < used c → owner c i ≡ t → r < i → Start c joins t r → (i ≡ r + 1) ⊎ (i ≢ r + 1) → (gap c i ≡ gap c r) ⊎ (r ≤ gap c i)
+        by_right : (i : ℕ) → ((m : ℕ) → m < i → m < used c → owner c m ≡ t → r ≤ m → (gap c m ≡ gap c r) ⊎ (r ≤ gap c m)) → i < used c → owner c i ≡ t → r < i → SegmentStart c joins t r → (i ≡ r + 1) ⊎ (i ≢ r + 1) → (gap c i ≡ gap c r) ⊎ (r ≤ gap c i)
         by_right i more h e l (inr o) (inl q) = inl (ap (gap c) q ∙ s.right_gap r o.left o.low (not_cut t r o u))
         by_right i more h e l (inl z) (inl q) = step i more h e l (forked_after t r i n (inl z) h e l (λ o. absurd (omega (arith, open_after t r o, z))))
         by_right i more h e l x (inr q) = step i more h e l (forked_after t r i n x h e l (λ o. q))

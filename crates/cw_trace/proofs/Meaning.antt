@@ -7,9 +7,9 @@ use Rattle.cw_tree.specs.declared.node.Node.{Node}
 use Rattle.cw_tree.specs.Nodes.{parent_of, is_fork, is_pending, below}
 use Rattle.cw_tree.specs.Series.{strand_of}
 use Rattle.cw_tree.specs.Names.{is_right}
-use Rattle.cw_trace.specs.Columns.{Columns, used, owner, gap, lead, up}
+use Rattle.cw_trace.specs.Columns.{ColumnTable, used, owner, gap, lead, up}
 use Rattle.cw_tree.specs.Walks.{has}
-use Rattle.cw_trace.specs.Stands.{word_of, Stands, column, column_in, fork_column, outermost, stamp_or_0, around, is_cut_at}
+use Rattle.cw_trace.specs.Stands.{word_of, Stands, column, column_in, fork_column, outermost_pending, stamp_or_0, around, is_cut_at}
 use Rattle.cw_trace.specs.Segments.{IsCut, IsTrace, IsLive, Within, Segments}
 use Rattle.cw_trace.specs.Keeps.{Keeps}
 use Rattle.cw_trace.proofs.Counting.{none_below, some_below}
@@ -59,7 +59,7 @@ pub first_same : (p q : ℕ → Bool) (n : ℕ) → ((b : ℕ) → b < n → q b
 first_same p q n from to = first_of_both p q n n (λ b h e. (h, from b h e)) (λ b h e. let z = to b h e in let le : z.0 ≤ b = z.1 in (z.0, z.1, omega arith, z.2))
 
 -- tests that agree on the columns of pending blocks find the same one
-pub outermost_agrees : (t : List Node) (size : ℕ) (q r : ℕ → Bool) → ((b : ℕ) → is_pending t b ≡ true → q (column t size b) ≡ r (column t size b)) → outermost t size q ≡ outermost t size r
+pub outermost_agrees : (t : List Node) (size : ℕ) (q r : ℕ → Bool) → ((b : ℕ) → is_pending t b ≡ true → q (column t size b) ≡ r (column t size b)) → outermost_pending t size q ≡ outermost_pending t size r
 outermost_agrees t size q r e =
     first_same (λ b. is_pending t b && q (column t size b)) (λ b. is_pending t b && r (column t size b)) (length t)
     (λ b l h. let z = both_true (is_pending t b) (r (column t size b)) h in and_true (is_pending t b) (q (column t size b)) z.0 (e b z.0 ∙ z.1))
@@ -85,7 +85,7 @@ whole4 true true true e p q r s = absurd (cc r)
 whole4 true false d e p q r s = absurd (cc q)
 whole4 false b d e p q r s = absurd (cc p)
 
-module _ (c : Columns) (words : List ℕ) (t : List Node) (cuts joins : List ℕ) (k : Keeps c words t cuts joins) where
+module _ (c : ColumnTable) (words : List ℕ) (t : List Node) (cuts joins : List ℕ) (k : Keeps c words t cuts joins) where
   abbrev g : Segments c cuts joins (is_pending t) (column t (used c))
   g = k.segments
 
@@ -101,7 +101,7 @@ module _ (c : Columns) (words : List ℕ) (t : List Node) (cuts joins : List ℕ
   col_low n = column_low t (used c) n (used_some c cuts joins (is_pending t) (column t (used c)) g)
 
   -- the lead of a trace
-  leads : (x : ℕ) → IsTrace c cuts joins x → word_of words (lead c x) ≡ stamp_or_0 t (outermost t (used c) (λ i. nat_eq (owner c i) x))
+  leads : (x : ℕ) → IsTrace c cuts joins x → word_of words (lead c x) ≡ stamp_or_0 t (outermost_pending t (used c) (λ i. nat_eq (owner c i) x))
   leads x n = by_lead (lent_or (has_cut x)) where
     head_after : (b : ℕ) → is_pending t b ≡ true → owner c (column t (used c) b) ≡ x → Within c (is_pending t) (column t (used c)) x x b
     head_after b p o = record { pending = p; owned = o; after = omega (arith, own_le c cuts joins (is_pending t) (column t (used c)) g (column t (used c) b) (col_low b), o) }
@@ -116,12 +116,12 @@ module _ (c : Columns) (words : List ℕ) (t : List Node) (cuts joins : List ℕ
       by_find None e = inr (none_below p (used c) e)
       by_find (Some f) e = inl (f, (some_below p (used c) f e).passed)
 
-    by_lead : ((f : ℕ) × (has_cut x f ≡ true)) ⊎ ((f : ℕ) → f < used c → has_cut x f ≡ false) → word_of words (lead c x) ≡ stamp_or_0 t (outermost t (used c) (λ i. nat_eq (owner c i) x))
+    by_lead : ((f : ℕ) × (has_cut x f ≡ true)) ⊎ ((f : ℕ) → f < used c → has_cut x f ≡ false) → word_of words (lead c x) ≡ stamp_or_0 t (outermost_pending t (used c) (λ i. nat_eq (owner c i) x))
     by_lead (inl z) =
         let y = both_true (is_cut_at c cuts joins x z.0) (nat_eq (gap c x) (gap c z.0)) z.1 in
         let w = as_cut x z.0 y.0 in
-        ap (word_of words) (g.lead_lent x z.0 n w (eqb-true _ _ y.1)) ∙ by_first z.0 w (eqb-true _ _ y.1) (outermost t (used c) (λ i. nat_eq (owner c i) x)) refl where
-          by_first : (f : ℕ) → IsCut c cuts joins x f → gap c x ≡ gap c f → (o : Option ℕ) → outermost t (used c) (λ i. nat_eq (owner c i) x) ≡ o → 0 ≡ stamp_or_0 t (outermost t (used c) (λ i. nat_eq (owner c i) x))
+        ap (word_of words) (g.lead_lent x z.0 n w (eqb-true _ _ y.1)) ∙ by_first z.0 w (eqb-true _ _ y.1) (outermost_pending t (used c) (λ i. nat_eq (owner c i) x)) refl where
+          by_first : (f : ℕ) → IsCut c cuts joins x f → gap c x ≡ gap c f → (o : Option ℕ) → outermost_pending t (used c) (λ i. nat_eq (owner c i) x) ≡ o → 0 ≡ stamp_or_0 t (outermost_pending t (used c) (λ i. nat_eq (owner c i) x))
           by_first f w e None q = sym (ap (stamp_or_0 t) q)
           by_first f w e (Some b) q =
               let v = some_below (λ b. is_pending t b && nat_eq (owner c (column t (used c) b)) x) (length t) b q in
@@ -159,7 +159,7 @@ module _ (c : Columns) (words : List ℕ) (t : List Node) (cuts joins : List ℕ
     heads = λ x h n. g.heads x (record { low = h; named = n });
     active = λ x h n none. (let tr : IsTrace c cuts joins x = record { low = h; named = n } in g.lead_live x tr (λ f w e. cc (cut_as x f w, not_false _ (none f))) ∙ ap Some (sym (g.heads x tr)));
     no_up = k.ups.no_up;
-    ups = λ x p h n. by_first x p (record { low = h; named = n }) (outermost t (used c) (λ i. nat_eq (owner c i) (around c x))) refl;
+    ups = λ x p h n. by_first x p (record { low = h; named = n }) (outermost_pending t (used c) (λ i. nat_eq (owner c i) (around c x))) refl;
     brackets = λ x y h i n m. (k.nesting.descends x y (record { low = h; named = n }) (record { low = i; named = m }), k.nesting.within x y (record { low = h; named = n }) (record { low = i; named = m }));
     contains = λ b n h i p o s. k.contains b n h i p o s;
     contains_cut = λ b f h p e w. (
@@ -174,7 +174,7 @@ module _ (c : Columns) (words : List ℕ) (t : List Node) (cuts joins : List ℕ
     odd_fork : (f : ℕ) → fork_column t f % 2 ≡ 1
     odd_fork f = odd_column t f
 
-    by_first : (x : ℕ) → 0 < x → IsTrace c cuts joins x → (o : Option ℕ) → outermost t (used c) (λ i. nat_eq (owner c i) (around c x)) ≡ o → up c x ≡ (if is_some (outermost t (used c) (λ i. nat_eq (owner c i) (around c x))) then Some (around c x) else up c (around c x))
+    by_first : (x : ℕ) → 0 < x → IsTrace c cuts joins x → (o : Option ℕ) → outermost_pending t (used c) (λ i. nat_eq (owner c i) (around c x)) ≡ o → up c x ≡ (if is_some (outermost_pending t (used c) (λ i. nat_eq (owner c i) (around c x))) then Some (around c x) else up c (around c x))
     by_first x p n None e =
         k.ups.up_none x p n (λ b q o. let h : b < length t = Rattle.cw_trace.proofs.InRange.pending_low t b q in
         cc (none_below (λ b. is_pending t b && nat_eq (owner c (column t (used c) b)) (around c x)) (length t) e b h, and_true (is_pending t b) (nat_eq (owner c (column t (used c) b)) (around c x)) q (eq-eqb _ _ o)))

@@ -3,18 +3,18 @@ use Rattle.std.proofs.Common.{◌≡◌, ◌≢◌, ℕ, ◌+◌, ◌<◌, ◌�
 use Rattle.std.specs.Prelude.{◌⊎◌, ◌%◌, ◌&&◌, ◌||◌, not, slice_index, slice_set, if◌then◌else◌}
 use Rattle.std.proofs.lemmas.List.{get_or-map, length-map, length-set}
 use Rattle.cw_trace.specs.declared.tier.Trace.{Trace}
-use Rattle.cw_trace.specs.Columns.{Columns, used, owner, gap, trace, trace_in, head, head_in, lead, lead_in, up, left_of, merged}
+use Rattle.cw_trace.specs.Columns.{ColumnTable, used, owner, gap, trace, trace_in, head, head_in, lead, lead_in, up, left_column_of, merged}
 use Rattle.cw_tree.specs.Walks.{has}
 use Rattle.cw_trace.specs.Stands.{around, is_apart}
-use Rattle.cw_trace.specs.Segments.{IsOpen, Start, IsCut, IsTrace, IsLive, Within, Segments, MayMerge}
+use Rattle.cw_trace.specs.Segments.{IsOpen, SegmentStart, IsCut, IsTrace, IsLive, Within, Segments, MayMerge}
 use Rattle.cw_trace.proofs.Edits.{has_cons_same, has_cons_other, set_get_same, set_get_other}
 use Rattle.cw_trace.proofs.Lines.{same_or, or_cases, or_left, or_right, left_of_odd, left_of_next, left_of_cases, is_split, apart_parts, own_le, own_trace, open_after, start_owner, right_used}
 
-module _ (c : Columns) (cuts joins : List ℕ) (pend : ℕ → Bool) (col : ℕ → ℕ) (g : Segments c cuts joins pend col) (f : ℕ) (m : MayMerge c cuts joins pend col f) where
+module _ (c : ColumnTable) (cuts joins : List ℕ) (pend : ℕ → Bool) (col : ℕ → ℕ) (g : Segments c cuts joins pend col) (f : ℕ) (m : MayMerge c cuts joins pend col f) where
   abbrev t : ℕ
   t = around c f
 
-  abbrev d : Columns
+  abbrev d : ColumnTable
   d = merged f c
 
   abbrev joins2 : List ℕ
@@ -117,11 +117,11 @@ module _ (c : Columns) (cuts joins : List ℕ) (pend : ℕ → Bool) (col : ℕ 
     pub not_f : x ≢ f
     pub not_r : x ≢ f + 1
 
-  not_left : (i : ℕ) → is_apart cuts joins2 i ≡ true → left_of i ≢ f
+  not_left : (i : ℕ) → is_apart cuts joins2 i ≡ true → left_column_of i ≢ f
   not_left i a e = cc (ap (has joins2) e, has_cons_same joins f, (apart_parts cuts joins2 i a).1)
 
-  pub apart_same : (i : ℕ) → left_of i ≢ f → is_apart cuts joins2 i ≡ is_apart cuts joins i
-  apart_same i n = ap (λ b. has cuts (left_of i) && not b) (has_cons_other joins f (left_of i) n)
+  pub apart_same : (i : ℕ) → left_column_of i ≢ f → is_apart cuts joins2 i ≡ is_apart cuts joins i
+  apart_same i n = ap (λ b. has cuts (left_column_of i) && not b) (has_cons_other joins f (left_column_of i) n)
 
   pub was : (x : ℕ) → IsTrace d cuts joins2 x → Was x
   was x n = by_name (or_cases (nat_eq x 0) (is_apart cuts joins2 x) n.named) where
@@ -131,11 +131,11 @@ module _ (c : Columns) (cuts joins : List ℕ) (pend : ℕ → Bool) (col : ℕ 
         let k = not_left x a in
         record {
           trace = record { low = old x n.low; named = or_right (nat_eq x 0) (is_apart cuts joins x) (sym (apart_same x k) ∙ a) };
-          not_f = λ q. k (ap left_of q ∙ left_of_odd f m.left);
-          not_r = λ q. k (ap left_of q ∙ left_of_next f m.left);
+          not_f = λ q. k (ap left_column_of q ∙ left_of_odd f m.left);
+          not_r = λ q. k (ap left_column_of q ∙ left_of_next f m.left);
         }
 
-  start_old : (x s : ℕ) → Was x → Start d joins2 x s → (Start c joins x s) × (s ≢ f)
+  start_old : (x s : ℕ) → Was x → SegmentStart d joins2 x s → (SegmentStart c joins x s) × (s ≢ f)
   start_old x s w (inl e) = (inl e, λ q. w.not_f (sym e ∙ q))
   start_old x s w (inr o) = let z = open_old x s o in (inr z.0, z.1)
 
@@ -149,7 +149,7 @@ module _ (c : Columns) (cuts joins : List ℕ) (pend : ℕ → Bool) (col : ℕ 
   live_f = λ k w e. (m.no_fork k).0 w.fork
 
   -- a start of the trace that goes on, before the fork
-  start_low : (x s : ℕ) → x ≡ t → Start c joins x s → s ≢ f → s < f
+  start_low : (x s : ℕ) → x ≡ t → SegmentStart c joins x s → s ≢ f → s < f
   start_low x s e (inl q) n = omega (arith, q, e, t_low)
   start_low x s e (inr o) n =
       let P : ℕ → Type 0 = λ x. IsOpen c joins x s in
@@ -175,12 +175,12 @@ module _ (c : Columns) (cuts joins : List ℕ) (pend : ℕ → Bool) (col : ℕ 
   none_lent : (b : ℕ) → pend b ≡ true → gap c (col b) ≡ gap c f → ⊥
   none_lent b p e = (m.no_block b p).0 (g.gap_owned f f b trace_f (inl refl) live_f p e).0
 
-  gap_owned2 : (x s b : ℕ) → IsTrace d cuts joins2 x → Start d joins2 x s → IsLive d cuts joins2 x s → pend b ≡ true → gap d (col b) ≡ gap d s → (owner d (col b) ≡ x) × (s ≤ col b)
+  gap_owned2 : (x s b : ℕ) → IsTrace d cuts joins2 x → SegmentStart d joins2 x s → IsLive d cuts joins2 x s → pend b ≡ true → gap d (col b) ≡ gap d s → (owner d (col b) ≡ x) × (s ≤ col b)
   gap_owned2 x s b n st l p e = by_t (same_or x t) where
     w : Was x
     w = was x n
 
-    u : (Start c joins x s) × (s ≢ f)
+    u : (SegmentStart c joins x s) × (s ≢ f)
     u = start_old x s w st
 
     with_live : IsLive c cuts joins x s → (owner d (col b) ≡ x) × (s ≤ col b)
@@ -193,12 +193,12 @@ module _ (c : Columns) (cuts joins : List ℕ) (pend : ℕ → Bool) (col : ℕ 
       | inr z ↦ (let P : ℕ → Type 0 = λ x. IsLive c cuts joins x s in with_live (subst P (sym q) (live_t s z)))
     ]
 
-  gap_first2 : (x s b : ℕ) → IsTrace d cuts joins2 x → Start d joins2 x s → IsLive d cuts joins2 x s → Within d pend col x s b → (a : ℕ) × (a ≤ b) × (pend a ≡ true) × (gap d (col a) ≡ gap d s)
+  gap_first2 : (x s b : ℕ) → IsTrace d cuts joins2 x → SegmentStart d joins2 x s → IsLive d cuts joins2 x s → Within d pend col x s b → (a : ℕ) × (a ≤ b) × (pend a ≡ true) × (gap d (col a) ≡ gap d s)
   gap_first2 x s b n st l h = by_t (same_or x t) where
     w : Was x
     w = was x n
 
-    u : (Start c joins x s) × (s ≢ f)
+    u : (SegmentStart c joins x s) × (s ≢ f)
     u = start_old x s w st
 
     v : Within c pend col x s b
@@ -208,22 +208,22 @@ module _ (c : Columns) (cuts joins : List ℕ) (pend : ℕ → Bool) (col : ℕ 
     by_t (inr k) = g.gap_first x s b w.trace u.0 (live_old x s k l) v
     by_t (inl q) = elim (same_or (gap c s) (gap c f)) [
       | inl z ↦ absurd (
-          let P : ℕ → Type 0 = λ x. Start c joins x f in
+          let P : ℕ → Type 0 = λ x. SegmentStart c joins x f in
           g.shared x s f b w.trace u.0 (subst P (sym q) (inr open_f)) (start_low x s q u.0 u.1) z v (g.cut_last t f (col b) cut_f (g.there b v.pending) (v.owned ∙ q)))
       | inr z ↦ (let P : ℕ → Type 0 = λ x. IsLive c cuts joins x s in g.gap_first x s b w.trace u.0 (subst P (sym q) (live_t s z)) v)
     ]
 
-  shared2 : (x s r b : ℕ) → IsTrace d cuts joins2 x → Start d joins2 x s → Start d joins2 x r → s < r → gap d s ≡ gap d r → Within d pend col x s b → col b < r → ⊥
+  shared2 : (x s r b : ℕ) → IsTrace d cuts joins2 x → SegmentStart d joins2 x s → SegmentStart d joins2 x r → s < r → gap d s ≡ gap d r → Within d pend col x s b → col b < r → ⊥
   shared2 x s r b n st sr lt e w k = let y = was x n in g.shared x s r b y.trace (start_old x s y st).0 (start_old x r y sr).0 lt e (within_old x s b w) k
 
-  parted2 : (x s r : ℕ) → IsTrace d cuts joins2 x → Start d joins2 x s → Start d joins2 x r → s < r → (gap d s ≡ gap d r → ⊥) → (b : ℕ) × (col b < r) × Within d pend col x s b
+  parted2 : (x s r : ℕ) → IsTrace d cuts joins2 x → SegmentStart d joins2 x s → SegmentStart d joins2 x r → s < r → (gap d s ≡ gap d r → ⊥) → (b : ℕ) × (col b < r) × Within d pend col x s b
   parted2 x s r n st sr lt ne =
       let y = was x n in
       let z = g.parted x s r y.trace (start_old x s y st).0 (start_old x r y sr).0 lt ne in
       let w = z.2 in
       (z.0, z.1, record { pending = w.pending; owned = owned_new x z.0 w.pending w.owned; after = w.after })
 
-  one_trace2 : (x y s r : ℕ) → IsTrace d cuts joins2 x → IsTrace d cuts joins2 y → Start d joins2 x s → Start d joins2 y r → IsLive d cuts joins2 x s → IsLive d cuts joins2 y r → gap d s ≡ gap d r → x ≡ y
+  one_trace2 : (x y s r : ℕ) → IsTrace d cuts joins2 x → IsTrace d cuts joins2 y → SegmentStart d joins2 x s → SegmentStart d joins2 y r → IsLive d cuts joins2 x s → IsLive d cuts joins2 y r → gap d s ≡ gap d r → x ≡ y
   one_trace2 x y s r n k st sr l h e = by_both (same_or x t) (same_or y t) where
     w : Was x
     w = was x n
@@ -231,13 +231,13 @@ module _ (c : Columns) (cuts joins : List ℕ) (pend : ℕ → Bool) (col : ℕ 
     v : Was y
     v = was y k
 
-    u : Start c joins x s
+    u : SegmentStart c joins x s
     u = (start_old x s w st).0
 
-    z : Start c joins y r
+    z : SegmentStart c joins y r
     z = (start_old y r v sr).0
 
-    lent : (x y r : ℕ) → Was y → Start c joins y r → IsLive c cuts joins y r → gap c r ≡ gap c f → x ≡ y
+    lent : (x y r : ℕ) → Was y → SegmentStart c joins y r → IsLive c cuts joins y r → gap c r ≡ gap c f → x ≡ y
     lent x y r v z j e = absurd (v.not_f (sym (g.one_trace f y f r trace_f v.trace (inl refl) z live_f j (sym e))))
 
     by_both : (x ≡ t) ⊎ (x ≢ t) → (y ≡ t) ⊎ (y ≢ t) → x ≡ y
@@ -252,7 +252,7 @@ module _ (c : Columns) (cuts joins : List ℕ) (pend : ℕ → Bool) (col : ℕ 
       | inr i ↦ (let P : ℕ → Type 0 = λ x. IsLive c cuts joins x r in g.one_trace x y s r w.trace v.trace u z (live_old x s p l) (subst P (sym q) (live_t r i)) e)
     ]
 
-  nested2 : (x s i : ℕ) → IsTrace d cuts joins2 x → Start d joins2 x s → i < used d → s + 1 < i → around d i ≡ x → s ≤ slice_index d.parents i
+  nested2 : (x s i : ℕ) → IsTrace d cuts joins2 x → SegmentStart d joins2 x s → i < used d → s + 1 < i → around d i ≡ x → s ≤ slice_index d.parents i
   nested2 x s i n st h0 lt a =
       let h : i < used c = old i h0 in
       let p : 0 < i = omega arith in
@@ -270,11 +270,11 @@ module _ (c : Columns) (cuts joins : List ℕ) (pend : ℕ → Bool) (col : ℕ 
       elim (part i (old i h)) [ moved q v ↦ absurd (z.1 (sym o ∙ v)) | stays b e v ↦ g.cut_last x k i z.0 (old i h) (sym v ∙ o) ]
 
   together2 : (i : ℕ) → 0 < i → i < used d → is_apart cuts joins2 i ≡ false → owner d i ≡ around d i
-  together2 i p h0 a = by_left (same_or (left_of i) f) where
+  together2 i p h0 a = by_left (same_or (left_column_of i) f) where
     h : i < used c
     h = old i h0
 
-    parents_of : left_of i ≡ f → slice_index c.parents i ≡ slice_index c.parents f
+    parents_of : left_column_of i ≡ f → slice_index c.parents i ≡ slice_index c.parents f
     parents_of e = elim (left_of_cases i p) [
       | inl q ↦ ap (λ x. slice_index c.parents x) (q ∙ e)
       | inr q ↦ ap (λ x. slice_index c.parents x) (q ∙ ap (λ x. x + 1) e) ∙ g.pairs f m.left m.low
@@ -283,7 +283,7 @@ module _ (c : Columns) (cuts joins : List ℕ) (pend : ℕ → Bool) (col : ℕ 
     outer : owner d (slice_index c.parents f) ≡ t
     outer = elim (part (slice_index c.parents f) (par f pos m.low)) [ moved q w ↦ w | stays b e w ↦ w ]
 
-    inner : left_of i ≡ f → owner d i ≡ t
+    inner : left_column_of i ≡ f → owner d i ≡ t
     inner e = elim (part i h) [
       | moved q w ↦ w
       | stays b k w ↦ absurd (elim (left_of_cases i p) [
@@ -304,7 +304,7 @@ module _ (c : Columns) (cuts joins : List ℕ) (pend : ℕ → Bool) (col : ℕ 
       ]
     ]
 
-    by_left : (left_of i ≡ f) ⊎ (left_of i ≢ f) → owner d i ≡ around d i
+    by_left : (left_column_of i ≡ f) ⊎ (left_column_of i ≢ f) → owner d i ≡ around d i
     by_left (inl e) = inner e ∙ sym outer ∙ sym (ap (owner d) (parents_of e))
     by_left (inr n) = same (g.together i p h (sym (apart_same i n) ∙ a))
 
@@ -313,19 +313,19 @@ module _ (c : Columns) (cuts joins : List ℕ) (pend : ℕ → Bool) (col : ℕ 
       let n = not_left i a in
       let o : owner c i ≡ i = g.apart i p (old i h) (sym (apart_same i n) ∙ a) in
       elim (part i (old i h)) [
-        | moved q w ↦ absurd (elim q [ inl z ↦ n (ap left_of (sym o ∙ z) ∙ left_of_odd f m.left) | inr z ↦ n (ap left_of (sym o ∙ z) ∙ left_of_next f m.left) ])
+        | moved q w ↦ absurd (elim q [ inl z ↦ n (ap left_column_of (sym o ∙ z) ∙ left_of_odd f m.left) | inr z ↦ n (ap left_column_of (sym o ∙ z) ∙ left_of_next f m.left) ])
         | stays b k w ↦ w ∙ o
       ]
 
-  unjoined_above2 : (s : ℕ) → s < used d → s % 2 ≡ 1 → has joins2 s ≡ false → 0 < slice_index d.parents s → has joins2 (left_of (slice_index d.parents s)) ≡ false
+  unjoined_above2 : (s : ℕ) → s < used d → s % 2 ≡ 1 → has joins2 s ≡ false → 0 < slice_index d.parents s → has joins2 (left_column_of (slice_index d.parents s)) ≡ false
   unjoined_above2 s h0 o u p =
       let h : s < used c = old s h0 in
       let z = unjoined2 s u in
-      let n : left_of (slice_index c.parents s) ≢ f = λ e. elim (left_of_cases (slice_index c.parents s) p) [
+      let n : left_column_of (slice_index c.parents s) ≢ f = λ e. elim (left_of_cases (slice_index c.parents s) p) [
         | inl q ↦ (m.no_fork s).0 (record { low = h; left = o; unjoined = z.1; outside = ap (owner c) (q ∙ e) ∙ own_f })
         | inr q ↦ (m.no_fork s).1 (record { low = h; left = o; unjoined = z.1; outside = ap (owner c) (q ∙ ap (λ x. x + 1) e) ∙ own_r })
       ] in
-      has_cons_other joins f (left_of (slice_index c.parents s)) n ∙ g.unjoined_above s h o z.1 p
+      has_cons_other joins f (left_column_of (slice_index c.parents s)) n ∙ g.unjoined_above s h o z.1 p
 
   -- the traces after the merge
   abbrev whole : Trace

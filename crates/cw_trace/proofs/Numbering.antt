@@ -5,7 +5,7 @@ use Rattle.std.specs.List.{filter, Contains, IsDistinct, AllByRecursion}
 use Rattle.std.proofs.lemmas.Bool.{ne_eqb, cases_eq}
 use Rattle.cw_order.specs.Order.{put_after, placed_after, without, position}
 use Rattle.cw_tree.specs.Walks.{has}
-use Rattle.cw_trace.specs.Columns.{is_before, place_after}
+use Rattle.cw_trace.specs.Columns.{stands_before, place_after}
 use Rattle.cw_trace.specs.Marks.{with_mark}
 use Rattle.cw_trace.proofs.Lines.{or_cases, or_left, or_right}
 use Rattle.cw_trace.proofs.Marking.{before_second}
@@ -120,7 +120,7 @@ module _ (m : ℕ → ℕ) where
         skip y h = elim (has_cases e xs y h) [ inl q ↦ has_here e (x ∷ xs) y q | inr g ↦ has_later e (x ∷ xs) y (has_later x xs y g) ]
 
   -- of two numbers the one that comes first has the mark that comes first
-  pub map_before : (xs : List ℕ) → IsDistinct nat_eq xs → Differ xs → (x y : ℕ) → has xs x ≡ true → has xs y ≡ true → (position xs x < position xs y) ↔ (is_before (map m xs) (m x) (m y) ≡ true)
+  pub map_before : (xs : List ℕ) → IsDistinct nat_eq xs → Differ xs → (x y : ℕ) → has xs x ≡ true → has xs y ≡ true → (position xs x < position xs y) ↔ (stands_before (map m xs) (m x) (m y) ≡ true)
   map_before [] distinct d x y h g = absurd (cc h)
   map_before (z ∷ xs) distinct d x y h g =
       let parts = distinct_parts z xs distinct in
@@ -140,14 +140,14 @@ module _ (m : ℕ → ℕ) where
             let same : w.0 ≡ y = d w.0 y (has_later z xs w.0 w.1) g w.2 in
             cc (sym (ap (has xs) (same ∙ sym q)) ∙ w.1, l)
 
-        before_here : m z ≡ m x → is_before (map m (z ∷ xs)) (m x) (m y) ≡ has (map m xs) (m y)
-        before_here q = ap (λ b. if b then has (map m xs) (m y) else is_before (map m xs) (m x) (m y)) (eq-eqb (m z) (m x) q)
+        before_here : m z ≡ m x → stands_before (map m (z ∷ xs)) (m x) (m y) ≡ has (map m xs) (m y)
+        before_here q = ap (λ b. if b then has (map m xs) (m y) else stands_before (map m xs) (m x) (m y)) (eq-eqb (m z) (m x) q)
 
-        before_past : z ≢ x → is_before (map m (z ∷ xs)) (m x) (m y) ≡ is_before (map m xs) (m x) (m y)
-        before_past n = ap (λ b. if b then has (map m xs) (m y) else is_before (map m xs) (m x) (m y)) (ne_eqb (m z) (m x) (λ q. n (d z x (has_here z xs z refl) h q)))
+        before_past : z ≢ x → stands_before (map m (z ∷ xs)) (m x) (m y) ≡ stands_before (map m xs) (m x) (m y)
+        before_past n = ap (λ b. if b then has (map m xs) (m y) else stands_before (map m xs) (m x) (m y)) (ne_eqb (m z) (m x) (λ q. n (d z x (has_here z xs z refl) h q)))
 
-        by_first : (z ≡ x) ⊎ (z ≢ x) → (z ≡ y) ⊎ (z ≢ y) → has xs z ≡ false → (has xs x ≡ true → has xs y ≡ true → (position xs x < position xs y) ↔ (is_before (map m xs) (m x) (m y) ≡ true))
-            → (position (z ∷ xs) x < position (z ∷ xs) y) ↔ (is_before (map m (z ∷ xs)) (m x) (m y) ≡ true)
+        by_first : (z ≡ x) ⊎ (z ≢ x) → (z ≡ y) ⊎ (z ≢ y) → has xs z ≡ false → (has xs x ≡ true → has xs y ≡ true → (position xs x < position xs y) ↔ (stands_before (map m xs) (m x) (m y) ≡ true))
+            → (position (z ∷ xs) x < position (z ∷ xs) y) ↔ (stands_before (map m (z ∷ xs)) (m x) (m y) ≡ true)
         by_first (inl a) (inl b) l more = ((λ p. absurd (omega (arith, p, at y b))), λ e. absurd (no_later b l (sym (before_here (ap m a)) ∙ e)))
         by_first (inl a) (inr b) l more = ((λ p. before_here (ap m a) ∙ map_has xs y (below y b g)), λ e. omega (arith, at x a, past y b))
         by_first (inr a) (inl b) l more = ((λ p. absurd (omega (arith, p, at y b))), λ e. absurd (no_later b l (before_second (map m xs) (m x) (m y) (sym (before_past a) ∙ e))))

@@ -4,7 +4,7 @@ use Rattle.std.specs.Prelude.{◌⊎◌, ◌%◌, ◌||◌, slice_index}
 use Rattle.cw_tree.specs.declared.node.Node.{Node}
 use Rattle.cw_tree.specs.declared.node.Kind.TheVariants.{Strand}
 use Rattle.cw_tree.specs.Nodes.{is_fork, is_pending, fresh_node}
-use Rattle.cw_trace.specs.Columns.{Columns, used, owner, gap, first_tier, opening, closing, is_before, is_trace, outer, before_split}
+use Rattle.cw_trace.specs.Columns.{ColumnTable, used, owner, gap, first_tier, opening_mark, closing_mark, stands_before, is_trace, outer, before_split}
 use Rattle.cw_trace.specs.Stands.{column, Descends, child, further, names_trace}
 use Rattle.cw_trace.specs.Segments.{IsOpen, IsTrace, Segments, next_outward}
 use Rattle.cw_trace.specs.Keeps.{Keeps, Nesting}
@@ -22,7 +22,7 @@ no_pending zero e = cc e
 no_pending (suc b) e = cc e
 
 module _ (room : ℕ) where
-  abbrev c : Columns
+  abbrev c : ColumnTable
   c = first_tier room
 
   no_open : (x s : ℕ) → IsOpen c [] x s → ⊥
@@ -77,11 +77,11 @@ module _ (room : ℕ) where
   nesting_first = record {
     distinct = (refl, (refl, tt));
     marks = λ b e. (0, record { low = omega arith; named = refl }, by_mark b (or_cases (nat_eq 0 b) (nat_eq 1 b || false) e));
-    closes = λ x n. (let P : ℕ → Type 0 = λ y. is_before c.brackets (opening y) (closing y) ≡ true in subst P (sym (is_root x n)) refl);
+    closes = λ x n. (let P : ℕ → Type 0 = λ y. stands_before c.brackets (opening_mark y) (closing_mark y) ≡ true in subst P (sym (is_root x n)) refl);
     descends = λ x y n k e. absurd (by_inside x y (is_root x n) (is_root y k) e);
     within = λ x y n k w. absurd (by_descent x y (is_root y k) w);
   } where
-    by_mark : (b : ℕ) → (nat_eq 0 b ≡ true) ⊎ ((nat_eq 1 b || false) ≡ true) → (b ≡ opening 0) ⊎ (b ≡ closing 0)
+    by_mark : (b : ℕ) → (nat_eq 0 b ≡ true) ⊎ ((nat_eq 1 b || false) ≡ true) → (b ≡ opening_mark 0) ⊎ (b ≡ closing_mark 0)
     by_mark b (inl e) = inl (sym (eqb-true 0 b e))
     by_mark b (inr e) = elim (or_cases (nat_eq 1 b) false e) [ inl q ↦ inr (sym (eqb-true 1 b q)) | inr q ↦ absurd (cc q) ]
 

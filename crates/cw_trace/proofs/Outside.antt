@@ -3,7 +3,7 @@ use Rattle.std.proofs.Common.{◌≡◌, ◌≢◌, ℕ, zero, suc, ◌+◌, ◌
 use Rattle.std.specs.Prelude.{◌⊎◌, ◌%◌, ◌==◌, slice_index, if◌then◌else◌}
 use Rattle.std.proofs.lemmas.Bool.{ne_eqb}
 use Rattle.cw_tree.specs.Walks.{has}
-use Rattle.cw_trace.specs.Columns.{left_of}
+use Rattle.cw_trace.specs.Columns.{left_column_of}
 use Rattle.cw_trace.specs.Segments.{outward}
 use Rattle.cw_trace.proofs.Edits.{has_cons_same, has_cons_other}
 use Rattle.cw_trace.proofs.Lines.{same_or, left_of_odd, left_of_cases}
@@ -24,7 +24,7 @@ module _ (cuts ps : List ℕ) (bound : ℕ) (rooted : (i : ℕ) → 0 < i → i 
   outward_alike qs same (suc k) (suc j) zero b h g = refl
   outward_alike qs same (suc k) (suc j) (suc n) b h g =
       let low : slice_index ps (suc n) < suc n = rooted (suc n) (omega arith) b in
-      ap (λ x. if has cuts (left_of (suc n)) then None else if suc n % 2 == 1 then Some (suc n) else x)
+      ap (λ x. if has cuts (left_column_of (suc n)) then None else if suc n % 2 == 1 then Some (suc n) else x)
       (ap (outward cuts qs k) (same (suc n) b) ∙ outward_alike qs same k j (slice_index ps (suc n)) (omega arith) (omega arith) (omega arith))
 
   -- once fork f is split, the walk ends there
@@ -32,7 +32,7 @@ module _ (cuts ps : List ℕ) (bound : ℕ) (rooted : (i : ℕ) → 0 < i → i 
   outward_cut f odd uncut none zero p h n = refl
   outward_cut f odd uncut none (suc k) zero h n = refl
   outward_cut f odd uncut none (suc k) (suc m) h n =
-      by_fork (same_or (left_of (suc m)) f)
+      by_fork (same_or (left_column_of (suc m)) f)
       (let low : slice_index ps (suc m) < suc m = rooted (suc m) (omega arith) h in outward_cut f odd uncut none k (slice_index ps (suc m)) (omega arith) (none (suc m) (omega arith) h)) where
         here : (p : ℕ) → p ≡ f → (if p % 2 == 1 then Some p else outward cuts ps k (slice_index ps p)) ≡ Some p
         here p e = ap (λ b. if b then Some p else outward cuts ps k (slice_index ps p)) (eq-eqb (p % 2) 1 (ap (λ x. x % 2) e ∙ odd))
@@ -43,7 +43,7 @@ module _ (cuts ps : List ℕ) (bound : ℕ) (rooted : (i : ℕ) → 0 < i → i 
         other false true e more = sym (ap (λ z. if z then None else Some (suc m)) e)
         other false false e more = more
 
-        by_fork : (left_of (suc m) ≡ f) ⊎ (left_of (suc m) ≢ f) → outward (f ∷ cuts) ps k (slice_index ps (suc m)) ≡ except f (outward cuts ps k (slice_index ps (suc m))) → outward (f ∷ cuts) ps (suc k) (suc m) ≡ except f (outward cuts ps (suc k) (suc m))
+        by_fork : (left_column_of (suc m) ≡ f) ⊎ (left_column_of (suc m) ≢ f) → outward (f ∷ cuts) ps k (slice_index ps (suc m)) ≡ except f (outward cuts ps k (slice_index ps (suc m))) → outward (f ∷ cuts) ps (suc k) (suc m) ≡ except f (outward cuts ps (suc k) (suc m))
         by_fork (inl e) more = elim (left_of_cases (suc m) (omega arith)) [
           | inr z ↦ absurd (n (omega (arith, e, z)))
           | inl z ↦
@@ -54,5 +54,5 @@ module _ (cuts ps : List ℕ) (bound : ℕ) (rooted : (i : ℕ) → 0 < i → i 
               ∙ ap (λ b. if b then None else Some (suc m)) (eq-eqb (suc m) f (z ∙ e)))
         ]
         by_fork (inr ne) more =
-            ap (λ b. if b then None else if suc m % 2 == 1 then Some (suc m) else outward (f ∷ cuts) ps k (slice_index ps (suc m))) (has_cons_other cuts f (left_of (suc m)) ne)
-            ∙ other (has cuts (left_of (suc m))) (suc m % 2 == 1) (ne_eqb (suc m) f (λ e. ne (ap left_of e ∙ left_of_odd f odd))) more
+            ap (λ b. if b then None else if suc m % 2 == 1 then Some (suc m) else outward (f ∷ cuts) ps k (slice_index ps (suc m))) (has_cons_other cuts f (left_column_of (suc m)) ne)
+            ∙ other (has cuts (left_column_of (suc m))) (suc m % 2 == 1) (ne_eqb (suc m) f (λ e. ne (ap left_column_of e ∙ left_of_odd f odd))) more

@@ -1,13 +1,13 @@
 -- The walk outward from a fork to the fork that has to be split before it.
 use Rattle.std.proofs.Common.{◌≡◌, ◌≢◌, ℕ, zero, suc, ◌+◌, ◌<◌, ◌≤◌, List, refl, ap, sym, ◌∙◌, arith, Bool, true, false, Some, None, nat_eq, inl, inr, subst, eq-eqb, eqb-true}
 use Rattle.std.specs.Prelude.{◌⊎◌, ◌%◌, ◌&&◌, not, slice_index, if◌then◌else◌}
-use Rattle.cw_trace.specs.Columns.{Columns, used, owner, left_of}
+use Rattle.cw_trace.specs.Columns.{ColumnTable, used, owner, left_column_of}
 use Rattle.cw_tree.specs.Walks.{has}
 use Rattle.cw_trace.specs.Stands.{is_apart}
 use Rattle.cw_trace.specs.Segments.{IsOpen, IsTrace, Segments, outward, next_outward}
 use Rattle.cw_trace.proofs.Lines.{same_or, left_of_odd, left_of_is_odd, is_split, apart_parts, made, first, split_off, forked, own_trace, open_after, open_pos, forked_after}
 
-module _ (c : Columns) (cuts joins : List ℕ) (pend : ℕ → Bool) (col : ℕ → ℕ) (g : Segments c cuts joins pend col) where
+module _ (c : ColumnTable) (cuts joins : List ℕ) (pend : ℕ → Bool) (col : ℕ → ℕ) (g : Segments c cuts joins pend col) where
   -- column p's trace goes on past the fork s by its right strand
   abbrev pub Past : ℕ → Type 0
   Past s = (i : ℕ) × (0 < i) × (i < used c) × (slice_index c.parents i ≡ s + 1)
@@ -15,42 +15,42 @@ module _ (c : Columns) (cuts joins : List ℕ) (pend : ℕ → Bool) (col : ℕ 
   is_even : (n : ℕ) → nat_eq (n % 2) 1 ≡ false → n % 2 ≡ 0
   is_even n e = elim (same_or (n % 2) 1) [ inl q ↦ absurd (cc (eq-eqb (n % 2) 1 q, e)) | inr q ↦ omega (arith, q) ]
 
-  even_left : (n : ℕ) → 0 < n → n % 2 ≡ 0 → n ≡ left_of n + 1
+  even_left : (n : ℕ) → 0 < n → n % 2 ≡ 0 → n ≡ left_column_of n + 1
   even_left n p e = omega arith
 
   -- where the walk from column p finds nothing, an open fork s of its trace that stands outward of p was taken back
-  walk : (t s : ℕ) → IsTrace c cuts joins t → IsOpen c joins t s → (k p : ℕ) → p < k → p < used c → owner c p ≡ t → s ≤ p → (0 < p → has joins (left_of p) ≡ false) → outward cuts c.parents k p ≡ None → (p ≡ s + 1) ⊎ Past s
+  walk : (t s : ℕ) → IsTrace c cuts joins t → IsOpen c joins t s → (k p : ℕ) → p < k → p < used c → owner c p ≡ t → s ≤ p → (0 < p → has joins (left_column_of p) ≡ false) → outward cuts c.parents k p ≡ None → (p ≡ s + 1) ⊎ Past s
   walk t s tr o zero p l h e le u w = absurd (omega arith)
   walk t s tr o (suc k) zero l h e le u w = absurd (omega (arith, open_pos c cuts joins pend col g t s o))
   walk t s tr o (suc k) (suc n) l h e le u w =
-      by_cut (λ q a b x y z v. walk t s tr o k q a b x y z v) (has cuts (left_of (suc n))) (nat_eq (suc n % 2) 1) refl refl w where
+      by_cut (λ q a b x y z v. walk t s tr o k q a b x y z v) (has cuts (left_column_of (suc n))) (nat_eq (suc n % 2) 1) refl refl w where
         p : ℕ
         p = suc n
 
         unapart : is_apart cuts joins p ≡ true → ⊥
         unapart a = absurd (omega (arith, g.apart p (omega arith) h a, e, open_after c cuts joins pend col g t s o, le))
 
-        on : ((q : ℕ) → q < k → q < used c → owner c q ≡ t → s ≤ q → (0 < q → has joins (left_of q) ≡ false) → outward cuts c.parents k q ≡ None → (q ≡ s + 1) ⊎ Past s)
+        on : ((q : ℕ) → q < k → q < used c → owner c q ≡ t → s ≤ q → (0 < q → has joins (left_column_of q) ≡ false) → outward cuts c.parents k q ≡ None → (q ≡ s + 1) ⊎ Past s)
             → p ≢ s + 1 → p % 2 ≡ 0 → outward cuts c.parents k (slice_index c.parents p) ≡ None → (p ≡ s + 1) ⊎ Past s
         on more ne even v = elim (made c cuts joins pend col g p h) [
           | first z ↦ absurd (omega (arith, z))
           | split_off z a q ↦ absurd (unapart a)
           | forked z a low q ↦ (
-              let half : p ≡ left_of p + 1 = even_left p (omega arith) even in
-              let odd : left_of p % 2 ≡ 1 = left_of_is_odd p (omega arith) in
-              let same : slice_index c.parents p ≡ slice_index c.parents (left_of p) = ap (λ x. slice_index c.parents x) half ∙ g.pairs (left_of p) odd (omega (arith, half)) in
+              let half : p ≡ left_column_of p + 1 = even_left p (omega arith) even in
+              let odd : left_column_of p % 2 ≡ 1 = left_of_is_odd p (omega arith) in
+              let same : slice_index c.parents p ≡ slice_index c.parents (left_column_of p) = ap (λ x. slice_index c.parents x) half ∙ g.pairs (left_column_of p) odd (omega (arith, half)) in
               let apart : p ≢ s = λ x. omega (arith, x, o.left) in
               let le : s ≤ slice_index c.parents p = forked_after c cuts joins pend col g t s p tr (inr o) h e (omega (arith, apart)) (λ _. ne) in
-              let P : ℕ → Type 0 = λ x. 0 < x → has joins (left_of x) ≡ false in
-              let above : 0 < slice_index c.parents p → has joins (left_of (slice_index c.parents p)) ≡ false = subst P (sym same) (g.unjoined_above (left_of p) (omega (arith, half)) odd (u (omega arith))) in
+              let P : ℕ → Type 0 = λ x. 0 < x → has joins (left_column_of x) ≡ false in
+              let above : 0 < slice_index c.parents p → has joins (left_column_of (slice_index c.parents p)) ≡ false = subst P (sym same) (g.unjoined_above (left_column_of p) (omega (arith, half)) odd (u (omega arith))) in
               by_more (more (slice_index c.parents p) (omega arith) (omega arith) (sym q ∙ e) le above v))
         ] where
           by_more : (slice_index c.parents p ≡ s + 1) ⊎ Past s → (p ≡ s + 1) ⊎ Past s
           by_more (inl z) = inr (p, omega arith, h, z)
           by_more (inr z) = inr z
 
-        by_cut : ((q : ℕ) → q < k → q < used c → owner c q ≡ t → s ≤ q → (0 < q → has joins (left_of q) ≡ false) → outward cuts c.parents k q ≡ None → (q ≡ s + 1) ⊎ Past s)
-            → (a b : Bool) → has cuts (left_of p) ≡ a → nat_eq (p % 2) 1 ≡ b → (if a then None else if b then Some p else outward cuts c.parents k (slice_index c.parents p)) ≡ None → (p ≡ s + 1) ⊎ Past s
+        by_cut : ((q : ℕ) → q < k → q < used c → owner c q ≡ t → s ≤ q → (0 < q → has joins (left_column_of q) ≡ false) → outward cuts c.parents k q ≡ None → (q ≡ s + 1) ⊎ Past s)
+            → (a b : Bool) → has cuts (left_column_of p) ≡ a → nat_eq (p % 2) 1 ≡ b → (if a then None else if b then Some p else outward cuts c.parents k (slice_index c.parents p)) ≡ None → (p ≡ s + 1) ⊎ Past s
         by_cut more true b ea eb v = absurd (unapart (is_split cuts joins p (ea) (u (omega arith))))
         by_cut more false true ea eb v = absurd (cc v)
         by_cut more false false ea eb v = elim (same_or p (s + 1)) [ inl z ↦ inl z | inr z ↦ on more z (is_even p eb) v ]
@@ -78,25 +78,25 @@ module _ (c : Columns) (cuts joins : List ℕ) (pend : ℕ → Bool) (col : ℕ 
   some_out : (n m : ℕ) → Some n ≡ Some m → n ≡ m
   some_out n m e = cc e
 
-  pub walk_some : (t s : ℕ) → IsTrace c cuts joins t → (k p : ℕ) → p < k → p < used c → owner c p ≡ t → (0 < p → has joins (left_of p) ≡ false) → outward cuts c.parents k p ≡ Some s → Next t p s
+  pub walk_some : (t s : ℕ) → IsTrace c cuts joins t → (k p : ℕ) → p < k → p < used c → owner c p ≡ t → (0 < p → has joins (left_column_of p) ≡ false) → outward cuts c.parents k p ≡ Some s → Next t p s
   walk_some t s tr zero p l h e u w = absurd (omega arith)
   walk_some t s tr (suc k) zero l h e u w = absurd (cc w)
   walk_some t s tr (suc k) (suc n) l h e u w =
-      by_cut (λ q a b x z v. walk_some t s tr k q a b x z v) (has cuts (left_of (suc n))) (nat_eq (suc n % 2) 1) refl refl w where
+      by_cut (λ q a b x z v. walk_some t s tr k q a b x z v) (has cuts (left_column_of (suc n))) (nat_eq (suc n % 2) 1) refl refl w where
         p : ℕ
         p = suc n
 
-        on : ((q : ℕ) → q < k → q < used c → owner c q ≡ t → (0 < q → has joins (left_of q) ≡ false) → outward cuts c.parents k q ≡ Some s → Next t q s)
-            → has cuts (left_of p) ≡ false → p % 2 ≡ 0 → outward cuts c.parents k (slice_index c.parents p) ≡ Some s → Next t p s
+        on : ((q : ℕ) → q < k → q < used c → owner c q ≡ t → (0 < q → has joins (left_column_of q) ≡ false) → outward cuts c.parents k q ≡ Some s → Next t q s)
+            → has cuts (left_column_of p) ≡ false → p % 2 ≡ 0 → outward cuts c.parents k (slice_index c.parents p) ≡ Some s → Next t p s
         on more un even v = elim (made c cuts joins pend col g p h) [
           | first z ↦ absurd (omega (arith, z))
           | split_off z a q ↦ absurd (cc ((apart_parts cuts joins p a).0, un))
           | forked z a low q ↦ (
-              let half : p ≡ left_of p + 1 = even_left p (omega arith) even in
-              let odd : left_of p % 2 ≡ 1 = left_of_is_odd p (omega arith) in
-              let same : slice_index c.parents p ≡ slice_index c.parents (left_of p) = ap (λ x. slice_index c.parents x) half ∙ g.pairs (left_of p) odd (omega (arith, half)) in
-              let P : ℕ → Type 0 = λ x. 0 < x → has joins (left_of x) ≡ false in
-              let above : 0 < slice_index c.parents p → has joins (left_of (slice_index c.parents p)) ≡ false = subst P (sym same) (g.unjoined_above (left_of p) (omega (arith, half)) odd (u (omega arith))) in
+              let half : p ≡ left_column_of p + 1 = even_left p (omega arith) even in
+              let odd : left_column_of p % 2 ≡ 1 = left_of_is_odd p (omega arith) in
+              let same : slice_index c.parents p ≡ slice_index c.parents (left_column_of p) = ap (λ x. slice_index c.parents x) half ∙ g.pairs (left_column_of p) odd (omega (arith, half)) in
+              let P : ℕ → Type 0 = λ x. 0 < x → has joins (left_column_of x) ≡ false in
+              let above : 0 < slice_index c.parents p → has joins (left_column_of (slice_index c.parents p)) ≡ false = subst P (sym same) (g.unjoined_above (left_column_of p) (omega (arith, half)) odd (u (omega arith))) in
               let m = more (slice_index c.parents p) (omega arith) (omega arith) (sym q ∙ e) above v in
               record {
                 open_fork = m.open_fork;
@@ -114,21 +114,21 @@ module _ (c : Columns) (cuts joins : List ℕ) (pend : ℕ → Bool) (col : ℕ 
                 elim (more le) [ inl x ↦ inr (p, omega arith, h, x) | inr x ↦ inr x ])
           ]
 
-        here : has cuts (left_of p) ≡ false → nat_eq (p % 2) 1 ≡ true → p ≡ s → Next t p s
+        here : has cuts (left_column_of p) ≡ false → nat_eq (p % 2) 1 ≡ true → p ≡ s → Next t p s
         here un o q =
             let odd : p % 2 ≡ 1 = eqb-true _ _ o in
-            let self : left_of p ≡ p = left_of_odd p odd in
+            let self : left_column_of p ≡ p = left_of_odd p odd in
             let cut : has cuts p ≡ false = ap (has cuts) (sym self) ∙ un in
             let P : ℕ → Type 0 = λ x. Next t p x in
             subst P q (record {
-              open_fork = record { low = h; left = odd; unjoined = ap (has joins) (sym self) ∙ u (omega arith); outside = sym (g.together p (omega arith) h (ap (λ b. b && not (has joins (left_of p))) (ap (has cuts) self ∙ cut))) ∙ e };
+              open_fork = record { low = h; left = odd; unjoined = ap (has joins) (sym self) ∙ u (omega arith); outside = sym (g.together p (omega arith) h (ap (λ b. b && not (has joins (left_column_of p))) (ap (has cuts) self ∙ cut))) ∙ e };
               uncut = cut;
               outer = omega arith;
               between = λ r w a b. absurd (omega arith);
             })
 
-        by_cut : ((q : ℕ) → q < k → q < used c → owner c q ≡ t → (0 < q → has joins (left_of q) ≡ false) → outward cuts c.parents k q ≡ Some s → Next t q s)
-            → (a b : Bool) → has cuts (left_of p) ≡ a → nat_eq (p % 2) 1 ≡ b → (if a then None else if b then Some p else outward cuts c.parents k (slice_index c.parents p)) ≡ Some s → Next t p s
+        by_cut : ((q : ℕ) → q < k → q < used c → owner c q ≡ t → (0 < q → has joins (left_column_of q) ≡ false) → outward cuts c.parents k q ≡ Some s → Next t q s)
+            → (a b : Bool) → has cuts (left_column_of p) ≡ a → nat_eq (p % 2) 1 ≡ b → (if a then None else if b then Some p else outward cuts c.parents k (slice_index c.parents p)) ≡ Some s → Next t p s
         by_cut more true b ea eb v = absurd (cc v)
         by_cut more false true ea eb v = here ea eb (some_out p s v)
         by_cut more false false ea eb v = on more ea (is_even p eb) v

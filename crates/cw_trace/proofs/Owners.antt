@@ -14,7 +14,7 @@ use Rattle.cw_tree.proofs.Climbs.{by_parent}
 use Rattle.cw_tree.proofs.Ancestors.{ancestor_up, ancestor_self, ancestor_trans, ancestor_root, ancestor_le}
 use Rattle.cw_tree.proofs.Upward.{ancestor_cases}
 use Rattle.cw_tree.proofs.Strands.{strand_of_strand, strand_of_other, strand_of_le, strand_of_root}
-use Rattle.cw_trace.specs.Columns.{Columns, used, owner, left_of}
+use Rattle.cw_trace.specs.Columns.{ColumnTable, used, owner, left_column_of}
 use Rattle.cw_trace.specs.Stands.{Stands, column, column_in, fork_column, around, is_apart, Descends, child, further, names_trace, is_cut_at}
 
 module _ (t : List Node) (tr : IsTree t) (size : ℕ) where
@@ -48,7 +48,7 @@ module _ (t : List Node) (tr : IsTree t) (size : ℕ) where
   pub column_other : (n : ℕ) → 0 < n → n < length t → is_strand t n ≡ false → column t size n ≡ column t size (parent_of t n)
   column_other n p h e = ap (λ x. column_in t size x x) (strand_of_other t tr.rooted n p h e)
 
-module _ (c : Columns) (words : List ℕ) (t : List Node) (cuts merges : List ℕ) (tr : IsTree t) (st : Stands c words t cuts merges) where
+module _ (c : ColumnTable) (words : List ℕ) (t : List Node) (cuts merges : List ℕ) (tr : IsTree t) (st : Stands c words t cuts merges) where
   abbrev pub own : ℕ → ℕ
   own n = owner c (column t (used c) n)
 
@@ -59,20 +59,20 @@ module _ (c : Columns) (words : List ℕ) (t : List Node) (cuts merges : List �
     pub named : 0 < own n
     pub apart : is_apart cuts merges (own n) ≡ true
     pub fork : is_fork t (parent_of t n) ≡ true
-    pub column_is : fork_column t (parent_of t n) ≡ left_of (own n)
+    pub column_is : fork_column t (parent_of t n) ≡ left_column_of (own n)
     pub outside : around c (own n) ≡ own (parent_of t n)
 
   -- node n made by its parent's trace, or the head of a new one
   abbrev pub OwnStep : ℕ → Type 0
   OwnStep n = (own n ≡ own (parent_of t n)) ⊎ Heads n
 
-  left_of_left : (k : ℕ) → left_of (2 * k + 1) ≡ 2 * k + 1
+  left_of_left : (k : ℕ) → left_column_of (2 * k + 1) ≡ 2 * k + 1
   left_of_left k = omega arith
 
-  left_of_right : (k : ℕ) → left_of (2 * k + 1 + 1) ≡ 2 * k + 1
+  left_of_right : (k : ℕ) → left_column_of (2 * k + 1 + 1) ≡ 2 * k + 1
   left_of_right k = omega arith
 
-  by_apart : (n i : ℕ) → 0 < n → n < length t → is_fork t (parent_of t n) ≡ true → fork_column t (parent_of t n) + 1 < used c → column t (used c) n ≡ i → 0 < i → i < used c → left_of i ≡ fork_column t (parent_of t n)
+  by_apart : (n i : ℕ) → 0 < n → n < length t → is_fork t (parent_of t n) ≡ true → fork_column t (parent_of t n) + 1 < used c → column t (used c) n ≡ i → 0 < i → i < used c → left_column_of i ≡ fork_column t (parent_of t n)
       → slice_index c.parents i ≡ column t (used c) (parent_of t n) → (b : Bool) → is_apart cuts merges i ≡ b → OwnStep n
   by_apart n i p h f z e q s l w false a = inl (ap (owner c) e ∙ st.together i q s (ap not a) ∙ ap (owner c) w)
   by_apart n i p h f z e q s l w true a =
@@ -83,7 +83,7 @@ module _ (c : Columns) (words : List ℕ) (t : List Node) (cuts merges : List �
         named = omega (arith, o);
         apart = ap (is_apart cuts merges) o ∙ a;
         fork = f;
-        column_is = sym l ∙ sym (ap left_of o);
+        column_is = sym l ∙ sym (ap left_column_of o);
         outside = ap (around c) o ∙ ap (owner c) w;
       })
 
@@ -135,7 +135,7 @@ module _ (c : Columns) (words : List ℕ) (t : List Node) (cuts merges : List �
     pub used_up : own n < used c
     pub paired : fork_column t f + 1 < used c
     pub apart : is_apart cuts merges (own n) ≡ true
-    pub column_is : fork_column t f ≡ left_of (own n)
+    pub column_is : fork_column t f ≡ left_column_of (own n)
     pub outside : around c (own n) ≡ own f
     pub near : (a : ℕ) → is_ancestor t a n ≡ true → (own a ≡ own n) ⊎ (is_ancestor t a f ≡ true)
 
@@ -156,7 +156,7 @@ module _ (c : Columns) (words : List ℕ) (t : List Node) (cuts merges : List �
                 used_up = omega (arith, e, h.used_up);
                 paired = h.paired;
                 apart = ap (is_apart cuts merges) e ∙ h.apart;
-                column_is = h.column_is ∙ ap left_of (sym e);
+                column_is = h.column_is ∙ ap left_column_of (sym e);
                 outside = ap (around c) e ∙ h.outside;
                 near = λ a g. elim (ancestor_cases t tr.rooted a m p q g) [ inl z ↦ inl (ap own (sym z)) | inr z ↦ elim (h.near a z) [ inl y ↦ inl (y ∙ sym e) | inr y ↦ inr y ] ];
               },
@@ -188,7 +188,7 @@ module _ (c : Columns) (words : List ℕ) (t : List Node) (cuts merges : List �
       | inl z ↦ z
       | inr z ↦ absurd (
           let y = head_of b hb (omega (arith, s)) in
-          let same : y.0 ≡ x.0 = fork_column_one t y.0 x.0 y.1.fork x.1.fork (y.1.column_is ∙ ap left_of s ∙ sym x.1.column_is) in
+          let same : y.0 ≡ x.0 = fork_column_one t y.0 x.0 y.1.fork x.1.fork (y.1.column_is ∙ ap left_column_of s ∙ sym x.1.column_is) in
           let up : is_ancestor t b x.0 ≡ true = ancestor_trans t tr.rooted b a x.0 x.1.there e z in
           let le : b ≤ x.0 = ancestor_le t tr.rooted b x.0 x.1.there up in
           let ge : y.0 ≤ b = ancestor_le t tr.rooted y.0 b hb y.1.above in
@@ -224,7 +224,7 @@ module _ (c : Columns) (words : List ℕ) (t : List Node) (cuts merges : List �
         (eq-eqb _ _ (ap (owner c) z.0 ∙ e));
     above = w.above;
   } where
-    left_again : (k : ℕ) → left_of (left_of k) ≡ left_of k
+    left_again : (k : ℕ) → left_column_of (left_column_of k) ≡ left_column_of k
     left_again k = omega arith
 
     by_parts : (a b d e : Bool) → a ≡ true → (b && not d) ≡ true → e ≡ true → (a && b && not d && e) ≡ true

@@ -6,14 +6,14 @@ use Rattle.std.proofs.lemmas.List.{get_or_append_left}
 use Rattle.std.proofs.lemmas.Option.{slice_get_past}
 use Rattle.cw_tree.proofs.Growing.{get_append}
 use Rattle.cw_trace.specs.declared.tier.Trace.{Trace}
-use Rattle.cw_trace.specs.Columns.{Columns, used, owner, trace_in, is_trace, outer, outer_at, fork_in, forked}
+use Rattle.cw_trace.specs.Columns.{ColumnTable, used, owner, trace_in, is_trace, outer, outer_at, fork_in, forked}
 use Rattle.cw_trace.specs.Tier.{AreSound}
 use Rattle.cw_trace.proofs.Lines.{le_or_lt}
 use Rattle.cw_trace.proofs.Counts.{SameLengths, count_none, named_at, named_low}
 
-module _ (c : Columns) (s : AreSound c) (l : SameLengths c) where
+module _ (c : ColumnTable) (s : AreSound c) (l : SameLengths c) where
   module _ (word p : ℕ) (there : p < used c) where
-    abbrev k : Columns
+    abbrev k : ColumnTable
     k = forked word p c
 
     forked_used : used k ≡ used c + 2

@@ -5,14 +5,14 @@ use Rattle.std.proofs.lemmas.Bool.{ne_eqb}
 use Rattle.std.proofs.lemmas.List.{get_or-map, length-map, length-set}
 use Rattle.cw_tree.specs.Walks.{has}
 use Rattle.cw_trace.specs.declared.tier.Trace.{Trace}
-use Rattle.cw_trace.specs.Columns.{Columns, used, owner, trace, trace_in, is_trace, outer, outer_at, fork_in, opening, closing, marks, place_after, part_of, parts, back_to, forked, split_at, merged, is_mark_of, around_fork}
+use Rattle.cw_trace.specs.Columns.{ColumnTable, used, owner, trace, trace_in, is_trace, outer, outer_at, fork_in, opening_mark, closing_mark, marks, place_after, part_of, parts, back_to, forked, split_at, merged, is_mark_of, around_fork}
 use Rattle.cw_trace.specs.Tier.{trace_count, AreSound}
 use Rattle.cw_trace.proofs.Lines.{same_or, or_left, or_right}
 use Rattle.cw_trace.proofs.Marking.{distinct_filter, filter_has, has_filter}
 use Rattle.cw_trace.proofs.FourMarks.{length_four}
 use Rattle.cw_trace.proofs.Counts.{SameLengths, count_clear, count_keep, half_closing, half_opening, named_same, named_set, odd_apart, odd_next}
 
-module _ (c : Columns) (s : AreSound c) (l : SameLengths c) where
+module _ (c : ColumnTable) (s : AreSound c) (l : SameLengths c) where
   module _ (f : ℕ) (low : f < used c) (left : f % 2 ≡ 1) (split : is_trace c f ≡ true) where
     abbrev up_of : ℕ
     up_of = slice_index c.parents f
@@ -46,16 +46,16 @@ module _ (c : Columns) (s : AreSound c) (l : SameLengths c) where
     right_split : is_trace c (f + 1) ≡ true
     right_split = s.pairs f left low ∙ split
 
-    pub merge_left : (has c.brackets (opening f) ≡ true) × (has c.brackets (closing f) ≡ true)
+    pub merge_left : (has c.brackets (opening_mark f) ≡ true) × (has c.brackets (closing_mark f) ≡ true)
     merge_left = s.there f split
 
-    pub merge_right : (has c.brackets (opening (f + 1)) ≡ true) × (has c.brackets (closing (f + 1)) ≡ true)
+    pub merge_right : (has c.brackets (opening_mark (f + 1)) ≡ true) × (has c.brackets (closing_mark (f + 1)) ≡ true)
     merge_right = s.there (f + 1) right_split
 
     pub merge_smaller : (i : ℕ) → i < f → owner c i < f
     merge_smaller i h = let le : owner c i ≤ i = s.owner_low i (omega arith) in omega arith
 
-    abbrev m : Columns
+    abbrev m : ColumnTable
     m = merged f c
 
     abbrev whole_row : Trace
@@ -131,26 +131,26 @@ module _ (c : Columns) (s : AreSound c) (l : SameLengths c) where
 
       stays : (x b : ℕ) → x ≢ f → x ≢ f + 1 → b / 2 ≡ x → not (is_mark_of f b || is_mark_of (f + 1) b) ≡ true
       stays x b p q e = rw (
-        ne_eqb b (opening f) (λ z. p (sym e ∙ ap (λ n. n / 2) z ∙ half_opening f)),
-        ne_eqb b (closing f) (λ z. p (sym e ∙ ap (λ n. n / 2) z ∙ half_closing f)),
-        ne_eqb b (opening (f + 1)) (λ z. q (sym e ∙ ap (λ n. n / 2) z ∙ half_opening (f + 1))),
-        ne_eqb b (closing (f + 1)) (λ z. q (sym e ∙ ap (λ n. n / 2) z ∙ half_closing (f + 1))),
+        ne_eqb b (opening_mark f) (λ z. p (sym e ∙ ap (λ n. n / 2) z ∙ half_opening f)),
+        ne_eqb b (closing_mark f) (λ z. p (sym e ∙ ap (λ n. n / 2) z ∙ half_closing f)),
+        ne_eqb b (opening_mark (f + 1)) (λ z. q (sym e ∙ ap (λ n. n / 2) z ∙ half_opening (f + 1))),
+        ne_eqb b (closing_mark (f + 1)) (λ z. q (sym e ∙ ap (λ n. n / 2) z ∙ half_closing (f + 1))),
       ) refl
 
-      there_new : (x : ℕ) → is_trace m x ≡ true → (has m.brackets (opening x) ≡ true) × (has m.brackets (closing x) ≡ true)
+      there_new : (x : ℕ) → is_trace m x ≡ true → (has m.brackets (opening_mark x) ≡ true) × (has m.brackets (closing_mark x) ≡ true)
       there_new x h =
           let n = not_f x h in
           let w = s.there x (sym (others x n.0 n.1) ∙ h) in (
-            has_filter (λ b. not (is_mark_of f b || is_mark_of (f + 1) b)) c.brackets (opening x) (stays x (opening x) n.0 n.1 (half_opening x)) ∙ w.0,
-            has_filter (λ b. not (is_mark_of f b || is_mark_of (f + 1) b)) c.brackets (closing x) (stays x (closing x) n.0 n.1 (half_closing x)) ∙ w.1,
+            has_filter (λ b. not (is_mark_of f b || is_mark_of (f + 1) b)) c.brackets (opening_mark x) (stays x (opening_mark x) n.0 n.1 (half_opening x)) ∙ w.0,
+            has_filter (λ b. not (is_mark_of f b || is_mark_of (f + 1) b)) c.brackets (closing_mark x) (stays x (closing_mark x) n.0 n.1 (half_closing x)) ∙ w.1,
           )
 
-      of_half : (b x : ℕ) → b / 2 ≡ x → (b ≡ opening x) ⊎ (b ≡ closing x)
+      of_half : (b x : ℕ) → b / 2 ≡ x → (b ≡ opening_mark x) ⊎ (b ≡ closing_mark x)
       of_half b x q = grind arith
 
-      is_gone : (x b : ℕ) → (b ≡ opening x) ⊎ (b ≡ closing x) → is_mark_of x b ≡ true
-      is_gone x b (inl e) = or_left (nat_eq b (opening x)) (nat_eq b (closing x)) (eq-eqb b (opening x) e)
-      is_gone x b (inr e) = or_right (nat_eq b (opening x)) (nat_eq b (closing x)) (eq-eqb b (closing x) e)
+      is_gone : (x b : ℕ) → (b ≡ opening_mark x) ⊎ (b ≡ closing_mark x) → is_mark_of x b ≡ true
+      is_gone x b (inl e) = or_left (nat_eq b (opening_mark x)) (nat_eq b (closing_mark x)) (eq-eqb b (opening_mark x) e)
+      is_gone x b (inr e) = or_right (nat_eq b (opening_mark x)) (nat_eq b (closing_mark x)) (eq-eqb b (closing_mark x) e)
 
       gone : (p q : Bool) → not (p || q) ≡ true → (p ≡ false) × (q ≡ false)
       gone true q e = absurd (cc e)

@@ -5,7 +5,7 @@ use Rattle.std.proofs.lemmas.Bool.{leb-true}
 use Rattle.std.proofs.lemmas.List.{length-set}
 use Rattle.cw_tree.specs.Walks.{has}
 use Rattle.cw_trace.specs.declared.tier.Trace.{Trace}
-use Rattle.cw_trace.specs.Columns.{Columns, used, owner, trace, trace_in, is_trace, outer, outer_at, fork_in, opening, closing, marks, place_after, part_of, parts, back_to, forked, split_at, merged, is_mark_of, around_fork}
+use Rattle.cw_trace.specs.Columns.{ColumnTable, used, owner, trace, trace_in, is_trace, outer, outer_at, fork_in, opening_mark, closing_mark, marks, place_after, part_of, parts, back_to, forked, split_at, merged, is_mark_of, around_fork}
 use Rattle.cw_trace.specs.Tier.{trace_count, AreSound}
 use Rattle.cw_trace.proofs.Edits.{length_parts, parts_at}
 use Rattle.cw_trace.proofs.Lines.{same_or, or_cases, or_left, or_right, both_true}
@@ -14,7 +14,7 @@ use Rattle.cw_trace.proofs.FourMarks.{length_place}
 use Rattle.cw_trace.proofs.Nested.{distinct_marks}
 use Rattle.cw_trace.proofs.Counts.{SameLengths, count_fill, count_keep, count_le, half_closing, half_marks, half_opening, lacks_mark, marks_has, named_same, named_set, odd_apart, odd_next}
 
-module _ (c : Columns) (s : AreSound c) (l : SameLengths c) where
+module _ (c : ColumnTable) (s : AreSound c) (l : SameLengths c) where
   module _ (f : ℕ) (low : f < used c) (left : f % 2 ≡ 1) (whole : is_trace c f ≡ false) where
     abbrev t : ℕ
     t = owner c f
@@ -37,16 +37,16 @@ module _ (c : Columns) (s : AreSound c) (l : SameLengths c) where
     pub split_trace_low : t < used c
     split_trace_low = omega (arith, t_low, low)
 
-    pub split_around : has c.brackets (opening t) ≡ true
+    pub split_around : has c.brackets (opening_mark t) ≡ true
     split_around = (s.there t t_trace).0
 
-    pub split_left : (has c.brackets (opening f) ≡ false) × (has c.brackets (closing f) ≡ false)
-    split_left = (lacks_mark c s l f (opening f) whole (half_opening f), lacks_mark c s l f (closing f) whole (half_closing f))
+    pub split_left : (has c.brackets (opening_mark f) ≡ false) × (has c.brackets (closing_mark f) ≡ false)
+    split_left = (lacks_mark c s l f (opening_mark f) whole (half_opening f), lacks_mark c s l f (closing_mark f) whole (half_closing f))
 
-    pub split_right : (has c.brackets (opening (f + 1)) ≡ false) × (has c.brackets (closing (f + 1)) ≡ false)
-    split_right = (lacks_mark c s l (f + 1) (opening (f + 1)) right_whole (half_opening (f + 1)), lacks_mark c s l (f + 1) (closing (f + 1)) right_whole (half_closing (f + 1)))
+    pub split_right : (has c.brackets (opening_mark (f + 1)) ≡ false) × (has c.brackets (closing_mark (f + 1)) ≡ false)
+    split_right = (lacks_mark c s l (f + 1) (opening_mark (f + 1)) right_whole (half_opening (f + 1)), lacks_mark c s l (f + 1) (closing_mark (f + 1)) right_whole (half_closing (f + 1)))
 
-    abbrev d : Columns
+    abbrev d : ColumnTable
     d = split_at f c
 
     abbrev row : Trace
@@ -128,7 +128,7 @@ module _ (c : Columns) (s : AreSound c) (l : SameLengths c) where
       ]
 
     brackets_has : (b : ℕ) → has d.brackets b ≡ (has (marks f) b || has c.brackets b)
-    brackets_has b = has_place (opening t) (marks f) c.brackets b split_around
+    brackets_has b = has_place (opening_mark t) (marks f) c.brackets b split_around
 
     two_more : trace_count d.traces ≡ suc (suc (trace_count c.traces))
     two_more =
@@ -156,10 +156,10 @@ module _ (c : Columns) (s : AreSound c) (l : SameLengths c) where
       ];
       pairs = λ x o h. pairs_new x o (omega (arith, same_used)) (same_or x f);
       outer_low = λ i o e. (let w = s.outer_low i o e in omega (arith, same_used));
-      distinct = distinct_place (opening t) (marks f) c.brackets (distinct_marks f) s.distinct no_mark;
-      count = omega (arith, length_place (opening t) (marks f) c.brackets split_around, s.count, two_more);
+      distinct = distinct_place (opening_mark t) (marks f) c.brackets (distinct_marks f) s.distinct no_mark;
+      count = omega (arith, length_place (opening_mark t) (marks f) c.brackets split_around, s.count, two_more);
       there = λ x h. elim (names_back x h) [
-        | inl e ↦ (let w = s.there x e in (brackets_has (opening x) ∙ or_right (has (marks f) (opening x)) (has c.brackets (opening x)) w.0, brackets_has (closing x) ∙ or_right (has (marks f) (closing x)) (has c.brackets (closing x)) w.1))
+        | inl e ↦ (let w = s.there x e in (brackets_has (opening_mark x) ∙ or_right (has (marks f) (opening_mark x)) (has c.brackets (opening_mark x)) w.0, brackets_has (closing_mark x) ∙ or_right (has (marks f) (closing_mark x)) (has c.brackets (closing_mark x)) w.1))
         | inr z ↦ there_new x z
       ];
       only = λ b h. elim (or_cases (has (marks f) b) (has c.brackets b) (sym (brackets_has b) ∙ h)) [
@@ -180,6 +180,6 @@ module _ (c : Columns) (s : AreSound c) (l : SameLengths c) where
       in_marks : (b : ℕ) → has (marks f) b ≡ true → has d.brackets b ≡ true
       in_marks b h = brackets_has b ∙ or_left (has (marks f) b) (has c.brackets b) h
 
-      there_new : (x : ℕ) → (x ≡ f) ⊎ (x ≡ f + 1) → (has d.brackets (opening x) ≡ true) × (has d.brackets (closing x) ≡ true)
-      there_new x (inl e) = (ap (λ n. has d.brackets (opening n)) e ∙ in_marks (opening f) (marks_has f).0, ap (λ n. has d.brackets (closing n)) e ∙ in_marks (closing f) (marks_has f).1)
-      there_new x (inr e) = (ap (λ n. has d.brackets (opening n)) e ∙ in_marks (opening (f + 1)) (marks_has f).2, ap (λ n. has d.brackets (closing n)) e ∙ in_marks (closing (f + 1)) (marks_has f).3)
+      there_new : (x : ℕ) → (x ≡ f) ⊎ (x ≡ f + 1) → (has d.brackets (opening_mark x) ≡ true) × (has d.brackets (closing_mark x) ≡ true)
+      there_new x (inl e) = (ap (λ n. has d.brackets (opening_mark n)) e ∙ in_marks (opening_mark f) (marks_has f).0, ap (λ n. has d.brackets (closing_mark n)) e ∙ in_marks (closing_mark f) (marks_has f).1)
+      there_new x (inr e) = (ap (λ n. has d.brackets (opening_mark n)) e ∙ in_marks (opening_mark (f + 1)) (marks_has f).2, ap (λ n. has d.brackets (closing_mark n)) e ∙ in_marks (closing_mark (f + 1)) (marks_has f).3)

@@ -4,10 +4,10 @@ use Rattle.std.specs.Prelude.{◌⊎◌, ◌%◌, ◌&&◌, not, nat_le, slice_i
 use Rattle.std.proofs.lemmas.Bool.{leb-true, le-leb, ne_eqb}
 use Rattle.std.proofs.lemmas.List.{get_or-set_same, get_or-set_other, length-set}
 use Rattle.cw_trace.specs.declared.tier.Trace.{Trace}
-use Rattle.cw_trace.specs.Columns.{Columns, used, owner, gap, trace, trace_in, head, head_in, lead, lead_in, up, left_of, split_at, part_of, is_lead, or_else}
+use Rattle.cw_trace.specs.Columns.{ColumnTable, used, owner, gap, trace, trace_in, head, head_in, lead, lead_in, up, left_column_of, split_at, part_of, is_lead, or_else}
 use Rattle.cw_tree.specs.Walks.{has}
 use Rattle.cw_trace.specs.Stands.{around, is_apart, names_trace}
-use Rattle.cw_trace.specs.Segments.{IsOpen, Start, IsCut, IsTrace, IsLive, Within, Segments, MaySplit, next_outward}
+use Rattle.cw_trace.specs.Segments.{IsOpen, SegmentStart, IsCut, IsTrace, IsLive, Within, Segments, MaySplit, next_outward}
 use Rattle.cw_trace.proofs.Edits.{length_parts, parts_at, has_cons_same, has_cons_other, set_get_same, set_get_other}
 use Rattle.cw_trace.proofs.Lines.{same_or, le_or_lt, both_true, and_true, or_cases, or_left, or_right, left_of_odd, left_of_next, left_of_cases, left_of_le, is_split, unsplit, own_trace, own_self, open_after, gap_le, start_used, later_gap, right_used}
 use Rattle.cw_trace.proofs.Outward.{all_past}
@@ -17,11 +17,11 @@ odd_apart s r a b = λ e. by_eq s r a b e where
   by_eq : (s r : ℕ) → s % 2 ≡ 1 → r % 2 ≡ 1 → s ≡ r + 1 → ⊥
   by_eq s r a b e = omega arith
 
-module _ (c : Columns) (cuts joins : List ℕ) (pend : ℕ → Bool) (col : ℕ → ℕ) (g : Segments c cuts joins pend col) (f : ℕ) (m : MaySplit c cuts joins pend col f) (early : next_outward c cuts f ≡ None) where
+module _ (c : ColumnTable) (cuts joins : List ℕ) (pend : ℕ → Bool) (col : ℕ → ℕ) (g : Segments c cuts joins pend col) (f : ℕ) (m : MaySplit c cuts joins pend col f) (early : next_outward c cuts f ≡ None) where
   abbrev t : ℕ
   t = owner c f
 
-  abbrev d : Columns
+  abbrev d : ColumnTable
   d = split_at f c
 
   abbrev cuts2 : List ℕ
@@ -183,10 +183,10 @@ module _ (c : Columns) (cuts joins : List ℕ) (pend : ℕ → Bool) (col : ℕ 
     is_T : x ≡ t → Kind x
     is_O : Other x → IsTrace c cuts joins x → Kind x
 
-  apart_same : (i : ℕ) → left_of i ≢ f → is_apart cuts2 joins i ≡ is_apart cuts joins i
-  apart_same i n = ap (λ b. b && not (has joins (left_of i))) (has_cons_other cuts f (left_of i) n)
+  apart_same : (i : ℕ) → left_column_of i ≢ f → is_apart cuts2 joins i ≡ is_apart cuts joins i
+  apart_same i n = ap (λ b. b && not (has joins (left_column_of i))) (has_cons_other cuts f (left_column_of i) n)
 
-  not_left : (i : ℕ) → 0 < i → i ≢ f → i ≢ f + 1 → left_of i ≢ f
+  not_left : (i : ℕ) → 0 < i → i ≢ f → i ≢ f + 1 → left_column_of i ≢ f
   not_left i p a b = λ e. elim (left_of_cases i p) [ inl q ↦ a (q ∙ e) | inr q ↦ b (q ∙ ap (λ z. z + 1) e) ]
 
   pub kind : (x : ℕ) → IsTrace d cuts2 joins x → Kind x
@@ -204,19 +204,19 @@ module _ (c : Columns) (cuts joins : List ℕ) (pend : ℕ → Bool) (col : ℕ 
       | inr q ↦ or_right (nat_eq x 0) (is_apart cuts joins x) (sym (apart_same x (not_left x (omega (arith, z)) l r)) ∙ q)
     ]
 
-  start_R : (x s : ℕ) → x ≡ f + 1 → Start d joins x s → s ≡ f + 1
+  start_R : (x s : ℕ) → x ≡ f + 1 → SegmentStart d joins x s → s ≡ f + 1
   start_R x s e (inl q) = q ∙ e
   start_R x s e (inr o) = absurd (open_R x s e o)
 
-  start_L : (x s : ℕ) → x ≡ f → Start d joins x s → (Start c joins t s) × (f ≤ s) × (s ≢ f + 1)
-  start_L x s e (inl q) = (let P : ℕ → Type 0 = λ y. Start c joins t y in subst P (sym (q ∙ e)) (inr open_f), omega (arith, q, e), λ z. omega (arith, z, q, e))
+  start_L : (x s : ℕ) → x ≡ f → SegmentStart d joins x s → (SegmentStart c joins t s) × (f ≤ s) × (s ≢ f + 1)
+  start_L x s e (inl q) = (let P : ℕ → Type 0 = λ y. SegmentStart c joins t y in subst P (sym (q ∙ e)) (inr open_f), omega (arith, q, e), λ z. omega (arith, z, q, e))
   start_L x s e (inr o) = let z = open_L x s e o in (inr z.0, (let l : f < s = z.1 in omega arith), odd_apart s f o.left m.left)
 
-  start_T : (x s : ℕ) → x ≡ t → Start d joins x s → (Start c joins t s) × (s ≤ f) × (s ≢ f + 1)
+  start_T : (x s : ℕ) → x ≡ t → SegmentStart d joins x s → (SegmentStart c joins t s) × (s ≤ f) × (s ≢ f + 1)
   start_T x s e (inl q) = (inl (q ∙ e), omega (arith, q, e, t_low), λ z. omega (arith, z, q, e, t_low))
   start_T x s e (inr o) = let z = open_T x s e o in (inr z.0, z.1, odd_apart s f o.left m.left)
 
-  start_O : (x s : ℕ) → Other x → Start d joins x s → (Start c joins x s) × (s ≢ f + 1)
+  start_O : (x s : ℕ) → Other x → SegmentStart d joins x s → (SegmentStart c joins x s) × (s ≢ f + 1)
   start_O x s e (inl q) = (inl q, λ z. e.not_r (sym q ∙ z))
   start_O x s e (inr o) = (inr (open_O x s e o), odd_apart s f o.left m.left)
 
@@ -378,15 +378,15 @@ module _ (c : Columns) (cuts joins : List ℕ) (pend : ℕ → Bool) (col : ℕ 
   together2 : (i : ℕ) → 0 < i → i < used d → is_apart cuts2 joins i ≡ false → owner d i ≡ around d i
   together2 i p h0 a =
       let h : i < used c = old i h0 in
-      let n : left_of i ≢ f = λ q. cc (is_split cuts2 joins i (ap (has cuts2) q ∙ has_cons_same cuts f) (ap (has joins) q ∙ m.unjoined), a) in
+      let n : left_column_of i ≢ f = λ q. cc (is_split cuts2 joins i (ap (has cuts2) q ∙ has_cons_same cuts f) (ap (has joins) q ∙ m.unjoined), a) in
       let same : is_apart cuts joins i ≡ false = sym (apart_same i n) ∙ a in
       let o : owner c i ≡ around c i = g.together i p h same in
       let low : slice_index c.parents i < i = g.rooted i p h in
       let not_right : slice_index c.parents i ≢ f + 1 = m.no_fork i p h in
       elim (part i h) [
-        | right q w ↦ absurd (n (ap left_of q ∙ left_of_next f m.left))
+        | right q w ↦ absurd (n (ap left_column_of q ∙ left_of_next f m.left))
         | left k q l w ↦ (
-            let not_f : i ≢ f = λ z. n (ap left_of z ∙ left_of_odd f m.left) in
+            let not_f : i ≢ f = λ z. n (ap left_column_of z ∙ left_of_odd f m.left) in
             let le : f ≤ slice_index c.parents i = g.nested t f i tr (inr open_f) h (omega (arith, l, not_f, k)) (sym o ∙ q) in
             elim (part (slice_index c.parents i) (par i p h)) [ right z y ↦ absurd (not_right z) | left z y x v ↦ w ∙ sym v | rest z y x ↦ (let v : slice_index c.parents i < f = x (sym o ∙ q) in absurd (omega arith)) ])
         | rest k w l ↦ elim (part (slice_index c.parents i) (par i p h)) [
@@ -411,11 +411,11 @@ module _ (c : Columns) (cuts joins : List ℕ) (pend : ℕ → Bool) (col : ℕ 
         ]
       ]
 
-  gap_step2 : (i : ℕ) → 0 < i → i < used d → (gap d i ≡ gap d (slice_index d.parents i)) ⊎ ((left_of i ≤ gap d i) × (gap d i ≤ i))
+  gap_step2 : (i : ℕ) → 0 < i → i < used d → (gap d i ≡ gap d (slice_index d.parents i)) ⊎ ((left_column_of i ≤ gap d i) × (gap d i ≤ i))
   gap_step2 i p h0 =
       let h : i < used c = old i h0 in
       elim (same_or i (f + 1)) [
-        | inl e ↦ inr (let y = left_of_le i p in (omega (arith, ap (gap d) e, gap_right, e, left_of_next f m.left, ap left_of e), omega (arith, ap (gap d) e, gap_right, e)))
+        | inl e ↦ inr (let y = left_of_le i p in (omega (arith, ap (gap d) e, gap_right, e, left_of_next f m.left, ap left_column_of e), omega (arith, ap (gap d) e, gap_right, e)))
         | inr n ↦ elim (g.gap_step i p h) [
           | inl q ↦ inl (gap_other i n ∙ q ∙ sym (gap_other (slice_index c.parents i) (m.no_fork i p h)))
           | inr q ↦ inr (omega (arith, gap_other i n, q.0), omega (arith, gap_other i n, q.1))
@@ -438,7 +438,7 @@ module _ (c : Columns) (cuts joins : List ℕ) (pend : ℕ → Bool) (col : ℕ 
       elim (same_or i (f + 1)) [ inl e ↦ z.0 (omega (arith, sym (ap (gap d) e ∙ gap_right) ∙ q)) | inr n ↦ g.right_new s i o (old s h) (old i k) z.1 (sym (gap_other i n) ∙ q) ]
 
   -- one line for each trace
-  nested2 : (x s i : ℕ) → IsTrace d cuts2 joins x → Start d joins x s → i < used d → s + 1 < i → around d i ≡ x → s ≤ slice_index d.parents i
+  nested2 : (x s i : ℕ) → IsTrace d cuts2 joins x → SegmentStart d joins x s → i < used d → s + 1 < i → around d i ≡ x → s ≤ slice_index d.parents i
   nested2 x s i n st h0 l a =
       let h : i < used c = old i h0 in
       let p : 0 < i = omega arith in
@@ -491,7 +491,7 @@ module _ (c : Columns) (cuts joins : List ℕ) (pend : ℕ → Bool) (col : ℕ 
     by_kind (inr z) = let v = g.taken_back x k s z.1 (open_O x s z.0 o) n in (v.0, v.1, new v.0 v.2, v.3)
 
   -- gaps and pending blocks
-  gap_owned2 : (x s b : ℕ) → IsTrace d cuts2 joins x → Start d joins x s → IsLive d cuts2 joins x s → pend b ≡ true → gap d (col b) ≡ gap d s → (owner d (col b) ≡ x) × (s ≤ col b)
+  gap_owned2 : (x s b : ℕ) → IsTrace d cuts2 joins x → SegmentStart d joins x s → IsLive d cuts2 joins x s → pend b ≡ true → gap d (col b) ≡ gap d s → (owner d (col b) ≡ x) × (s ≤ col b)
   gap_owned2 x s b n st l p e = by_kind (kind x n) where
     by_kind : Kind x → (owner d (col b) ≡ x) × (s ≤ col b)
     by_kind (is_R q) = absurd (g.right_new f (col b) m.left m.low (g.there b p) m.uncut (sym (gap_col b p) ∙ e ∙ ap (gap d) (start_R x s q st) ∙ gap_right))
@@ -522,7 +522,7 @@ module _ (c : Columns) (cuts joins : List ℕ) (pend : ℕ → Bool) (col : ℕ 
         let v = g.gap_owned x s b k u.0 (live_O x s o u.1 l) p (sym (gap_col b p) ∙ e ∙ gap_other s u.1) in
         (to_O x b o p v.0, v.1)
 
-  gap_first2 : (x s b : ℕ) → IsTrace d cuts2 joins x → Start d joins x s → IsLive d cuts2 joins x s → Within d pend col x s b → (a : ℕ) × (a ≤ b) × (pend a ≡ true) × (gap d (col a) ≡ gap d s)
+  gap_first2 : (x s b : ℕ) → IsTrace d cuts2 joins x → SegmentStart d joins x s → IsLive d cuts2 joins x s → Within d pend col x s b → (a : ℕ) × (a ≤ b) × (pend a ≡ true) × (gap d (col a) ≡ gap d s)
   gap_first2 x s b n st l w = by_kind (kind x n) where
     with_gap : s ≢ f + 1 → ((a : ℕ) × (a ≤ b) × (pend a ≡ true) × (gap c (col a) ≡ gap c s)) → (a : ℕ) × (a ≤ b) × (pend a ≡ true) × (gap d (col a) ≡ gap d s)
     with_gap ne z = (z.0, z.1, z.2, gap_col z.0 z.2 ∙ z.3 ∙ sym (gap_other s ne))
@@ -533,7 +533,7 @@ module _ (c : Columns) (cuts joins : List ℕ) (pend : ℕ → Bool) (col : ℕ 
     by_kind (is_T q) = let u = start_T x s q st in with_gap u.2 (g.gap_first t s b tr u.0 (live s) (record { pending = w.pending; owned = (in_T x b q w.pending w.owned).0; after = w.after }))
     by_kind (is_O o k) = let u = start_O x s o st in with_gap u.1 (g.gap_first x s b k u.0 (live_O x s o u.1 l) (record { pending = w.pending; owned = in_O x b o w.pending w.owned; after = w.after }))
 
-  shared2 : (x s r b : ℕ) → IsTrace d cuts2 joins x → Start d joins x s → Start d joins x r → s < r → gap d s ≡ gap d r → Within d pend col x s b → col b < r → ⊥
+  shared2 : (x s r b : ℕ) → IsTrace d cuts2 joins x → SegmentStart d joins x s → SegmentStart d joins x r → s < r → gap d s ≡ gap d r → Within d pend col x s b → col b < r → ⊥
   shared2 x s r b n st sr lt e w k = by_kind (kind x n) where
     by_kind : Kind x → ⊥
     by_kind (is_R q) = not_R x b q w.pending w.owned
@@ -550,7 +550,7 @@ module _ (c : Columns) (cuts joins : List ℕ) (pend : ℕ → Bool) (col : ℕ 
         let v = start_O x r o sr in
         g.shared x s r b i u.0 v.0 lt (sym (gap_other s u.1) ∙ e ∙ gap_other r v.1) (record { pending = w.pending; owned = in_O x b o w.pending w.owned; after = w.after }) k
 
-  parted2 : (x s r : ℕ) → IsTrace d cuts2 joins x → Start d joins x s → Start d joins x r → s < r → (gap d s ≡ gap d r → ⊥) → (b : ℕ) × (col b < r) × Within d pend col x s b
+  parted2 : (x s r : ℕ) → IsTrace d cuts2 joins x → SegmentStart d joins x s → SegmentStart d joins x r → s < r → (gap d s ≡ gap d r → ⊥) → (b : ℕ) × (col b < r) × Within d pend col x s b
   parted2 x s r n st sr lt ne = by_kind (kind x n) where
     by_kind : Kind x → (b : ℕ) × (col b < r) × Within d pend col x s b
     by_kind (is_R q) = absurd (ne (ap (gap d) (start_R x s q st ∙ sym (start_R x r q sr))))
@@ -581,7 +581,7 @@ module _ (c : Columns) (cuts joins : List ℕ) (pend : ℕ → Bool) (col : ℕ 
   right_gap_none : (i : ℕ) → i < used c → gap c i ≡ f + 1 → ⊥
   right_gap_none i h q = g.right_new f i m.left m.low h m.uncut q
 
-  left_and_old : (x s r : ℕ) → x ≡ t → IsLive d cuts2 joins x s → Start c joins t s → s ≤ f → s ≢ f + 1 → Start c joins t r → f ≤ r → gap c s ≡ gap c r → ⊥
+  left_and_old : (x s r : ℕ) → x ≡ t → IsLive d cuts2 joins x s → SegmentStart c joins t s → s ≤ f → s ≢ f + 1 → SegmentStart c joins t r → f ≤ r → gap c s ≡ gap c r → ⊥
   left_and_old x s r q l u le ne v ge e =
       let a : gap c s ≢ gap c f = live_T x s q ne l in
       let k : s ≢ f = λ y. a (ap (gap c) y) in
@@ -589,9 +589,9 @@ module _ (c : Columns) (cuts joins : List ℕ) (pend : ℕ → Bool) (col : ℕ 
       let lt : col z.0 < f = z.1 in
       g.shared t s r z.0 tr u v (omega (arith, k)) e z.2 (omega arith)
 
-  one_trace2 : (x y s r : ℕ) → IsTrace d cuts2 joins x → IsTrace d cuts2 joins y → Start d joins x s → Start d joins y r → IsLive d cuts2 joins x s → IsLive d cuts2 joins y r → gap d s ≡ gap d r → x ≡ y
+  one_trace2 : (x y s r : ℕ) → IsTrace d cuts2 joins x → IsTrace d cuts2 joins y → SegmentStart d joins x s → SegmentStart d joins y r → IsLive d cuts2 joins x s → IsLive d cuts2 joins y r → gap d s ≡ gap d r → x ≡ y
   one_trace2 x y s r n k st sr l h e = by_kind (kind x n) (kind y k) where
-    gap_R : (z i : ℕ) → z ≡ f + 1 → Start d joins z i → gap d i ≡ f + 1
+    gap_R : (z i : ℕ) → z ≡ f + 1 → SegmentStart d joins z i → gap d i ≡ f + 1
     gap_R z i q w = ap (gap d) (start_R z i q w) ∙ gap_right
 
     by_kind : Kind x → Kind y → x ≡ y

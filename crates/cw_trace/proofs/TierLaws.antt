@@ -7,7 +7,7 @@ use Rattle.cw_tree.specs.declared.node.BlockState.{BlockState}
 use Rattle.cw_tree.specs.Nodes.{is_pending, is_block, is_fork_kind, is_strand_kind, is_block_kind, is_pending_state, fresh_node, closed}
 use Rattle.cw_tree.specs.declared.node.Kind.TheVariants.{Block}
 use Rattle.cw_tree.proofs.Closing.{length_closed, number_closed, node_closed, node_closed_other, state_closed}
-use Rattle.cw_trace.specs.Laws.{Reading, GoesOnBeneath, Start, Leaf, Begin, Close, Join}
+use Rattle.cw_trace.specs.Laws.{Reading, GoesOnBeneath, RootStands, Leaf, Begin, Close, Join}
 use Rattle.cw_trace.proofs.Adding.{keeps_leaf, keeps_begin}
 use Rattle.cw_trace.proofs.Ending.{SameShape, keeps_close}
 use Rattle.cw_trace.proofs.FromTree.{may_join}
@@ -23,7 +23,7 @@ reading c words t cuts joins k = stands_of c words t cuts joins k
 pub goes_on_beneath : GoesOnBeneath
 goes_on_beneath c words t cuts joins is_open p k tr o m = goes_on c words t cuts joins tr k is_open o p m
 
-pub start : Start
+pub start : RootStands
 start room words some fits zeros = keeps_first room words some fits zeros
 
 pub leaf : Leaf

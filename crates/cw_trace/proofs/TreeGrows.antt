@@ -11,7 +11,7 @@ use Rattle.cw_tree.specs.Series.{children}
 use Rattle.cw_tree.specs.Shape.{IsTree}
 use Rattle.cw_tree.proofs.Growing.{node_grown, number_grown}
 use Rattle.cw_tree.proofs.Members.{in_below, filter_same, below_none, below_last}
-use Rattle.cw_trace.specs.Columns.{Columns}
+use Rattle.cw_trace.specs.Columns.{ColumnTable}
 use Rattle.cw_trace.specs.Running.{IsOrdered, MayGoOn}
 use Rattle.cw_tree.specs.NextNodes.{fork_nodes}
 use Rattle.cw_trace.proofs.Forking.{get_right}
@@ -29,7 +29,7 @@ pending_is_block t n e = by_node (slice_get t n) e where
   by_node (Some x) h = (and_parts (is_block_kind x.kind) (is_pending_state x.state) h).0
 
 -- where a strand may go on is a strand or a block
-pub may_have : (c : Columns) (t : List Node) (cuts joins : List ℕ) (is_open : ℕ → Bool) → IsOrdered c t cuts joins is_open → (p : ℕ) → MayGoOn c t cuts is_open p → MayHaveChildren t p
+pub may_have : (c : ColumnTable) (t : List Node) (cuts joins : List ℕ) (is_open : ℕ → Bool) → IsOrdered c t cuts joins is_open → (p : ℕ) → MayGoOn c t cuts is_open p → MayHaveChildren t p
 may_have c t cuts joins is_open o p m = (
   m.no_fork,
   elim (o.kinds p m.there m.opened) [

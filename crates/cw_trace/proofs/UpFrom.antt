@@ -8,19 +8,19 @@ use Rattle.cw_tree.specs.Shape.{IsTree}
 use Rattle.cw_tree.proofs.Climbs.{by_parent}
 use Rattle.cw_tree.proofs.Ancestors.{ancestor_up, ancestor_self, ancestor_root}
 use Rattle.cw_tree.proofs.Upward.{ancestor_cases}
-use Rattle.cw_trace.specs.Columns.{Columns, used, owner, up}
-use Rattle.cw_trace.specs.Stands.{Stands, column, fork_column, is_cut_at, outermost}
+use Rattle.cw_trace.specs.Columns.{ColumnTable, used, owner, up}
+use Rattle.cw_trace.specs.Stands.{Stands, column, fork_column, is_cut_at, outermost_pending}
 use Rattle.cw_trace.proofs.Counting.{none_below, some_below}
 use Rattle.cw_trace.proofs.Lines.{and_true, both_true}
 use Rattle.cw_trace.proofs.Owners.{Heads, HeadOf, OwnStep, own_step, own_root, cut_of, own_named}
 
-module _ (c : Columns) (words : List ℕ) (t : List Node) (cuts merges : List ℕ) (tr : IsTree t) (st : Stands c words t cuts merges) where
+module _ (c : ColumnTable) (words : List ℕ) (t : List Node) (cuts merges : List ℕ) (tr : IsTree t) (st : Stands c words t cuts merges) where
   abbrev own : ℕ → ℕ
   own n = owner c (column t (used c) n)
 
   -- the pending blocks of a trace
   abbrev pub first_begun : ℕ → Option ℕ
-  first_begun x = outermost t (used c) (λ i. nat_eq (owner c i) x)
+  first_begun x = outermost_pending t (used c) (λ i. nat_eq (owner c i) x)
 
   pub record FirstBegun (x b : ℕ) : Type 0 where
     pub there : b < length t

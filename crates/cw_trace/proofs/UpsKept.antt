@@ -1,31 +1,31 @@
 -- Splits, merges and forks keep the ups.
 use Rattle.std.proofs.Common.{◌≡◌, ◌≢◌, ℕ, ◌+◌, ◌<◌, List, ◌∷◌, refl, ap, sym, ◌∙◌, arith, Bool, true, Some, None, inl, inr, subst, eqb-true, nat_eq}
 use Rattle.std.specs.Prelude.{◌⊎◌, ◌%◌, slice_index}
-use Rattle.cw_trace.specs.Columns.{Columns, used, owner, gap, up, up_in, left_of, or_else, split_at, merged, forked}
+use Rattle.cw_trace.specs.Columns.{ColumnTable, used, owner, gap, up, up_in, left_column_of, or_else, split_at, merged, forked}
 use Rattle.cw_trace.specs.Stands.{around, is_apart}
-use Rattle.cw_trace.specs.Segments.{Start, IsCut, IsTrace, Within, Segments, MaySplit, MayMerge, Active, Ups, next_outward}
+use Rattle.cw_trace.specs.Segments.{SegmentStart, IsCut, IsTrace, Within, Segments, MaySplit, MayMerge, Active, Ups, next_outward}
 use Rattle.cw_trace.proofs.Lines.{same_or, or_cases, left_of_cases, left_of_is_odd, left_of_le, apart_parts, own_le}
 use Rattle.cw_trace.proofs.Split as split
 use Rattle.cw_trace.proofs.Merge as merge
 use Rattle.cw_trace.proofs.Fork as fork
 
-module _ (c : Columns) (cuts joins : List ℕ) (pend : ℕ → Bool) (col : ℕ → ℕ) (g : Segments c cuts joins pend col) where
+module _ (c : ColumnTable) (cuts joins : List ℕ) (pend : ℕ → Bool) (col : ℕ → ℕ) (g : Segments c cuts joins pend col) where
   trace_apart : (x : ℕ) → 0 < x → IsTrace c cuts joins x → is_apart cuts joins x ≡ true
   trace_apart x p n = elim (or_cases (nat_eq x 0) (is_apart cuts joins x) n.named) [ inl e ↦ absurd (let z : x ≡ 0 = eqb-true _ _ e in omega (arith, z)) | inr e ↦ e ]
 
   -- the trace around a trace was cut at its fork
-  pub cut_of : (x : ℕ) → 0 < x → IsTrace c cuts joins x → IsCut c cuts joins (around c x) (left_of x)
+  pub cut_of : (x : ℕ) → 0 < x → IsTrace c cuts joins x → IsCut c cuts joins (around c x) (left_column_of x)
   cut_of x p n =
       let z = apart_parts cuts joins x (trace_apart x p n) in
-      let odd : left_of x % 2 ≡ 1 = left_of_is_odd x p in
+      let odd : left_column_of x % 2 ≡ 1 = left_of_is_odd x p in
       let le = left_of_le x p in
-      let low : left_of x < used c = omega (arith, le.0, n.low) in
+      let low : left_column_of x < used c = omega (arith, le.0, n.low) in
       record {
         fork = record {
           low = low;
           left = odd;
           unjoined = z.1;
-          outside = elim (left_of_cases x p) [ inl q ↦ sym (ap (around c) q) | inr q ↦ sym (ap (owner c) (ap (λ i. slice_index c.parents i) q ∙ g.pairs (left_of x) odd low)) ];
+          outside = elim (left_of_cases x p) [ inl q ↦ sym (ap (around c) q) | inr q ↦ sym (ap (owner c) (ap (λ i. slice_index c.parents i) q ∙ g.pairs (left_column_of x) odd low)) ];
         };
         cut = z.0;
       }
@@ -41,7 +41,7 @@ module _ (c : Columns) (cuts joins : List ℕ) (pend : ℕ → Bool) (col : ℕ 
       abbrev t : ℕ
       t = owner c f
 
-      abbrev d : Columns
+      abbrev d : ColumnTable
       d = split_at f c
 
       -- a trace that is not one of the new ones keeps what it had around it
@@ -53,7 +53,7 @@ module _ (c : Columns) (cuts joins : List ℕ) (pend : ℕ → Bool) (col : ℕ 
       around_of x p n =
           let w = cut_of x p n in
           let low : slice_index c.parents x < used c = par x p n.low in
-          let not_t : around c x ≢ t = λ e. (let P : ℕ → Type 0 = λ y. IsCut c cuts joins y (left_of x) in split.uncut c cuts joins pend col g f m early (left_of x) (subst P e w)) in
+          let not_t : around c x ≢ t = λ e. (let P : ℕ → Type 0 = λ y. IsCut c cuts joins y (left_column_of x) in split.uncut c cuts joins pend col g f m early (left_column_of x) (subst P e w)) in
           elim (split.part c cuts joins pend col g f m early (slice_index c.parents x) low) [
             | split.right q v ↦ absurd (m.no_fork x p n.low q)
             | split.left k q l v ↦ absurd (not_t q)
@@ -74,7 +74,7 @@ module _ (c : Columns) (cuts joins : List ℕ) (pend : ℕ → Bool) (col : ℕ 
       tr : IsTrace c cuts joins t
       tr = split.tr c cuts joins pend col g f m early
 
-      start_f : Start c joins t f
+      start_f : SegmentStart c joins t f
       start_f = inr (split.open_f c cuts joins pend col g f m early)
 
       t_low : t < f
@@ -148,7 +148,7 @@ module _ (c : Columns) (cuts joins : List ℕ) (pend : ℕ → Bool) (col : ℕ 
       abbrev t2 : ℕ
       t2 = around c f
 
-      abbrev d2 : Columns
+      abbrev d2 : ColumnTable
       d2 = merged f c
 
       pub record Around2 (x : ℕ) : Type 0 where
@@ -162,14 +162,14 @@ module _ (c : Columns) (cuts joins : List ℕ) (pend : ℕ → Bool) (col : ℕ 
           let k = cut_of x p w.trace in
           elim (merge.part c cuts joins pend col g f m (slice_index c.parents x) (par x p w.trace.low)) [
             | merge.moved q v ↦ absurd (elim q [
-              | inl z ↦ (m.no_fork (left_of x)).0 (record { low = k.fork.low; left = k.fork.left; unjoined = k.fork.unjoined; outside = k.fork.outside ∙ z })
-              | inr z ↦ (m.no_fork (left_of x)).1 (record { low = k.fork.low; left = k.fork.left; unjoined = k.fork.unjoined; outside = k.fork.outside ∙ z })
+              | inl z ↦ (m.no_fork (left_column_of x)).0 (record { low = k.fork.low; left = k.fork.left; unjoined = k.fork.unjoined; outside = k.fork.outside ∙ z })
+              | inr z ↦ (m.no_fork (left_column_of x)).1 (record { low = k.fork.low; left = k.fork.left; unjoined = k.fork.unjoined; outside = k.fork.outside ∙ z })
             ])
             | merge.stays a b v ↦ record {
               same = v;
               not_t = λ e. (
-                  let P : ℕ → Type 0 = λ y. IsCut c cuts joins y (left_of x) in
-                  let q : left_of x ≡ f = g.one_cut t2 (left_of x) f (subst P e k) (merge.cut_f c cuts joins pend col g f m) in
+                  let P : ℕ → Type 0 = λ y. IsCut c cuts joins y (left_column_of x) in
+                  let q : left_column_of x ≡ f = g.one_cut t2 (left_column_of x) f (subst P e k) (merge.cut_f c cuts joins pend col g f m) in
                   elim (left_of_cases x p) [ inl z ↦ w.not_f (z ∙ q) | inr z ↦ w.not_r (z ∙ ap (λ y. y + 1) q) ]);
               not_f = a;
               not_r = b;
@@ -197,7 +197,7 @@ module _ (c : Columns) (cuts joins : List ℕ) (pend : ℕ → Bool) (col : ℕ 
       }
 
     module _ (word i : ℕ) (a : Active c cuts joins i) (free : word ≡ 0 → (b : ℕ) → pend b ≡ true → gap c (col b) ≡ gap c i → ⊥) (taken : word ≢ 0 → (b : ℕ) × (pend b ≡ true) × (gap c (col b) ≡ gap c i)) where
-      abbrev d3 : Columns
+      abbrev d3 : ColumnTable
       d3 = forked word i c
 
       pub ups_fork : Ups d3 cuts joins pend col

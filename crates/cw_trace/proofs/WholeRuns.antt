@@ -2,10 +2,10 @@
 use Rattle.std.proofs.Common.{ℕ, List, refl}
 use Rattle.cw_tree.specs.declared.node.Node.{Node}
 use Rattle.cw_tree.proofs.Ancestors.{ancestor_trans}
-use Rattle.cw_trace.specs.Columns.{Columns, used, owner}
+use Rattle.cw_trace.specs.Columns.{ColumnTable, used, owner}
 use Rattle.cw_trace.specs.Stands.{column}
 use Rattle.cw_trace.specs.Keeps.{Keeps}
-use Rattle.cw_trace.specs.Runs.{Reached, start, fork, inline, split, merge, join, leaf, begin, close, EachRunStands, EachRunGoesOn, Suspended}
+use Rattle.cw_trace.specs.Runs.{ReachedTier, start, fork, inline, split, merge, join, leaf, begin, close, EachRunStands, EachRunGoesOn, Suspended}
 use Rattle.cw_trace.proofs.InRange.{pending_low}
 use Rattle.cw_trace.proofs.Kept.{fork_keeps, inline_keeps}
 use Rattle.cw_trace.proofs.FromTree.{split_keeps, merge_keeps}
@@ -13,7 +13,7 @@ use Rattle.cw_trace.proofs.Meaning.{stands_of}
 use Rattle.cw_trace.proofs.Owners.{beneath_cut}
 use Rattle.cw_trace.proofs.TierLaws as law
 
-kept : (c : Columns) (words : List ℕ) (t : List Node) (cuts joins : List ℕ) → Reached c words t cuts joins → Keeps c words t cuts joins
+kept : (c : ColumnTable) (words : List ℕ) (t : List Node) (cuts joins : List ℕ) → ReachedTier c words t cuts joins → Keeps c words t cuts joins
 kept _ _ _ _ _ (start room words some fits zeros) = law.start room words some fits zeros
 kept _ _ _ _ _ (fork c words t cuts joins p stamp r w roomy) = fork_keeps _ _ c _ roomy refl words t cuts joins w.is_open p stamp (kept c words t cuts joins r) w.tree w.stamps w.ordered w.goes refl refl
 kept _ _ _ _ _ (inline c words t cuts joins p stamp r w full) = inline_keeps _ _ c c full refl words t cuts joins w.is_open p stamp (kept c words t cuts joins r) w.tree w.stamps w.ordered w.goes refl refl

@@ -5,7 +5,7 @@ use Rattle.std.specs.Prelude.{ℕ, zero, suc, ◌+◌, ◌-◌, ◌*◌, ◌%◌
 use Rattle.cw_tree.specs.Walks.{has}
 use Rattle.cw_trace.specs.declared.tier.Trace.{Trace}
 
-pub record Columns : Type 0 where
+pub record ColumnTable : Type 0 where
   -- at most so many columns
   pub room : ℕ
   -- for each column in use: its trace, its gap and the column that it was forked from
@@ -19,13 +19,13 @@ pub record Columns : Type 0 where
   -- for each column in use: the fork outward of its fork, as it was when it was made
   pub outers : List (Option ℕ)
 
-abbrev pub used : Columns → ℕ
+abbrev pub used : ColumnTable → ℕ
 used c = length c.owners
 
-abbrev pub owner : Columns → ℕ → ℕ
+abbrev pub owner : ColumnTable → ℕ → ℕ
 owner c i = slice_index c.owners i
 
-abbrev pub gap : Columns → ℕ → ℕ
+abbrev pub gap : ColumnTable → ℕ → ℕ
 gap c i = slice_index c.gaps i
 
 abbrev pub trace_in : Option (Option Trace) → Option Trace
@@ -44,40 +44,40 @@ abbrev pub head_in : Option Trace → ℕ
 head_in None = 0
 head_in (Some x) = x.head
 
-abbrev pub trace : Columns → ℕ → Option Trace
+abbrev pub trace : ColumnTable → ℕ → Option Trace
 trace c t = trace_in (slice_get c.traces t)
 
 -- column t names a trace
-abbrev pub is_trace : Columns → ℕ → Bool
+abbrev pub is_trace : ColumnTable → ℕ → Bool
 is_trace c t = is_some (trace c t)
 
-abbrev pub lead : Columns → ℕ → Option ℕ
+abbrev pub lead : ColumnTable → ℕ → Option ℕ
 lead c t = lead_in (trace c t)
 
-abbrev pub up : Columns → ℕ → Option ℕ
+abbrev pub up : ColumnTable → ℕ → Option ℕ
 up c t = up_in (trace c t)
 
-abbrev pub head : Columns → ℕ → ℕ
+abbrev pub head : ColumnTable → ℕ → ℕ
 head c t = head_in (trace c t)
 
 -- the marks of a trace in the list of brackets: where it opens and where it closes
-abbrev pub opening : ℕ → ℕ
-opening t = 2 * t
+abbrev pub opening_mark : ℕ → ℕ
+opening_mark t = 2 * t
 
-abbrev pub closing : ℕ → ℕ
-closing t = 2 * t + 1
+abbrev pub closing_mark : ℕ → ℕ
+closing_mark t = 2 * t + 1
 
 -- mark b stands somewhere after mark a
-abbrev pub is_before : List ℕ → ℕ → ℕ → Bool
-is_before [] a b = false
-is_before (x ∷ xs) a b = if x == a then has xs b else is_before xs a b
+abbrev pub stands_before : List ℕ → ℕ → ℕ → Bool
+stands_before [] a b = false
+stands_before (x ∷ xs) a b = if x == a then has xs b else stands_before xs a b
 
 -- trace t stands within trace outer, and is not outer
-abbrev pub inside : Columns → ℕ → ℕ → Bool
-inside c t outer = is_before c.brackets (opening outer) (opening t) && is_before c.brackets (opening t) (closing outer)
+abbrev pub inside : ColumnTable → ℕ → ℕ → Bool
+inside c t outer = stands_before c.brackets (opening_mark outer) (opening_mark t) && stands_before c.brackets (opening_mark t) (closing_mark outer)
 
 -- a tier of the root alone
-abbrev pub first_tier : ℕ → Columns
+abbrev pub first_tier : ℕ → ColumnTable
 first_tier room = record {
   room = room;
   owners = 0 ∷ [];
@@ -95,26 +95,26 @@ abbrev pub fork_in : Option (Option ℕ) → Option ℕ
 fork_in None = None
 fork_in (Some x) = x
 
-abbrev pub outer : Columns → ℕ → Option ℕ
+abbrev pub outer : ColumnTable → ℕ → Option ℕ
 outer c i = fork_in (slice_get c.outers i)
 
 -- the fork outward of a fork that the strand of a column makes: none where its own fork is split, and that of its own fork where it is the right strand
-abbrev pub outer_at : Columns → ℕ → Option ℕ
+abbrev pub outer_at : ColumnTable → ℕ → Option ℕ
 outer_at c zero = None
 outer_at c (suc n) = if is_trace c (suc n) then None else if suc n % 2 == 1 then Some (suc n) else outer c n
 
-abbrev pub unless_split : Columns → Option ℕ → Option ℕ
+abbrev pub unless_split : ColumnTable → Option ℕ → Option ℕ
 unless_split c None = None
 unless_split c (Some s) = if is_trace c s then None else Some s
 
 -- the fork that has to be split before fork f: the fork outward of it, if that was not split since
-abbrev pub before_split : Columns → ℕ → Option ℕ
+abbrev pub before_split : ColumnTable → ℕ → Option ℕ
 before_split c f = unless_split c (outer c f)
 
 -- ## Forks
 
 -- two more columns, for a fork of the strand at column p, where word is the word of its gap
-abbrev pub forked : ℕ → ℕ → Columns → Columns
+abbrev pub forked : ℕ → ℕ → ColumnTable → ColumnTable
 forked word p c =
     let g = if word == 0 then gap c p else used c in
     record c {
@@ -126,8 +126,8 @@ forked word p c =
     }
 
 -- the left strand of the fork of column p
-abbrev pub left_of : ℕ → ℕ
-left_of p = p - 1 + p % 2
+abbrev pub left_column_of : ℕ → ℕ
+left_column_of p = p - 1 + p % 2
 
 -- ## Splits and merges
 
@@ -150,10 +150,10 @@ place_after at ns (b ∷ bs) = if b == at then b ∷ (ns ++ bs) else b ∷ place
 
 -- the marks of the two traces of a split fork
 abbrev pub marks : ℕ → List ℕ
-marks f = opening f ∷ closing f ∷ opening (f + 1) ∷ closing (f + 1) ∷ []
+marks f = opening_mark f ∷ closing_mark f ∷ opening_mark (f + 1) ∷ closing_mark (f + 1) ∷ []
 
 abbrev pub is_mark_of : ℕ → ℕ → Bool
-is_mark_of x b = (b == opening x) || (b == closing x)
+is_mark_of x b = (b == opening_mark x) || (b == closing_mark x)
 
 abbrev pub is_lead : Option ℕ → ℕ → Bool
 is_lead None g = false
@@ -172,7 +172,7 @@ abbrev pub row_in : Option (Option Trace) → Trace
 row_in o = record { head = head_in (trace_in o); lead = lead_in (trace_in o); up = up_in (trace_in o) }
 
 -- trace t is cut at the fork f: the columns
-abbrev pub split_columns : ℕ → Columns → Columns
+abbrev pub split_columns : ℕ → ColumnTable → ColumnTable
 split_columns f c =
     let t = owner c f in
     let l = kept_lead (lead c t) (gap c f) in
@@ -187,15 +187,15 @@ split_columns f c =
     }
 
 -- trace t is cut at the fork f
-abbrev pub split_at : ℕ → Columns → Columns
-split_at f c = record (split_columns f c) { brackets = place_after (opening (owner c f)) (marks f) c.brackets }
+abbrev pub split_at : ℕ → ColumnTable → ColumnTable
+split_at f c = record (split_columns f c) { brackets = place_after (opening_mark (owner c f)) (marks f) c.brackets }
 
 -- the trace around a fork
-abbrev pub around_fork : Columns → ℕ → ℕ
+abbrev pub around_fork : ColumnTable → ℕ → ℕ
 around_fork c f = owner c (slice_index c.parents f)
 
 -- both traces of the split fork f go back to the trace that it was cut from: the columns
-abbrev pub merge_columns : ℕ → Columns → Columns
+abbrev pub merge_columns : ℕ → ColumnTable → ColumnTable
 merge_columns f c =
     let t = around_fork c f in
     record c {
@@ -204,7 +204,7 @@ merge_columns f c =
     }
 
 -- both traces of the split fork f go back to the trace that it was cut from
-abbrev pub merged : ℕ → Columns → Columns
+abbrev pub merged : ℕ → ColumnTable → ColumnTable
 merged f c = record (merge_columns f c) { brackets = filter (λ b. not (is_mark_of f b || is_mark_of (f + 1) b)) c.brackets }
 
 -- a gap's word is taken by a new outermost block

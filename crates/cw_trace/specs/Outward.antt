@@ -5,7 +5,7 @@ use Rattle.cw_tree.specs.Nodes.{parent_of, is_fork}
 use Rattle.cw_tree.specs.Walks.{has, is_ancestor}
 use Rattle.cw_tree.specs.Names.{is_right}
 use Rattle.cw_tree.specs.Shape.{IsTree}
-use Rattle.cw_trace.specs.Columns.{Columns, used, owner}
+use Rattle.cw_trace.specs.Columns.{ColumnTable, used, owner}
 use Rattle.cw_trace.specs.Stands.{column, fork_column}
 use Rattle.cw_trace.specs.Keeps.{Keeps}
 use Rattle.cw_trace.specs.Running.{IsOrdered}
@@ -21,7 +21,7 @@ pub record IsOutward (t : List Node) (m n : ℕ) : Type 0 where
   pub over : is_ancestor t left n ≡ true
 
 -- a fork outward of n in its trace that was neither split nor joined
-pub record IsBarring (c : Columns) (t : List Node) (cuts joins : List ℕ) (n m : ℕ) : Type 0 where
+pub record IsBarring (c : ColumnTable) (t : List Node) (cuts joins : List ℕ) (n m : ℕ) : Type 0 where
   pub outward : IsOutward t m n
   pub columns : fork_column t m + 1 < used c
   pub same_trace : owner c (column t (used c) m) ≡ owner c (column t (used c) n)
@@ -29,19 +29,19 @@ pub record IsBarring (c : Columns) (t : List Node) (cuts joins : List ℕ) (n m 
   pub unjoined : has joins (fork_column t m) ≡ false
 
 -- for each tree that the tier stands for, and fork n of it that has left column f and was not joined: no fork bars its split
-abbrev pub NoneBars : ℕ → Columns → Type 0
+abbrev pub NoneBars : ℕ → ColumnTable → Type 0
 NoneBars f c =
     (words : List ℕ) (t : List Node) (cuts joins : List ℕ) (is_open : ℕ → Bool) (n : ℕ) → Keeps c words t cuts joins → IsTree t → IsOrdered c t cuts joins is_open → is_fork t n ≡ true → fork_column t n ≡ f → has joins f ≡ false
     → (m : ℕ) → IsBarring c t cuts joins n m → ⊥
 
 -- the fork m does, and each other that does is further out
-pub record IsNext (c : Columns) (t : List Node) (cuts joins : List ℕ) (n before : ℕ) : Type 0 where
+pub record IsNext (c : ColumnTable) (t : List Node) (cuts joins : List ℕ) (n before : ℕ) : Type 0 where
   pub fork : ℕ
   pub at : fork_column t fork ≡ before
   pub bars : IsBarring c t cuts joins n fork
   pub next : (m : ℕ) → IsBarring c t cuts joins n m → is_ancestor t m fork ≡ true
 
-abbrev pub NextBars : ℕ → ℕ → Columns → Type 0
+abbrev pub NextBars : ℕ → ℕ → ColumnTable → Type 0
 NextBars f before c =
     (words : List ℕ) (t : List Node) (cuts joins : List ℕ) (is_open : ℕ → Bool) (n : ℕ) → Keeps c words t cuts joins → IsTree t → IsOrdered c t cuts joins is_open → is_fork t n ≡ true → fork_column t n ≡ f → has joins f ≡ false
     → IsNext c t cuts joins n before

@@ -3,7 +3,7 @@ use Rattle.std.specs.Prelude.{◌≡◌, ℕ, ◌==◌, ◌&&◌, ◌||◌, Bool
 use Rattle.cw_tree.specs.declared.access.Mark.{Mark}
 use Rattle.cw_trace.specs.declared.verdict.Verdict.{Verdict}
 use Rattle.cw_trace.specs.declared.verdict.Verdict.TheVariants.{Free, Within, Against}
-use Rattle.cw_trace.specs.Columns.{Columns, owner, lead, up, inside}
+use Rattle.cw_trace.specs.Columns.{ColumnTable, owner, lead, up, inside}
 use Rattle.cw_trace.specs.Stands.{word_of}
 use Rattle.cw_trace.specs.Told.{Read, Answer, Owner, Lead, Up, Word, Inside, Number, Maybe, Test}
 
@@ -25,21 +25,21 @@ pub record HasWord (told : Read → Answer → Type 0) (t w : ℕ) : Type 0 wher
   pub word : LeadWord told lead w
 
 -- whether the trace of a strand is t or stands within it
-pub data StandsIn (told : Read → Answer → Type 0) (strand t : ℕ) : Bool → Type 0 where
-  is_it : told (Owner strand) (Number t) → StandsIn told strand t true
-  by_place : {v : ℕ} {b : Bool} → told (Owner strand) (Number v) → (v ≡ t → ⊥) → told (Inside v t) (Test b) → StandsIn told strand t b
+pub data IsWithinTrace (told : Read → Answer → Type 0) (strand t : ℕ) : Bool → Type 0 where
+  is_it : told (Owner strand) (Number t) → IsWithinTrace told strand t true
+  by_place : {v : ℕ} {b : Bool} → told (Owner strand) (Number v) → (v ≡ t → ⊥) → told (Inside v t) (Test b) → IsWithinTrace told strand t b
 
 -- the verdict by the nearest trace around that has a pending block, if there is one
 pub data GivesAround (told : Read → Answer → Type 0) (asker : ℕ) : Option ℕ → Verdict → Type 0 where
   free : GivesAround told asker None Free
-  around_within : {t : ℕ} → StandsIn told asker t true → GivesAround told asker (Some t) Within
-  around_against : {t w : ℕ} → StandsIn told asker t false → HasWord told t w → GivesAround told asker (Some t) (Against w)
+  around_within : {t : ℕ} → IsWithinTrace told asker t true → GivesAround told asker (Some t) Within
+  around_against : {t w : ℕ} → IsWithinTrace told asker t false → HasWord told t w → GivesAround told asker (Some t) (Against w)
 
 -- the verdict, where u is the last accessor's trace
 pub data Gives (told : Read → Answer → Type 0) (last : Mark) (asker : ℕ) : Verdict → Type 0 where
   -- a pending block of u itself was begun before the access
-  own_within : {u w : ℕ} → told (Owner last.strand) (Number u) → HasWord told u w → IsTrue (came_before w last.stamp) → StandsIn told asker u true → Gives told last asker Within
-  own_against : {u w : ℕ} → told (Owner last.strand) (Number u) → HasWord told u w → IsTrue (came_before w last.stamp) → StandsIn told asker u false → Gives told last asker (Against w)
+  own_within : {u w : ℕ} → told (Owner last.strand) (Number u) → HasWord told u w → IsTrue (came_before w last.stamp) → IsWithinTrace told asker u true → Gives told last asker Within
+  own_against : {u w : ℕ} → told (Owner last.strand) (Number u) → HasWord told u w → IsTrue (came_before w last.stamp) → IsWithinTrace told asker u false → Gives told last asker (Against w)
   -- none was
   around : {u w : ℕ} {t : Option ℕ} {v : Verdict} → told (Owner last.strand) (Number u) → HasWord told u w → came_before w last.stamp ≡ false → told (Up u) (Maybe t) → GivesAround told asker t v → Gives told last asker v
 
@@ -51,7 +51,7 @@ pub data Covers (told : Read → Answer → Type 0) (block last : Mark) : Bool �
 -- ## Of a tier and gap words
 
 -- the trace of a strand is t or stands within it
-abbrev pub stands_in : Columns → ℕ → ℕ → Bool
+abbrev pub stands_in : ColumnTable → ℕ → ℕ → Bool
 stands_in c strand t = (owner c strand == t) || inside c (owner c strand) t
 
 abbrev pub verdict_of : Bool → ℕ → Verdict
@@ -59,17 +59,17 @@ verdict_of true w = Within
 verdict_of false w = Against w
 
 -- by the trace around that has a pending block, if there is one
-abbrev pub verdict_around : Columns → List ℕ → ℕ → Option ℕ → Verdict
+abbrev pub verdict_around : ColumnTable → List ℕ → ℕ → Option ℕ → Verdict
 verdict_around c words asker None = Free
 verdict_around c words asker (Some t) = verdict_of (stands_in c asker t) (word_of words (lead c t))
 
-abbrev pub verdict : Columns → List ℕ → Mark → ℕ → Verdict
+abbrev pub verdict : ColumnTable → List ℕ → Mark → ℕ → Verdict
 verdict c words last asker =
     let u = owner c last.strand in
     let w = word_of words (lead c u) in
     if came_before w last.stamp then verdict_of (stands_in c asker u) w else verdict_around c words asker (up c u)
 
-abbrev pub covers : Columns → Mark → Mark → Bool
+abbrev pub covers : ColumnTable → Mark → Mark → Bool
 covers c block last =
     let t = owner c block.strand in
     let u = owner c last.strand in

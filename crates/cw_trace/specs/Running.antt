@@ -4,15 +4,15 @@ use Rattle.std.specs.Prelude.{◌≡◌, ℕ, ◌+◌, ◌<◌, Bool, true, fals
 use Rattle.cw_tree.specs.declared.node.Node.{Node}
 use Rattle.cw_tree.specs.Nodes.{parent_of, is_fork, is_strand, is_pending}
 use Rattle.cw_tree.specs.Walks.{is_ancestor, has}
-use Rattle.cw_trace.specs.Columns.{Columns, used}
+use Rattle.cw_trace.specs.Columns.{ColumnTable, used}
 use Rattle.cw_tree.specs.Names.{is_right}
 use Rattle.cw_trace.specs.Stands.{fork_column}
 
 -- the fork was not split, or has no columns
-abbrev pub IsUnsplit : Columns → List Node → List ℕ → ℕ → Type 0
+abbrev pub IsUnsplit : ColumnTable → List Node → List ℕ → ℕ → Type 0
 IsUnsplit c t cuts f = (used c < fork_column t f + 2) ⊎ (has cuts (fork_column t f) ≡ false)
 
-pub record IsOrdered (c : Columns) (t : List Node) (cuts joins : List ℕ) (is_open : ℕ → Bool) : Type 0 where
+pub record IsOrdered (c : ColumnTable) (t : List Node) (cuts joins : List ℕ) (is_open : ℕ → Bool) : Type 0 where
   pub root : is_open 0 ≡ true
   pub pending : (b : ℕ) → is_pending t b ≡ true → is_open b ≡ true
   pub forks : (f : ℕ) → is_fork t f ≡ true → fork_column t f + 1 < used c → has joins (fork_column t f) ≡ false → is_open f ≡ true
@@ -26,7 +26,7 @@ pub record IsOrdered (c : Columns) (t : List Node) (cuts joins : List ℕ) (is_o
   pub left_first : (l r n : ℕ) → 0 < l → l < r → r < length t → parent_of t l ≡ parent_of t r → is_fork t (parent_of t r) ≡ true → IsUnsplit c t cuts (parent_of t r) → n < length t → is_ancestor t r n ≡ true → (n ≡ r → ⊥) → is_open l ≡ false
 
 -- where a strand stands that may go on: at itself or in a pending block, with nothing open within; and it is not the right strand of an unsplit fork whose left one has not finished
-pub record MayGoOn (c : Columns) (t : List Node) (cuts : List ℕ) (is_open : ℕ → Bool) (p : ℕ) : Type 0 where
+pub record MayGoOn (c : ColumnTable) (t : List Node) (cuts : List ℕ) (is_open : ℕ → Bool) (p : ℕ) : Type 0 where
   pub there : p < length t
   pub opened : is_open p ≡ true
   pub no_fork : is_fork t p ≡ false
@@ -54,7 +54,7 @@ pub record IsDone (t : List Node) (is_open : ℕ → Bool) (column : ℕ) : Type
   pub done : (s : ℕ) → 0 < s → s < length t → parent_of t s ≡ fork → is_open s ≡ false
 
 -- an unsplit fork may be joined: it has columns, was not split, and its strands are no longer open
-pub record MayJoinAt (c : Columns) (t : List Node) (cuts joins : List ℕ) (is_open : ℕ → Bool) (column : ℕ) : Type 0 where
+pub record MayJoinAt (c : ColumnTable) (t : List Node) (cuts joins : List ℕ) (is_open : ℕ → Bool) (column : ℕ) : Type 0 where
   pub done : IsDone t is_open column
   pub low : column + 1 < used c
   pub uncut : has cuts column ≡ false

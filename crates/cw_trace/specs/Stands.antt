@@ -6,7 +6,7 @@ use Rattle.cw_tree.specs.Nodes.{parent_of, stamp_of, is_pending, is_fork, all_no
 use Rattle.cw_tree.specs.Walks.{is_ancestor, has}
 use Rattle.cw_tree.specs.Series.{strand_of}
 use Rattle.cw_tree.specs.Names.{is_right}
-use Rattle.cw_trace.specs.Columns.{Columns, used, owner, gap, lead, up, head, inside, left_of}
+use Rattle.cw_trace.specs.Columns.{ColumnTable, used, owner, gap, lead, up, head, inside, left_column_of}
 
 -- the left column of a fork node
 abbrev pub fork_column : List Node → ℕ → ℕ
@@ -29,8 +29,8 @@ abbrev pub stamp_or_0 : List Node → Option ℕ → ℕ
 stamp_or_0 t None = 0
 stamp_or_0 t (Some b) = stamp_of t b
 
-abbrev pub outermost : List Node → ℕ → (ℕ → Bool) → Option ℕ
-outermost t n p = find (λ b. is_pending t b && p (column t n b)) (all_nodes t)
+abbrev pub outermost_pending : List Node → ℕ → (ℕ → Bool) → Option ℕ
+outermost_pending t n p = find (λ b. is_pending t b && p (column t n b)) (all_nodes t)
 
 -- the word of a gap, or 0 for none
 abbrev pub word_of : List ℕ → Option ℕ → ℕ
@@ -39,31 +39,31 @@ word_of words (Some g) = slice_index words g
 
 -- whether a column names a trace: it is the root's, or its fork was split and not merged
 abbrev pub is_apart : List ℕ → List ℕ → ℕ → Bool
-is_apart cuts merges i = has cuts (left_of i) && not (has merges (left_of i))
+is_apart cuts merges i = has cuts (left_column_of i) && not (has merges (left_column_of i))
 
 abbrev pub names_trace : List ℕ → List ℕ → ℕ → Bool
 names_trace cuts merges i = (i == 0) || is_apart cuts merges i
 
 -- the trace around trace t
-abbrev pub around : Columns → ℕ → ℕ
+abbrev pub around : ColumnTable → ℕ → ℕ
 around c t = owner c (slice_index c.parents t)
 
 -- trace t was cut at fork f, and is not yet put together again
-abbrev pub is_cut_at : Columns → List ℕ → List ℕ → ℕ → ℕ → Bool
+abbrev pub is_cut_at : ColumnTable → List ℕ → List ℕ → ℕ → ℕ → Bool
 is_cut_at c cuts merges t f = nat_lt f (used c) && has cuts f && not (has merges f) && (around c f == t)
 
 -- trace u descends from trace t
-pub data Descends (c : Columns) (t : ℕ) : ℕ → Type 0 where
+pub data Descends (c : ColumnTable) (t : ℕ) : ℕ → Type 0 where
   child : {u : ℕ} → 0 < u → around c u ≡ t → Descends c t u
   further : {u : ℕ} → 0 < u → Descends c t (around c u) → Descends c t u
 
-pub record Stands (c : Columns) (words : List ℕ) (t : List Node) (cuts merges : List ℕ) : Type 0 where
+pub record Stands (c : ColumnTable) (words : List ℕ) (t : List Node) (cuts merges : List ℕ) : Type 0 where
   -- the columns: each fork gets two while there are two left
   pub some : 0 < used c
   pub room : (used c ≤ c.room) × (c.room ≤ length words)
   pub lengths : (length c.gaps ≡ used c) × (length c.parents ≡ used c) × (length c.traces ≡ used c)
   pub forks : (f : ℕ) → IsTrue (is_fork t f) → IsTrue (nat_le (fork_column t f + 2) c.room) ↔ (fork_column t f + 1 < used c)
-  pub all_used : (i : ℕ) → i < used c → 0 < i → (f : ℕ) × IsTrue (is_fork t f) × (fork_column t f ≡ left_of i)
+  pub all_used : (i : ℕ) → i < used c → 0 < i → (f : ℕ) × IsTrue (is_fork t f) × (fork_column t f ≡ left_column_of i)
   pub forked_from : (f : ℕ) → IsTrue (is_fork t f) → fork_column t f + 1 < used c
       → (slice_index c.parents (fork_column t f) ≡ column t (used c) f) × (slice_index c.parents (fork_column t f + 1) ≡ column t (used c) f)
   -- owners
@@ -71,15 +71,15 @@ pub record Stands (c : Columns) (words : List ℕ) (t : List Node) (cuts merges 
   pub together : (i : ℕ) → 0 < i → i < used c → IsTrue (not (is_apart cuts merges i)) → owner c i ≡ owner c (slice_index c.parents i)
   pub apart : (i : ℕ) → 0 < i → i < used c → IsTrue (is_apart cuts merges i) → owner c i ≡ i
   -- gap words
-  pub words_are : (g : ℕ) → g < used c → slice_index words g ≡ stamp_or_0 t (outermost t (used c) (λ i. gap c i == g))
+  pub words_are : (g : ℕ) → g < used c → slice_index words g ≡ stamp_or_0 t (outermost_pending t (used c) (λ i. gap c i == g))
   -- heads and leads
   pub heads : (x : ℕ) → x < used c → IsTrue (names_trace cuts merges x) → head c x ≡ gap c x
-  pub leads : (x : ℕ) → x < used c → IsTrue (names_trace cuts merges x) → word_of words (lead c x) ≡ stamp_or_0 t (outermost t (used c) (λ i. owner c i == x))
+  pub leads : (x : ℕ) → x < used c → IsTrue (names_trace cuts merges x) → word_of words (lead c x) ≡ stamp_or_0 t (outermost_pending t (used c) (λ i. owner c i == x))
   pub active : (x : ℕ) → x < used c → IsTrue (names_trace cuts merges x) → ((f : ℕ) → IsTrue (not (is_cut_at c cuts merges x f))) → lead c x ≡ Some (head c x)
   -- ups
   pub no_up : up c 0 ≡ None
   pub ups : (x : ℕ) → 0 < x → x < used c → IsTrue (names_trace cuts merges x)
-      → up c x ≡ (if is_some (outermost t (used c) (λ i. owner c i == around c x)) then Some (around c x) else up c (around c x))
+      → up c x ≡ (if is_some (outermost_pending t (used c) (λ i. owner c i == around c x)) then Some (around c x) else up c (around c x))
   -- brackets
   pub brackets : (x y : ℕ) → x < used c → y < used c → IsTrue (names_trace cuts merges x) → IsTrue (names_trace cuts merges y) → IsTrue (inside c y x) ↔ Descends c x y
   -- paths: a pending block contains what its trace did after its begin, and the fork that was stolen from it
@@ -90,5 +90,5 @@ pub record Stands (c : Columns) (words : List ℕ) (t : List Node) (cuts merges 
   pub one_cut : (x f g : ℕ) → IsTrue (is_cut_at c cuts merges x f) → IsTrue (is_cut_at c cuts merges x g) → f ≡ g
 
 -- whoever stands at place p in column i goes on beneath each pending block that was begun in its trace
-abbrev pub GoesOn : Columns → List Node → ℕ → ℕ → Type 0
+abbrev pub GoesOn : ColumnTable → List Node → ℕ → ℕ → Type 0
 GoesOn c t i p = (b : ℕ) → b < length t → IsTrue (is_pending t b) → owner c (column t (used c) b) ≡ owner c i → IsTrue (is_ancestor t b p)

@@ -3,7 +3,7 @@ use Rattle.std.specs.Prelude.{◌≡◌, ℕ, ◌+◌, ◌*◌, ◌/◌, ◌%◌
 use Rattle.cw_tree.specs.Walks.{has}
 use Rattle.cw_trace.specs.declared.tier.Trace.{Trace}
 use Rattle.cw_trace.specs.declared.tier.Tier.TheInside.{Inside}
-use Rattle.cw_trace.specs.Columns.{Columns, used, owner, is_trace, outer, opening, closing}
+use Rattle.cw_trace.specs.Columns.{ColumnTable, used, owner, is_trace, outer, opening_mark, closing_mark}
 use Rattle.cw_trace.specs.Keeps.{Distinct}
 use Rattle.cw_trace.specs.Traces.{Traces}
 
@@ -25,7 +25,7 @@ abbrev pub trace_count : List (Option Trace) → ℕ
 trace_count ts = length (filter is_some ts)
 
 -- what every call keeps, for any tree or none
-pub record AreSound (c : Columns) : Type 0 where
+pub record AreSound (c : ColumnTable) : Type 0 where
   pub odd : used c % 2 ≡ 1
   pub rooted : (i : ℕ) → 0 < i → i < used c → slice_index c.parents i < i
   -- each column has the owner of a smaller one or its own, which is a trace
@@ -36,10 +36,10 @@ pub record AreSound (c : Columns) : Type 0 where
   -- the brackets are just those of the traces, each once
   pub distinct : Distinct c.brackets
   pub count : length c.brackets ≡ 2 * trace_count c.traces
-  pub there : (t : ℕ) → is_trace c t ≡ true → (has c.brackets (opening t) ≡ true) × (has c.brackets (closing t) ≡ true)
+  pub there : (t : ℕ) → is_trace c t ≡ true → (has c.brackets (opening_mark t) ≡ true) × (has c.brackets (closing_mark t) ≡ true)
   pub only : (b : ℕ) → has c.brackets b ≡ true → is_trace c (b / 2) ≡ true
 
-pub record IsKept (a : Inside) : Type 0 where
+pub record IsTierInMemory (a : Inside) : Type 0 where
   pub few : a.room < 2 ^ 31
   pub fits : length a.owners.items ≤ a.room
   pub gaps : length a.gaps.items ≡ length a.owners.items

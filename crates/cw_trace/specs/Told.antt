@@ -1,6 +1,6 @@
 -- What a query reads of a tier and gap words, and what it is answered.
 use Rattle.std.specs.Prelude.{◌≡◌, ℕ, Bool, List, slice_index, Option}
-use Rattle.cw_trace.specs.Columns.{Columns, owner, lead, up, inside}
+use Rattle.cw_trace.specs.Columns.{ColumnTable, owner, lead, up, inside}
 
 pub data Read : Type 0 where
   -- the trace of a strand
@@ -24,12 +24,12 @@ abbrev pub Stays : (Read → Answer → Type 0) → (Read → Answer → Type 0)
 Stays told later = (r : Read) (a : Answer) → told r a → later r a
 
 -- what a tier and gap words hold: what names nothing reads as 0, None or false
-abbrev pub held : Columns → List ℕ → Read → Answer
+abbrev pub held : ColumnTable → List ℕ → Read → Answer
 held c words (Owner i) = Number (owner c i)
 held c words (Lead t) = Maybe (lead c t)
 held c words (Up t) = Maybe (up c t)
 held c words (Word g) = Number (slice_index words g)
 held c words (Inside t o) = Test (inside c t o)
 
-abbrev pub Holds : Columns → List ℕ → Read → Answer → Type 0
-Holds c words r a = held c words r ≡ a
+abbrev pub HoldsRead : ColumnTable → List ℕ → Read → Answer → Type 0
+HoldsRead c words r a = held c words r ≡ a

@@ -1,5 +1,5 @@
 -- What a caller sees of a tier.
-use Rattle.cw_trace.specs.Columns.{Columns}
+use Rattle.cw_trace.specs.Columns.{ColumnTable}
 
 pub record Traces : Type 0 where
-  pub columns : Columns
+  pub columns : ColumnTable

@@ -9,11 +9,11 @@ use Rattle.cw_tree.specs.Stacks.{conflict_at}
 use Rattle.cw_tree.specs.VictimsAt.{victim_at}
 use Rattle.cw_trace.specs.declared.verdict.Verdict.{Verdict}
 use Rattle.cw_trace.specs.declared.verdict.Verdict.TheVariants.{Free, Within, Against}
-use Rattle.cw_trace.specs.Columns.{Columns, used}
+use Rattle.cw_trace.specs.Columns.{ColumnTable, used}
 use Rattle.cw_trace.specs.Stands.{Stands, GoesOn, column}
 use Rattle.cw_trace.specs.Keeps.{Keeps}
 use Rattle.cw_trace.specs.Running.{IsOrdered, MayGoOn}
-use Rattle.cw_trace.specs.Runs.{Reached, Place}
+use Rattle.cw_trace.specs.Runs.{ReachedTier, Place}
 use Rattle.cw_trace.specs.Query.{verdict, covers}
 
 abbrev pub is_free : Verdict → Bool
@@ -39,25 +39,25 @@ pub record Tells (t : List Node) (u p : ℕ) (v : Verdict) : Type 0 where
   pub begun : (w : ℕ) → v ≡ Against w → (b : ℕ) × IsTrue (is_pending t b && is_above t b u && not (is_ancestor t b p)) × (stamp_of t b ≡ w)
 
 -- the column and stamp of node n
-abbrev pub mark_of : Columns → List Node → ℕ → Mark
+abbrev pub mark_of : ColumnTable → List Node → ℕ → Mark
 mark_of c t n = record { strand = column t (used c) n; stamp = stamp_of t n }
 
 -- ## What verdict v says, for each tree that the tier stands for
 
 -- of each access of a cell that has the last mark, and each strand that may go on, whose column is the asker
-abbrev pub TellsOfTree : Columns → List ℕ → Mark → ℕ → Verdict → Type 0
+abbrev pub TellsOfTree : ColumnTable → List ℕ → Mark → ℕ → Verdict → Type 0
 TellsOfTree c words last asker v =
     (t : List Node) (cuts joins : List ℕ) (is_open : ℕ → Bool) (cell u p : ℕ) → Keeps c words t cuts joins → IsTree t → AreStamps t → IsOrdered c t cuts joins is_open → MayGoOn c t cuts is_open p
     → IsTrue (touches t cell u) → last ≡ mark_of c t u → asker ≡ column t (used c) p → Tells t u p v
 
 -- the same from the reading alone, where the asker goes on beneath each pending block that was begun in its trace
-abbrev pub TellsByReading : Columns → List ℕ → Mark → ℕ → Verdict → Type 0
+abbrev pub TellsByReading : ColumnTable → List ℕ → Mark → ℕ → Verdict → Type 0
 TellsByReading c words last asker v =
     (t : List Node) (cuts joins : List ℕ) (cell u p : ℕ) → Stands c words t cuts joins → IsTree t → AreStamps t → p < length t → GoesOn c t (column t (used c) p) p
     → IsTrue (touches t cell u) → last ≡ mark_of c t u → asker ≡ column t (used c) p → Tells t u p v
 
 -- whether the pending block that has the first mark is above the access that has the last mark
-abbrev pub TellsOfBlock : Columns → List ℕ → Mark → Mark → Bool → Type 0
+abbrev pub TellsOfBlock : ColumnTable → List ℕ → Mark → Mark → Bool → Type 0
 TellsOfBlock c words block last x =
     (t : List Node) (cuts joins : List ℕ) (cell u b : ℕ) → Stands c words t cuts joins → IsTree t → AreStamps t
     → IsTrue (touches t cell u) → last ≡ mark_of c t u → IsTrue (is_pending t b) → block ≡ mark_of c t b → x ≡ is_above t b u
@@ -66,23 +66,23 @@ TellsOfBlock c words block last x =
 
 -- one stamp and at most two gap words decide
 abbrev pub Decides : Type 0
-Decides = (c : Columns) (words : List ℕ) (last : Mark) (asker : ℕ) → TellsOfTree c words last asker (verdict c words last asker)
+Decides = (c : ColumnTable) (words : List ℕ) (last : Mark) (asker : ℕ) → TellsOfTree c words last asker (verdict c words last asker)
 
 abbrev pub DecidesByReading : Type 0
-DecidesByReading = (c : Columns) (words : List ℕ) (last : Mark) (asker : ℕ) → TellsByReading c words last asker (verdict c words last asker)
+DecidesByReading = (c : ColumnTable) (words : List ℕ) (last : Mark) (asker : ℕ) → TellsByReading c words last asker (verdict c words last asker)
 
 -- after whatever run, of each access and each strand that may go on
 abbrev pub DecidesInRuns : Type 0
 DecidesInRuns =
-    (c : Columns) (words : List ℕ) (t : List Node) (cuts joins : List ℕ) (cell u p : ℕ) → Reached c words t cuts joins → AreStamps t → Place c t cuts joins p → IsTrue (touches t cell u)
+    (c : ColumnTable) (words : List ℕ) (t : List Node) (cuts joins : List ℕ) (cell u p : ℕ) → ReachedTier c words t cuts joins → AreStamps t → Place c t cuts joins p → IsTrue (touches t cell u)
     → Tells t u p (verdict c words (mark_of c t u) (column t (used c) p))
 
 -- the columns tell which pending blocks are above an access
 abbrev pub CoversBlocks : Type 0
-CoversBlocks = (c : Columns) (words : List ℕ) (block last : Mark) → TellsOfBlock c words block last (covers c block last)
+CoversBlocks = (c : ColumnTable) (words : List ℕ) (block last : Mark) → TellsOfBlock c words block last (covers c block last)
 
 -- so the victim is the outermost pending block above the asker's place for which they tell that it is not
 abbrev pub FindsVictims : Type 0
 FindsVictims =
-    (c : Columns) (words : List ℕ) (t : List Node) (cuts joins : List ℕ) (cell u p : ℕ) → Stands c words t cuts joins → IsTree t → AreStamps t → IsTrue (touches t cell u)
+    (c : ColumnTable) (words : List ℕ) (t : List Node) (cuts joins : List ℕ) (cell u p : ℕ) → Stands c words t cuts joins → IsTree t → AreStamps t → IsTrue (touches t cell u)
     → outermost (λ b. is_pending t b && not (covers c (mark_of c t b) (mark_of c t u))) (path t p) ≡ victim_at t u p

@@ -1,7 +1,7 @@
 ghost use Rattle.std.specs.Prelude.{◌≡◌, ◌+◌, ◌<◌, ◌≤◌, ◌==◌, ◌||◌, ◌^◌, [], true, false, IfOk, length, filter, not};
 ghost use Rattle.std.specs.Option.{ForSome};
 ghost use Rattle.cw_tree.specs.Walks.{has};
-ghost use Rattle.cw_trace.specs.Columns.{is_before, opening, closing, marks, place_after, is_mark_of};
+ghost use Rattle.cw_trace.specs.Columns.{stands_before, opening_mark, closing_mark, marks, place_after, is_mark_of};
 ghost use Rattle.cw_trace.specs.Marks.{with_mark};
 
 use cw_base::OutOfMemory;
@@ -23,11 +23,11 @@ impl Model for Brackets {
 
     ghost Value = { Marks };
 
-    ghost use Rattle.cw_trace.specs.Brackets.{marks_of, IsKept};
+    ghost use Rattle.cw_trace.specs.Brackets.{marks_of, AreBracketsInMemory};
 
     ghost view = { marks_of };
 
-    ghost invariant = { IsKept };
+    ghost invariant = { AreBracketsInMemory };
 }
 
 impl Brackets {
@@ -77,7 +77,7 @@ impl Brackets {
     pub(crate) fn before<L: Ledger>(&self, a: u32, b: u32, steps: &mut Steps<L>) -> bool
         requires first { has self.now.marks a ≡ true }
         requires second { has self.now.marks b ≡ true }
-        ensures order { result ≡ is_before self.now.marks a b }
+        ensures order { result ≡ stands_before self.now.marks a b }
         ensures cost { steps.new ≡ steps.old + 1 }
     {
         self.order.before(self.elements[a as usize], self.elements[b as usize], steps)
@@ -85,16 +85,16 @@ impl Brackets {
 
     /// Puts the brackets of both traces of a split fork right after a trace's opening one: those of the left one, then those of the right one.
     pub(crate) fn open_both(&mut self, trace: u32, fork: u32)
-        requires around { has self.old.marks (opening trace) ≡ true }
-        requires new_left { (has self.old.marks (opening fork) ≡ false)
-            × (has self.old.marks (closing fork) ≡ false) }
-        requires new_right { (has self.old.marks (opening (fork + 1)) ≡ false)
-            × (has self.old.marks (closing (fork + 1)) ≡ false) }
-        requires low { closing (fork + 1) < self.old.room }
+        requires around { has self.old.marks (opening_mark trace) ≡ true }
+        requires new_left { (has self.old.marks (opening_mark fork) ≡ false)
+            × (has self.old.marks (closing_mark fork) ≡ false) }
+        requires new_right { (has self.old.marks (opening_mark (fork + 1)) ≡ false)
+            × (has self.old.marks (closing_mark (fork + 1)) ≡ false) }
+        requires low { closing_mark (fork + 1) < self.old.room }
         requires small { self.old.room < 2 ^ 32 }
         requires few { length self.old.marks + 4 ≤ self.old.room }
-        requires trace { opening trace < 2 ^ 32 }
-        ensures marks { self.new.marks ≡ place_after (opening trace) (marks fork) self.old.marks }
+        requires trace { opening_mark trace < 2 ^ 32 }
+        ensures marks { self.new.marks ≡ place_after (opening_mark trace) (marks fork) self.old.marks }
         ensures room { self.new.room ≡ self.old.room }
     {
         let left = 2 * fork;
@@ -106,11 +106,11 @@ impl Brackets {
 
     /// Takes out the brackets of both traces of a split fork.
     pub(crate) fn close_both(&mut self, fork: u32)
-        requires left { (has self.old.marks (opening fork) ≡ true)
-            × (has self.old.marks (closing fork) ≡ true) }
-        requires right { (has self.old.marks (opening (fork + 1)) ≡ true)
-            × (has self.old.marks (closing (fork + 1)) ≡ true) }
-        requires low { closing (fork + 1) < 2 ^ 32 }
+        requires left { (has self.old.marks (opening_mark fork) ≡ true)
+            × (has self.old.marks (closing_mark fork) ≡ true) }
+        requires right { (has self.old.marks (opening_mark (fork + 1)) ≡ true)
+            × (has self.old.marks (closing_mark (fork + 1)) ≡ true) }
+        requires low { closing_mark (fork + 1) < 2 ^ 32 }
         ensures marks { self.new.marks
             ≡ filter (λ b. not (is_mark_of fork b || is_mark_of (fork + 1) b)) self.old.marks }
         ensures room { self.new.room ≡ self.old.room }

@@ -7,7 +7,7 @@
 //! open; `specs/Outward.antt` says which fork bars a split, and `specs/Runs.antt` what whole runs come to.
 #![tactic(auto)]
 
-ghost use Rattle.cw_trace.specs.Laws.{Reading, Start, Leaf, Begin, Close, Join, GoesOnBeneath};
+ghost use Rattle.cw_trace.specs.Laws.{Reading, RootStands, Leaf, Begin, Close, Join, GoesOnBeneath};
 ghost use Rattle.cw_trace.specs.Runs.{EachRunStands, EachRunGoesOn, Suspended};
 
 mod asks;
@@ -29,7 +29,7 @@ pub use verdict::Verdict;
 pub fn tier_laws()
     ensures reading { Reading }
     ensures goes_on { GoesOnBeneath }
-    ensures start { Start }
+    ensures start { RootStands }
     ensures leaf { Leaf }
     ensures begin { Begin }
     ensures close { Close }

@@ -45,11 +45,11 @@ impl Model for Tier {
 
     ghost Value = { Traces };
 
-    ghost use Rattle.cw_trace.specs.Tier.{traces_of, IsKept};
+    ghost use Rattle.cw_trace.specs.Tier.{traces_of, IsTierInMemory};
 
     ghost view = { traces_of };
 
-    ghost invariant = { IsKept };
+    ghost invariant = { IsTierInMemory };
 }
 
 /// One more in a list that has room for it.

@@ -8,7 +8,7 @@ use Rattle.cw_tree.specs.declared.node.BlockState.{BlockState}
 use Rattle.cw_tree.specs.Nodes.{is_strand_kind, is_fork_kind, is_block_kind, is_aborted_state, parent_of, is_strand, is_fork, is_block, is_aborted, closed}
 use Rattle.cw_tree.specs.Walks.{IsRooted, path, has, is_ancestor, is_above}
 use Rattle.cw_tree.specs.Series.{strand_of, is_before}
-use Rattle.cw_tree.specs.Names.{counts}
+use Rattle.cw_tree.specs.Names.{fork_counts_at}
 use Rattle.cw_tree.proofs.Climbs.{find_path_same}
 use Rattle.cw_tree.proofs.Ancestors.{above_ancestor, ancestor_le}
 use Rattle.cw_tree.proofs.Growing.{node_grown, number_grown, path_grown, length_more, number_new, rooted_more}
@@ -76,7 +76,7 @@ module _ (t u : List Node) (k : ℕ) (a : Agree t u k) (r : IsRooted t) where
         over_second = ancestor_same t u k a s.second m hm ∙ s.over_second;
       })
 
-  counts_to : (n g : ℕ) → n < k → g < k → counts t n g ≡ true → counts u n g ≡ true
+  counts_to : (n g : ℕ) → n < k → g < k → fork_counts_at t n g ≡ true → fork_counts_at u n g ≡ true
   counts_to n g hn hg e =
       let there = a.there in
       let s = of_counts t n g e in
@@ -91,8 +91,8 @@ module _ (t u : List Node) (k : ℕ) (a : Agree t u k) (r : IsRooted t) where
       })
 
 module _ (t u : List Node) (k : ℕ) (a : Agree t u k) (r : IsRooted t) (r' : IsRooted u) where
-  pub counts_same : (n g : ℕ) → n < k → g < k → counts u n g ≡ counts t n g
-  counts_same n g hn hg = same_truth (counts u n g) (counts t n g) (counts_to u t k (agree_back t u k a) r' n g hn hg) (counts_to t u k a r n g hn hg)
+  pub counts_same : (n g : ℕ) → n < k → g < k → fork_counts_at u n g ≡ fork_counts_at t n g
+  counts_same n g hn hg = same_truth (fork_counts_at u n g) (fork_counts_at t n g) (counts_to u t k (agree_back t u k a) r' n g hn hg) (counts_to t u k a r n g hn hg)
 
 -- more nodes at the end
 pub agree_grown : (t s : List Node) → IsRooted t → Agree t (t ++ s) (length t)

@@ -9,7 +9,7 @@ use Rattle.cw_tree.specs.Nodes.{parent_of, stamp_of, end_of, is_strand, is_fork,
 use Rattle.cw_tree.specs.Walks.{path, is_above}
 use Rattle.cw_tree.specs.Series.{children, has_later, is_before, depth_first}
 use Rattle.cw_tree.specs.Shape.{IsTree, AreStamps, PendingLast, has_stamp, is_closed}
-use Rattle.cw_tree.specs.Refusals.{IsRecorded, AreRefusals, RollsBack, is_victim, leads_back}
+use Rattle.cw_tree.specs.Refusals.{IsRecorded, AreRefusals, RollsBack, is_victim, names_victim}
 
 -- a test holds of each number below a bound
 abbrev pub all_below : (ℕ → Bool) → ℕ → Bool
@@ -188,7 +188,7 @@ module _ (t : List Node) where
     }
 
     abbrev pub tried_test : ℕ → Bool
-    tried_test n = implies (leads_back cs n) (not (has_later t n))
+    tried_test n = implies (names_victim cs n) (not (has_later t n))
 
     abbrev pub beneath_victim_test : ℕ → Bool
     beneath_victim_test n = implies (is_aborted t n && not (is_victim t cs n)) (not (has_later t n))

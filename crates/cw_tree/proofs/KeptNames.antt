@@ -8,7 +8,7 @@ use Rattle.cw_tree.specs.declared.picks.Turn.{Turn}
 use Rattle.cw_tree.specs.Nodes.{parent_of, is_strand, is_fork, below}
 use Rattle.cw_tree.specs.Walks.{IsRooted, path}
 use Rattle.cw_tree.specs.Series.{is_before}
-use Rattle.cw_tree.specs.Names.{counts, fork_number, is_right, turn, strands_on, name_of}
+use Rattle.cw_tree.specs.Names.{fork_counts_at, fork_number, is_right, turn, strands_on, name_of}
 use Rattle.cw_tree.proofs.Ancestors.{ancestor_le}
 use Rattle.cw_tree.proofs.Kin.{in_ancestor}
 use Rattle.cw_tree.proofs.Counting.{count_same, count_past}
@@ -32,9 +32,9 @@ right_same t u k a n h =
     ∙ ap (λ q. nat_lt 0 m && is_strand t m && nat_eq (parent_of t m) q) (a.parents n h))
 
 module _ (t u : List Node) (c : Continues t u) where
-  late : (n g : ℕ) → n < length t → length t ≤ g → g < length u → counts u n g ≡ false
+  late : (n g : ℕ) → n < length t → length t ≤ g → g < length u → fork_counts_at u n g ≡ false
   late n g h le low =
-      false_from_ne_true (counts u n g) (λ e.
+      false_from_ne_true (fork_counts_at u n g) (λ e.
       let s = of_counts u n g e in
       let no = c.later g n le low h s.fork in
       let yes = s.before in
@@ -43,8 +43,8 @@ module _ (t u : List Node) (c : Continues t u) where
   pub fork_number_stays : (n : ℕ) → n < length t → fork_number u n ≡ fork_number t n
   fork_number_stays n h =
       ap (λ k. k + 1)
-      (count_past (counts u n) (length t) (length u) c.agree.there_too (λ g le low. late n g h le low)
-      ∙ count_same (counts u n) (counts t n) (length t) (λ g low. counts_same t u (length t) c.agree c.rooted c.rooted_too n g h low))
+      (count_past (fork_counts_at u n) (length t) (length u) c.agree.there_too (λ g le low. late n g h le low)
+      ∙ count_same (fork_counts_at u n) (fork_counts_at t n) (length t) (λ g low. counts_same t u (length t) c.agree c.rooted c.rooted_too n g h low))
 
   turn_stays : (n : ℕ) → 0 < n → n < length t → turn u n ≡ turn t n
   turn_stays n p h =

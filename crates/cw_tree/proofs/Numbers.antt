@@ -9,7 +9,7 @@ use Rattle.cw_tree.specs.declared.node.Kind.TheVariants.{Fork}
 use Rattle.cw_tree.specs.Nodes.{passes, is_fork_kind, is_block_kind, is_aborted_state, parent_of, is_strand, is_fork, is_aborted}
 use Rattle.cw_tree.specs.Walks.{IsRooted, above, is_ancestor, is_above}
 use Rattle.cw_tree.specs.Series.{strand_of, is_before}
-use Rattle.cw_tree.specs.Names.{counts}
+use Rattle.cw_tree.specs.Names.{fork_counts_at}
 use Rattle.cw_tree.proofs.Lists.{all_in, all_from}
 use Rattle.cw_tree.proofs.Ancestors.{ancestor_self, ancestor_root, ancestor_step, ancestor_up, ancestor_above, above_ancestor, above_parent, ancestor_le, ancestor_trans}
 use Rattle.cw_tree.proofs.Strands.{strand_of_strand, strand_of_other, strand_of_le, strand_over, strand_innermost, strand_through}
@@ -40,7 +40,7 @@ pub record Counts (t : List Node) (n g : ℕ) : Type 0 where
   pub before : is_before t g n ≡ true
   pub attempts : (a : ℕ) → is_above t a g ≡ true → is_aborted t a ≡ true → is_above t a n ≡ true
 
-pub of_counts : (t : List Node) (n g : ℕ) → counts t n g ≡ true → Counts t n g
+pub of_counts : (t : List Node) (n g : ℕ) → fork_counts_at t n g ≡ true → Counts t n g
 of_counts t n g e =
     let a = and_parts (is_fork t g && nat_eq (strand_of t g) (strand_of t n) && is_before t g n) (list_all (is_past t n) (above t g)) e in
     let b = and_parts (is_fork t g && nat_eq (strand_of t g) (strand_of t n)) (is_before t g n) a.0 in
@@ -52,7 +52,7 @@ of_counts t n g e =
       attempts = λ x h q. elim (or_cases (not (is_aborted t x)) (is_above t x n) (all_in (is_past t n) x (above t g) a.1 (above_in t x g h))) [ inl z ↦ absurd (cc (not-true (is_aborted t x) z, q)) | inr z ↦ z ];
     }
 
-pub counts_of : (t : List Node) (n g : ℕ) → Counts t n g → counts t n g ≡ true
+pub counts_of : (t : List Node) (n g : ℕ) → Counts t n g → fork_counts_at t n g ≡ true
 counts_of t n g s =
     and_from (is_fork t g && nat_eq (strand_of t g) (strand_of t n) && is_before t g n) (list_all (is_past t n) (above t g))
     (and_from (is_fork t g && nat_eq (strand_of t g) (strand_of t n)) (is_before t g n) (and_from (is_fork t g) (nat_eq (strand_of t g) (strand_of t n)) s.fork (eq-eqb (strand_of t g) (strand_of t n) s.strand)) s.before)
@@ -63,22 +63,22 @@ counts_of t n g s =
 
 module _ (t : List Node) (r : IsRooted t) where
   -- nothing counts at the root, and nothing at a strand
-  pub none_at_root : count (counts t 0) (length t) ≡ 0
+  pub none_at_root : count (fork_counts_at t 0) (length t) ≡ 0
   none_at_root =
-      count_none (counts t 0) (length t) (λ g h. false_from_ne_true (counts t 0 g) (λ e.
+      count_none (fork_counts_at t 0) (length t) (λ g h. false_from_ne_true (fork_counts_at t 0 g) (λ e.
       let s = of_before t g 0 (of_counts t 0 g e).before in
       let less = s.ordered.less in
       omega (arith, ancestor_root t s.second s.over_second)))
 
-  pub none_at_strand : (n : ℕ) → 0 < n → n < length t → is_strand t n ≡ true → count (counts t n) (length t) ≡ 0
+  pub none_at_strand : (n : ℕ) → 0 < n → n < length t → is_strand t n ≡ true → count (fork_counts_at t n) (length t) ≡ 0
   none_at_strand n p hn e =
-      count_none (counts t n) (length t) (λ g h. false_from_ne_true (counts t n g) (λ f.
+      count_none (fork_counts_at t n) (length t) (λ g h. false_from_ne_true (fork_counts_at t n g) (λ f.
       let s = of_counts t n g f in
       let P : ℕ → Type 0 = λ m. is_ancestor t m g ≡ true in
       before_apart t r g n h s.before (subst P (s.strand ∙ strand_of_strand t r n p hn e) (strand_over t r g h))))
 
   -- what counts at a node is in none of its children
-  apart : (q high g : ℕ) → g < length t → counts t q g ≡ true → comes_to t (child_to t high q) g ≡ true → ⊥
+  apart : (q high g : ℕ) → g < length t → fork_counts_at t q g ≡ true → comes_to t (child_to t high q) g ≡ true → ⊥
   apart q high g h e f =
       let s = (comes t r (child_to t high q) g h f).1 in
       let y = and_parts (nat_lt 0 s.node && nat_lt s.node high) (nat_eq (parent_of t s.node) q) s.passes in
@@ -89,9 +89,9 @@ module _ (t : List Node) (r : IsRooted t) where
       before_apart t r g q h (of_counts t q g e).before
       (subst P same (ancestor_trans t r (parent_of t s.node) s.node g h (ancestor_up t r (parent_of t s.node) s.node some (omega arith) (ancestor_self t (parent_of t s.node))) s.over))
 
-  none_in_root : (q high : ℕ) → 0 < length t → (counts t q 0 || comes_to t (child_to t high q) 0) ≡ false
+  none_in_root : (q high : ℕ) → 0 < length t → (fork_counts_at t q 0 || comes_to t (child_to t high q) 0) ≡ false
   none_in_root q high h =
-      false_from_ne_true (counts t q 0 || comes_to t (child_to t high q) 0) (λ e. elim (or_cases (counts t q 0) (comes_to t (child_to t high q) 0) e) [
+      false_from_ne_true (fork_counts_at t q 0 || comes_to t (child_to t high q) 0) (λ e. elim (or_cases (fork_counts_at t q 0) (comes_to t (child_to t high q) 0) e) [
         | inl f ↦
             (let s = of_before t 0 q (of_counts t q 0 f).before in
             let some = s.ordered.some in
@@ -103,10 +103,10 @@ module _ (t : List Node) (r : IsRooted t) where
             omega (arith, ancestor_root t s.node s.over))
       ])
 
-  pub numbers_fit : (q high : ℕ) → 0 < length t → count (counts t q) (length t) + forks_to t (child_to t high q) < length t
+  pub numbers_fit : (q high : ℕ) → 0 < length t → count (fork_counts_at t q) (length t) + forks_to t (child_to t high q) < length t
   numbers_fit q high h =
-      let both : ℕ → Bool = λ g. counts t q g || comes_to t (child_to t high q) g in
-      omega (arith, count_or both (counts t q) (comes_to t (child_to t high q)) (length t) (λ g l. refl) (apart q high), count_less both (length t) (none_in_root q high h) h)
+      let both : ℕ → Bool = λ g. fork_counts_at t q g || comes_to t (child_to t high q) g in
+      omega (arith, count_or both (fork_counts_at t q) (comes_to t (child_to t high q)) (length t) (λ g l. refl) (apart q high), count_less both (length t) (none_in_root q high h) h)
 
   module _ (n : ℕ) (p : 0 < n) (hn : n < length t) (other : is_strand t n ≡ false) where
     from_parent : (g : ℕ) → g < length t → Counts t (parent_of t n) g → Counts t n g
@@ -195,23 +195,23 @@ module _ (t : List Node) (r : IsRooted t) where
         ]
 
     -- beneath a fork only what counts at the fork counts
-    pub forks_beneath_fork : is_fork t (parent_of t n) ≡ true → count (counts t n) (length t) ≡ count (counts t (parent_of t n)) (length t)
+    pub forks_beneath_fork : is_fork t (parent_of t n) ≡ true → count (fork_counts_at t n) (length t) ≡ count (fork_counts_at t (parent_of t n)) (length t)
     forks_beneath_fork f =
-        count_same (counts t n) (counts t (parent_of t n)) (length t) (λ g h. same_truth (counts t n g) (counts t (parent_of t n) g)
+        count_same (fork_counts_at t n) (fork_counts_at t (parent_of t n)) (length t) (λ g h. same_truth (fork_counts_at t n g) (fork_counts_at t (parent_of t n) g)
         (λ e. (let s = of_counts t n g e in elim (split g h s) [ inl b ↦ counts_of t (parent_of t n) g (to_parent g h s b) | inr z ↦ absurd (cc (f, z.0)) ]))
         (λ e. counts_of t n g (from_parent g h (of_counts t (parent_of t n) g e))))
 
-    pub forks_before : is_fork t (parent_of t n) ≡ false → count (counts t n) (length t) ≡ count (counts t (parent_of t n)) (length t) + forks_to t (child_to t n (parent_of t n))
+    pub forks_before : is_fork t (parent_of t n) ≡ false → count (fork_counts_at t n) (length t) ≡ count (fork_counts_at t (parent_of t n)) (length t) + forks_to t (child_to t n (parent_of t n))
     forks_before f =
-        count_or (counts t n) (counts t (parent_of t n)) (comes_to t (child_to t n (parent_of t n))) (length t)
-        (λ g h. same_truth (counts t n g) (counts t (parent_of t n) g || comes_to t (child_to t n (parent_of t n)) g)
+        count_or (fork_counts_at t n) (fork_counts_at t (parent_of t n)) (comes_to t (child_to t n (parent_of t n))) (length t)
+        (λ g h. same_truth (fork_counts_at t n g) (fork_counts_at t (parent_of t n) g || comes_to t (child_to t n (parent_of t n)) g)
         (λ e.
         let s = of_counts t n g e in
         elim (split g h s) [
-          | inl b ↦ or_left (counts t (parent_of t n) g) (comes_to t (child_to t n (parent_of t n)) g) (counts_of t (parent_of t n) g (to_parent g h s b))
-          | inr z ↦ or_right (counts t (parent_of t n) g) (comes_to t (child_to t n (parent_of t n)) g) z.1
+          | inl b ↦ or_left (fork_counts_at t (parent_of t n) g) (comes_to t (child_to t n (parent_of t n)) g) (counts_of t (parent_of t n) g (to_parent g h s b))
+          | inr z ↦ or_right (fork_counts_at t (parent_of t n) g) (comes_to t (child_to t n (parent_of t n)) g) z.1
         ])
-        (λ e. elim (or_cases (counts t (parent_of t n) g) (comes_to t (child_to t n (parent_of t n)) g) e) [
+        (λ e. elim (or_cases (fork_counts_at t (parent_of t n) g) (comes_to t (child_to t n (parent_of t n)) g) e) [
           | inl q ↦ counts_of t n g (from_parent g h (of_counts t (parent_of t n) g q))
           | inr q ↦ counts_of t n g (from_sibling g h f q)
         ]))

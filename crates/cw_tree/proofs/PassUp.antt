@@ -7,7 +7,7 @@ use Rattle.std.proofs.lemmas.Grind.{get_or_default_zero}
 use Rattle.cw_tree.specs.declared.node.Node.{Node}
 use Rattle.cw_tree.specs.Nodes.{all_nodes, parent_of, is_strand, is_fork}
 use Rattle.cw_tree.specs.Walks.{IsRooted}
-use Rattle.cw_tree.specs.Names.{counts, fork_number}
+use Rattle.cw_tree.specs.Names.{fork_counts_at, fork_number}
 use Rattle.cw_tree.specs.ForkCounts.{forks_after}
 use Rattle.cw_tree.proofs.Lists.{map_below}
 use Rattle.cw_tree.proofs.Counting.{count}
@@ -63,7 +63,7 @@ module _ (t : List Node) (r : IsRooted t) where
               ∙ at_parent ∙ ap (fork_number t) up
               ∙ sym (ap (λ j. j + 1) (forks_beneath_fork t r n w.some there e f))
           by_kind (inr e) (inr f) =
-              let before : count (counts t n) (length t) ≡ count (counts t (parent_of t n)) (length t) + forks_to t (child_to t n (parent_of t n)) = forks_before t r n w.some there e f in
+              let before : count (fork_counts_at t n) (length t) ≡ count (fork_counts_at t (parent_of t n)) (length t) + forks_to t (child_to t n (parent_of t n)) = forks_before t r n w.some there e f in
               let here : a ≡ fork_number t (parent_of t n) = at_parent ∙ ap (fork_number t) up in
               let more : s ≡ forks_to t (child_to t n (parent_of t n)) = in_siblings ∙ ap (λ m. forks_to t (child_to t n m)) up in
               ap (λ b. cond b 1 (cond (is_fork t (parent_of t n)) a (a + s))) e ∙ ap (λ b. cond b a (a + s)) f ∙ omega (arith, before, here, more)

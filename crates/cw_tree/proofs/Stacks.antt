@@ -12,7 +12,7 @@ use Rattle.cw_tree.specs.Nodes.{touches_kind, touches, stamp_of, fresh_node, clo
 use Rattle.cw_tree.specs.Walks.{IsRooted}
 use Rattle.cw_tree.specs.Accesses.{cell_value, value_in, written_kind, read_kind, written, IsChain}
 use Rattle.cw_tree.specs.Journals.{IsEntry, AreEntries}
-use Rattle.cw_tree.specs.Stacks.{newest_conflicts, AreThere, access_kind, written_by, stamps, IsStack}
+use Rattle.cw_tree.specs.Stacks.{newest_conflicts, AreThere, access_kind, written_by, stamps, IsAccessStack}
 use Rattle.cw_tree.specs.ChainLaws.{StacksGrow, StacksClose, FrontsOfStacks, StacksTell}
 use Rattle.cw_tree.proofs.Members.{map_same}
 use Rattle.cw_tree.proofs.Growing.{get_append, get_next, node_grown, node_new, number_grown}
@@ -121,8 +121,8 @@ module _ (t : List Node) (r : IsRooted t) (c p : ℕ) (hp : p < length t) (write
         entry_written with_access (length t) (fresh_node p (access_kind c write answer) stamp) (get_next t (fresh_node p (access_kind c write answer) stamp) []) c v e answer kind note
 
   -- where the newest does not conflict, the access comes behind it
-  pub stack_extends : (v : ℤ) (us : List ℕ) (es : List Entry) (e : Entry) → IsStack t c v us es → newest_conflicts t us p ≡ false
-      → answer ≡ unwrap_or write (cell_value v (map (written t) us)) → Notes e stamp (is_some write) answer (cell_value v (map (written t) us)) → IsStack with_access c v (us ++ length t ∷ []) (es ++ e ∷ [])
+  pub stack_extends : (v : ℤ) (us : List ℕ) (es : List Entry) (e : Entry) → IsAccessStack t c v us es → newest_conflicts t us p ≡ false
+      → answer ≡ unwrap_or write (cell_value v (map (written t) us)) → Notes e stamp (is_some write) answer (cell_value v (map (written t) us)) → IsAccessStack with_access c v (us ++ length t ∷ []) (es ++ e ∷ [])
   stack_extends v us es e h free is note =
       let there = stack_there t c us h.accesses in
       let grown = stacks_grow t (fresh_node p (access_kind c write answer) stamp ∷ []) c v us es r h in

@@ -6,7 +6,7 @@ use Rattle.cw_tree.specs.declared.access.Entry.{Entry}
 use Rattle.cw_tree.specs.Nodes.{touches_kind, is_pending_state, stamp_of, is_pending, closed}
 use Rattle.cw_tree.specs.Walks.{IsRooted, is_above, nua, conflict}
 use Rattle.cw_tree.specs.Accesses.{written, lets_follow, IsChain, IsChainOf}
-use Rattle.cw_tree.specs.Stacks.{conflict_at, newest_conflicts, AreThere, access_at, written_by, stamps, IsStack}
+use Rattle.cw_tree.specs.Stacks.{conflict_at, newest_conflicts, AreThere, access_at, written_by, stamps, IsAccessStack}
 
 -- ## Conflicts of an access that is made next, at a place
 
@@ -119,19 +119,19 @@ StampsBeneath =
 -- ## Accesses with their entries
 
 abbrev pub StacksGrow : Type 0
-StacksGrow = (t s : List Node) (c : ℕ) (v : ℤ) (us : List ℕ) (es : List Entry) → IsRooted t → IsStack t c v us es → IsStack (t ++ s) c v us es
+StacksGrow = (t s : List Node) (c : ℕ) (v : ℤ) (us : List ℕ) (es : List Entry) → IsRooted t → IsAccessStack t c v us es → IsAccessStack (t ++ s) c v us es
 
 abbrev pub StacksClose : Type 0
 StacksClose =
     (t : List Node) (c : ℕ) (v : ℤ) (us : List ℕ) (es : List Entry) (b : ℕ) (state : BlockState) (end : ℕ)
-    → IsRooted t → is_pending_state state ≡ false → IsStack t c v us es → IsStack (closed t b state end) c v us es
+    → IsRooted t → is_pending_state state ≡ false → IsAccessStack t c v us es → IsAccessStack (closed t b state end) c v us es
 
 -- the oldest of them, with their entries
 abbrev pub FrontsOfStacks : Type 0
-FrontsOfStacks = (t : List Node) (c k : ℕ) (v : ℤ) (us : List ℕ) (es : List Entry) → IsStack t c v us es → IsStack t c v (take k us) (take k es)
+FrontsOfStacks = (t : List Node) (c k : ℕ) (v : ℤ) (us : List ℕ) (es : List Entry) → IsAccessStack t c v us es → IsAccessStack t c v (take k us) (take k es)
 
 -- entries tell what their accesses wrote, and when
 abbrev pub StacksTell : Type 0
 StacksTell =
     (t : List Node) (c : ℕ) (v : ℤ) (us : List ℕ) (es : List Entry)
-    → IsStack t c v us es → (map written_by es ≡ map (written t) us) × (stamps es ≡ map (stamp_of t) us)
+    → IsAccessStack t c v us es → (map written_by es ≡ map (written t) us) × (stamps es ≡ map (stamp_of t) us)

@@ -10,12 +10,12 @@ use Rattle.cw_tree.specs.Walks.{path, above, is_above}
 use Rattle.cw_tree.specs.Series.{strand_of, is_before}
 
 -- fork g counts at n: it is before n in the same strand, and each block above it that was rolled back is above n too
-abbrev pub counts : List Node → ℕ → ℕ → Bool
-counts t n g = is_fork t g && (strand_of t g == strand_of t n) && is_before t g n && list_all (λ a. not (is_aborted t a) || is_above t a n) (above t g)
+abbrev pub fork_counts_at : List Node → ℕ → ℕ → Bool
+fork_counts_at t n g = is_fork t g && (strand_of t g == strand_of t n) && is_before t g n && list_all (λ a. not (is_aborted t a) || is_above t a n) (above t g)
 
 -- which fork of its strand f is, from 1
 abbrev pub fork_number : List Node → ℕ → ℕ
-fork_number t f = count_by (counts t f) (all_nodes t) + 1
+fork_number t f = count_by (fork_counts_at t f) (all_nodes t) + 1
 
 -- strand s is a right one: an earlier strand has the same parent
 abbrev pub is_right : List Node → ℕ → Bool

@@ -58,12 +58,12 @@ pub record AreRefusals (t : List Node) (cs : List Conflict) : Type 0 where
   pub committed : (b : ℕ) → b < length t → IsTrue (is_committed t b) → is_victim t cs b ≡ false
 
 -- n is a refused access whose conflict has a victim
-abbrev pub leads_back : List Conflict → ℕ → Bool
-leads_back cs n = list_any (λ c. (c.asker == n) && is_some (victim_of c)) cs
+abbrev pub names_victim : List Conflict → ℕ → Bool
+names_victim cs n = list_any (λ c. (c.asker == n) && is_some (victim_of c)) cs
 
 -- a strand that rolls back goes on with nothing else until it comes to the victim's place
 pub record RollsBack (t : List Node) (cs : List Conflict) : Type 0 where
-  pub tried : (n : ℕ) → n < length t → IsTrue (leads_back cs n) → has_later t n ≡ false
+  pub tried : (n : ℕ) → n < length t → IsTrue (names_victim cs n) → has_later t n ≡ false
   pub aborted : (n : ℕ) → n < length t → IsTrue (is_aborted t n && not (is_victim t cs n)) → has_later t n ≡ false
 
 -- ## Where a run stopped

@@ -41,7 +41,7 @@ abbrev pub stamps : List Entry → List ℕ
 stamps es = map (λ e. e.mark.stamp) es
 
 -- accesses of cell c, oldest first, make a chain, and es are their entries; the first of them met value v
-pub record IsStack (t : List Node) (c : ℕ) (v : ℤ) (us : List ℕ) (es : List Entry) : Type 0 where
+pub record IsAccessStack (t : List Node) (c : ℕ) (v : ℤ) (us : List ℕ) (es : List Entry) : Type 0 where
   pub accesses : All (λ u. IsTrue (touches t c u)) us
   pub entries : AreEntries t v us es
   pub chain : IsChain t us

@@ -2,9 +2,9 @@
 use Rattle.std.proofs.Common.{◌≡◌, ℕ, List, ◌∙◌, refl, sym, subst, Bool, true, false, nat_eq, nat_lt, eqb-true, eq-eqb}
 use Rattle.cw_tree.specs.declared.access.Mark.{Mark}
 use Rattle.cw_trace.specs.declared.verdict.Verdict.{Verdict}
-use Rattle.cw_trace.specs.Columns.{Columns}
-use Rattle.cw_trace.specs.Told.{Read, Answer, Owner, Inside, Number, Test, held, Holds, Stays}
-use Rattle.cw_trace.specs.Query.{StandsIn, is_it, by_place, Gives, Covers, same_trace, other_trace, verdict}
+use Rattle.cw_trace.specs.Columns.{ColumnTable}
+use Rattle.cw_trace.specs.Told.{Read, Answer, Owner, Inside, Number, Test, held, HoldsRead, Stays}
+use Rattle.cw_trace.specs.Query.{IsWithinTrace, is_it, by_place, Gives, Covers, same_trace, other_trace, verdict}
 use Rattle.cw_trace.specs.Verdicts.{TellsOfTree, TellsByReading, TellsOfBlock}
 use Rattle.cw_trace.proofs.Agreeing.{gives_later, gives_held, covers_later, covers_held}
 use Rattle.cw_trace.proofs.Answering.{decides, decides_by_reading, covers_blocks}
@@ -14,12 +14,12 @@ module _ (told : Read → Answer → Type 0) where
   told_same : (i v t : ℕ) → told (Owner i) (Number v) → v ≡ t → told (Owner i) (Number t)
   told_same i v t h e = let P : ℕ → Type 0 = λ x. told (Owner i) (Number x) in subst P e h
 
-  pub stands_it : (i v t : ℕ) (r : Bool) → told (Owner i) (Number v) → r ≡ nat_eq v t → r ≡ true → StandsIn told i t r
+  pub stands_it : (i v t : ℕ) (r : Bool) → told (Owner i) (Number v) → r ≡ nat_eq v t → r ≡ true → IsWithinTrace told i t r
   stands_it i v t r h value is =
-      let P : Bool → Type 0 = λ b. StandsIn told i t b in
+      let P : Bool → Type 0 = λ b. IsWithinTrace told i t b in
       subst P (sym is) (is_it (told_same i v t h (eqb-true v t (sym value ∙ is))))
 
-  pub stands_inside : (i v t : ℕ) (r b : Bool) → told (Owner i) (Number v) → r ≡ nat_eq v t → r ≡ false → told (Inside v t) (Test b) → StandsIn told i t b
+  pub stands_inside : (i v t : ℕ) (r b : Bool) → told (Owner i) (Number v) → r ≡ nat_eq v t → r ≡ false → told (Inside v t) (Test b) → IsWithinTrace told i t b
   stands_inside i v t r b h value is g = by_place h (λ e. cc (is, value, eq-eqb v t e)) g
 
   pub covers_own : (block last : Mark) (t u : ℕ) (r x : Bool) → told (Owner block.strand) (Number t) → told (Owner last.strand) (Number u) → r ≡ nat_eq u t → r ≡ true → x ≡ nat_lt block.stamp last.stamp → Covers told block last x
@@ -32,7 +32,7 @@ module _ (told : Read → Answer → Type 0) where
 
 -- ## Where all that was told is what one tier and gap words hold
 
-module _ (c : Columns) (words : List ℕ) (told : Read → Answer → Type 0) (stays : Stays told (Holds c words)) where
+module _ (c : ColumnTable) (words : List ℕ) (told : Read → Answer → Type 0) (stays : Stays told (HoldsRead c words)) where
   pub verdict_is : (last : Mark) (asker : ℕ) (v : Verdict) → Gives told last asker v → v ≡ verdict c words last asker
   verdict_is last asker v g = gives_held c words last asker v (gives_later stays g)
 
@@ -48,5 +48,5 @@ module _ (c : Columns) (words : List ℕ) (told : Read → Answer → Type 0) (s
       subst P (sym (covers_held c words block last x (covers_later stays g))) (covers_blocks c words block last)
 
 -- what holds after holding something else holds the same
-pub holds_back : (c d : Columns) (words later : List ℕ) → Stays (Holds c words) (Holds d later) → Stays (Holds d later) (Holds c words)
+pub holds_back : (c d : ColumnTable) (words later : List ℕ) → Stays (HoldsRead c words) (HoldsRead d later) → Stays (HoldsRead d later) (HoldsRead c words)
 holds_back c d words later stays r a h = sym (stays r (held c words r) refl) ∙ h

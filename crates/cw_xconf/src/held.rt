@@ -1,5 +1,5 @@
 ghost use Rattle.std.specs.Prelude.{◌≡◌, ◌+◌, ◌≤◌};
-ghost use Rattle.cw_trace.specs.Told.{Holds, Inside, Test, Stays};
+ghost use Rattle.cw_trace.specs.Told.{HoldsRead, Inside, Test, Stays};
 
 use cw_order::Steps;
 use cw_trace::{Columns, Gaps, Tier};
@@ -13,7 +13,7 @@ pub struct Held<'a> {
 }
 
 impl<'a> Columns for Held<'a> {
-    ghost told = { λ s. Holds s.tier.now.columns s.gaps.now.words.items };
+    ghost told = { λ s. HoldsRead s.tier.now.columns s.gaps.now.words.items };
 
     ghost ready = { λ s. Unit {0} };
 
@@ -44,9 +44,9 @@ impl<'a> Columns for Held<'a> {
         looks: &mut Steps<K>,
         compares: &mut Steps<L>,
     ) -> bool
-        ensures told { Holds self.new.tier.now.columns self.new.gaps.now.words.items (Inside trace outer) (Test result) }
-        ensures kept { Stays (Holds self.old.tier.now.columns self.old.gaps.now.words.items)
-            (Holds self.new.tier.now.columns self.new.gaps.now.words.items) }
+        ensures told { HoldsRead self.new.tier.now.columns self.new.gaps.now.words.items (Inside trace outer) (Test result) }
+        ensures kept { Stays (HoldsRead self.old.tier.now.columns self.old.gaps.now.words.items)
+            (HoldsRead self.new.tier.now.columns self.new.gaps.now.words.items) }
         ensures looks { looks.new ≤ looks.old + 4 }
         ensures compares { compares.new ≤ compares.old + 2 }
         ensures cost { looks.new ≡ looks.old + 4 }

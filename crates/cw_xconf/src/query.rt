@@ -1,8 +1,8 @@
 ghost use Rattle.std.specs.Prelude.{◌≡◌, ◌+◌, ◌≤◌, ◌==◌, ℕ, List};
 ghost use Rattle.cw_trace.specs.Columns as traces;
-ghost use Rattle.cw_trace.specs.Told.{Holds, Stays};
+ghost use Rattle.cw_trace.specs.Told.{HoldsRead, Stays};
 ghost use Rattle.cw_trace.specs.Query as rules;
-ghost use Rattle.cw_trace.specs.Query.{HasWord, StandsIn, GivesAround, Gives, Covers};
+ghost use Rattle.cw_trace.specs.Query.{HasWord, IsWithinTrace, GivesAround, Gives, Covers};
 ghost use Rattle.cw_trace.specs.Verdicts.{TellsOfTree, TellsByReading, TellsOfBlock};
 ghost use Rattle.cw_xconf.specs.Costs.{looks_around, looks_for};
 
@@ -46,7 +46,7 @@ fn stands_in<C: Columns, K: Ledger, L: Ledger>(
 ) -> bool
     requires { C.ready columns.old }
     ensures ready { C.ready columns.new }
-    ensures stands { StandsIn (C.told columns.new) strand outer result }
+    ensures stands { IsWithinTrace (C.told columns.new) strand outer result }
     ensures kept { Stays (C.told columns.old) (C.told columns.new) }
     ensures looks { looks.new ≤ looks.old + 5 }
     ensures compares { compares.new ≤ compares.old + 3 }
@@ -94,7 +94,7 @@ pub fn ask_by<C: Columns, K: Ledger, L: Ledger>(
     requires { C.ready columns.old }
     ensures ready { C.ready columns.new }
     ensures given { Gives (C.told columns.new) last asker result }
-    ensures tells { (c : traces.Columns) (words : List ℕ) → Stays (C.told columns.new) (Holds c words)
+    ensures tells { (c : traces.ColumnTable) (words : List ℕ) → Stays (C.told columns.new) (HoldsRead c words)
         → TellsOfTree c words last asker result }
     ensures kept { Stays (C.told columns.old) (C.told columns.new) }
     ensures looks { looks.new ≤ looks.old + 12 }
@@ -127,7 +127,7 @@ pub fn contains_by<C: Columns, K: Ledger, L: Ledger>(
     requires { C.ready columns.old }
     ensures ready { C.ready columns.new }
     ensures given { Covers (C.told columns.new) block last result }
-    ensures tells { (c : traces.Columns) (words : List ℕ) → Stays (C.told columns.new) (Holds c words)
+    ensures tells { (c : traces.ColumnTable) (words : List ℕ) → Stays (C.told columns.new) (HoldsRead c words)
         → TellsOfBlock c words block last result }
     ensures kept { Stays (C.told columns.old) (C.told columns.new) }
     ensures looks { looks.new ≤ looks.old + 6 }

@@ -5,7 +5,7 @@ use Rattle.cw_text.specs.declared.ast.Word.{Word}
 use Rattle.cw_text.specs.declared.ast.Expr.{Expr}
 use Rattle.cw_text.specs.declared.ast.Stmt.{Stmt}
 use Rattle.cw_text.specs.Syntax.{term_of, terms_of, statement_of, block_of}
-use Rattle.cw_strand.specs.Names.{Scope, find, a_local, declared_new, scope_after, count_of, in_term, in_terms, in_statement, in_block, in_params, with_params}
+use Rattle.cw_strand.specs.Names.{Scope, find, a_local, declared_new, scope_after, count_of, in_term, in_terms, in_statement, in_block, in_params, scope_with_params}
 use Rattle.cw_compile.specs.declared.naming.visible.Visible.{Visible}
 use Rattle.cw_compile.specs.NamingRules.Visible.{StaysVisible}
 
@@ -31,7 +31,7 @@ module _ (g : Scope) (ws : List Word) (i : ℕ) (w : Word) (lt : i < length ws) 
   pub in_params_next : declared_new (find w.name g) w.line ≡ None → in_params g (drop i ws) ≡ in_params ((w.name, a_local) ∷ g) (drop (i + 1) ws)
   in_params_next none = rw (item_first ws i w lt is, none) refl
 
-  pub with_params_next : with_params ((w.name, a_local) ∷ g) (drop (i + 1) ws) ≡ with_params g (drop i ws)
+  pub with_params_next : scope_with_params ((w.name, a_local) ∷ g) (drop (i + 1) ws) ≡ scope_with_params g (drop i ws)
   with_params_next = rw (item_first ws i w lt is) refl
 
 -- ## What stays visible

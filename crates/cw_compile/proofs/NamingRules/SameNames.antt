@@ -4,7 +4,7 @@ use Rattle.std.specs.Option.{option_or, option_map}
 use Rattle.cw_text.specs.declared.ast.Word.{Word}
 use Rattle.std.specs.Str.{bytes_eq}
 use Rattle.cw_text.specs.Syntax.{Term, number, name, at, call, unary, binary, Terms, none, more, Statement, declare, assign, assign_at, run, out, choose, repeat, atomic, spawn, sync, return, Block, empty, first, Declaration, cell, func}
-use Rattle.cw_strand.specs.Names.{Thing, Scope, find, a_local, cell_thing, a_function, used, in_term, in_terms, scope_after, in_statement, in_block, in_params, with_params, elements, in_items, in_functions}
+use Rattle.cw_strand.specs.Names.{Thing, Scope, find, a_local, cell_thing, a_function, used, in_term, in_terms, scope_after, in_statement, in_block, in_params, scope_with_params, elements, in_items, in_functions}
 use Rattle.cw_compile.specs.declared.naming.visible.Visible.{Visible}
 use Rattle.cw_compile.specs.Named.{named}
 use Rattle.cw_compile.specs.NamingRules.Scopes.{IsSame, thing_of}
@@ -77,7 +77,7 @@ in_params_same : {g h : Scope} → IsSame g h → (ws : List Word) → in_params
 in_params_same same [] = refl
 in_params_same same (w ∷ ws) = rw (same.finds w.name, in_params_same (same_cons (w.name, a_local) same) ws) refl
 
-with_params_same : {g h : Scope} → IsSame g h → (ws : List Word) → IsSame (with_params g ws) (with_params h ws)
+with_params_same : {g h : Scope} → IsSame g h → (ws : List Word) → IsSame (scope_with_params g ws) (scope_with_params h ws)
 with_params_same same [] = same
 with_params_same same (w ∷ ws) = with_params_same (same_cons (w.name, a_local) same) ws
 

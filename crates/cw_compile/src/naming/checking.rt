@@ -2,7 +2,7 @@ ghost use Rattle.std.specs.Prelude.{◌≡◌, map, OnOk, IfOk, Some, false};
 ghost use Rattle.std.specs.List.{position_from};
 ghost use Rattle.std.specs.Result.{result_err};
 ghost use Rattle.cw_text.specs.Syntax.{term_of, terms_of, statement_of, block_of, declaration_of};
-ghost use Rattle.cw_strand.specs.Names.{find, used, indexed, called, count_of, returned_from, in_term, in_terms, in_statement, scope_after, in_block, in_params, with_params, ◌then◌, in_functions, main_of, naming_fault, without_main};
+ghost use Rattle.cw_strand.specs.Names.{find, used, indexed, called, count_of, returned_from, in_term, in_terms, in_statement, scope_after, in_block, in_params, scope_with_params, ◌then◌, in_functions, main_of, naming_fault, without_main};
 ghost use Rattle.cw_compile.specs.NamingRules.Items.{IsAllOf, is_main};
 ghost use Rattle.cw_compile.specs.NamingRules.Scopes.{Finds};
 ghost use Rattle.cw_compile.specs.NamingRules.Visible.{StaysVisible, visible_in};
@@ -180,7 +180,7 @@ fn in_block<'a>(
 /// The first fault in the parameters of a function, which are visible afterwards.
 fn in_params<'a>(visible: &mut Visible<'a>, params: &'a [Word]) -> Result<(), NameRefusal>
     ensures exact { Finds result (in_params (visible_in visible.old) params.now) }
-    ensures visible { OnOk result (visible_in visible.new ≡ with_params (visible_in visible.old) params.now) }
+    ensures visible { OnOk result (visible_in visible.new ≡ scope_with_params (visible_in visible.old) params.now) }
 {
     for word in params {
         declared_new(visible.find(&word.name), word.line)?;
@@ -196,7 +196,7 @@ fn in_function<'a>(
     params: &'a [Word],
     body: &'a [Stmt],
 ) -> Result<(), NameRefusal>
-    ensures { Finds result (in_params names.now params.now then in_block (with_params names.now params.now) false (block_of body.now)) }
+    ensures { Finds result (in_params names.now params.now then in_block (scope_with_params names.now params.now) false (block_of body.now)) }
 {
     let mut visible = Visible::new(alloc, names);
     in_params(&mut visible, params)?;

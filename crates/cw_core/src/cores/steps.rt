@@ -1,7 +1,7 @@
 ghost use Rattle.std.specs.Prelude.{◌≡◌, IfOk, OnOk, OnErr, IsOk, IsTrue};
 ghost use Rattle.cw_open.specs.Runs.{IsRun, at_once};
 ghost use Rattle.cw_core.specs.Laws.{HasChains, IsCore};
-ghost use Rattle.cw_core.specs.Events.{fits, after, reply_to, steps_of, takes_none};
+ghost use Rattle.cw_core.specs.Events.{fits, after_event, reply_to, steps_of, takes_none};
 
 use crate::cores::Core;
 use crate::{Event, Reply};
@@ -11,7 +11,7 @@ impl Core {
     /// Makes an event that fits, and answers it.
     pub fn step(&mut self, event: Event) -> Result<Reply, OutOfMemory>
         requires { IsTrue (fits self.old event) }
-        ensures ok { OnOk result (self.new ≡ after self.old event) }
+        ensures ok { OnOk result (self.new ≡ after_event self.old event) }
         ensures reply { IfOk result (λ r. r ≡ reply_to self.old event) }
         ensures err { OnErr result (self.new ≡ self.old) }
         ensures sure { IsTrue (takes_none event) → IsOk result }

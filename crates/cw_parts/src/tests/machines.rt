@@ -1,5 +1,5 @@
 ghost use Rattle.std.specs.Prelude.{IfOk};
-ghost use Rattle.cw_serial.specs.Jobs.{Takes};
+ghost use Rattle.cw_serial.specs.Jobs.{TakesWords};
 
 use cw_base::Seq;
 use cw_compile::compile;
@@ -28,7 +28,7 @@ const fn name(parent: u32, fork: u32, right: bool) -> Name {
 const BOTH: &str = "cell c; fn main() { atomic { spawn { c = c + 1; } c = c + 1; } }";
 
 pub fn program(alloc: Global, text: &str) -> Result<Program, Fail>
-    ensures { IfOk result (λ p. Takes p 0) }
+    ensures { IfOk result (λ p. TakesWords p 0) }
 {
     let program = compile(alloc, &read_program(alloc, text.as_bytes())?)?;
     if takes_words(&program, 0) {

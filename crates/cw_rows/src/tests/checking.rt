@@ -1,5 +1,5 @@
 ghost use Rattle.std.specs.Prelude.{length, IfOk};
-ghost use Rattle.cw_serial.specs.Jobs.{Takes};
+ghost use Rattle.cw_serial.specs.Jobs.{TakesWords};
 
 use super::{COUNTS, answer};
 use cw_base::Seq;
@@ -16,7 +16,7 @@ use std::thread::Threads;
 const BESIDE: &[u8] = b"cell c; fn main() { spawn { atomic { c = 1; } } c = 2; }";
 
 fn record<R: AllocGlobal + Threads + Wait + Sync>(rt: &R, text: &[u8]) -> Result<Record, Fail>
-    ensures { IfOk result (λ r. Takes r.program (length r.words)) }
+    ensures { IfOk result (λ r. TakesWords r.program (length r.words)) }
 {
     let mut source = SureSource::new(text.to_vec(rt.alloc())?, 100);
     let mut sink = SureSink::with_room(rt.alloc(), 100)?;
@@ -31,7 +31,7 @@ fn record<R: AllocGlobal + Threads + Wait + Sync>(rt: &R, text: &[u8]) -> Result
 
 // What a check says where the run ended so.
 fn with_end(alloc: Global, mut run: Record, end: RecordEnd) -> Result<Checked, Fail>
-    requires { Takes run.program (length run.words) }
+    requires { TakesWords run.program (length run.words) }
 {
     run.end = end;
     Ok(check(alloc, &run)?)
@@ -39,7 +39,7 @@ fn with_end(alloc: Global, mut run: Record, end: RecordEnd) -> Result<Checked, F
 
 // The end under other picks.
 fn end_with_picks(alloc: Global, mut run: Record, list: Seq<u32>) -> Result<SerialEnd, Fail>
-    requires { Takes run.program (length run.words) }
+    requires { TakesWords run.program (length run.words) }
 {
     run.order.list = list;
     Ok(serial(
@@ -60,7 +60,7 @@ fn finished(alloc: Global, memory: &[i64], outputs: &[i64]) -> Result<RecordEnd,
 
 // What a check says where the picks are these.
 fn with_picks(alloc: Global, mut run: Record, list: Seq<u32>, last: u32) -> Result<Checked, Fail>
-    requires { Takes run.program (length run.words) }
+    requires { TakesWords run.program (length run.words) }
 {
     run.order.list = list;
     run.order.last = last;
@@ -79,7 +79,7 @@ fn counts_tree(alloc: Global, value: i64) -> Result<Tree, Fail> {
 
 // What a check says where the tree is this.
 fn with_tree(alloc: Global, mut run: Record, tree: Tree) -> Result<Checked, Fail>
-    requires { Takes run.program (length run.words) }
+    requires { TakesWords run.program (length run.words) }
 {
     run.tree = tree;
     Ok(check(alloc, &run)?)

@@ -9,8 +9,8 @@ use Rattle.cw_strand.specs.Saving.{Kept, kept_of, StandsLike, MayGoBack as MayGo
 use Rattle.cw_strand.specs.Standing.{StandsWanting}
 use Rattle.cw_strand.proofs.Standing.{grown_stands, joined_stands}
 use Rattle.cw_serial.specs.declared.standing.Standing.{Standing}
-use Rattle.cw_serial.specs.Room.Strands.{StrandState, state_of, strands_of}
-use Rattle.cw_serial.specs.Room.Saves.{IsSavedOf, StandsAs, MayGoBack}
+use Rattle.cw_serial.specs.Room.Strands.{StrandState, state_of, strands_of_job}
+use Rattle.cw_serial.specs.Room.Saves.{IsSavedOf, StandsAs, MayRollBack}
 
 pub stands_as_it : (a : StrandState) → StandsAs a a
 unfolding StandsAs
@@ -28,8 +28,8 @@ joined_wanting code w s t h = record {
   begun = λ e. (let b = h.begun e in record { operands = b.operands; scopes = b.scopes; opened = b.opened; current = b.current; within = b.within });
 }
 
-pub may_go : (saved : Kept) (x : StrandState) → MayGoBack saved x → MayGo saved x.state
-unfolding strands_of IsSavedOf StandsAs
+pub may_go : (saved : Kept) (x : StrandState) → MayRollBack saved x → MayGo saved x.state
+unfolding strands_of_job IsSavedOf StandsAs
 may_go saved x m = record {
   code = m.job.program.code;
   sound = m.job.program.sound;
@@ -49,12 +49,12 @@ may_go saved x m = record {
 }
 
 -- what has the begin's state and wants a begin is the begin
-pub begin_is : (saved : Kept) (x : StrandState) (m : MayGoBack saved x) (s : State) → ((g : MayGo saved x.state) → s ≡ g.begin.state) → record { want = Begin; state = s } ≡ m.begin
+pub begin_is : (saved : Kept) (x : StrandState) (m : MayRollBack saved x) (s : State) → ((g : MayGo saved x.state) → s ≡ g.begin.state) → record { want = Begin; state = s } ≡ m.begin
 unfolding IsSavedOf may_go
 begin_is saved x m s is = ap (λ (y : State). record { want = Begin; state = y }) (is (may_go saved x m)) ∙ ap (λ (w : Want). record { want = w; state = m.begin.state }) (sym m.is_saved.0)
 
 -- and stands so in its program
-pub begin_wanting : (saved : Kept) (x : StrandState) (m : MayGoBack saved x) (s : State) → ((g : MayGo saved x.state) → s ≡ g.begin.state) → StandsWanting m.job.program.code Begin s
+pub begin_wanting : (saved : Kept) (x : StrandState) (m : MayRollBack saved x) (s : State) → ((g : MayGo saved x.state) → s ≡ g.begin.state) → StandsWanting m.job.program.code Begin s
 unfolding IsSavedOf may_go
 begin_wanting saved x m s is = subst (λ (y : State). StandsWanting m.job.program.code Begin y) (sym (is (may_go saved x m))) m.is_saved.1.0
 

@@ -12,7 +12,7 @@ use Rattle.cw_strand.specs.Programs.{IsCompiled}
 use Rattle.cw_strand.specs.Laws.{NamesElement}
 use Rattle.cw_strand.proofs.Elements as named
 use Rattle.cw_serial.specs.Jobs.{Job}
-use Rattle.cw_serial.specs.Room.Strands.{StrandState, strands_of}
+use Rattle.cw_serial.specs.Room.Strands.{StrandState, strands_of_job}
 
 -- a load or a store is of one of so many elements
 abbrev pub NamesThere : ℕ → Want → Type 0
@@ -22,7 +22,7 @@ NamesThere k w = Unit {0}
 
 -- the strands of a job's runs want no others
 abbrev pub WantsThere : Job → Type 0
-WantsThere job = (own : List ℕ) (x : StrandState) → Reached (strands_of job) own x → NamesThere (length (first_memory job.program.cells)) ((strands_of job).want x)
+WantsThere job = (own : List ℕ) (x : StrandState) → Reached (strands_of_job job) own x → NamesThere (length (first_memory job.program.cells)) ((strands_of_job job).want x)
 
 -- the memory has at first as many elements as the cells of the text
 memory_size : (n : ℕ) (ds : List Declaration) → length (first_memory (cells_from n ds)) ≡ elements_in ds
@@ -37,7 +37,7 @@ names_there code k (Store c v) is h = omega (arith, is, h)
 names_there code k w is h = tt
 
 pub wants_there : (job : Job) → IsCompiled job.program → WantsThere job
-unfolding strands_of
+unfolding strands_of_job
 wants_there job (ds, is) own x reached =
     let p = job.program in
     let same : p.code.cells ≡ length (first_memory p.cells) =

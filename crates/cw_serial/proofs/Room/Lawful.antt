@@ -16,15 +16,15 @@ use Rattle.cw_strand.proofs.Settling.{deep}
 use Rattle.cw_strand.proofs.Bounding.{bounded}
 use Rattle.cw_strand.proofs.MainCode.{main_code}
 use Rattle.cw_strand.proofs.CodeLaws.{code_is_lawful}
-use Rattle.cw_serial.specs.Jobs.{Job, Takes}
-use Rattle.cw_serial.specs.Room.Strands.{strands_of}
+use Rattle.cw_serial.specs.Jobs.{Job, TakesWords}
+use Rattle.cw_serial.specs.Room.Strands.{strands_of_job}
 
-pub deep_of : (job : Job) → IsDeep (strands_of job)
-unfolding strands_of
+pub deep_of : (job : Job) → IsDeep (strands_of_job job)
+unfolding strands_of_job
 deep_of job = let p = job.program in deep (coded.runs p.code p.main job.words job.limits) (bounded p.code p.main job.words job.limits p.sound)
 
 -- main has as many parameters in the source as in the code
-pub source_takes : (ds : List Declaration) (p : Program) → IsProgramOf ds p → (n : ℕ) → Takes p n → meaning.MainTakes ds n
+pub source_takes : (ds : List Declaration) (p : Program) → IsProgramOf ds p → (n : ℕ) → TakesWords p n → meaning.MainTakes ds n
 source_takes ds p is n (f, there, params) =
     let m = main_code ds is.named in
     let at : slice_get (code_of ds).funcs (main_function ds) ≡ Some f = sym (ap (λ (c : Code). slice_get c.funcs p.main) is.code ∙ ap (slice_get (code_of ds).funcs) is.main) ∙ there in
@@ -32,11 +32,11 @@ source_takes ds p is n (f, there, params) =
     ap meaning.params_in m.found ∙ (sym m.params ∙ (ap (λ (g : Func). g.params) same ∙ params))
 
 -- where the program is the compilation of a tree without a naming fault
-pub closes_of : (job : Job) → IsCompiled job.program → Takes job.program (length job.words) → Closes (strands_of job)
-unfolding strands_of
+pub closes_of : (job : Job) → IsCompiled job.program → TakesWords job.program (length job.words) → Closes (strands_of_job job)
+unfolding strands_of_job
 closes_of job (ds, is) takes =
     let p = job.program in
     let faultless : IsFaultless ds job.words = record { named = is.named; takes = source_takes ds p is (length job.words) takes } in
     let closes = (code_is_lawful ds job.words job.limits faultless).closes in
-    subst (λ (c : Code). Closes (coded.strands_of c p.main job.words job.limits)) (sym is.code)
-    (subst (λ (m : ℕ). Closes (coded.strands_of (code_of ds) m job.words job.limits)) (sym is.main) closes)
+    subst (λ (c : Code). Closes (coded.strands_of_code c p.main job.words job.limits)) (sym is.code)
+    (subst (λ (m : ℕ). Closes (coded.strands_of_code (code_of ds) m job.words job.limits)) (sym is.main) closes)

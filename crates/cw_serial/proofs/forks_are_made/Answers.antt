@@ -1,7 +1,7 @@
-use Rattle.cw_serial.specs.Room.Strands.{strands_of}
+use Rattle.cw_serial.specs.Room.Strands.{strands_of_job}
 use Rattle.cw_serial.proofs.Deep.{goes_nowhere, goes_forking}
 use Rattle.cw_serial.proofs.Room.Lawful.{deep_of}
 use Rattle.cw_serial.proofs.forks_are_made.Goals as goal
 
 pub returns : goal.returns
-returns c = λ job k a. (goes_nowhere (strands_of job) k a, goes_forking (strands_of job) (deep_of job) k a)
+returns c = λ job k a. (goes_nowhere (strands_of_job job) k a, goes_forking (strands_of_job job) (deep_of job) k a)

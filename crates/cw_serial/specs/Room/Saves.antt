@@ -5,7 +5,7 @@ use Rattle.cw_strand.specs.declared.want.Want.TheVariants.{Begin}
 use Rattle.cw_strand.specs.Standing.{StandsWanting}
 use Rattle.cw_strand.specs.Saving.{Kept, kept_of, Inside, StaysIn, StandsLike}
 use Rattle.cw_serial.specs.Jobs.{Job}
-use Rattle.cw_serial.specs.Room.Strands.{StrandState, strands_of}
+use Rattle.cw_serial.specs.Room.Strands.{StrandState, strands_of_job}
 
 -- Of this begin of a block of a program this is kept.
 unfoldable pub IsSavedOf : Program → Kept → StrandState → Type 0
@@ -17,13 +17,13 @@ StandsAs now there = StandsLike now.state there.state
 
 -- Of the begin of a block this is kept, and this strand stands where one does that is inside the block, and does not want the block's own
 -- end.
-pub record MayGoBack (saved : Kept) (now : StrandState) : Type 0 where
+pub record MayRollBack (saved : Kept) (now : StrandState) : Type 0 where
   pub job : Job
   pub begin : StrandState
   pub is_saved : IsSavedOf job.program saved begin
   pub there : StrandState
   pub forks : ℕ
   pub inner : ℕ
-  pub inside : Inside (strands_of job) begin forks inner there
-  pub stays : StaysIn ((strands_of job).want there) inner
+  pub inside : Inside (strands_of_job job) begin forks inner there
+  pub stays : StaysIn ((strands_of_job job).want there) inner
   pub like : StandsAs now there

@@ -13,8 +13,8 @@ abbrev pub StrandState : Type 0
 StrandState = running.Standing coded.State
 
 -- The strands of a job.
-unfoldable pub strands_of : Job → Strands StrandState
-strands_of job = coded.strands_of job.program.code job.program.main job.words job.limits
+unfoldable pub strands_of_job : Job → Strands StrandState
+strands_of_job job = coded.strands_of_code job.program.code job.program.main job.words job.limits
 
 -- what a strand in memory stands for
 unfoldable pub state_of : Standing → StrandState

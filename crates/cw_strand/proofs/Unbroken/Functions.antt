@@ -14,7 +14,7 @@ use Rattle.cw_code.proofs.Passes.{no_fault, none_of_two, none_at_places}
 use Rattle.cw_code.proofs.Walk.{at, expected, at_first, Walks, further}
 use Rattle.cw_strand.specs.Names.{◌then◌, globals, in_params, in_block, in_functions, in_items, without_main, main_of, cells_of}
 use Rattle.cw_strand.specs.Names as names
-use Rattle.cw_strand.specs.Compilation.{Slots, code_of, function_names, instrs_from, funcs_from, function_code, block_code, with_params, most}
+use Rattle.cw_strand.specs.Compilation.{Slots, code_of, function_names, instrs_from, funcs_from, function_code, block_code, slots_with_params, most}
 use Rattle.cw_strand.specs.Compilation as instr
 use Rattle.cw_strand.specs.Laws.{BreaksNoRule}
 use Rattle.cw_strand.proofs.Numbering.{most_from, scope_of, scope_of_params, count_of_params}
@@ -35,7 +35,7 @@ module _ (ds : List Declaration) (all_named : in_functions (globals ds) ds ≡ N
 
   -- ## A function
 
-  module _ (p : ℕ) (ps : List Word) (body : Block) (named : in_block (scope_of ds (with_params ps [])) false body ≡ None) (has : HasAt code.instrs p (function_code cells function_list p ps body)) where
+  module _ (p : ℕ) (ps : List Word) (body : Block) (named : in_block (scope_of ds (slots_with_params ps [])) false body ≡ None) (has : HasAt code.instrs p (function_code cells function_list p ps body)) where
     abbrev here : List Instr
     here = function_code cells function_list p ps body
 
@@ -43,7 +43,7 @@ module _ (ds : List Declaration) (all_named : in_functions (globals ds) ds ≡ N
     f = record { params = length ps; locals = most (length ps) body; start = p; end = p + length here }
 
     abbrev g : Slots
-    g = with_params ps []
+    g = slots_with_params ps []
 
     abbrev is : List Instr
     is = block_code cells function_list g p body
@@ -91,10 +91,10 @@ module _ (ds : List Declaration) (all_named : in_functions (globals ds) ds ≡ N
   functions_break_none (func x l ps b ∷ rest) p has ends named =
       let here = function_code cells function_list p ps b in
       let later = instrs_from cells function_list (p + length here) rest in
-      let in_body = in_block (names.with_params (globals ds) ps) false b in
+      let in_body = in_block (names.scope_with_params (globals ds) ps) false b in
       let in_rest = in_functions (globals ds) rest in
       let parts = standing.no_fault in_body in_rest (standing.no_fault (in_params (globals ds) ps) (in_body then in_rest) named).1 in
-      let fine : in_block (scope_of ds (with_params ps [])) false b ≡ None = subst (λ g. in_block g false b ≡ None) (scope_of_params ds ps []) parts.0 in
+      let fine : in_block (scope_of ds (slots_with_params ps [])) false b ≡ None = subst (λ g. in_block g false b ≡ None) (scope_of_params ds ps []) parts.0 in
       let long = length-append here later in
       func_breaks_none p ps b fine (front code.instrs p here later has) (funcs_from cells function_list (p + length here) rest) (omega (arith, long))
       (functions_break_none rest (p + length here) (behind code.instrs p here later has) (omega (arith, long)) parts.1)

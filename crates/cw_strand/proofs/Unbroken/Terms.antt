@@ -17,7 +17,7 @@ use Rattle.cw_code.proofs.Passes.{no_fault}
 use Rattle.cw_code.proofs.Walk.{at, expected, Walks, further, nothing, simply}
 use Rattle.cw_strand.specs.Names.{find, used, indexed, called, count_of, in_terms, in_functions, globals, elements, cells_from, cells_of, in_term}
 use Rattle.cw_strand.specs.Meaning.{element_of, cell_of, lifted, joining}
-use Rattle.cw_strand.specs.Compilation.{Slots, slot_of, function_names, number_from, calls, terms_code, code_of, elements_in, element, reads, writes, loads_at, stores_at, plain, number_of, term_code, lift_code, join_code}
+use Rattle.cw_strand.specs.Compilation.{Slots, slot_of, function_names, number_from, calls, terms_code, code_of, elements_in, element, reads, writes, loads_at, stores_at, plain, operator_number, term_code, lift_code, join_code}
 use Rattle.cw_strand.specs.Compilation as instr
 use Rattle.cw_strand.proofs.Numbering.{scope_of, find_out, element_there, array_there, function_there}
 use Rattle.cw_strand.proofs.FunctionCode.{function_code_there}
@@ -161,10 +161,10 @@ module _ (ds : List Declaration) (f : Func) (all_named : in_functions (globals d
         let one_more : h - 0 + 1 ≡ suc h = omega arith in
         simply code f p (instr.push z) (Some effect.Push) h b k (suc h) refl from is here (ap (λ x. at x b k) one_more) refl (omega arith) refl refl refl to
 
-    lift_fits : (o : Operator) → effect_at (number_of o) ≡ Some (effect.Lift o) → slice_get code.instrs p ≡ Some (plain (number_of o)) → Expects p (at (suc h) b k) → Up p (p + 1) (at (suc h) b k)
+    lift_fits : (o : Operator) → effect_at (operator_number o) ≡ Some (effect.Lift o) → slice_get code.instrs p ≡ Some (plain (operator_number o)) → Expects p (at (suc h) b k) → Up p (p + 1) (at (suc h) b k)
     lift_fits o does is here =
         let same : suc h - 1 + 1 ≡ suc h = omega arith in
-        simply code f p (plain (number_of o)) (Some (effect.Lift o)) (suc h) b k (suc h) does from is here (ap (λ x. at x b k) same) refl (omega arith) refl refl refl to
+        simply code f p (plain (operator_number o)) (Some (effect.Lift o)) (suc h) b k (suc h) does from is here (ap (λ x. at x b k) same) refl (omega arith) refl refl refl to
 
     pub discard_fits : slice_get code.instrs p ≡ Some instr.discard → Expects p (at (suc h) b k) → Up p (p + 1) (at h b k)
     discard_fits is here =
@@ -185,7 +185,7 @@ module _ (ds : List Declaration) (f : Func) (all_named : in_functions (globals d
     join_fits : (o : Option Operator) → Joins ds code.instrs o → slice_get code.instrs p ≡ Some (join_code o) → Expects p (at (suc (suc h)) b k) → Up p (p + 1) (at (suc h) b k)
     join_fits (Some o) does is here =
         let one_less : suc (suc h) - 2 + 1 ≡ suc h = omega arith in
-        simply code f p (plain (number_of o)) (Some (effect.Join o)) (suc (suc h)) b k (suc h) does from is here (ap (λ x. at x b k) one_less) refl (omega arith) refl refl refl to
+        simply code f p (plain (operator_number o)) (Some (effect.Join o)) (suc (suc h)) b k (suc h) does from is here (ap (λ x. at x b k) one_less) refl (omega arith) refl refl refl to
     join_fits None does is here =
         let one_less : suc (suc h) - 1 + 0 ≡ suc h = omega arith in
         simply code f p instr.discard (Some effect.Drop) (suc (suc h)) b k (suc h) refl from is here (ap (λ x. at x b k) one_less) refl (omega arith) refl refl refl to

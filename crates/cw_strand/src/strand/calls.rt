@@ -39,7 +39,7 @@ pub fn take_locals(
 }
 
 impl Strand {
-    ghost use Rattle.cw_strand.specs.Acting.{Acts, Takes, entered};
+    ghost use Rattle.cw_strand.specs.Acting.{Acts, HasArguments, entered};
 
     /// Spends a unit of fuel, within the limit.
     pub(crate) fn tick(&mut self, next: usize) -> Led
@@ -61,7 +61,7 @@ impl Strand {
         next: usize,
     ) -> Result<Led, OutOfMemory>
         requires there { index instr.a < length code.now.funcs }
-        requires takes { (f : Func) → slice_get code.now.funcs (index instr.a) ≡ Some f → Takes f self.old }
+        requires takes { (f : Func) → slice_get code.now.funcs (index instr.a) ≡ Some f → HasArguments f self.old }
         ensures { IfOk result (λ l. Acts code.now call instr next self.old l self.new) }
     {
         if self.fuel >= self.limits.fuel {
@@ -80,7 +80,7 @@ impl Strand {
 
     /// The first step into a function.
     fn enter(&mut self, func: Func, next: usize) -> Result<(), OutOfMemory>
-        requires { Takes func self.old }
+        requires { HasArguments func self.old }
         ensures { OnOk result (self.new ≡ entered func next self.old) }
     {
         let alloc = *self.locals.allocator();

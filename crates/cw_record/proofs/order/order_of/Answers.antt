@@ -7,7 +7,7 @@ use Rattle.cw_tree.specs.Series.{strand_of}
 use Rattle.cw_tree.proofs.Lists.{get_map_below}
 use Rattle.cw_record.specs.declared.items.OrderItem.{OrderItem}
 use Rattle.cw_record.specs.Items.{items, place_of_end}
-use Rattle.cw_record.specs.Listed.{listed_names, number_of}
+use Rattle.cw_record.specs.Listed.{listed_names, strand_number}
 use Rattle.cw_record.specs.Order.{ending_strand, pick_of}
 use Rattle.cw_tree.proofs.There.{node_there}
 use Rattle.cw_record.proofs.ItemsThere.{OfTree, items_there}
@@ -33,12 +33,12 @@ returns c =
     let value = c.index-last.result.now in
     let last_there : ending_strand c.args.end.now < length t = node_there (λ x. is_strand_kind x.kind) t (ending_strand c.args.end.now) c.requires in
     let there : s < length t = omega (arith, c.ending_strand.ensures) in
-    let last : value ≡ number_of t (ending_strand c.args.end.now) =
+    let last : value ≡ strand_number t (ending_strand c.args.end.now) =
     c.index-last.ensures
     ∙ ap (λ xs. get_or xs s value) c.in_ok-listed.ensures.numbers
-    ∙ get_map_below (λ n. number_of t (strand_of t n)) (length t) s value there
+    ∙ get_map_below (λ n. strand_number t (strand_of t n)) (length t) s value there
     ∙ sym (number_is t c.nodes.ensures.numbered.rooted s there)
-    ∙ ap (number_of t) c.ending_strand.ensures
+    ∙ ap (strand_number t) c.ending_strand.ensures
     in
     let list = c.in_ok-list.ensures ∙ ap (map (pick_of t)) (c.as_slice.ensures.value ∙ c.in_ok-items.ensures) in
     let names = c.from_vec.ensures ∙ c.in_ok-listed.ensures.names in

@@ -3,7 +3,7 @@ use Rattle.std.proofs.lemmas.List.{map_more}
 use Rattle.cw_tree.specs.Series.{strand_of}
 use Rattle.cw_tree.proofs.Lists.{get_map_below}
 use Rattle.cw_record.specs.declared.items.OrderItem.TheVariants.{Begins}
-use Rattle.cw_record.specs.Listed.{number_of}
+use Rattle.cw_record.specs.Listed.{strand_number}
 use Rattle.cw_record.specs.Order.{pick_of}
 use Rattle.cw_record.proofs.Listing.{numbers_length}
 use Rattle.cw_record.proofs.order.picks.Goals as goal
@@ -25,8 +25,8 @@ loop-item-preserved c =
     let picked : value ≡ pick_of t (get_or items i (Begins 0)) =
     c.index.ensures
     ∙ ap (λ xs. get_or xs c.node.result value) c.requires.numbers
-    ∙ get_map_below (λ n. number_of t (strand_of t n)) (length t) c.node.result value here
-    ∙ ap (λ n. number_of t (strand_of t n)) c.node.ensures
+    ∙ get_map_below (λ n. strand_number t (strand_of t n)) (length t) c.node.result value here
+    ∙ ap (λ n. strand_number t (strand_of t n)) c.node.ensures
     in
     c.in_ok-push.ensures.ok
     ∙ ap (λ xs. xs ++ value ∷ []) c.loop-item.invariant

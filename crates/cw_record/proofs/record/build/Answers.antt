@@ -1,7 +1,7 @@
 use Rattle.std.proofs.Common.{sym, subst}
 use Rattle.cw_strand.specs.Names.{first_memory}
 use Rattle.cw_serial.specs.Jobs.{Job}
-use Rattle.cw_serial.specs.Room.Strands.{strands_of}
+use Rattle.cw_serial.specs.Room.Strands.{strands_of_job}
 use Rattle.cw_record.specs.declared.record_end.RecordEnd.{RecordEnd}
 use Rattle.cw_record.specs.Coherent.{IsCoherent}
 use Rattle.cw_record.specs.Records.{IsNumberedDepthFirst}
@@ -12,7 +12,7 @@ use Rattle.cw_record.proofs.record.build.Goals as goal
 pub returns-clause-coherent : goal.returns-clause-coherent
 returns-clause-coherent c = λ m h left.
     let job : Job = record { program = c.args.program; words = c.args.words; limits = c.args.limits } in
-    let P : RecordEnd → Type 0 = IsCoherent (strands_of job) (first_memory job.program.cells) job.limits.aborts c.args.closed.tree c.args.closed.journals c.args.closed.conflicts in
+    let P : RecordEnd → Type 0 = IsCoherent (strands_of_job job) (first_memory job.program.cells) job.limits.aborts c.args.closed.tree c.args.closed.journals c.args.closed.conflicts in
     subst P (sym c.in_ok-end.ensures) (left_coherent job c.args.spent m h c.args.closed left)
 
 pub returns-clause-numbered : goal.returns-clause-numbered

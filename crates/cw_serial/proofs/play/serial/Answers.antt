@@ -1,8 +1,8 @@
 use Rattle.std.proofs.Common.{◌≡◌, ◌≤◌, ◌∙◌, ap, length, arith}
 use Rattle.std.proofs.lemmas.Result.{IfOk-weaker}
 use Rattle.cw_serial.specs.Jobs.{Job}
-use Rattle.cw_serial.specs.Room.Strands.{strands_of}
-use Rattle.cw_serial.specs.Machine.{shown}
+use Rattle.cw_serial.specs.Room.Strands.{strands_of_job}
+use Rattle.cw_serial.specs.Machine.{machine_shows}
 use Rattle.cw_serial.proofs.Played.{plays_on, stuck_at, shown_at}
 use Rattle.cw_serial.proofs.play.serial.Goals as goal
 
@@ -23,4 +23,4 @@ returns c =
     let all : length c.args.picks.now.list ≤ c.loop-place.place = omega (arith, c.in-Ok.ensures, c.len.ensures) in
     let count : c.in-Ok.count ≡ c.loop-place.place = omega arith in
     let names = c.args.picks.now.names in
-    IfOk-weaker c.end.result _ _ (λ e says. shown_at job c.args.picks.now c.loop-place.play c.loop-place.place e all played (says job names played.machine played.is ∙ ap (shown (strands_of job) played.machine names c.args.picks.now.last) count)) c.end.ensures
+    IfOk-weaker c.end.result _ _ (λ e says. shown_at job c.args.picks.now c.loop-place.play c.loop-place.place e all played (says job names played.machine played.is ∙ ap (machine_shows (strands_of_job job) played.machine names c.args.picks.now.last) count)) c.end.ensures

@@ -1,7 +1,7 @@
 -- What is left is that of a closed run of the job.
 use Rattle.std.proofs.Common.{IfOk, rules}
-use Rattle.cw_record.specs.Records.{job_of}
-use Rattle.cw_sim.specs.Runs.{IsRecordOf, left_by}
+use Rattle.cw_record.specs.Records.{job_of_record}
+use Rattle.cw_sim.specs.Runs.{IsRecordOf, simulation_of}
 use Rattle.cw_serial.specs.Jobs.{Job}
 use Rattle.cw_sim.proofs.HeldRecords.{moved_same, closed_has_record, built_coherent, built_numbered, built_replays, built_spent}
 use Rattle.cw_sim.proofs.simulating.simulate.Goals as goal
@@ -37,5 +37,5 @@ returns-clause-replays c =
 
 pub returns-clause-spent : goal.returns-clause-spent
 returns-clause-spent c =
-    let is : IfOk c.build.result (λ r. IsRecordOf (left_by (job_of r) c.args.workers c.args.schedule.now) r) = search rules in
+    let is : IfOk c.build.result (λ r. IsRecordOf (simulation_of (job_of_record r) c.args.workers c.args.schedule.now) r) = search rules in
     built_spent c.args.workers c.args.schedule.now c.build.result is

@@ -1,7 +1,7 @@
 -- Each of those after a worker is looked at, until one has forks.
 use Rattle.std.proofs.Common.{◌≡◌, ◌+◌, ◌-◌, ◌%◌, length, drop, refl, ap, sym, ◌∙◌, arith}
 use Rattle.std.proofs.lemmas.Nat.{mod_below}
-use Rattle.cw_sim.specs.HeldWorkers.{workers_of, first_with_forks, after}
+use Rattle.cw_sim.specs.HeldWorkers.{workers_of, first_with_forks, workers_next}
 use Rattle.cw_sim.proofs.HeldWorkers.{found_here, not_here, none_after, empty_there, some_there}
 use Rattle.cw_sim.proofs.worker.robbed.Goals as goal
 
@@ -24,7 +24,7 @@ loop-i-preserved c =
       refl,
       not_here (workers_of ws) c.args.w n i (omega (arith, c.loop-i.auto.i)) c.loop-i-test.true c.loop-i.invariant.1
           (empty_there ws ((c.args.w + i) % n) _ c.is_empty.result low c.is_empty.ensures c.if-not-is_empty.false)
-          ∙ ap (λ j. first_with_forks (workers_of ws) (drop j (after c.args.w n))) next,
+          ∙ ap (λ j. first_with_forks (workers_of ws) (drop j (workers_next c.args.w n))) next,
     )
 
 pub returns : goal.returns

@@ -1,5 +1,5 @@
 use Rattle.std.proofs.Common.{◌≡◌, ◌∙◌, Bool, true, false, ap, length, rules, subst, sym}
-use Rattle.cw_serial.specs.Jobs.{Takes}
+use Rattle.cw_serial.specs.Jobs.{TakesWords}
 use Rattle.cw_top.specs.Words.{words_of}
 use Rattle.cw_top.proofs.Parameters.{misfits}
 use Rattle.cw_top.proofs.CommandRuns.{is_run}
@@ -12,12 +12,12 @@ pub returns-then-not-takes_words-clause-why : goal.returns-then-not-takes_words-
 returns-then-not-takes_words-clause-why g c =
     let is_false : c.takes_words.result ≡ false = search rules in
     misfits _ (words_of c.args.command) c.in_ok-program.program c.in_ok-program.ensures.spelled
-    (λ t. both c.takes_words.result (c.takes_words.ensures.1 (subst (λ n. Takes c.in_ok-program.program n) (sym (c.len.ensures ∙ ap length c.words.ensures)) t)) is_false)
+    (λ t. both c.takes_words.result (c.takes_words.ensures.1 (subst (λ n. TakesWords c.in_ok-program.program n) (sym (c.len.ensures ∙ ap length c.words.ensures)) t)) is_false)
 
 pub returns-clause-run : goal.returns-clause-run
 returns-clause-run g c =
     let is_true : c.takes_words.result ≡ true = search rules in
-    let takes = subst (λ n. Takes c.in_ok-program.program n) (c.len.ensures ∙ ap length c.words.ensures) (c.takes_words.ensures.0 is_true) in
+    let takes = subst (λ n. TakesWords c.in_ok-program.program n) (c.len.ensures ∙ ap length c.words.ensures) (c.takes_words.ensures.0 is_true) in
     let done = c.in_ok-done.ensures in
     is_run c.args.command _ c.in_ok-program.program c.in_ok-program.ensures.spelled c.in_ok-program.ensures.compiled takes c.in_ok-done.field-0
     done.program done.words done.limits done.coherent done.outputs done.replays done.numbered

@@ -3,7 +3,7 @@ use Rattle.std.specs.Prelude.{vec_len}
 use Rattle.std.proofs.lemmas.Option.{slice_get_read}
 use Rattle.cw_trace.specs.Verdicts.{is_against}
 use Rattle.cw_core.specs.declared.event.Event.TheVariants as event
-use Rattle.cw_core.specs.State.{State}
+use Rattle.cw_core.specs.State.{CoreState}
 use Rattle.cw_core.specs.Events.{fits, is_met}
 use Rattle.cw_core.specs.Kept.{IsBarrier}
 use Rattle.cw_core.proofs.HeldOut.{seen, running_there, finds}
@@ -21,7 +21,7 @@ returns-in-Against-clause-some g c =
     let f = finds a c.self.invariant c.args.self.now c.self.view_is s (runs_access c.args.self.now s c.args.cell None c.requires) c.row-asker.result c.row-asker.ensures.row in
     let fit = seen a c.args.self.now (λ k. fits k (event.Access s c.args.cell None) ≡ true) c.self.view_is c.requires in
     let at = slice_get_read a.cells.items (vec_len a.cells) c.args.cell c.index.result.now (search rules) (omega (arith, cell_there a c.args.self.now c.self.view_is s c.args.cell None c.requires)) c.index.ensures in
-    let P : State → Type 0 = λ k. IsBarrier k s c.args.cell (record { last = c.in_ok-last.last; block = c.in-Against.block }) in
+    let P : CoreState → Type 0 = λ k. IsBarrier k s c.args.cell (record { last = c.in_ok-last.last; block = c.in-Against.block }) in
     subst P c.self.view_is (on a c.self.invariant s c.args.cell fit c.index.result.now at c.in_ok-last.last c.in_ok-last.ensures.newest c.row-asker.result.made.column f.column c.in-Against.block (sym c.in-Against.is ∙ c.ask.ensures.verdict))
 
 pub returns-in-Free : goal.returns-in-Free

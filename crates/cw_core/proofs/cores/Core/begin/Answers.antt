@@ -6,7 +6,7 @@ use Rattle.cw_trace.specs.Columns.{gap, begun_word}
 use Rattle.cw_core.specs.Kept.{IsRow, changed, with_tail, with_place, plain_tail, leaf_row}
 use Rattle.cw_core.specs.Held.{state_of}
 use Rattle.cw_core.specs.State.{gap_of}
-use Rattle.cw_core.specs.Events.{fits, after}
+use Rattle.cw_core.specs.Events.{fits, after_event}
 use Rattle.cw_core.specs.declared.event.Event.TheVariants as event
 use Rattle.cw_core.proofs.HeldOut.{seen, now_of, runs_free, running_there, finds, tries, begin_state, begin_kept}
 use Rattle.cw_core.proofs.cores.Core.begin.Goals as goal
@@ -87,4 +87,4 @@ returns-clause-ok c =
     let grown : c.add.new.self ≡ a.tree ++ fresh_node (place a.tree s) Block (a.clock + 1) ∷ [] = c.in_ok-node.ensures.ok ∙ ap (λ q. a.tree ++ fresh_node q Block (a.clock + 1) ∷ []) f.at in
     let words : c.begin_word.new.gaps.words.items ≡ begun_word a.gaps.words.items (gap_of (state_of a) s) (a.clock + 1) =
     c.begin_word.ensures ∙ ap (λ g. begun_word a.gaps.words.items g (a.clock + 1)) (c.gap-gap.ensures ∙ ap (gap a.tier.columns) f.column) in
-    begin_state a c.self.invariant s fit (record a { tree = c.add.new.self; rows = c.put_leaf.new.table; gaps = c.begin_word.new.gaps; clock = a.clock + 1 }) grown refl words ∙ ap (λ k. after k (event.Begin s)) c.self.view_is
+    begin_state a c.self.invariant s fit (record a { tree = c.add.new.self; rows = c.put_leaf.new.table; gaps = c.begin_word.new.gaps; clock = a.clock + 1 }) grown refl words ∙ ap (λ k. after_event k (event.Begin s)) c.self.view_is

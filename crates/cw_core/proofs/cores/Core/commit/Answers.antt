@@ -3,7 +3,7 @@ use Rattle.cw_tree.specs.declared.node.BlockState.TheVariants.{Committed}
 use Rattle.cw_tree.specs.Nodes.{number_in, parent_of, stamp_of, is_block, closed}
 use Rattle.cw_tree.specs.Series.{place}
 use Rattle.cw_trace.specs.Columns.{gap, closed_word}
-use Rattle.cw_core.specs.Events.{fits, after}
+use Rattle.cw_core.specs.Events.{fits, after_event}
 use Rattle.cw_core.specs.Held.{state_of}
 use Rattle.cw_core.specs.State.{gap_of}
 use Rattle.cw_core.specs.Kept.{changed, with_tail, with_place, plain_tail}
@@ -81,4 +81,4 @@ returns c =
     let begun : c.node.result.now.stamp ≡ stamp_of a.tree (place a.tree c.args.strand) = sym (ap (number_in (λ x. x.stamp)) c.node.ensures) ∙ ap (stamp_of a.tree) f.at in
     let words : c.end_word.new.gaps.words.items ≡ closed_word a.gaps.words.items (gap_of (state_of a) c.args.strand) (stamp_of a.tree (place a.tree c.args.strand)) =
     c.end_word.ensures ∙ ap (λ g. closed_word a.gaps.words.items g c.node.result.now.stamp) (c.gap-gap.ensures ∙ ap (gap a.tier.columns) f.column) ∙ ap (closed_word a.gaps.words.items (gap_of (state_of a) c.args.strand)) begun in
-    commit_state a c.self.invariant c.args.strand fit (record a { tree = c.close.new.self; clock = a.clock + 1; gaps = c.end_word.new.gaps; rows = c.close_row.new.table }) tree refl words ∙ ap (λ k. after k (event.Commit c.args.strand)) c.self.view_is
+    commit_state a c.self.invariant c.args.strand fit (record a { tree = c.close.new.self; clock = a.clock + 1; gaps = c.end_word.new.gaps; rows = c.close_row.new.table }) tree refl words ∙ ap (λ k. after_event k (event.Commit c.args.strand)) c.self.view_is

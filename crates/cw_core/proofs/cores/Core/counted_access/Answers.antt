@@ -1,6 +1,6 @@
 use Rattle.std.proofs.Common.{◌≡◌}
 use Rattle.std.specs.Prelude.{Result, Ok, Err, OnOk}
-use Rattle.cw_core.specs.Events.{after}
+use Rattle.cw_core.specs.Events.{after_event}
 use Rattle.cw_core.specs.declared.event.Event.TheVariants as event
 use Rattle.cw_core.proofs.cores.Core.counted_access.Goals as goal
 
@@ -11,4 +11,4 @@ any_ok (Err e) P x h = tt
 
 pub returns-clause-ok : goal.returns-clause-ok
 returns-clause-ok g c =
-    any_ok c.refuse_access.result (λ write. c.refuse_access.new.self ≡ after c.args.self.now (event.Access c.args.strand c.args.cell write)) c.args.write c.refuse_access.ensures.ok
+    any_ok c.refuse_access.result (λ write. c.refuse_access.new.self ≡ after_event c.args.self.now (event.Access c.args.strand c.args.cell write)) c.args.write c.refuse_access.ensures.ok

@@ -7,7 +7,7 @@ use Rattle.cw_trace.specs.Columns.{gap, used, forked}
 use Rattle.cw_core.specs.Kept.{changed, with_tail, with_wait, plain_tail, fork_rows}
 use Rattle.cw_core.specs.Held.{state_of}
 use Rattle.cw_core.specs.State.{column_of, gap_of}
-use Rattle.cw_core.specs.Events.{fits, may_fork, after}
+use Rattle.cw_core.specs.Events.{fits, may_fork, after_event}
 use Rattle.cw_core.specs.declared.event.Event.TheVariants as event
 use Rattle.cw_core.proofs.HeldOut.{seen, running_there, finds}
 use Rattle.cw_core.proofs.HeldFork.{runs_fork, may, may_not, fork_state, fork_kept, fork_reply, inline_reply}
@@ -89,7 +89,7 @@ returns-in-Ok-clause-ok c =
     let columns : c.fork-2.new.self.columns ≡ forked (slice_index a.gaps.words.items (gap_of (state_of a) s)) (column_of (state_of a) s) a.tier.columns =
     c.in-Ok.ensures.forked ∙ ap (λ w. forked w c.row-own.result.made.column a.tier.columns) word ∙ ap (λ i. forked (slice_index a.gaps.words.items (gap_of (state_of a) s)) i a.tier.columns) f.column in
     fork_state a c.self.invariant s fit true e (record a { tree = c.fork.new.self; rows = c.put_fork.new.table; clock = a.clock + 1; tier = c.fork-2.new.self; forks = c.push_reserved.new.self }) grown refl columns
-    ∙ ap (λ k. after k (event.Fork s)) c.self.view_is
+    ∙ ap (λ k. after_event k (event.Fork s)) c.self.view_is
 
 pub returns-in-Ok-clause-reply : goal.returns-in-Ok-clause-reply
 returns-in-Ok-clause-reply c =
@@ -133,7 +133,7 @@ returns-in-Err-clause-ok c =
     let e = may_not a.tier.columns c.in-Err.ensures.inline in
     let columns : c.fork-2.new.self.columns ≡ a.tier.columns = ap (λ t. t.columns) c.in-Err.ensures.err in
     fork_state a c.self.invariant s fit false e (record a { tree = c.fork.new.self; rows = c.put_fork-in-Err.new.table; clock = a.clock + 1; tier = c.fork-2.new.self; forks = c.reserve-2.new.self }) grown refl columns
-    ∙ ap (λ k. after k (event.Fork s)) c.self.view_is
+    ∙ ap (λ k. after_event k (event.Fork s)) c.self.view_is
 
 pub returns-in-Err-clause-reply : goal.returns-in-Err-clause-reply
 returns-in-Err-clause-reply c =

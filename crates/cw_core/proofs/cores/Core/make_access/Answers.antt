@@ -7,11 +7,11 @@ use Rattle.cw_tree.specs.Nodes.{fresh_node}
 use Rattle.cw_tree.specs.Series.{place}
 use Rattle.cw_tree.specs.Stacks.{access_kind}
 use Rattle.cw_stack.specs.Cells as stack
-use Rattle.cw_open.specs.Machine.{value_of}
+use Rattle.cw_open.specs.Machine.{live_value}
 use Rattle.cw_core.specs.Held.{state_of}
 use Rattle.cw_core.specs.Kept.{changed, with_tail, with_place, plain_tail, leaf_row, cell_changed, with_entry}
 use Rattle.cw_core.specs.State.{column_of}
-use Rattle.cw_core.specs.Events.{after}
+use Rattle.cw_core.specs.Events.{after_event}
 use Rattle.cw_core.specs.declared.event.Event.TheVariants as event
 use Rattle.cw_core.proofs.HeldOut.{running_there, finds}
 use Rattle.cw_core.proofs.HeldAccess.{runs_access, cell_there, rooms_len, rooms_state, rooms_kept, has_room, comes_later, found_value, made_reply, answered, on_err, access_state, access_kept}
@@ -47,7 +47,7 @@ add-requires c =
 pub invariant_of-self-in_err-add : goal.invariant_of-self-in_err-add
 invariant_of-self-in_err-add c =
     let kept = rooms_kept c.self.inside (record c.self.inside { cells = c.reserve_entry.new.cells; rows = c.reserve.new.self }) c.self.invariant c.in_ok-reserve_entry.ensures.kept c.reserve.ensures.items in
-    let P : List Node → Type 0 = λ t. Rattle.cw_core.specs.Held.IsKept (record c.self.inside { tree = t; cells = c.reserve_entry.new.cells; rows = c.reserve.new.self }) in
+    let P : List Node → Type 0 = λ t. Rattle.cw_core.specs.Held.IsCoreInMemory (record c.self.inside { tree = t; cells = c.reserve_entry.new.cells; rows = c.reserve.new.self }) in
     subst P (sym c.in_err-add.ensures.err) kept
 
 pub returns-in_err-add-clause-err : goal.returns-in_err-add-clause-err
@@ -87,9 +87,9 @@ invariant_of-self-2 c =
     let h = has_room c.self.inside c.self.invariant c.args.self.now c.self.view_is c.args.strand c.args.cell c.args.write c.requires.fits c.requires.met b c.in_ok-reserve_entry.ensures.kept c.reserve.ensures.items in
     let at = slice_get_read a.cells.items (vec_len a.cells) c.args.cell c.index.result.now (search rules) (omega (arith, cell_there a c.args.self.now c.self.view_is s c.args.cell c.args.write c.requires.fits)) c.index.ensures in
     let signed : SFits w64 c.value-value.result = search rules in
-    let value : to_z w64 (of_z w64 c.value-value.result) ≡ value_of (state_of b).machine c.args.cell =
-    to_z-of_z w64 c.value-value.result signed ∙ c.value-value.ensures ∙ found_value a c.self.invariant c.args.self.now c.self.view_is c.args.cell c.index.result.now at ∙ ap (λ k. value_of k.machine c.args.cell) (sym h.view) in
-    let grown : c.add.new.self ≡ a.tree ++ fresh_node (place a.tree s) (access_kind c.args.cell c.args.write (value_of (state_of b).machine c.args.cell)) (a.clock + 1) ∷ [] =
+    let value : to_z w64 (of_z w64 c.value-value.result) ≡ live_value (state_of b).machine c.args.cell =
+    to_z-of_z w64 c.value-value.result signed ∙ c.value-value.ensures ∙ found_value a c.self.invariant c.args.self.now c.self.view_is c.args.cell c.index.result.now at ∙ ap (λ k. live_value k.machine c.args.cell) (sym h.view) in
+    let grown : c.add.new.self ≡ a.tree ++ fresh_node (place a.tree s) (access_kind c.args.cell c.args.write (live_value (state_of b).machine c.args.cell)) (a.clock + 1) ∷ [] =
     c.in_ok-add.ensures.ok
     ∙ ap (λ y. a.tree ++ fresh_node c.row-own.result.now.place y (a.clock + 1) ∷ []) c.access_kind.ensures
     ∙ ap (λ q. a.tree ++ fresh_node q (access_kind c.args.cell c.args.write (to_z w64 (of_z w64 c.value-value.result))) (a.clock + 1) ∷ []) f.at
@@ -109,9 +109,9 @@ returns-clause-ok c =
     let h = has_room c.self.inside c.self.invariant c.args.self.now c.self.view_is c.args.strand c.args.cell c.args.write c.requires.fits c.requires.met b c.in_ok-reserve_entry.ensures.kept c.reserve.ensures.items in
     let at = slice_get_read a.cells.items (vec_len a.cells) c.args.cell c.index.result.now (search rules) (omega (arith, cell_there a c.args.self.now c.self.view_is s c.args.cell c.args.write c.requires.fits)) c.index.ensures in
     let signed : SFits w64 c.value-value.result = search rules in
-    let value : to_z w64 (of_z w64 c.value-value.result) ≡ value_of (state_of b).machine c.args.cell =
-    to_z-of_z w64 c.value-value.result signed ∙ c.value-value.ensures ∙ found_value a c.self.invariant c.args.self.now c.self.view_is c.args.cell c.index.result.now at ∙ ap (λ k. value_of k.machine c.args.cell) (sym h.view) in
-    let grown : c.add.new.self ≡ a.tree ++ fresh_node (place a.tree s) (access_kind c.args.cell c.args.write (value_of (state_of b).machine c.args.cell)) (a.clock + 1) ∷ [] =
+    let value : to_z w64 (of_z w64 c.value-value.result) ≡ live_value (state_of b).machine c.args.cell =
+    to_z-of_z w64 c.value-value.result signed ∙ c.value-value.ensures ∙ found_value a c.self.invariant c.args.self.now c.self.view_is c.args.cell c.index.result.now at ∙ ap (λ k. live_value k.machine c.args.cell) (sym h.view) in
+    let grown : c.add.new.self ≡ a.tree ++ fresh_node (place a.tree s) (access_kind c.args.cell c.args.write (live_value (state_of b).machine c.args.cell)) (a.clock + 1) ∷ [] =
     c.in_ok-add.ensures.ok
     ∙ ap (λ y. a.tree ++ fresh_node c.row-own.result.now.place y (a.clock + 1) ∷ []) c.access_kind.ensures
     ∙ ap (λ q. a.tree ++ fresh_node q (access_kind c.args.cell c.args.write (to_z w64 (of_z w64 c.value-value.result))) (a.clock + 1) ∷ []) f.at
@@ -121,13 +121,13 @@ returns-clause-ok c =
     let rows : c.put_leaf.new.table.items ≡ changed (with_place (place a.tree s)) s (changed (with_tail plain_tail) (place a.tree s) b.rows.items ++ leaf_row s 0 ∷ []) =
     c.put_leaf.ensures ∙ ap (λ q. changed (with_place q) s (changed (with_tail plain_tail) q b.rows.items ++ leaf_row s 0 ∷ [])) f.at in
     access_state b h.kept s c.args.cell c.args.write h.fit h.off h.cell h.at (record b { tree = c.add.new.self; rows = c.put_leaf.new.table; clock = a.clock + 1; cells = c.put_entry-value.new.cells }) grown refl entries
-    ∙ ap (λ k. after k (event.Access s c.args.cell c.args.write)) h.view
+    ∙ ap (λ k. after_event k (event.Access s c.args.cell c.args.write)) h.view
 
 pub returns-clause-reply : goal.returns-clause-reply
 returns-clause-reply c =
     let b = record c.self.inside { cells = c.reserve_entry.new.cells; rows = c.reserve.new.self } in
     let h = has_room c.self.inside c.self.invariant c.args.self.now c.self.view_is c.args.strand c.args.cell c.args.write c.requires.fits c.requires.met b c.in_ok-reserve_entry.ensures.kept c.reserve.ensures.items in
     let signed : SFits w64 c.put_entry-value.result = search rules in
-    let answer = answered b.cells.items c.args.cell h.cell (λ x. c.put_entry-value.result ≡ unwrap_or c.args.write (stack.value_of x)) h.at c.put_entry-value.ensures.answer in
+    let answer = answered b.cells.items c.args.cell h.cell (λ x. c.put_entry-value.result ≡ unwrap_or c.args.write (stack.entries_value x)) h.at c.put_entry-value.ensures.answer in
     made_reply c.args.self.now c.args.strand c.args.cell c.args.write c.requires.met (to_z w64 (of_z w64 c.put_entry-value.result))
     (to_z-of_z w64 c.put_entry-value.result signed ∙ answer ∙ ap (unwrap_or c.args.write) (found_value b h.kept c.args.self.now h.view c.args.cell h.cell h.at))

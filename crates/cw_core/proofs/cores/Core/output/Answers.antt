@@ -4,7 +4,7 @@ use Rattle.cw_tree.specs.declared.node.Kind.TheVariants.{Out}
 use Rattle.cw_tree.specs.Nodes.{fresh_node}
 use Rattle.cw_tree.specs.Series.{place}
 use Rattle.cw_core.specs.Kept.{changed, with_tail, with_place, plain_tail, leaf_row}
-use Rattle.cw_core.specs.Events.{fits, after}
+use Rattle.cw_core.specs.Events.{fits, after_event}
 use Rattle.cw_core.specs.declared.event.Event.TheVariants as event
 use Rattle.cw_core.proofs.HeldOut.{seen, now_of, runs_free, running_there, finds, out_state, out_kept}
 use Rattle.cw_core.proofs.cores.Core.output.Goals as goal
@@ -56,4 +56,4 @@ returns-clause-ok c =
     let f = finds a c.self.invariant c.args.self.now c.self.view_is s (runs_free c.args.self.now s (now_of c.args.self.now (event.Out s v) c.requires)) c.row-place.result c.row-place.ensures.row in
     let fit = seen a c.args.self.now (λ k. fits k (event.Out s v) ≡ true) c.self.view_is c.requires in
     let grown : c.add.new.self ≡ a.tree ++ fresh_node (place a.tree s) (Out v) (a.clock + 1) ∷ [] = c.in_ok-add.ensures.ok ∙ ap (λ v. a.tree ++ fresh_node c.row-place.result.now.place (Out v) (a.clock + 1) ∷ []) (to_z-of_z w64 v signed) ∙ ap (λ q. a.tree ++ fresh_node q (Out v) (a.clock + 1) ∷ []) f.at in
-    out_state a c.self.invariant s v fit (record a { tree = c.add.new.self; rows = c.put_leaf.new.table; clock = a.clock + 1 }) grown refl ∙ ap (λ k. after k (event.Out s v)) c.self.view_is
+    out_state a c.self.invariant s v fit (record a { tree = c.add.new.self; rows = c.put_leaf.new.table; clock = a.clock + 1 }) grown refl ∙ ap (λ k. after_event k (event.Out s v)) c.self.view_is

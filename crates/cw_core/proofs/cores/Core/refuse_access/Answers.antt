@@ -4,9 +4,9 @@ use Rattle.std.proofs.lemmas.Option.{slice_get_read}
 use Rattle.cw_tree.specs.declared.node.Kind.TheVariants.{Tried}
 use Rattle.cw_tree.specs.Nodes.{is_pending, fresh_node}
 use Rattle.cw_tree.specs.Series.{place}
-use Rattle.cw_core.specs.State.{State}
+use Rattle.cw_core.specs.State.{CoreState}
 use Rattle.cw_core.specs.Kept.{IsRow, changed, with_tail, with_victim, tried_tail, leaf_row, tried_again}
-use Rattle.cw_core.specs.Events.{after, reply_to}
+use Rattle.cw_core.specs.Events.{after_event, reply_to}
 use Rattle.cw_core.specs.declared.event.Event.TheVariants as event
 use Rattle.cw_core.proofs.HeldOut.{seen, running_there}
 use Rattle.cw_core.proofs.HeldOut as out
@@ -43,7 +43,7 @@ refused-refused-requires g c =
     let a = c.self.inside in
     let s = c.args.strand in
     let h = finds a c.self.invariant c.args.self.now c.self.view_is s c.args.cell c.requires.fits c.args.barrier c.requires.barrier c.row-place.result c.row-place.ensures.row c.row.result c.row.ensures.row c.victim-victim.result c.victim-victim.ensures in
-    let P : State → Type 0 = λ k. IfSome c.victim-victim.result (λ y. is_pending k.machine.tree y ≡ true) in
+    let P : CoreState → Type 0 = λ k. IfSome c.victim-victim.result (λ y. is_pending k.machine.tree y ≡ true) in
     subst P c.self.view_is (each_pending a c.self.invariant s c.args.cell c.args.barrier c.row-place.result c.row.result c.victim-victim.result h)
 
 pub index-requires : goal.index-requires
@@ -101,7 +101,7 @@ returns-clause-ok g c =
     let told = tells a c.args.self.now c.self.view_is s c.victim-victim.result x c.tried_tail-tail.result.tried (tried_again c.args.cell c.row.result.tail) c.refused-refused.ensures.victim c.refused-refused.ensures.attempt c.refused-refused.ensures.strand (ap (λ y. y.tried) c.tried_tail-tail.ensures) in
     let at = slice_get_read a.cells.items (vec_len a.cells) c.args.cell c.index.result.now (search rules) (omega (arith, cell_there a c.args.self.now c.self.view_is s c.args.cell None c.requires.fits)) c.index.ensures in
     let more = c.push_reserved.ensures.items ∙ ap (λ cs. cs ++ c.conflict_with.result ∷ []) c.reserve.ensures.items ∙ ap (λ d. a.conflicts.items ++ d ∷ []) (c.conflict_with.ensures ∙ conflict_is a c.self.invariant s c.args.cell c.args.barrier c.row-place.result c.row.result c.victim-victim.result h x told c.in_ok-asker.asker c.in_ok-asker.ensures.number c.index.result.now at c.in_ok-kept.kept.items c.in_ok-kept.ensures) in
-    λ write. (refused_view a c.self.invariant s c.args.cell c.args.barrier c.row-place.result c.row.result c.victim-victim.result h (record a { tree = c.add.new.self; rows = c.put_tried.new.table; conflicts = c.push_reserved.new.self; spent = c.or_later-self-inside.result }) grown more write ∙ ap (λ k. after k (event.Access s c.args.cell write)) c.self.view_is)
+    λ write. (refused_view a c.self.invariant s c.args.cell c.args.barrier c.row-place.result c.row.result c.victim-victim.result h (record a { tree = c.add.new.self; rows = c.put_tried.new.table; conflicts = c.push_reserved.new.self; spent = c.or_later-self-inside.result }) grown more write ∙ ap (λ k. after_event k (event.Access s c.args.cell write)) c.self.view_is)
 
 pub returns-clause-reply : goal.returns-clause-reply
 returns-clause-reply g c =

@@ -3,7 +3,7 @@ use Rattle.cw_tree.specs.declared.node.BlockState.TheVariants.{Aborted}
 use Rattle.cw_tree.specs.Nodes.{number_in, parent_of, stamp_of, is_block, closed}
 use Rattle.cw_tree.specs.Series.{place}
 use Rattle.cw_trace.specs.Columns.{gap, closed_word}
-use Rattle.cw_core.specs.Events.{fits, after}
+use Rattle.cw_core.specs.Events.{fits, after_event}
 use Rattle.cw_core.specs.Held.{state_of}
 use Rattle.cw_core.specs.State.{gap_of}
 use Rattle.cw_core.specs.Undone.{MayUndo, AreUndone}
@@ -118,4 +118,4 @@ returns c =
     let P : ℕ → Type 0 = λ n. AreUndone a.tree n a.cells.items c.undo.new.cells.items in
     let undone = subst P f.at c.undo.ensures in
     let o = record a { tree = c.abort.new.tree; clock = a.clock + 1; gaps = c.end_word.new.gaps; rows = c.roll_row.new.table; cells = c.undo.new.cells } in
-    roll_state a c.self.invariant c.args.strand fit o tree refl words undone ∙ ap (λ k. after k (event.Roll c.args.strand)) c.self.view_is
+    roll_state a c.self.invariant c.args.strand fit o tree refl words undone ∙ ap (λ k. after_event k (event.Roll c.args.strand)) c.self.view_is

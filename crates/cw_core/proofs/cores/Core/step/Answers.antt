@@ -1,6 +1,6 @@
 use Rattle.std.proofs.Common.{◌≡◌, refl, rules}
 use Rattle.std.specs.Prelude.{OnOk}
-use Rattle.cw_core.specs.Events.{after}
+use Rattle.cw_core.specs.Events.{after_event}
 use Rattle.cw_core.specs.declared.event.Event.TheVariants as event
 use Rattle.cw_core.proofs.Stepping.{runs, stands, stands_after, chains, chains_after}
 use Rattle.cw_core.proofs.cores.Core.step.Goals as goal
@@ -37,12 +37,12 @@ returns-in-Out-clause-run c = runs c.args.self.now c.hint.ensures c.args.event c
 
 pub returns-in-Out-clause-stands : goal.returns-in-Out-clause-stands
 returns-in-Out-clause-stands c =
-    let ok : OnOk c.output.result (c.output.new.self ≡ after c.args.self.now c.args.event) = search rules in
+    let ok : OnOk c.output.result (c.output.new.self ≡ after_event c.args.self.now c.args.event) = search rules in
     stands c.args.self.now c.hint.ensures c.args.event c.requires c.output.result c.output.new.self c.args.event refl ok c.output.ensures.err
 
 pub returns-in-Out-clause-chains : goal.returns-in-Out-clause-chains
 returns-in-Out-clause-chains c =
-    let ok : OnOk c.output.result (c.output.new.self ≡ after c.args.self.now c.args.event) = search rules in
+    let ok : OnOk c.output.result (c.output.new.self ≡ after_event c.args.self.now c.args.event) = search rules in
     chains c.args.self.now c.hint.ensures c.args.event c.requires c.output.result c.output.new.self c.args.event refl ok c.output.ensures.err
 
 pub returns-in-Commit-clause-run : goal.returns-in-Commit-clause-run

@@ -1,5 +1,5 @@
 use Rattle.std.proofs.Common.{◌≡◌, ap, ◌∙◌, true}
-use Rattle.cw_core.specs.Events.{fits, after}
+use Rattle.cw_core.specs.Events.{fits, after_event}
 use Rattle.cw_core.specs.declared.event.Event.TheVariants as event
 use Rattle.cw_core.proofs.HeldOut.{seen}
 use Rattle.cw_core.proofs.Stopping.{stop_state, stop_kept}
@@ -13,4 +13,4 @@ invariant_of-self c =
 pub returns : goal.returns
 returns c =
     let fit = seen c.self.inside c.args.self.now (λ k. fits k (event.Stop c.args.halt) ≡ true) c.self.view_is c.requires in
-    stop_state c.self.inside c.args.halt fit ∙ ap (λ k. after k (event.Stop c.args.halt)) c.self.view_is
+    stop_state c.self.inside c.args.halt fit ∙ ap (λ k. after_event k (event.Stop c.args.halt)) c.self.view_is

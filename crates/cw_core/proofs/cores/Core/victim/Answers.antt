@@ -4,7 +4,7 @@ use Rattle.cw_tree.specs.Nodes.{parent_of}
 use Rattle.cw_tree.specs.Shape.{IsTree}
 use Rattle.cw_tree.specs.Walks.{path, outermost, may_fall}
 use Rattle.cw_tree.specs.Stacks.{access_at}
-use Rattle.cw_core.specs.State.{State}
+use Rattle.cw_core.specs.State.{CoreState}
 use Rattle.cw_core.specs.Held.{state_of}
 use Rattle.cw_core.proofs.Going.{well}
 use Rattle.cw_core.proofs.Falls.{walk_on, walk_ends}
@@ -15,7 +15,7 @@ loop-node-preserved g c =
     let k = c.args.self.now in
     let t = k.machine.tree in
     let j = state_of c.self.inside in
-    let T : State → Type 0 = λ k. IsTree k.machine.tree in
+    let T : CoreState → Type 0 = λ k. IsTree k.machine.tree in
     let tree = subst T c.self.view_is ((well j.machine.first j c.self.invariant.core).sound.tree) in
     let n = c.loop-node.node in
     let q : ℕ → Bool = may_fall t (access_at t c.args.last.stamp) in
@@ -35,7 +35,7 @@ returns g c =
     let k = c.args.self.now in
     let t = k.machine.tree in
     let j = state_of c.self.inside in
-    let T : State → Type 0 = λ k. IsTree k.machine.tree in
+    let T : CoreState → Type 0 = λ k. IsTree k.machine.tree in
     let tree = subst T c.self.view_is ((well j.machine.first j c.self.invariant.core).sound.tree) in
     let u = access_at t c.args.last.stamp in
     let ends : c.loop-node.node ≡ 0 = omega (arith, c.loop-node-test.false) in

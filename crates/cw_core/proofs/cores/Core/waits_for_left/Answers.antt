@@ -6,7 +6,7 @@ use Rattle.cw_tree.specs.Nodes.{is_fork_kind, parent_of}
 use Rattle.cw_tree.proofs.There.{node_there}
 use Rattle.cw_tree.specs.Shape.{IsTree}
 use Rattle.cw_open.specs.Machine.{has_finished}
-use Rattle.cw_core.specs.State.{State, is_split}
+use Rattle.cw_core.specs.State.{CoreState, is_split}
 use Rattle.cw_core.specs.Held.{state_of}
 use Rattle.cw_core.specs.Kept.{IsRow, elder_list}
 use Rattle.cw_core.proofs.Going.{well}
@@ -17,7 +17,7 @@ pub row-requires-in-Some : goal.row-requires-in-Some
 row-requires-in-Some c =
     let k = c.args.self.now in
     let j = state_of c.self.inside in
-    let T : State → Type 0 = λ k. IsTree k.machine.tree in
+    let T : CoreState → Type 0 = λ k. IsTree k.machine.tree in
     let tree = subst T c.self.view_is ((well j.machine.first j c.self.invariant.core).sound.tree) in
     let s = c.args.strand in
     let tells = waits_tell k tree s c.requires c.row.result.made c.row.ensures.row.made in
@@ -30,7 +30,7 @@ pub row-requires-then-not-row : goal.row-requires-then-not-row
 row-requires-then-not-row c =
     let k = c.args.self.now in
     let j = state_of c.self.inside in
-    let T : State → Type 0 = λ k. IsTree k.machine.tree in
+    let T : CoreState → Type 0 = λ k. IsTree k.machine.tree in
     let tree = subst T c.self.view_is ((well j.machine.first j c.self.invariant.core).sound.tree) in
     let s = c.args.strand in
     let tells = waits_tell k tree s c.requires c.row.result.made c.row.ensures.row.made in
@@ -42,7 +42,7 @@ pub returns-in-None : goal.returns-in-None
 returns-in-None c =
     let k = c.args.self.now in
     let j = state_of c.self.inside in
-    let T : State → Type 0 = λ k. IsTree k.machine.tree in
+    let T : CoreState → Type 0 = λ k. IsTree k.machine.tree in
     let tree = subst T c.self.view_is ((well j.machine.first j c.self.invariant.core).sound.tree) in
     let s = c.args.strand in
     let tells = waits_tell k tree s c.requires c.row.result.made c.row.ensures.row.made in
@@ -52,7 +52,7 @@ pub returns-then-not-row : goal.returns-then-not-row
 returns-then-not-row c =
     let k = c.args.self.now in
     let j = state_of c.self.inside in
-    let T : State → Type 0 = λ k. IsTree k.machine.tree in
+    let T : CoreState → Type 0 = λ k. IsTree k.machine.tree in
     let tree = subst T c.self.view_is ((well j.machine.first j c.self.invariant.core).sound.tree) in
     let s = c.args.strand in
     let tells = waits_tell k tree s c.requires c.row.result.made c.row.ensures.row.made in
@@ -70,7 +70,7 @@ pub returns-else-not-row : goal.returns-else-not-row
 returns-else-not-row c =
     let k = c.args.self.now in
     let j = state_of c.self.inside in
-    let T : State → Type 0 = λ k. IsTree k.machine.tree in
+    let T : CoreState → Type 0 = λ k. IsTree k.machine.tree in
     let tree = subst T c.self.view_is ((well j.machine.first j c.self.invariant.core).sound.tree) in
     let s = c.args.strand in
     let tells = waits_tell k tree s c.requires c.row.result.made c.row.ensures.row.made in

@@ -1,6 +1,6 @@
 use Rattle.std.proofs.Common.{arith, ◌∙◌, ◌<◌, length, get_or}
 use Rattle.cw_tree.specs.Series.{strand_of}
-use Rattle.cw_record.specs.Listed.{number_of}
+use Rattle.cw_record.specs.Listed.{strand_number}
 use Rattle.cw_record.proofs.Found.{first_le}
 use Rattle.cw_record.proofs.Listing.{same_at, same_length, number_read, met_there, names_read, numbers_read, below_push}
 use Rattle.cw_record.proofs.listed.Listed.of_tree.Goals as goal
@@ -22,7 +22,7 @@ loop-first-preserved c =
     let e = c.deref-first-items.ensures.value ∙ c.in_ok-same.ensures in
     let there : i < length t = omega (arith, same_length t same e) in
     c.in_ok-push.ensures.items
-    ∙ below_push (λ n. number_of t (strand_of t n)) i c.loop-first.numbers.items c.number.result c.loop-first.invariant
+    ∙ below_push (λ n. strand_number t (strand_of t n)) i c.loop-first.numbers.items c.number.result c.loop-first.invariant
     (c.number.ensures
     ∙ number_read t c.nodes.ensures.numbered.rooted c.in_ok-firsts.firsts.strands.items c.in_ok-firsts.firsts.places.items c.in_ok-firsts.ensures i (get_or same i 0) there (same_at t same e i there))
 

@@ -2,12 +2,12 @@ use Rattle.std.proofs.Common.{◌≡◌, map, take}
 use Rattle.cw_tree.specs.Nodes.{below}
 use Rattle.cw_tree.specs.Series.{strand_of}
 use Rattle.cw_tree.specs.Names.{name_of}
-use Rattle.cw_record.specs.Listed.{number_of, names, listed_name}
+use Rattle.cw_record.specs.Listed.{strand_number, names, listed_name}
 use Rattle.cw_record.proofs.listed.Listed.of_tree.Given as goal
 
 -- the nodes below this one have their numbers
 abbrev pub invariant-loop-first : goal.invariant-loop-first
-invariant-loop-first l = l.numbers.items ≡ map (λ n. number_of l.tree (strand_of l.tree n)) (below l.first-index)
+invariant-loop-first l = l.numbers.items ≡ map (λ n. strand_number l.tree (strand_of l.tree n)) (below l.first-index)
 
 -- the strands so far have their names
 abbrev pub invariant-loop-strand : goal.invariant-loop-strand

@@ -2,7 +2,7 @@ use Rattle.std.proofs.Common.{◌≡◌, ◌∙◌, Some, None, ap, subst, refl,
 use Rattle.std.specs.List.{slice_get}
 use Rattle.std.proofs.lemmas.Option.{slice_get_within}
 use Rattle.cw_serial.specs.Jobs.{bare}
-use Rattle.cw_serial.specs.Room.Strands.{state_of, strands_of}
+use Rattle.cw_serial.specs.Room.Strands.{state_of, strands_of_job}
 use Rattle.cw_serial.specs.declared.table.Sides.{Sides}
 use Rattle.cw_serial.specs.declared.table.Place.TheVariants.{Stands, Gone}
 use Rattle.cw_serial.specs.Held.{joins, rests, awaited_at, over_at}
@@ -17,22 +17,22 @@ use Rattle.cw_serial.proofs.table.Table+Standing.join.Goals as goal
 pub put-requires : goal.put-requires
 put-requires c =
     let job = bare c.args.program.now in
-    let within = over_within (strands_of job) state_of c.args.self.now.rows.items c.in-Some-awaited.sides.left (sym (c.is_over.ensures job) ∙ c.if-not-is_over.false) in
+    let within = over_within (strands_of_job job) state_of c.args.self.now.rows.items c.in-Some-awaited.sides.left (sym (c.is_over.ensures job) ∙ c.if-not-is_over.false) in
     let len : vec_len c.args.self.now.rows ≡ length c.args.self.now.rows.items = search rules in
     omega arith
 
 pub unreachable-requires : goal.unreachable-requires
 unreachable-requires c =
     let job = bare c.args.program.now in
-    let (st, stood) = over_stood (strands_of job) state_of c.args.self.now c.put.new.self c.in-Some-awaited.sides.left Gone c.put.result (sym (c.is_over.ensures job) ∙ c.if-not-is_over.false) c.put.ensures in
+    let (st, stood) = over_stood (strands_of_job job) state_of c.args.self.now c.put.new.self c.in-Some-awaited.sides.left Gone c.put.result (sym (c.is_over.ensures job) ∙ c.if-not-is_over.false) c.put.ensures in
     c.in_default-put.not-Stands st stood
 
 pub put-requires-2 : goal.put-requires-2
 put-requires-2 c =
     let job = bare c.args.program.now in
     let sides = c.in-Some-awaited.sides in
-    let right_over : over_at (strands_of job) state_of c.args.self.now.rows.items sides.right ≡ true = sym (c.is_over-else-not-is_over.ensures job) ∙ c.if-not-is_over-2.false in
-    let within = over_within (strands_of job) state_of c.put.new.self.rows.items sides.right (over_still (strands_of job) state_of c.args.self.now c.put.new.self sides c.put.result right_over c.put.ensures) in
+    let right_over : over_at (strands_of_job job) state_of c.args.self.now.rows.items sides.right ≡ true = sym (c.is_over-else-not-is_over.ensures job) ∙ c.if-not-is_over-2.false in
+    let within = over_within (strands_of_job job) state_of c.put.new.self.rows.items sides.right (over_still (strands_of_job job) state_of c.args.self.now c.put.new.self sides c.put.result right_over c.put.ensures) in
     let len : vec_len c.put.new.self.rows ≡ length c.put.new.self.rows.items = search rules in
     omega arith
 
@@ -40,8 +40,8 @@ pub unreachable-requires-in_default-put-2 : goal.unreachable-requires-in_default
 unreachable-requires-in_default-put-2 c =
     let job = bare c.args.program.now in
     let sides = c.in-Some-awaited.sides in
-    let right_over : over_at (strands_of job) state_of c.args.self.now.rows.items sides.right ≡ true = sym (c.is_over-else-not-is_over.ensures job) ∙ c.if-not-is_over-2.false in
-    let (st, stood) = over_stood (strands_of job) state_of c.put.new.self c.put-2.new.self sides.right Gone c.put-2.result (over_still (strands_of job) state_of c.args.self.now c.put.new.self sides c.put.result right_over c.put.ensures) c.put-2.ensures in
+    let right_over : over_at (strands_of_job job) state_of c.args.self.now.rows.items sides.right ≡ true = sym (c.is_over-else-not-is_over.ensures job) ∙ c.if-not-is_over-2.false in
+    let (st, stood) = over_stood (strands_of_job job) state_of c.put.new.self c.put-2.new.self sides.right Gone c.put-2.result (over_still (strands_of_job job) state_of c.args.self.now c.put.new.self sides c.put.result right_over c.put.ensures) c.put-2.ensures in
     c.in_default-put-2.not-Stands st stood
 
 pub join-requires : goal.join-requires
@@ -66,13 +66,13 @@ pub returns-clause-moves : goal.returns-clause-moves
 returns-clause-moves c = λ job same.
     let sides = c.in-Some-awaited.sides in
     let awaited : awaited_at c.args.self.now.rows.items c.in-Some.name.parent ≡ Some sides = sym c.awaited.ensures ∙ c.in-Some-awaited.is in
-    let left_over : over_at (strands_of job) state_of c.args.self.now.rows.items sides.left ≡ true = sym (c.is_over.ensures job) ∙ c.if-not-is_over.false in
-    let right_over : over_at (strands_of job) state_of c.args.self.now.rows.items sides.right ≡ true = sym (c.is_over-else-not-is_over.ensures job) ∙ c.if-not-is_over-2.false in
+    let left_over : over_at (strands_of_job job) state_of c.args.self.now.rows.items sides.left ≡ true = sym (c.is_over.ensures job) ∙ c.if-not-is_over.false in
+    let right_over : over_at (strands_of_job job) state_of c.args.self.now.rows.items sides.right ≡ true = sym (c.is_over-else-not-is_over.ensures job) ∙ c.if-not-is_over-2.false in
     let left_gone = rw c.in-Stands.is at c.put.ensures in
     let right_gone = rw c.in-Stands-put.is at c.put-2.ensures in
     let named : slice_get c.args.self.now.names.items c.args.number ≡ Some c.in-Some.name = sym c.name.ensures ∙ c.in-Some.is in
     joins c.in-Some.name named (same_over_at job (bare c.args.program.now) c.args.self.now.rows.items c.args.number ∙ c.requires.over)
-    (join_made (strands_of job) state_of c.args.self.now c.put.new.self c.put-2.new.self c.put-3.new.self c.in-Some.name.parent sides c.in-Stands.left c.in-Stands-put.right c.join.new.self c.put-3.result awaited left_over right_over left_gone right_gone c.put-3.ensures (c.in_ok-join.ensures.joined job same))
+    (join_made (strands_of_job job) state_of c.args.self.now c.put.new.self c.put-2.new.self c.put-3.new.self c.in-Some.name.parent sides c.in-Stands.left c.in-Stands-put.right c.join.new.self c.put-3.result awaited left_over right_over left_gone right_gone c.put-3.ensures (c.in_ok-join.ensures.joined job same))
     c.in_ok-push.ensures.items
 
 pub returns-clause-stands : goal.returns-clause-stands
@@ -102,7 +102,7 @@ returns-then-not-is_over-clause-moves c = λ job same.
     let awaits = c.in-Some-awaited.sides in
     let named : slice_get c.args.self.now.names.items c.args.number ≡ Some c.in-Some.name = sym c.name.ensures ∙ c.in-Some.is in
     let these : awaited_at c.args.self.now.rows.items c.in-Some.name.parent ≡ Some awaits = sym c.awaited.ensures ∙ c.in-Some-awaited.is in
-    let not_both : over_at (strands_of bare_job) state_of c.args.self.now.rows.items awaits.left ≡ true → over_at (strands_of bare_job) state_of c.args.self.now.rows.items awaits.right ≡ true → ⊥ =
+    let not_both : over_at (strands_of_job bare_job) state_of c.args.self.now.rows.items awaits.left ≡ true → over_at (strands_of_job bare_job) state_of c.args.self.now.rows.items awaits.right ≡ true → ⊥ =
     λ l r. elim c.then-not-is_over.branch [
       | then-not-is_over-via-then-not-is_over w ↦ (let e : true ≡ false = sym l ∙ (sym (c.is_over.ensures bare_job) ∙ w.if-not-is_over.true) in cc)
       | then-not-is_over-via-else-not-is_over+then-not-is_over-2 w ↦ (let e : true ≡ false = sym r ∙ (sym (w.is_over-else-not-is_over.ensures bare_job) ∙ w.if-not-is_over-2.true) in cc)
@@ -110,4 +110,4 @@ returns-then-not-is_over-clause-moves c = λ job same.
     rests (rests_over job c.args.program.now c.args.self.now c.args.number c.requires.over (λ n sides here awaited l r.
     let m : c.in-Some.name ≡ n = same_Some c.in-Some.name n (sym named ∙ here) in
     let k : sides ≡ awaits = same_Some sides awaits (sym awaited ∙ (ap (λ (x : Name). awaited_at c.args.self.now.rows.items x.parent) (sym m) ∙ these)) in
-    not_both (subst (λ (x : Sides). over_at (strands_of bare_job) state_of c.args.self.now.rows.items x.left ≡ true) k l) (subst (λ (x : Sides). over_at (strands_of bare_job) state_of c.args.self.now.rows.items x.right ≡ true) k r))) refl refl
+    not_both (subst (λ (x : Sides). over_at (strands_of_job bare_job) state_of c.args.self.now.rows.items x.left ≡ true) k l) (subst (λ (x : Sides). over_at (strands_of_job bare_job) state_of c.args.self.now.rows.items x.right ≡ true) k r))) refl refl

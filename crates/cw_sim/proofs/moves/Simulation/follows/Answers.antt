@@ -17,8 +17,8 @@ parent-fork-requires c =
     let same = ap length c.tree.ensures in
     omega (arith, low, same)
 
-pub turns-requires : goal.turns-requires
-turns-requires c = (
+pub goes_to_right-requires : goal.goes_to_right-requires
+goes_to_right-requires c = (
   c.requires.0,
   may_turn c.args.self.now c.args.w c.args.strand c.args.dead c.requires.0 c.requires.1 c.if-strand-eq0.false c.parent-fork.result (c.parent-fork.ensures.parent ∙ ap (λ t. parent_of t c.args.strand) c.tree.ensures)
       c.if-strand-fork.true (sym c.is_split.ensures ∙ c.if-not-is_split.true),
@@ -26,11 +26,11 @@ turns-requires c = (
 
 pub returns-then-not-is_split : goal.returns-then-not-is_split
 returns-then-not-is_split c =
-    on_ok_weaker c.turns.result
+    on_ok_weaker c.goes_to_right.result
     (λ comes z may.
     follows_left c.args.self.now c.args.w c.args.strand c.args.dead z may c.if-strand-eq0.false c.parent-fork.result (c.parent-fork.ensures.parent ∙ ap (λ t. parent_of t c.args.strand) c.tree.ensures)
-    c.if-strand-fork.true (sym c.is_split.ensures ∙ c.if-not-is_split.true) c.turns.new.self (comes z))
-    c.turns.ensures
+    c.if-strand-fork.true (sym c.is_split.ensures ∙ c.if-not-is_split.true) c.goes_to_right.new.self (comes z))
+    c.goes_to_right.ensures
 
 pub meets-requires : goal.meets-requires
 meets-requires c = (

@@ -1,7 +1,7 @@
 use Rattle.std.proofs.Common.{rules, ◌≡◌, ◌<◌, ◌++◌, ◌∷◌, [], unwrap_or, IfSome, refl, ap, sym, subst, ◌∙◌, w64, ℤ, FitsSigned, to_z, of_z, List}
 use Rattle.std.proofs.lemmas.Int.{to_z-of_z}
 use Rattle.cw_tree.specs.declared.access.Entry.{Entry}
-use Rattle.cw_stack.specs.Cells.{CellParts, newest, entry_of, first_value, IsKept, GoesWithTrees}
+use Rattle.cw_stack.specs.Cells.{CellParts, newest_entry, entry_of, first_value, IsCellInMemory, GoesWithTrees}
 use Rattle.cw_stack.specs.contracts.cell.Cell.{the_view}
 use Rattle.cw_stack.proofs.Keeping.{first_more, kept_more, goes_with_trees}
 use Rattle.cw_stack.proofs.cell.Cell.access.Goals as goal
@@ -10,7 +10,7 @@ use Rattle.cw_stack.proofs.cell.Cell.access.Goals as goal
 record Came (c : goal.After-self-1) : Type 0 where
   value : to_z w64 (of_z w64 c.unwrap_or-value.result) ≡ unwrap_or c.args.write c.self.inside.value
   entries : c.push_reserved.new.self.items ≡ c.self.inside.entries.items ++ entry_of c.args.mark c.args.write c.self.inside.value ∷ []
-  later : IfSome (newest c.self.inside.entries.items) (λ e. e.mark.stamp < c.args.mark.stamp)
+  later : IfSome (newest_entry c.self.inside.entries.items) (λ e. e.mark.stamp < c.args.mark.stamp)
 
 came : (c : goal.After-self-1) → Came c
 came c =
@@ -18,7 +18,7 @@ came c =
     let new : FitsSigned w64 c.unwrap_or-value.result = search rules in
     let a = to_z-of_z w64 c.self.inside.value old in
     let b = to_z-of_z w64 c.unwrap_or-value.result new in
-    let P : CellParts → Type 0 = λ p. IfSome (newest p.entries) (λ e. e.mark.stamp < c.args.mark.stamp) in
+    let P : CellParts → Type 0 = λ p. IfSome (newest_entry p.entries) (λ e. e.mark.stamp < c.args.mark.stamp) in
     record {
       value = b ∙ c.unwrap_or-value.ensures ∙ ap (unwrap_or c.args.write) a;
       entries = cc (c.push_reserved.ensures.items, c.is_some.ensures, c.unwrap_or-value.ensures, a, b);
@@ -28,7 +28,7 @@ came c =
 pub invariant_of-self : goal.invariant_of-self
 invariant_of-self c =
     let w = came c in
-    let P : ℤ → List Entry → Type 0 = λ v es. IsKept v es c.self.inside.cleaned in
+    let P : ℤ → List Entry → Type 0 = λ v es. IsCellInMemory v es c.self.inside.cleaned in
     subst (λ (v : ℤ). P v c.push_reserved.new.self.items) (sym w.value)
     (subst (λ (es : List Entry). P (unwrap_or c.args.write c.self.inside.value) es) (sym w.entries)
     (kept_more c.args.mark c.args.write c.self.inside.value c.self.inside.entries.items c.self.inside.cleaned c.self.invariant w.later))

@@ -5,8 +5,8 @@ use Rattle.std.proofs.lemmas.Int.{to_z-of_z}
 use Rattle.cw_tree.specs.declared.access.Entry.{Entry}
 use Rattle.cw_tree.specs.Nodes.{is_pending, stamp_of}
 use Rattle.cw_tree.specs.Walks.{is_above}
-use Rattle.cw_tree.specs.Stacks.{stamps, IsStack}
-use Rattle.cw_stack.specs.Cells.{CellParts, first_value, IsKept}
+use Rattle.cw_tree.specs.Stacks.{stamps, IsAccessStack}
+use Rattle.cw_stack.specs.Cells.{CellParts, first_value, IsCellInMemory}
 use Rattle.cw_stack.proofs.Keeping.{first_front, kept_front}
 use Rattle.cw_stack.proofs.Rolling.{stays, beneath_taken, not_cleaned, contained, split_at}
 use Rattle.cw_stack.proofs.cell.Cell.roll.Goals as goal
@@ -42,8 +42,8 @@ pub invariant_of-self : goal.invariant_of-self
 invariant_of-self c =
     let w = found c in
     let after : ℤ = to_z w64 (of_z w64 c.index.result.now.old) in
-    let P : List Entry → Type 0 = λ es. IsKept after es c.self.inside.cleaned in
-    let Q : ℤ → Type 0 = λ v. IsKept v (take c.place_of-left.result c.self.inside.entries.items) c.self.inside.cleaned in
+    let P : List Entry → Type 0 = λ es. IsCellInMemory after es c.self.inside.cleaned in
+    let Q : ℤ → Type 0 = λ v. IsCellInMemory v (take c.place_of-left.result c.self.inside.entries.items) c.self.inside.cleaned in
     subst P (sym c.truncate.ensures.items)
     (subst Q (sym w.old) (kept_front c.self.inside.value c.self.inside.entries.items c.self.inside.cleaned c.place_of-left.result c.index.result.now w.within (behind_cleaned c) c.self.invariant))
 
@@ -61,9 +61,9 @@ returns-clause-in_a_tree c t cell us =
     let k = c.place_of-left.result in
     let after : ℤ = to_z w64 (of_z w64 c.index.result.now.old) in
     let first : first_value after (take k es) ≡ first_value c.self.inside.value es = ap (λ v. first_value v (take k es)) w.old ∙ first_front c.self.inside.value es k c.index.result.now w.within in
-    let P : CellParts → Type 0 = λ old. IsStack t cell old.first us old.entries → IsStack t cell (first_value after c.truncate.new.self.items) (take (length c.truncate.new.self.items) us) c.truncate.new.self.items in
-    let Q : List Entry → Type 0 = λ xs. IsStack t cell (first_value after xs) (take (length xs) us) xs in
-    let R : ℤ → Type 0 = λ v. IsStack t cell v (take (length (take k es)) us) (take k es) in
+    let P : CellParts → Type 0 = λ old. IsAccessStack t cell old.first us old.entries → IsAccessStack t cell (first_value after c.truncate.new.self.items) (take (length c.truncate.new.self.items) us) c.truncate.new.self.items in
+    let Q : List Entry → Type 0 = λ xs. IsAccessStack t cell (first_value after xs) (take (length xs) us) xs in
+    let R : ℤ → Type 0 = λ v. IsAccessStack t cell v (take (length (take k es)) us) (take k es) in
     subst P c.self.view_is (λ s. subst Q (sym c.truncate.ensures.items) (subst R (sym first) (stays t cell k (first_value c.self.inside.value es) us es w.within s)))
 
 pub returns-clause-beneath : goal.returns-clause-beneath
@@ -72,6 +72,6 @@ returns-clause-beneath c t cell b n us r =
     let es = c.self.inside.entries.items in
     let k = c.place_of-left.result in
     let within = w.within in
-    let P : CellParts → Type 0 = λ old. IsStack t cell old.first us old.entries → is_pending t b ≡ true → find (is_above t b) us ≡ Some n → stamp_of t n ≡ c.args.first → drop (length c.truncate.new.self.items) us ≡ filter (is_above t b) us in
+    let P : CellParts → Type 0 = λ old. IsAccessStack t cell old.first us old.entries → is_pending t b ≡ true → find (is_above t b) us ≡ Some n → stamp_of t n ≡ c.args.first → drop (length c.truncate.new.self.items) us ≡ filter (is_above t b) us in
     let size : length c.truncate.new.self.items ≡ k = ap length c.truncate.ensures.items ∙ length-take-le k es (omega arith) in
     subst P c.self.view_is (λ s pending first stamp. ap (λ i. drop i us) size ∙ beneath_taken t cell b n (first_value c.self.inside.value es) us es k c.args.first r s pending first stamp c.self.invariant.rising w.within w.stamp)

@@ -2,7 +2,7 @@ use Rattle.std.proofs.Common.{◌≡◌, [], ap, subst, sym, ◌∙◌}
 use Rattle.cw_code.specs.declared.instruction.Code.{Code}
 use Rattle.cw_strand.specs.Running.{on, wants, stand}
 use Rattle.cw_strand.specs.Coded.{State, runs, step, with_value}
-use Rattle.cw_strand.specs.Standing.{StandsWanting, Stands}
+use Rattle.cw_strand.specs.Standing.{StandsWanting, StepStands}
 use Rattle.cw_strand.specs.Acting.{led_to}
 use Rattle.cw_strand.proofs.Bounding.{bounded}
 use Rattle.cw_strand.proofs.Settling.{stand_on, stand_want}
@@ -29,7 +29,7 @@ pub steps-preserved : goal.steps-preserved
 steps-preserved c =
     let code = c.code-code.result.now in
     record {
-      stands = subst (Stands code) (went_on c) (step_stands code c.code-code.ensures.sound c.steps.self c.steps.invariant.stands);
+      stands = subst (StepStands code) (went_on c) (step_stands code c.code-code.ensures.sound c.steps.self c.steps.invariant.stands);
       same = λ main words limits. sym (stand_on (runs code main words limits) (bounded code main words limits c.code-code.ensures.sound).on c.steps.self c.step.new.self (went_on c)) ∙ c.steps.invariant.same main words limits;
     }
 
@@ -43,4 +43,4 @@ pub returns-in-Wants-clause-stands : goal.returns-in-Wants-clause-stands
 returns-in-Wants-clause-stands c =
     let code = c.code-code.result.now in
     subst (λ (d : Code). StandsWanting d c.in-Wants.want c.step.new.self) c.code-code.ensures.code
-    (subst (Stands code) (came c) (step_stands code c.code-code.ensures.sound c.steps.self c.steps.invariant.stands))
+    (subst (StepStands code) (came c) (step_stands code c.code-code.ensures.sound c.steps.self c.steps.invariant.stands))

@@ -5,15 +5,15 @@ use Rattle.cw_code.specs.declared.instruction.Code.{Code}
 use Rattle.cw_strand.specs.declared.want.Want.TheVariants.{Out, Begin, Fork, Sync, Done}
 use Rattle.cw_strand.specs.declared.want.Given.TheVariants.{Nothing}
 use Rattle.cw_strand.specs.Running.{Standing, stand}
-use Rattle.cw_strand.specs.Coded.{State, runs, strands_of, joined}
+use Rattle.cw_strand.specs.Coded.{State, runs, strands_of_code, joined}
 use Rattle.cw_strand.specs.Standing.{NextFrom}
 use Rattle.cw_strand.specs.Saving.{Inside, begun, goes_right, joins}
 use Rattle.cw_strands.proofs.tests.begins.to_output.Goals as goal
 
 at_output : (code : Code) (l : Limits) (begin forked same ended left both last : State) → NextFrom code begin Nothing Fork forked → same ≡ forked → NextFrom code same Nothing Sync ended → both ≡ joined ended left → NextFrom code both Nothing (Out (pos 2)) last
-    → Inside (strands_of code 0 [] l) (record { want = Begin; state = begin }) 0 0 (record { want = Out (pos 2); state = last })
+    → Inside (strands_of_code code 0 [] l) (record { want = Begin; state = begin }) 0 0 (record { want = Out (pos 2); state = last })
 at_output code l begin forked same ended left both last fork is sync joined_is out =
-    let s = strands_of code 0 [] l in
+    let s = strands_of_code code 0 [] l in
     let r = runs code 0 [] l in
     let at : Standing State = record { want = Begin; state = begin } in
     let first : Inside s at 0 0 (record { want = Fork; state = forked }) = subst (Inside s at 0 0) (sym (fork 0 [] l)) begun in

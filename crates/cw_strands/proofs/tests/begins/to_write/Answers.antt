@@ -5,15 +5,15 @@ use Rattle.cw_code.specs.declared.instruction.Code.{Code}
 use Rattle.cw_strand.specs.declared.want.Want.TheVariants.{Store, Begin, Fork}
 use Rattle.cw_strand.specs.declared.want.Given.TheVariants.{Nothing}
 use Rattle.cw_strand.specs.Running.{Standing, stand}
-use Rattle.cw_strand.specs.Coded.{State, runs, strands_of, joined}
+use Rattle.cw_strand.specs.Coded.{State, runs, strands_of_code, joined}
 use Rattle.cw_strand.specs.Standing.{NextFrom}
 use Rattle.cw_strand.specs.Saving.{Inside, begun, goes_right, StandsLike}
 use Rattle.cw_strands.proofs.tests.begins.to_write.Goals as goal
 
 at_write : (code : Code) (l : Limits) (begin forked same last : State) → NextFrom code begin Nothing Fork forked → same ≡ forked → NextFrom code same Nothing (Store 0 (pos 2)) last
-    → Inside (strands_of code 0 [] l) (record { want = Begin; state = begin }) 1 0 (record { want = Store 0 (pos 2); state = last })
+    → Inside (strands_of_code code 0 [] l) (record { want = Begin; state = begin }) 1 0 (record { want = Store 0 (pos 2); state = last })
 at_write code l begin forked same last fork is store =
-    let s = strands_of code 0 [] l in
+    let s = strands_of_code code 0 [] l in
     let r = runs code 0 [] l in
     let at : Standing State = record { want = Begin; state = begin } in
     let first : Inside s at 0 0 (record { want = Fork; state = forked }) = subst (Inside s at 0 0) (sym (fork 0 [] l)) begun in

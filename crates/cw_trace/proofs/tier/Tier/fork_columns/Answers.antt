@@ -3,7 +3,7 @@ use Rattle.std.specs.Prelude.{◌==◌, if◌then◌else◌}
 use Rattle.std.proofs.lemmas.List.{get_or_read}
 use Rattle.std.proofs.lemmas.Bool.{ne_eqb, eq-eqb}
 use Rattle.cw_trace.specs.Columns.{used, owner, gap, outer_at}
-use Rattle.cw_trace.specs.Tier.{traces_of, AreSound, IsKept}
+use Rattle.cw_trace.specs.Tier.{traces_of, AreSound, IsTierInMemory}
 use Rattle.cw_trace.proofs.SoundFork.{sound_fork}
 use Rattle.cw_trace.proofs.Made.{forked_is}
 use Rattle.cw_trace.proofs.tier.Tier.fork_columns.Goals as goal
@@ -13,7 +13,7 @@ two_longer : {A : Type 0} (xs ys : List A) (x y : A) (n : ℕ) → ys ≡ xs ++ 
 two_longer xs ys x y n e h = ap length e ∙ length-append xs (x ∷ y ∷ []) ∙ ap (λ k. k + 2) h
 
 kept : (c : goal.After-put_pair-5)
-    → IsKept (record {
+    → IsTierInMemory (record {
       room = c.self.inside.room;
       owners = c.put_pair.new.list;
       gaps = c.put_pair-2.new.list;

@@ -4,7 +4,7 @@ use Rattle.std.specs.List.{slice_get}
 use Rattle.std.specs.Vec.{vec_len, with_item, with_items}
 use Rattle.std.proofs.lemmas.List.{get_or_read, length-map, length-set, with_items_is}
 use Rattle.cw_trace.specs.Columns.{used, owner, is_trace, around_fork, back_to, row_in}
-use Rattle.cw_trace.specs.Tier.{traces_of, AreSound, IsKept}
+use Rattle.cw_trace.specs.Tier.{traces_of, AreSound, IsTierInMemory}
 use Rattle.cw_trace.proofs.SoundMerge.{merge_parent_low, merge_trace_low, merge_left, merge_right, merge_smaller, sound_merge}
 use Rattle.cw_trace.proofs.Counts.{SameLengths}
 use Rattle.cw_trace.proofs.Made.{merged_is}
@@ -20,21 +20,21 @@ record Given (a : Inside) (f : ℕ) : Type 0 where
 given : (a : Inside) (s : Traces) (f : ℕ) → traces_of a ≡ s → f < used s.columns → is_trace s.columns f ≡ true → Given a f
 given a s f v h e = record { low = omega (arith, ap (λ t. used t.columns) v); split = ap (λ t. is_trace t.columns f) v ∙ e }
 
-lengths_of : (a : Inside) → IsKept a → SameLengths (traces_of a).columns
+lengths_of : (a : Inside) → IsTierInMemory a → SameLengths (traces_of a).columns
 lengths_of a k = record { parents = k.parents; traces = k.traces; outers = k.outers }
 
 -- the parent's column as it is read, and its trace
-parent_is : (a : Inside) → IsKept a → (f p : ℕ) → Given a f → p ≡ slice_index_or a.parents.items f p → p ≡ slice_index a.parents.items f
+parent_is : (a : Inside) → IsTierInMemory a → (f p : ℕ) → Given a f → p ≡ slice_index_or a.parents.items f p → p ≡ slice_index a.parents.items f
 parent_is a k f p g e = get_or_read a.parents.items f p (let low = g.low in omega (arith, k.parents)) e 0
 
-parent_low : (a : Inside) → IsKept a → (f p : ℕ) → f % 2 ≡ 1 → Given a f → p ≡ slice_index_or a.parents.items f p → p < length a.owners.items
+parent_low : (a : Inside) → IsTierInMemory a → (f p : ℕ) → f % 2 ≡ 1 → Given a f → p ≡ slice_index_or a.parents.items f p → p < length a.owners.items
 parent_low a k f p left g e = let h = merge_parent_low (traces_of a).columns k.sound (lengths_of a k) f g.low left g.split in omega (arith, h, parent_is a k f p g e)
 
-trace_is : (a : Inside) → IsKept a → (f p t : ℕ) → f % 2 ≡ 1 → Given a f → p ≡ slice_index_or a.parents.items f p → t ≡ slice_index_or a.owners.items p t
+trace_is : (a : Inside) → IsTierInMemory a → (f p t : ℕ) → f % 2 ≡ 1 → Given a f → p ≡ slice_index_or a.parents.items f p → t ≡ slice_index_or a.owners.items p t
     → t ≡ around_fork (traces_of a).columns f
 trace_is a k f p t left g e q = get_or_read a.owners.items p t (parent_low a k f p left g e) q 0 ∙ ap (owner (traces_of a).columns) (parent_is a k f p g e)
 
-trace_low : (a : Inside) → IsKept a → (f p t : ℕ) → f % 2 ≡ 1 → Given a f → p ≡ slice_index_or a.parents.items f p → t ≡ slice_index_or a.owners.items p t
+trace_low : (a : Inside) → IsTierInMemory a → (f p t : ℕ) → f % 2 ≡ 1 → Given a f → p ≡ slice_index_or a.parents.items f p → t ≡ slice_index_or a.owners.items p t
     → t < length a.owners.items
 trace_low a k f p t left g e q = let h = merge_trace_low (traces_of a).columns k.sound (lengths_of a k) f g.low left g.split in omega (arith, h, trace_is a k f p t left g e q)
 
@@ -80,7 +80,7 @@ close_both-requires-clause-right c =
 
 -- the tier after the merge
 kept : (c : goal.After-close_both)
-    → IsKept (record {
+    → IsTierInMemory (record {
       room = c.self.inside.room;
       owners = with_items c.self.inside.owners c.put_back.new.owners;
       gaps = c.self.inside.gaps;

@@ -2,12 +2,12 @@ use Rattle.std.proofs.Common.{◌≡◌, ◌≢◌, ◌-◌, ◌<◌, ℕ, zero,
 use Rattle.std.specs.Prelude.{◌%◌, ◌==◌, slice_index_or, if◌then◌else◌}
 use Rattle.std.proofs.lemmas.Option.{slice_get-get_or}
 use Rattle.std.proofs.lemmas.Bool.{ne_eqb, eq-eqb, false≢true}
-use Rattle.cw_trace.specs.Columns.{Columns, used, outer, outer_at, is_trace, fork_in}
+use Rattle.cw_trace.specs.Columns.{ColumnTable, used, outer, outer_at, is_trace, fork_in}
 use Rattle.cw_trace.specs.Tier.{traces_of}
 use Rattle.cw_trace.proofs.tier.Tier.outer_at.Goals as goal
 use Rattle.cw_trace.proofs.tier.Tier.outer_at.Goals.{then-parent-eq0, else-parent-eq0}
 
-past : (c : Columns) (p : ℕ) → p ≢ 0 → is_trace c p ≡ false → p % 2 ≢ 1 → outer_at c p ≡ outer c (p - 1)
+past : (c : ColumnTable) (p : ℕ) → p ≢ 0 → is_trace c p ≡ false → p % 2 ≢ 1 → outer_at c p ≡ outer c (p - 1)
 past c zero n h e = absurd (n Rattle.std.proofs.Common.refl)
 past c (suc p) n h e =
     ap (λ b. if b then None else if suc p % 2 == 1 then Some (suc p) else outer c p) h
@@ -16,7 +16,7 @@ past c (suc p) n h e =
       one_less : (p : ℕ) → p ≡ suc p - 1
       one_less p = omega arith
 
-read : (xs : Columns) (f : ℕ) (d : Option ℕ) → f < length xs.outers → d ≡ slice_index_or xs.outers f d → outer xs f ≡ d
+read : (xs : ColumnTable) (f : ℕ) (d : Option ℕ) → f < length xs.outers → d ≡ slice_index_or xs.outers f d → outer xs f ≡ d
 read xs f d low e = ap fork_in (slice_get-get_or xs.outers f d low) ∙ sym e
 
 pub returns-else-parent-eq1 : goal.returns-else-parent-eq1

@@ -3,8 +3,8 @@ use Rattle.std.proofs.lemmas.List.{get_or_read, length-set, with_items_is}
 use Rattle.std.specs.List.{slice_get}
 use Rattle.std.specs.Vec.{vec_len, with_item, with_items}
 use Rattle.cw_tree.specs.Walks.{has}
-use Rattle.cw_trace.specs.Columns.{used, owner, gap, is_trace, opening, parts, row_in}
-use Rattle.cw_trace.specs.Tier.{traces_of, AreSound, IsKept}
+use Rattle.cw_trace.specs.Columns.{used, owner, gap, is_trace, opening_mark, parts, row_in}
+use Rattle.cw_trace.specs.Tier.{traces_of, AreSound, IsTierInMemory}
 use Rattle.cw_trace.proofs.SoundSplit.{split_around, split_left, split_right, split_few, sound_split}
 use Rattle.cw_trace.proofs.Counts.{SameLengths}
 use Rattle.cw_trace.proofs.Edits.{length_parts}
@@ -40,7 +40,7 @@ open_both-requires-clause-around c =
     let low : c.args.fork < length a.owners.items = omega (arith, ap (λ d. used d) v, c.requires.low) in
     let whole : is_trace (traces_of a).columns c.args.fork ≡ false = sym (ap (λ d. is_trace d c.args.fork) v) ∙ c.requires.whole in
     let is : c.index-trace.result.now ≡ owner (traces_of a).columns c.args.fork = get_or_read a.owners.items c.args.fork c.index-trace.result.now low c.index-trace.ensures 0 in
-    ap (λ t. has a.brackets.marks (opening t)) is ∙ split_around (traces_of a).columns k.sound (lengths_of c) c.args.fork low c.requires.left whole
+    ap (λ t. has a.brackets.marks (opening_mark t)) is ∙ split_around (traces_of a).columns k.sound (lengths_of c) c.args.fork low c.requires.left whole
 
 pub open_both-requires-clause-new_left : goal.open_both-requires-clause-new_left
 open_both-requires-clause-new_left c =
@@ -78,7 +78,7 @@ open_both-requires-clause-trace c =
 
 -- the tier after the split
 kept : (c : goal.After-open_both)
-    → IsKept (record {
+    → IsTierInMemory (record {
       room = c.self.inside.room;
       owners = with_items c.self.inside.owners c.part.new.owners;
       gaps = with_item c.self.inside.gaps (c.args.fork + 1) (c.args.fork + 1);

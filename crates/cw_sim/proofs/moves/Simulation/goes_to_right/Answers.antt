@@ -3,7 +3,7 @@ use Rattle.std.proofs.Common.{arith}
 use Rattle.std.proofs.lemmas.Result.{on_ok_weaker}
 use Rattle.cw_sim.proofs.HeldMeets.{nodes_there}
 use Rattle.cw_sim.proofs.HeldTurned.{turned, both_join, turned_dead}
-use Rattle.cw_sim.proofs.moves.Simulation.turns.Goals as goal
+use Rattle.cw_sim.proofs.moves.Simulation.goes_to_right.Goals as goal
 
 pub overflow_add-strand : goal.overflow_add-strand
 overflow_add-strand c = let low = nodes_there c.args.self.now c.args.w c.args.fork c.requires.0 c.requires.1.meet in omega (arith, low, c.hint.ensures)
