@@ -3,4 +3,4 @@ pub mod Rules
 pub mod Answers
 pub mod Printed
 pub mod Programs
-pub mod Rows
+pub mod Worked

@@ -5,7 +5,7 @@
 //! (what the verifier answers), `specs/Printed.antt` (texts) and `specs/Programs.antt` (programs). `Rows` tries them.
 #![tactic(auto)]
 
-ghost use Rattle.cw_code.specs.Rows.{Verdicts, Texts};
+ghost use Rattle.cw_code.specs.Worked.{Verdicts, Texts};
 
 mod effects;
 mod finding;

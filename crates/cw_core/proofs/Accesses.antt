@@ -14,7 +14,7 @@ use Rattle.cw_tree.specs.Series.{strand_of, place}
 use Rattle.cw_tree.specs.Refusals.{is_victim}
 use Rattle.cw_tree.specs.Accesses.{value_in, written_kind}
 use Rattle.cw_tree.specs.Attempts.{tried_cell_in, tried_cell}
-use Rattle.cw_tree.specs.Stacks.{access_kind, written_by, stamps}
+use Rattle.cw_tree.specs.AccessStacks.{access_kind, written_by, stamps}
 use Rattle.cw_tree.proofs.Growing.{get_next, length_more, node_new, number_new, strand_of_new, strand_of_grown}
 use Rattle.cw_tree.proofs.Closing.{get_set_same, get_set_other}
 use Rattle.cw_stack.specs.Cells.{CellParts, entry_of}

@@ -8,7 +8,7 @@ use Rattle.cw_tree.specs.declared.access.Mark.{Mark}
 use Rattle.cw_tree.specs.Nodes.{is_strand_kind, is_fork_kind, is_block_kind, is_pending_state, first_state, touches_kind, stamp_of, touches, fresh_node}
 use Rattle.cw_tree.specs.Walks.{has}
 use Rattle.cw_tree.specs.Series.{place}
-use Rattle.cw_tree.specs.Stacks.{conflict_at, access_at, access_kind}
+use Rattle.cw_tree.specs.AccessStacks.{conflict_at, access_at, access_kind}
 use Rattle.cw_tree.specs.Newest.{newest}
 use Rattle.cw_tree.proofs.Lists.{In}
 use Rattle.cw_tree.proofs.There.{node_there}

@@ -7,7 +7,7 @@ use Rattle.cw_tree.specs.declared.access.Entry.{Entry}
 use Rattle.cw_tree.specs.declared.access.Mark.{Mark}
 use Rattle.cw_tree.specs.Nodes.{stamp_of, touches}
 use Rattle.cw_tree.specs.Series.{place}
-use Rattle.cw_tree.specs.Stacks.{conflict_at, access_at, stamps}
+use Rattle.cw_tree.specs.AccessStacks.{conflict_at, access_at, stamps}
 use Rattle.cw_tree.specs.Newest.{newest}
 use Rattle.cw_stack.specs.Cells.{CellParts}
 use Rattle.cw_stack.specs.Cells as stack
@@ -25,7 +25,7 @@ use Rattle.cw_core.specs.declared.cores.Core.TheInside.{Inside}
 use Rattle.cw_core.specs.State.{CoreState, column_of}
 use Rattle.cw_core.specs.Events.{fits, is_met, met_by, against}
 use Rattle.cw_core.specs.Kept.{IsEntryOf, IsMarked, IsBarrier}
-use Rattle.cw_core.specs.Held.{state_of, IsCoreInMemory}
+use Rattle.cw_core.specs.InMemory.{state_of, IsCoreInMemory}
 use Rattle.cw_core.proofs.Going.{well}
 use Rattle.cw_core.proofs.Accesses.{access_ready}
 use Rattle.cw_core.proofs.Accessing.{told_newest}

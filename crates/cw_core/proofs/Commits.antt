@@ -20,7 +20,7 @@ use Rattle.cw_core.specs.declared.row.Row.{Row}
 use Rattle.cw_core.specs.State.{CoreState, waits_for_left, gap_of}
 use Rattle.cw_core.specs.Events.{fits, after_event}
 use Rattle.cw_core.specs.Kept.{IsTail, IsNow, IsRow, AreRows, AreParts, changed, with_tail, with_place, plain_tail}
-use Rattle.cw_core.specs.Held.{state_of, IsCoreInMemory}
+use Rattle.cw_core.specs.InMemory.{state_of, IsCoreInMemory}
 use Rattle.cw_core.proofs.Kept.{events}
 use Rattle.cw_core.proofs.Changed.{length_changed, was_changed}
 use Rattle.cw_core.proofs.PartsGrow.{unspent, none_spent}

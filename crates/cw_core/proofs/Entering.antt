@@ -8,7 +8,7 @@ use Rattle.std.proofs.lemmas.Option.{slice_get-map, slice_get_within}
 use Rattle.std.proofs.lemmas.Bool.{cases_lt}
 use Rattle.cw_tree.specs.declared.access.Entry.{Entry}
 use Rattle.cw_tree.specs.Accesses.{cell_value, written}
-use Rattle.cw_tree.specs.Stacks.{access_at, written_by, stamps}
+use Rattle.cw_tree.specs.AccessStacks.{access_at, written_by, stamps}
 use Rattle.cw_tree.proofs.Growing.{get_append, get_next}
 use Rattle.cw_tree.specs.Nodes.{stamp_of}
 use Rattle.cw_open.specs.Machine.{OpenMachine, live}

@@ -9,7 +9,7 @@ use Rattle.cw_tree.specs.Nodes.{stamp_of, parent_of, is_pending}
 use Rattle.cw_tree.specs.Walks.{path, is_above, outermost, may_fall}
 use Rattle.cw_tree.specs.Series.{strand_of}
 use Rattle.cw_tree.specs.Shape.{IsTree}
-use Rattle.cw_tree.specs.Stacks.{access_at}
+use Rattle.cw_tree.specs.AccessStacks.{access_at}
 use Rattle.cw_tree.proofs.Climbs.{path_step}
 use Rattle.cw_tree.proofs.Strands.{strand_of_le}
 use Rattle.cw_trace.specs.Columns.{used}
@@ -23,7 +23,7 @@ use Rattle.cw_core.specs.declared.row.Row.{Row}
 use Rattle.cw_core.specs.declared.cores.Core.TheInside.{Inside}
 use Rattle.cw_core.specs.State.{CoreState, joined_columns, column_of}
 use Rattle.cw_core.specs.Kept.{IsRow, IsMarked}
-use Rattle.cw_core.specs.Held.{state_of, IsCoreInMemory}
+use Rattle.cw_core.specs.InMemory.{state_of, IsCoreInMemory}
 use Rattle.cw_core.proofs.Going.{well}
 
 module _ (a : Inside) (i : IsCoreInMemory a) where

@@ -8,7 +8,7 @@ use Rattle.cw_tree.specs.declared.node.Node.{Node}
 use Rattle.cw_tree.specs.declared.access.Entry.{Entry}
 use Rattle.cw_tree.specs.Nodes.{fresh_node}
 use Rattle.cw_tree.specs.Series.{place}
-use Rattle.cw_tree.specs.Stacks.{access_kind, stamps}
+use Rattle.cw_tree.specs.AccessStacks.{access_kind, stamps}
 use Rattle.cw_stack.specs.Cells.{CellParts, newest_entry}
 use Rattle.cw_stack.specs.Cells as stack
 use Rattle.cw_open.specs.Machine.{live_value, is_running, is_free}
@@ -22,7 +22,7 @@ use Rattle.cw_core.specs.declared.event.Reply.TheVariants as reply
 use Rattle.cw_core.specs.State.{CoreState, column_of, waits_for_left}
 use Rattle.cw_core.specs.Events.{fits, is_met, met_by, after_event, reply_to}
 use Rattle.cw_core.specs.Kept.{AreParts, changed, with_tail, with_place, plain_tail, leaf_row, cell_changed, with_entry, without_room}
-use Rattle.cw_core.specs.Held.{state_of, IsCoreInMemory}
+use Rattle.cw_core.specs.InMemory.{state_of, IsCoreInMemory}
 use Rattle.cw_core.proofs.Ready.{row_there, place_there, one_more}
 use Rattle.cw_core.proofs.HeldOut.{max_next, now_of, runs_free}
 use Rattle.cw_core.proofs.Entering.{seen_same, changed_cell, firsts_kept, rooms_parts, entries_low, value_is}

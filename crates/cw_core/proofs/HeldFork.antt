@@ -14,7 +14,7 @@ use Rattle.cw_core.specs.declared.cores.Core.TheInside.{Inside}
 use Rattle.cw_core.specs.State.{CoreState, column_of, gap_of}
 use Rattle.cw_core.specs.Events.{fits, may_fork, after_event, reply_to}
 use Rattle.cw_core.specs.Kept.{AreParts, changed, with_tail, with_wait, plain_tail, fork_rows}
-use Rattle.cw_core.specs.Held.{state_of, IsCoreInMemory}
+use Rattle.cw_core.specs.InMemory.{state_of, IsCoreInMemory}
 use Rattle.cw_core.proofs.HeldOut.{max_next, now_of, runs_free}
 use Rattle.cw_core.proofs.ForkParts.{fork_parts, after_is}
 

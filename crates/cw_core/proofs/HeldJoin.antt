@@ -23,7 +23,7 @@ use Rattle.cw_core.specs.declared.row.Row.{Row}
 use Rattle.cw_core.specs.State.{CoreState, has_columns, is_split}
 use Rattle.cw_core.specs.Events.{fits, after_event}
 use Rattle.cw_core.specs.Kept.{IsRow, AreParts, IsVictim, changed, with_joined, with_back, least}
-use Rattle.cw_core.specs.Held.{state_of, IsCoreInMemory}
+use Rattle.cw_core.specs.InMemory.{state_of, IsCoreInMemory}
 use Rattle.cw_core.proofs.Kept.{events}
 use Rattle.cw_core.proofs.Going.{well}
 use Rattle.cw_core.proofs.Ordering.{columns_used, strand_under}

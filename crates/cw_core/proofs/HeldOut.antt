@@ -18,7 +18,7 @@ use Rattle.cw_core.specs.declared.cores.Core.TheInside.{Inside}
 use Rattle.cw_core.specs.State.{CoreState, waits_for_left, column_of, gap_of, spent}
 use Rattle.cw_core.specs.Events.{fits, fits_now, is_stop, after_event}
 use Rattle.cw_core.specs.Kept.{IsRow, AreParts, changed, with_finished, with_tail, with_place, plain_tail, leaf_row}
-use Rattle.cw_core.specs.Held.{state_of, IsCoreInMemory}
+use Rattle.cw_core.specs.InMemory.{state_of, IsCoreInMemory}
 use Rattle.cw_core.proofs.Ready.{clock_fits, column_there, gap_there, attempt_fits, row_there, row_place, place_there, one_more}
 use Rattle.cw_core.proofs.Outputs.{out_parts}
 use Rattle.cw_core.proofs.Begins.{begin_parts}

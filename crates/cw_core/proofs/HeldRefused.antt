@@ -13,7 +13,7 @@ use Rattle.cw_tree.specs.Walks.{IsRooted, path, is_above, may_fall}
 use Rattle.cw_tree.specs.Series.{strand_of, children, place}
 use Rattle.cw_tree.specs.Attempts.{tried_cell, same_cell, block_attempt, attempt_of}
 use Rattle.cw_tree.specs.Refusals.{refused}
-use Rattle.cw_tree.specs.Stacks.{access_at, stamps}
+use Rattle.cw_tree.specs.AccessStacks.{access_at, stamps}
 use Rattle.cw_tree.specs.Newest.{last_eight}
 use Rattle.cw_tree.specs.VictimsAt.{victim_at}
 use Rattle.cw_tree.proofs.There.{node_there}
@@ -35,7 +35,7 @@ use Rattle.cw_core.specs.State.{CoreState, waits_for_left, spent}
 use Rattle.cw_core.specs.Events.{fits, met_by, after_event, reply_to}
 use Rattle.cw_core.specs.Laws.{IsCore}
 use Rattle.cw_core.specs.Kept.{IsRow, AreParts, IsVictim, IsBarrier, changed, with_tail, with_victim, tried_again, tried_tail, leaf_row, conflict_with}
-use Rattle.cw_core.specs.Held.{state_of, IsCoreInMemory}
+use Rattle.cw_core.specs.InMemory.{state_of, IsCoreInMemory}
 use Rattle.cw_core.proofs.Going.{well, at_place, pending_stamped}
 use Rattle.cw_core.proofs.Kept.{events}
 use Rattle.cw_core.proofs.PartsGrow.{unspent}

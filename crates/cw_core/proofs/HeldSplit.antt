@@ -15,7 +15,7 @@ use Rattle.cw_core.specs.declared.row.Row.{Row}
 use Rattle.cw_core.specs.State.{CoreState}
 use Rattle.cw_core.specs.Events.{fits, fork_at, after_event, reply_to}
 use Rattle.cw_core.specs.Kept.{IsRow, AreParts, changed, with_split}
-use Rattle.cw_core.specs.Held.{state_of, IsCoreInMemory}
+use Rattle.cw_core.specs.InMemory.{state_of, IsCoreInMemory}
 use Rattle.cw_core.proofs.Forks.{names}
 use Rattle.cw_core.proofs.Ordering.{columns_used}
 use Rattle.cw_core.proofs.Going.{well}

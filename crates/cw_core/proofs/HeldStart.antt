@@ -26,7 +26,7 @@ parts_of first tree lists conflicts finished joined splits tier words budget = r
 module _ (first : List ℤ) (room budget : ℕ) (some : 0 < room) (cells : List CellParts) (are : cells ≡ map fresh_cell first) (tree : List Node) (tree_is : tree ≡ fresh_node 0 Strand 0 ∷ []) (conflicts : List Conflict) (conflicts_are : conflicts ≡ [])
     (finished : List (ℕ × Bool)) (finished_are : finished ≡ []) (joined splits : List ℕ) (joined_are : joined ≡ []) (splits_are : splits ≡ []) (tier : ColumnTable) (tier_is : tier ≡ first_tier room) (words : List ℕ) (words_are : words ≡ replicate room 0) where
   abbrev lists : List (List ℕ)
-  lists = map (λ c. Rattle.cw_tree.specs.Stacks.stamps c.entries) cells
+  lists = map (λ c. Rattle.cw_tree.specs.AccessStacks.stamps c.entries) cells
 
   abbrev firsts : List ℤ
   firsts = map (λ c. c.first) cells

@@ -5,13 +5,13 @@ use Rattle.cw_tree.specs.declared.access.Mark.{Mark}
 use Rattle.cw_tree.specs.declared.access.Entry.{Entry}
 use Rattle.cw_tree.specs.Accesses.{written}
 use Rattle.cw_tree.specs.Shape.{AreStamps}
-use Rattle.cw_tree.specs.Stacks.{access_at, written_by, stamps}
+use Rattle.cw_tree.specs.AccessStacks.{access_at, written_by, stamps}
 use Rattle.cw_open.proofs.Named.{access_named}
 use Rattle.cw_stack.specs.Cells.{CellParts, entry_of, AreSteps}
 use Rattle.cw_core.specs.declared.cores.Core.TheInside.{Inside}
 use Rattle.cw_core.specs.State.{CoreState, column_of}
 use Rattle.cw_core.specs.Kept.{IsEntryOf, IsHeld}
-use Rattle.cw_core.specs.Held.{state_of, IsCoreInMemory}
+use Rattle.cw_core.specs.InMemory.{state_of, IsCoreInMemory}
 use Rattle.cw_core.specs.Closing.{journal, journals, journals_of}
 use Rattle.cw_core.proofs.Going.{well}
 

@@ -9,7 +9,7 @@ use Rattle.cw_tree.specs.Nodes.{stamp_of, touches}
 use Rattle.cw_tree.specs.Walks.{is_above}
 use Rattle.cw_tree.specs.Series.{place}
 use Rattle.cw_tree.specs.Accesses.{is_live}
-use Rattle.cw_tree.specs.Stacks.{stamps, access_at}
+use Rattle.cw_tree.specs.AccessStacks.{stamps, access_at}
 use Rattle.cw_tree.proofs.Lists.{In}
 use Rattle.cw_tree.proofs.Ancestors.{above_ancestor}
 use Rattle.cw_tree.proofs.Stamps.{stamps_beneath}

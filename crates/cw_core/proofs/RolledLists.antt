@@ -8,7 +8,7 @@ use Rattle.cw_tree.specs.declared.node.Node.{Node}
 use Rattle.cw_tree.specs.declared.access.Entry.{Entry}
 use Rattle.cw_tree.specs.Walks.{is_above}
 use Rattle.cw_tree.specs.Series.{place}
-use Rattle.cw_tree.specs.Stacks.{stamps, access_at}
+use Rattle.cw_tree.specs.AccessStacks.{stamps, access_at}
 use Rattle.cw_tree.proofs.Lists.{In}
 use Rattle.cw_tree.proofs.Members.{in_filter}
 use Rattle.cw_stack.specs.Cells.{CellParts}

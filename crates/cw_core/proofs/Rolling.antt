@@ -9,7 +9,7 @@ use Rattle.cw_tree.specs.declared.node.BlockState.TheVariants.{Aborted}
 use Rattle.cw_tree.specs.Nodes.{is_aborted_state, touches_kind, stamp_of, is_block, is_aborted, below, closed}
 use Rattle.cw_tree.specs.Walks.{is_above}
 use Rattle.cw_tree.specs.Series.{place}
-use Rattle.cw_tree.specs.Stacks.{access_at}
+use Rattle.cw_tree.specs.AccessStacks.{access_at}
 use Rattle.cw_tree.proofs.Lists.{In, any_from, all_from}
 use Rattle.cw_tree.proofs.Members.{in_filter, in_below, below_in}
 use Rattle.cw_tree.proofs.There.{node_there}

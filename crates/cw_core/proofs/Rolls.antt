@@ -17,7 +17,7 @@ use Rattle.cw_open.proofs.TreeSteps.{rolls_runs}
 use Rattle.cw_core.specs.declared.event.Event.TheVariants as event
 use Rattle.cw_core.specs.declared.row.Row.{Row}
 use Rattle.cw_core.specs.declared.cores.Core.TheInside.{Inside}
-use Rattle.cw_core.specs.Held.{state_of, IsCoreInMemory}
+use Rattle.cw_core.specs.InMemory.{state_of, IsCoreInMemory}
 use Rattle.cw_trace.specs.Columns.{closed_word}
 use Rattle.cw_core.specs.State.{CoreState, waits_for_left, gap_of}
 use Rattle.cw_core.specs.Events.{fits, after_event}

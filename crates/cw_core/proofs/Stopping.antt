@@ -14,7 +14,7 @@ use Rattle.cw_core.specs.declared.row.Row.{Row}
 use Rattle.cw_core.specs.State.{CoreState, spent}
 use Rattle.cw_core.specs.Events.{fits, fits_now, after_event}
 use Rattle.cw_core.specs.Kept.{IsRow, AreRows, AreParts, IsAtStake, IsVictim, is_counted, stopped_by}
-use Rattle.cw_core.specs.Held.{state_of, IsCoreInMemory}
+use Rattle.cw_core.specs.InMemory.{state_of, IsCoreInMemory}
 use Rattle.cw_core.proofs.Kept.{events}
 use Rattle.cw_core.proofs.SameTree.{with_same_tree, made_same, forks_same, held_same}
 

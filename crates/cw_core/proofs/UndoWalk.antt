@@ -13,7 +13,7 @@ use Rattle.std.proofs.lemmas.Bool.{and_parts, and_from, cases_lt, cases_Bool, lt
 use Rattle.std.proofs.lemmas.Option.{slice_get_within, slice_get_cases}
 use Rattle.cw_core.proofs.Undoing.{get_among, among_stamp, among_was, among_filter, filter_alike, filter_both, filter_true, block_touches}
 use Rattle.cw_tree.specs.Accesses.{is_live}
-use Rattle.cw_tree.specs.Stacks.{stamps, access_at}
+use Rattle.cw_tree.specs.AccessStacks.{stamps, access_at}
 use Rattle.cw_stack.specs.Cells.{CellParts}
 use Rattle.cw_core.specs.Undone.{IsLeftWith, Among, is_beneath, before_stamp, MayCut, AreCut, MayUndo, AreUndone}
 use Rattle.cw_core.proofs.Walking.{ToCome, IsStep, not_left}

@@ -8,7 +8,7 @@ use Rattle.std.proofs.lemmas.List.{length-map, length-set}
 use Rattle.cw_tree.specs.declared.node.Node.{Node}
 use Rattle.cw_tree.specs.declared.access.Mark.{Mark}
 use Rattle.cw_tree.specs.declared.access.Entry.{Entry}
-use Rattle.cw_tree.specs.Stacks.{stamps}
+use Rattle.cw_tree.specs.AccessStacks.{stamps}
 use Rattle.cw_stack.specs.Cells.{CellParts, newest_entry}
 use Rattle.cw_stack.proofs.Rising.{above_last, earlier_less, filter_front, stamp_at}
 use Rattle.cw_tree.specs.declared.node.Kind.{Kind}

@@ -13,7 +13,7 @@ use Rattle.cw_tree.specs.Series.{children, strand_of, place}
 use Rattle.cw_tree.specs.Shape.{is_closed}
 use Rattle.cw_tree.specs.Attempts.{block_attempt, tried_cell, same_cell}
 use Rattle.cw_tree.specs.Accesses.{written}
-use Rattle.cw_tree.specs.Stacks.{access_at, written_by, stamps}
+use Rattle.cw_tree.specs.AccessStacks.{access_at, written_by, stamps}
 use Rattle.cw_stack.specs.Cells.{CellParts, entries_value, entry_of}
 use Rattle.cw_trace.specs.Columns.{used}
 use Rattle.cw_trace.specs.Stands.{fork_column}

@@ -1,9 +1,9 @@
 pub mod State
 pub mod Events
 pub mod Laws
-pub mod Rows
+pub mod Worked
 pub mod Kept
-pub mod Held
+pub mod InMemory
 pub mod Links
 pub mod Undone
 pub mod Closing

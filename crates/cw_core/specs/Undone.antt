@@ -5,7 +5,7 @@ use Rattle.cw_tree.specs.declared.access.Entry.{Entry}
 use Rattle.cw_tree.specs.Nodes.{stamp_of, touches, is_pending}
 use Rattle.cw_tree.specs.Walks.{is_above}
 use Rattle.cw_tree.specs.Accesses.{is_live}
-use Rattle.cw_tree.specs.Stacks.{stamps, access_at}
+use Rattle.cw_tree.specs.AccessStacks.{stamps, access_at}
 use Rattle.cw_stack.specs.Cells.{CellParts}
 
 -- the entries before a stamp

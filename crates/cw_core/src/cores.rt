@@ -4,7 +4,7 @@ ghost use Rattle.cw_trace.specs.Columns.{begun_word, closed_word, is_trace, merg
 ghost use Rattle.cw_core.specs.Kept.{IsRow, IsMarked, IsBarrier, fresh_cell};
 ghost use Rattle.cw_tree.specs.Walks.{may_fall};
 ghost use Rattle.cw_tree.specs.VictimsAt.{victim_at};
-ghost use Rattle.cw_tree.specs.Stacks.{access_at};
+ghost use Rattle.cw_tree.specs.AccessStacks.{access_at};
 ghost use Rattle.cw_core.specs.State.{start, waits_for_left};
 ghost use Rattle.cw_tree.specs.Nodes.{stamp_of, is_strand, is_pending};
 ghost use Rattle.cw_tree.specs.Series.{strand_of};
@@ -102,7 +102,7 @@ impl Model for Core {
 
     ghost Value = { CoreState };
 
-    ghost use Rattle.cw_core.specs.Held.{state_of, IsCoreInMemory};
+    ghost use Rattle.cw_core.specs.InMemory.{state_of, IsCoreInMemory};
 
     ghost view = { state_of };
 

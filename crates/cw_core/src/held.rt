@@ -1,7 +1,7 @@
 ghost use Rattle.std.specs.Prelude.{◌≡◌, ◌<◌, IfSome, OnOk, length, map, vec_len, slice_get, unwrap_or};
 ghost use Rattle.cw_core.specs.Kept as kept;
 ghost use Rattle.cw_stack.specs.Cells as stack;
-ghost use Rattle.cw_tree.specs.Stacks as stacks;
+ghost use Rattle.cw_tree.specs.AccessStacks as stacks;
 
 use cw_base::{OutOfMemory, Seq};
 use cw_stack::Cell;

@@ -7,7 +7,7 @@
 #![tactic(auto)]
 
 ghost use Rattle.cw_core.specs.Laws.{AlikeAnswer, AlikeStay, CellsAreChains, EventsAreRuns, ListsAreRuns, SplitsAreAnswered, SplitsChangeNoAnswer, SplitsChangeNothing, StartsAreCores, StrandsGoOn};
-ghost use Rattle.cw_core.specs.Rows.{Budgets, Joins, Rolls, Splits};
+ghost use Rattle.cw_core.specs.Worked.{Budgets, Joins, Rolls, Splits};
 
 mod cores;
 mod event;

@@ -11,14 +11,14 @@ use Rattle.cw_tree.specs.Nodes.{is_pending}
 use Rattle.cw_tree.specs.Walks.{is_above, is_ancestor}
 use Rattle.cw_tree.specs.Series.{place}
 use Rattle.cw_tree.specs.Accesses.{HasAccess}
-use Rattle.cw_tree.specs.Stacks.{access_at}
+use Rattle.cw_tree.specs.AccessStacks.{access_at}
 use Rattle.cw_tree.specs.Newest.{newest, last_eight}
 use Rattle.cw_tree.proofs.Lists.{In}
 use Rattle.cw_open.specs.Machine.{OpenMachine, live}
 use Rattle.cw_open.specs.Steps.{Met, Step, forks, begins, accesses, refuses, outputs, commits, undoes, aborts, finishes, joins, stops, after_open_step, first_machine}
 use Rattle.cw_open.specs.Runs.{Allowed, IsRun, IsRefused, at_once}
 use Rattle.cw_open.specs.Times.{is_changed, times_after, IsDrawn, IsMetInTime, IsTimely, AreTimely, IsAhead, AreAhead}
-use Rattle.cw_open.specs.Told.{IsNewest, as_told, AtOnceIsTold, AheadIsTimely}
+use Rattle.cw_open.specs.Refused.{IsNewest, as_told, AtOnceIsTold, AheadIsTimely}
 use Rattle.cw_open.proofs.NodeKinds.{pending_block}
 use Rattle.cw_open.proofs.Rising.{Rises, rises_increase}
 use Rattle.cw_open.proofs.States.{IsState, state_after, state_opening}

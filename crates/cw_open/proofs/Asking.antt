@@ -9,7 +9,7 @@ use Rattle.cw_tree.specs.declared.node.BlockState.TheVariants.{Committed, Aborte
 use Rattle.cw_tree.specs.declared.conflict.Conflict.{Conflict}
 use Rattle.cw_tree.specs.Nodes.{is_tried_kind, is_tried, all_nodes, fresh_node}
 use Rattle.cw_tree.specs.Series.{place}
-use Rattle.cw_tree.specs.Stacks.{access_kind}
+use Rattle.cw_tree.specs.AccessStacks.{access_kind}
 use Rattle.cw_tree.specs.NextNodes.{IsPlace, fork_nodes}
 use Rattle.cw_tree.specs.Shape.{IsTree}
 use Rattle.cw_tree.proofs.Members.{in_below, filter_same}

@@ -7,7 +7,7 @@ use Rattle.cw_tree.specs.declared.node.Kind.TheVariants.{Block, Out}
 use Rattle.cw_tree.specs.Nodes.{is_committed, is_aborted, fresh_node}
 use Rattle.cw_tree.specs.Series.{place}
 use Rattle.cw_tree.specs.Refusals.{is_victim}
-use Rattle.cw_tree.specs.Stacks.{access_kind}
+use Rattle.cw_tree.specs.AccessStacks.{access_kind}
 use Rattle.cw_tree.specs.NextNodes.{IsPlace, fork_nodes}
 use Rattle.cw_tree.proofs.NextPending.{end_of_place}
 use Rattle.cw_open.specs.Machine.{OpenMachine, live_value, has_finished, finished_dead, is_running, in_block, is_dying, is_free, rolls_back}

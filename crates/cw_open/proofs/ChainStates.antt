@@ -9,7 +9,7 @@ use Rattle.cw_tree.specs.Nodes.{touches_kind, fresh_node}
 use Rattle.cw_tree.specs.Series.{place}
 use Rattle.cw_tree.specs.Shape.{AreStamps}
 use Rattle.cw_tree.specs.Accesses.{HasAccess}
-use Rattle.cw_tree.specs.Stacks.{access_kind}
+use Rattle.cw_tree.specs.AccessStacks.{access_kind}
 use Rattle.cw_tree.specs.Newest.{newest}
 use Rattle.cw_open.specs.Machine.{OpenMachine, live, live_value, in_block, is_free, rolls_back}
 use Rattle.cw_open.specs.Steps.{Step, forks, begins, accesses, refuses, outputs, commits, undoes, aborts, finishes, joins, stops, live_beside, after_open_step, first_machine}

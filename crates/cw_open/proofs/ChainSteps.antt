@@ -11,7 +11,7 @@ use Rattle.cw_tree.specs.Walks.{IsRooted, has, is_ancestor, is_above}
 use Rattle.cw_tree.specs.Shape.{AreStamps, is_closed}
 use Rattle.cw_tree.specs.Accesses.{is_live, IsChainOf, HasAccess}
 use Rattle.cw_tree.specs.Journals.{EndedBetween, AllEndedBetween}
-use Rattle.cw_tree.specs.Stacks.{newest_conflicts, conflict_at, access_at}
+use Rattle.cw_tree.specs.AccessStacks.{newest_conflicts, conflict_at, access_at}
 use Rattle.cw_tree.specs.Newest.{newest}
 use Rattle.cw_tree.specs.NextNodes.{IsPlace, IsNextStamp}
 use Rattle.cw_tree.proofs.Lists.{In}

@@ -10,7 +10,7 @@ use Rattle.cw_tree.specs.Walks.{IsRooted, is_above, nua}
 use Rattle.cw_tree.specs.Shape.{AreStamps}
 use Rattle.cw_tree.specs.Accesses.{lets_follow, IsChain}
 use Rattle.cw_tree.specs.Journals.{EndedBetween, AllEndedBetween}
-use Rattle.cw_tree.specs.Stacks.{AreThere, access_at}
+use Rattle.cw_tree.specs.AccessStacks.{AreThere, access_at}
 use Rattle.cw_tree.specs.Newest.{newest}
 use Rattle.cw_tree.proofs.Ancestors.{above_ancestor, ancestor_le}
 use Rattle.cw_tree.proofs.Growing.{node_grown, number_grown, is_above_grown}

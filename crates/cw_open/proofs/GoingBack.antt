@@ -11,7 +11,7 @@ use Rattle.cw_tree.proofs.Ancestors.{ancestor_self, ancestor_up}
 use Rattle.cw_tree.proofs.Strands.{strand_over}
 use Rattle.cw_open.specs.Machine.{has_finished}
 use Rattle.cw_open.specs.Runs.{at_any_time}
-use Rattle.cw_open.specs.Told.{AskersAreTried, AbortedAreVictims, CommittedAreSafe, DyingGoBack, DeadGoBack}
+use Rattle.cw_open.specs.Refused.{AskersAreTried, AbortedAreVictims, CommittedAreSafe, DyingGoBack, DeadGoBack}
 use Rattle.cw_open.proofs.Asking.{asking_states}
 use Rattle.cw_open.proofs.Fell.{fell, fell_beneath, fork_fell, fell_dies, any_one}
 use Rattle.cw_open.proofs.Trees.{stands_well}

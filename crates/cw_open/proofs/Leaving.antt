@@ -7,7 +7,7 @@ use Rattle.cw_tree.specs.declared.access.Entry.{Entry}
 use Rattle.cw_tree.specs.Nodes.{stamp_of, touches, all_nodes}
 use Rattle.cw_tree.specs.Shape.{AreStamps}
 use Rattle.cw_tree.specs.Accesses.{written, is_live, live_accesses}
-use Rattle.cw_tree.specs.Stacks.{access_at}
+use Rattle.cw_tree.specs.AccessStacks.{access_at}
 use Rattle.cw_tree.specs.Journals.{AreEntries, AllEndedBetween}
 use Rattle.cw_tree.specs.Newest.{newest}
 use Rattle.cw_tree.proofs.Lists.{In}

@@ -11,7 +11,7 @@ use Rattle.cw_tree.specs.Nodes.{is_node, touches_kind, stamp_of, touches, fresh_
 use Rattle.cw_tree.specs.Walks.{IsRooted, has}
 use Rattle.cw_tree.specs.Accesses.{is_live, HasAccess}
 use Rattle.cw_tree.specs.Journals.{fits_cells}
-use Rattle.cw_tree.specs.Stacks.{access_kind}
+use Rattle.cw_tree.specs.AccessStacks.{access_kind}
 use Rattle.cw_tree.specs.NextNodes.{IsPlace, IsNextStamp}
 use Rattle.cw_tree.proofs.Lists.{In, any_from}
 use Rattle.cw_tree.proofs.Members.{in_append, append_in}

@@ -9,7 +9,7 @@ use Rattle.cw_tree.specs.declared.node.BlockState.TheVariants.{Committed, Aborte
 use Rattle.cw_tree.specs.Nodes.{stamp_of, fresh_node}
 use Rattle.cw_tree.specs.Walks.{is_above}
 use Rattle.cw_tree.specs.Series.{strand_of, place}
-use Rattle.cw_tree.specs.Stacks.{access_at}
+use Rattle.cw_tree.specs.AccessStacks.{access_at}
 use Rattle.cw_tree.proofs.Lists.{In, all_in}
 use Rattle.cw_tree.proofs.Growing.{length_more}
 use Rattle.cw_open.specs.Machine.{OpenMachine, live_value, is_running, in_block, is_dying, is_free, leads_back, rolls_back}

@@ -13,7 +13,7 @@ use Rattle.cw_tree.specs.Walks.{IsRooted, path, above, is_ancestor, is_above}
 use Rattle.cw_tree.specs.Series.{strand_of}
 use Rattle.cw_tree.specs.Shape.{AreStamps}
 use Rattle.cw_tree.specs.Accesses.{is_live}
-use Rattle.cw_tree.specs.Stacks.{access_at}
+use Rattle.cw_tree.specs.AccessStacks.{access_at}
 use Rattle.cw_tree.specs.NextNodes.{IsPlace}
 use Rattle.cw_tree.proofs.Lists.{In, all_in, all_from}
 use Rattle.cw_tree.proofs.There.{node_there}

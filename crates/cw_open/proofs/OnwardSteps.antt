@@ -45,7 +45,7 @@ module _ (t u : List Node) (p stamp : ℕ) (r : IsRooted t) (g : IsGrowth t u p 
   pending_grown n h = ap (passes (λ y. is_block_kind y.kind && is_pending_state y.state)) (g.old n h)
 
   module _ (times after : ℕ → ℕ) (clock : ℕ) (place : IsPlace t p) (last : PendingLast t) (drawn : (n k : ℕ) → n < length t → length t ≤ k → k < length u → 0 < stamp_of u k → is_before_at t n p ≡ true → times n < stamp)
-      (same : (n : ℕ) → n < length t → is_pending t n ≡ is_pending u n → after_open_step n ≡ times n) (new : (n : ℕ) → length t ≤ n → after_open_step n ≡ clock) (latest : (n : ℕ) → n < length u → (stamp_of u n ≤ clock) × (end_of u n ≤ clock)) where
+      (same : (n : ℕ) → n < length t → is_pending t n ≡ is_pending u n → after n ≡ times n) (new : (n : ℕ) → length t ≤ n → after n ≡ clock) (latest : (n : ℕ) → n < length u → (stamp_of u n ≤ clock) × (end_of u n ≤ clock)) where
     pub goes_grown : GoesOn times after clock t u
     goes_grown = record {
       stays = grown_stays t u p stamp r g;
@@ -83,8 +83,8 @@ module _ (t : List Node) (r : IsRooted t) (p : ℕ) (state : BlockState) (end : 
   abbrev v : List Node
   v = closed t p state end
 
-  pub goes_closed : (times after : ℕ → ℕ) (clock : ℕ) → ((n : ℕ) → n < length t → is_pending t n ≡ is_pending v n → after_open_step n ≡ times n) → ((n : ℕ) → length t ≤ n → after_open_step n ≡ clock)
-      → ((n : ℕ) → is_pending t n ≡ true → is_pending v n ≡ false → after_open_step n ≡ clock) → ((n : ℕ) → n < length v → (stamp_of v n ≤ clock) × (end_of v n ≤ clock)) → GoesOn times after clock t v
+  pub goes_closed : (times after : ℕ → ℕ) (clock : ℕ) → ((n : ℕ) → n < length t → is_pending t n ≡ is_pending v n → after n ≡ times n) → ((n : ℕ) → length t ≤ n → after n ≡ clock)
+      → ((n : ℕ) → is_pending t n ≡ true → is_pending v n ≡ false → after n ≡ clock) → ((n : ℕ) → n < length v → (stamp_of v n ≤ clock) × (end_of v n ≤ clock)) → GoesOn times after clock t v
   goes_closed times after clock same new shut latest =
       let len = length_closed t p state end in
       record {
@@ -113,7 +113,7 @@ module _ (t : List Node) (r : IsRooted t) (p : ℕ) (state : BlockState) (end : 
 
 -- ## Nothing changes
 
-pub goes_same : (t : List Node) → IsRooted t → (times after : ℕ → ℕ) (clock : ℕ) → ((n : ℕ) → n < length t → after_open_step n ≡ times n) → ((n : ℕ) → length t ≤ n → after_open_step n ≡ clock) → ((n : ℕ) → n < length t → (stamp_of t n ≤ clock) × (end_of t n ≤ clock)) → GoesOn times after clock t t
+pub goes_same : (t : List Node) → IsRooted t → (times after : ℕ → ℕ) (clock : ℕ) → ((n : ℕ) → n < length t → after n ≡ times n) → ((n : ℕ) → length t ≤ n → after n ≡ clock) → ((n : ℕ) → n < length t → (stamp_of t n ≤ clock) × (end_of t n ≤ clock)) → GoesOn times after clock t t
 goes_same t r times after clock same new latest = record {
   stays = record { longer = omega arith; rooted = r; parents = λ n h. refl; stamps = λ n h. refl; strands = λ n h. refl; forks = λ n h. refl; blocks = λ n h. refl };
   rooted = r;

@@ -11,7 +11,7 @@ use Rattle.cw_tree.specs.Walks.{is_above}
 use Rattle.cw_tree.specs.Series.{place}
 use Rattle.cw_tree.specs.Shape.{AreStamps}
 use Rattle.cw_tree.specs.Accesses.{read, written, cell_value, value_in, read_kind, written_kind}
-use Rattle.cw_tree.specs.Stacks.{access_kind, access_at}
+use Rattle.cw_tree.specs.AccessStacks.{access_kind, access_at}
 use Rattle.cw_tree.proofs.Lists.{In}
 use Rattle.cw_tree.proofs.There.{node_there}
 use Rattle.cw_tree.proofs.Growing.{get_append, get_next, node_new, number_new}

@@ -10,7 +10,7 @@ use Rattle.cw_tree.specs.declared.node.BlockState.TheVariants.{Committed, Aborte
 use Rattle.cw_tree.specs.declared.conflict.Conflict.{Conflict}
 use Rattle.cw_tree.specs.Nodes.{is_block_kind, is_pending_state, parent_of, stamp_of, end_of, is_fork, is_block, is_pending, closed, fresh_node}
 use Rattle.cw_tree.specs.Series.{place, is_before}
-use Rattle.cw_tree.specs.Stacks.{access_kind}
+use Rattle.cw_tree.specs.AccessStacks.{access_kind}
 use Rattle.cw_tree.specs.Refusals.{IsRecorded}
 use Rattle.cw_tree.specs.NextNodes.{is_before_at}
 use Rattle.cw_tree.proofs.There.{node_there}
@@ -20,7 +20,7 @@ use Rattle.cw_open.specs.Machine.{OpenMachine, live_value, is_running, in_block,
 use Rattle.cw_open.specs.Steps.{Step, forks, begins, accesses, refuses, outputs, commits, undoes, aborts, finishes, joins, stops, refusal, after_open_step, after_all, first_machine}
 use Rattle.cw_open.specs.Runs.{Allowed, IsRun}
 use Rattle.cw_open.specs.Times.{times_after, IsTimely, AreTimely}
-use Rattle.cw_open.specs.Told.{as_told, ConflictsAreRecorded}
+use Rattle.cw_open.specs.Refused.{as_told, ConflictsAreRecorded}
 use Rattle.cw_open.proofs.NodeKinds.{strand_no_block}
 use Rattle.cw_open.proofs.Trees.{IsWell, stands_well}
 use Rattle.cw_open.proofs.TreeSteps.{free_runs, rolls_runs, place_pending}
@@ -168,7 +168,7 @@ recorded_opening first = record {
 }
 
 pub recorded_all : (asked : List Node → List ℕ → Option ℤ → List ℕ) (first : List ℤ) (times : ℕ → ℕ) (m : OpenMachine) (es : List Step) → IsRecordedState first times m → IsRun (as_told asked) m es → AreTimely times m es
-    → (after : ℕ → ℕ) × IsRecordedState first after_open_step (after_all m es)
+    → (after : ℕ → ℕ) × IsRecordedState first after (after_all m es)
 recorded_all asked first times m [] w run d = (times, w)
 recorded_all asked first times m (e ∷ es) w run d = recorded_all asked first (times_after times m e) (after_open_step m e) es (recorded_after asked first times m e w run.0 d.0) run.1 d.1
 

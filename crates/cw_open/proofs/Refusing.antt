@@ -12,7 +12,7 @@ use Rattle.cw_tree.specs.Walks.{IsRooted, has, path, lca, is_ancestor, is_above,
 use Rattle.cw_tree.specs.Series.{parallel, is_before, place}
 use Rattle.cw_tree.specs.Attempts.{attempt_of}
 use Rattle.cw_tree.specs.Accesses.{HasAccess}
-use Rattle.cw_tree.specs.Stacks.{access_at}
+use Rattle.cw_tree.specs.AccessStacks.{access_at}
 use Rattle.cw_tree.specs.VictimsAt.{victim_at}
 use Rattle.cw_tree.specs.Refusals.{outermost_apart, victim_of, IsRefusal}
 use Rattle.cw_tree.specs.NextNodes.{IsPlace, is_before_at}
@@ -28,7 +28,7 @@ use Rattle.cw_open.specs.Machine.{OpenMachine, is_running}
 use Rattle.cw_open.specs.Steps.{Met, refuses, refusal}
 use Rattle.cw_open.specs.Runs.{IsMet}
 use Rattle.cw_open.specs.Times.{times_after, IsMetInTime, ClosedLater}
-use Rattle.cw_open.specs.Told.{IsNewest}
+use Rattle.cw_open.specs.Refused.{IsNewest}
 use Rattle.cw_open.proofs.NodeKinds.{pending_block}
 use Rattle.cw_open.proofs.Named.{block_stamp}
 use Rattle.cw_open.proofs.Growth.{IsGrowth, growth_leaf}

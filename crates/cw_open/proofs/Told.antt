@@ -9,7 +9,7 @@ use Rattle.cw_tree.specs.Nodes.{passes, is_strand_kind, is_fork_kind, is_block_k
 use Rattle.cw_tree.specs.Walks.{IsRooted, is_ancestor, is_above}
 use Rattle.cw_tree.specs.Series.{parallel, is_before, place}
 use Rattle.cw_tree.specs.ForkCounts.{one_if}
-use Rattle.cw_tree.specs.Stacks.{access_at}
+use Rattle.cw_tree.specs.AccessStacks.{access_at}
 use Rattle.cw_tree.specs.NextNodes.{IsPlace, IsSound}
 use Rattle.cw_tree.proofs.There.{node_there}
 use Rattle.cw_tree.proofs.Ancestors.{above_ancestor, ancestor_above, ancestor_step, ancestor_le, ancestor_trans, ancestor_up}

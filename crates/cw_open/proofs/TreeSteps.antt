@@ -9,7 +9,7 @@ use Rattle.cw_tree.specs.declared.node.BlockState.TheVariants.{Committed, Aborte
 use Rattle.cw_tree.specs.Nodes.{is_strand_kind, is_fork_kind, is_tried_kind, parent_of, is_strand, is_fork, is_pending, all_nodes}
 use Rattle.cw_tree.specs.Walks.{has}
 use Rattle.cw_tree.specs.Series.{children, place}
-use Rattle.cw_tree.specs.Stacks.{access_kind}
+use Rattle.cw_tree.specs.AccessStacks.{access_kind}
 use Rattle.cw_tree.proofs.Lists.{In, all_in}
 use Rattle.cw_tree.proofs.Members.{below_in}
 use Rattle.cw_tree.proofs.There.{node_there}

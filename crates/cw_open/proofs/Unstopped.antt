@@ -9,7 +9,7 @@ use Rattle.cw_tree.specs.Nodes.{is_strand}
 use Rattle.cw_open.specs.Machine.{OpenMachine, has_finished, waits, is_running, in_block, is_dying, is_free, leads_back, rolls_back}
 use Rattle.cw_open.specs.Steps.{Step, forks, begins, accesses, refuses, outputs, commits, undoes, aborts, finishes, joins, stops, after_open_step, after_all, first_machine}
 use Rattle.cw_open.specs.Runs.{Rules, Allowed, IsRun, is_undone, at_any_time}
-use Rattle.cw_open.specs.Told.{as_told, unstopped, StopsAreLeftOut, ToldIsAtAnyTime}
+use Rattle.cw_open.specs.Refused.{as_told, unstopped, StopsAreLeftOut, ToldIsAtAnyTime}
 use Rattle.cw_open.proofs.States.{by_rules}
 
 runs_on : (m : OpenMachine) (s : ℕ) → is_running m s ≡ true → is_running (unstopped m) s ≡ true

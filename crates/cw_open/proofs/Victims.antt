@@ -13,7 +13,7 @@ use Rattle.cw_tree.specs.Nodes.{is_fork_kind, is_block_kind, is_pending_state, s
 use Rattle.cw_tree.specs.Walks.{IsRooted, has, path, lca, is_ancestor, is_above, outermost, may_fall}
 use Rattle.cw_tree.specs.Series.{strand_of, place, parallel}
 use Rattle.cw_tree.specs.ForkCounts.{one_if}
-use Rattle.cw_tree.specs.Stacks.{access_at}
+use Rattle.cw_tree.specs.AccessStacks.{access_at}
 use Rattle.cw_tree.specs.Refusals.{victim_of, is_victim}
 use Rattle.cw_tree.specs.VictimsAt.{victim_at}
 use Rattle.cw_tree.proofs.Lists.{In, any_in, any_from}

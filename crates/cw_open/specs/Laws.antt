@@ -8,7 +8,7 @@ use Rattle.cw_tree.specs.Walks.{has, is_above}
 use Rattle.cw_tree.specs.Series.{place}
 use Rattle.cw_tree.specs.Accesses.{is_live, live_accesses, IsChainOf}
 use Rattle.cw_tree.specs.Journals.{FitsCells, AllEndedBetween}
-use Rattle.cw_tree.specs.Stacks.{access_at}
+use Rattle.cw_tree.specs.AccessStacks.{access_at}
 use Rattle.cw_tree.specs.Refusals.{is_victim}
 use Rattle.cw_tree.specs.Newest.{newest}
 use Rattle.cw_tree.specs.NextNodes.{IsSound, IsPlace}

@@ -7,7 +7,7 @@ use Rattle.cw_tree.specs.declared.conflict.Conflict.{Conflict}
 use Rattle.cw_tree.specs.Nodes.{is_tried, is_aborted, is_committed, all_nodes}
 use Rattle.cw_tree.specs.Walks.{IsNumbered, path}
 use Rattle.cw_tree.specs.Accesses.{written}
-use Rattle.cw_tree.specs.Stacks.{access_at}
+use Rattle.cw_tree.specs.AccessStacks.{access_at}
 use Rattle.cw_tree.specs.Journals.{FitsCells, AreJournals, JournalsEnded}
 use Rattle.cw_tree.specs.Refusals.{IsRecorded, is_victim, RollsBack}
 use Rattle.cw_tree.specs.Newest.{newest}
@@ -17,7 +17,7 @@ use Rattle.cw_tree.specs.InOrder.{in_order, conflicts_in_order}
 use Rattle.cw_open.specs.Machine.{OpenMachine, live}
 use Rattle.cw_open.specs.Laws.{NoneUndone}
 use Rattle.cw_open.specs.Times.{ReachedInTime}
-use Rattle.cw_open.specs.Told.{as_told}
+use Rattle.cw_open.specs.Refused.{as_told}
 
 -- e is the entry of the access with this stamp, which met value v
 pub record IsEntryAt (t : List Node) (v : ℤ) (s : ℕ) (e : Entry) : Type 0 where

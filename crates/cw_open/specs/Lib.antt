@@ -4,9 +4,9 @@ pub mod Runs
 pub mod Open
 pub mod Laws
 pub mod Times
-pub mod Told
+pub mod Refused
 pub mod Reads
 pub mod Left
 pub mod Reordered
 pub mod Spent
-pub mod Rows
+pub mod Worked

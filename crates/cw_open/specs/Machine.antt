@@ -7,7 +7,7 @@ use Rattle.cw_tree.specs.Nodes.{is_pending, is_fork, is_strand, all_nodes}
 use Rattle.cw_tree.specs.Walks.{has, is_ancestor, is_above}
 use Rattle.cw_tree.specs.Series.{strand_of, place}
 use Rattle.cw_tree.specs.Accesses.{written, cell_value}
-use Rattle.cw_tree.specs.Stacks.{access_at}
+use Rattle.cw_tree.specs.AccessStacks.{access_at}
 use Rattle.cw_tree.specs.Refusals.{is_victim}
 
 pub record OpenMachine : Type 0 where

@@ -6,7 +6,7 @@ use Rattle.cw_tree.specs.Nodes.{parent_of, stamp_of, end_of, touches, is_strand,
 use Rattle.cw_tree.specs.Walks.{has, is_ancestor, is_above}
 use Rattle.cw_tree.specs.Series.{children, place, parallel}
 use Rattle.cw_tree.specs.Shape.{is_closed}
-use Rattle.cw_tree.specs.Stacks.{conflict_at, access_at}
+use Rattle.cw_tree.specs.AccessStacks.{conflict_at, access_at}
 use Rattle.cw_tree.specs.Refusals.{is_victim}
 use Rattle.cw_tree.specs.NextNodes.{IsNextStamp, IsEndStamp}
 use Rattle.cw_tree.specs.Newest.{newest, last_eight}

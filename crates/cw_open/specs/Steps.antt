@@ -10,7 +10,7 @@ use Rattle.cw_tree.specs.Nodes.{stamp_of, fresh_node, closed}
 use Rattle.cw_tree.specs.Walks.{is_above}
 use Rattle.cw_tree.specs.Series.{place}
 use Rattle.cw_tree.specs.Attempts.{attempt_of}
-use Rattle.cw_tree.specs.Stacks.{access_kind, access_at}
+use Rattle.cw_tree.specs.AccessStacks.{access_kind, access_at}
 use Rattle.cw_tree.specs.VictimsAt.{victim_at}
 use Rattle.cw_tree.specs.NextNodes.{fork_nodes}
 use Rattle.cw_open.specs.Machine.{OpenMachine, live, live_value}

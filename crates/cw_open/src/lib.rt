@@ -12,9 +12,9 @@ ghost use Rattle.cw_open.specs.Laws.{AtOnceIsAtAnyTime, BlocksHaveEnded, CellsFi
 ghost use Rattle.cw_open.specs.Left.{HistoriesAreInOrder, HistoriesAreLeft};
 ghost use Rattle.cw_open.specs.Reads.{ReadsAreMet};
 ghost use Rattle.cw_open.specs.Reordered.{CellsStay, EndsStay, FaultsStay, JournalsStay, RefusalsStay, RollsBackStays};
-ghost use Rattle.cw_open.specs.Told.{AbortedAreVictims, AheadIsTimely, AskersAreTried, AtOnceIsTold, CommittedAreSafe, ConflictsAreRecorded, DeadGoBack, DyingGoBack, StopsAreLeftOut, ToldIsAtAnyTime};
+ghost use Rattle.cw_open.specs.Refused.{AbortedAreVictims, AheadIsTimely, AskersAreTried, AtOnceIsTold, CommittedAreSafe, ConflictsAreRecorded, DeadGoBack, DyingGoBack, StopsAreLeftOut, ToldIsAtAnyTime};
 ghost use Rattle.cw_open.specs.Spent.{SpentAreInOrder};
-ghost use Rattle.cw_open.specs.Rows.{Beneath, Inside, InnerCommitted, Outer, Twice};
+ghost use Rattle.cw_open.specs.Worked.{Beneath, Inside, InnerCommitted, Outer, Twice};
 
 /// The tree of every state: it is sound, its open nodes are nested, its running strands stand at places, and the clock is at its latest
 /// stamp or after it.

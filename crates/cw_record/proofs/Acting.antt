@@ -25,7 +25,7 @@ use Rattle.cw_record.specs.declared.worker.Worker.{Worker}
 use Rattle.cw_record.specs.Drawn.{added, drawn_after, drawn, entry, noted}
 use Rattle.cw_record.specs.Items.{is_act_kind}
 use Rattle.cw_record.specs.Replay.{IsAct}
-use Rattle.cw_record.specs.Worked.{Acts, law_of, unstarted, want_of, job_of}
+use Rattle.cw_record.specs.OneWorker.{Acts, law_of, unstarted, want_of, job_of}
 use Rattle.cw_record.proofs.Building.{open_items}
 use Rattle.cw_record.proofs.Descending.{Descends}
 use Rattle.cw_record.proofs.GrowingItems.{leaf_built, begin_built, end_built}

@@ -14,7 +14,7 @@ use Rattle.cw_record.specs.declared.worker.Branch.{Branch as Held}
 use Rattle.cw_record.specs.declared.worker.Branch.TheVariants.{Left, Right}
 use Rattle.cw_record.specs.Drawn.{added}
 use Rattle.cw_record.specs.Records.{IsNumberedDepthFirst}
-use Rattle.cw_record.specs.Worked.{unstarted}
+use Rattle.cw_record.specs.OneWorker.{unstarted}
 use Rattle.cw_record.proofs.Building.{IsBuilt}
 use Rattle.cw_record.proofs.Descending.{Crossing, Descends}
 use Rattle.cw_record.proofs.NodeKinds.{block_some, fork_some}

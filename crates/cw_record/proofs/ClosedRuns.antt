@@ -23,7 +23,7 @@ use Rattle.cw_tree.proofs.Ancestors.{above_ancestor, ancestor_trans}
 use Rattle.cw_tree.proofs.Strands.{strand_over, strand_of_le}
 use Rattle.cw_open.specs.Machine.{OpenMachine, has_finished, finished_dead, is_running, is_dying, is_free}
 use Rattle.cw_open.specs.Runs.{IsReachedBy, at_any_time}
-use Rattle.cw_open.specs.Told.{unstopped}
+use Rattle.cw_open.specs.Refused.{unstopped}
 use Rattle.cw_open.specs.Left.{IsHistoryAsMade}
 use Rattle.cw_open.proofs.Standing.{runs, stands}
 use Rattle.cw_open.proofs.Trees.{stands_well}

@@ -20,7 +20,7 @@ use Rattle.cw_tree.proofs.Strands.{strand_of_other}
 use Rattle.cw_open.specs.Machine.{OpenMachine, has_finished, finished_dead, is_running, is_dying, is_free}
 use Rattle.cw_open.specs.Open.{is_open}
 use Rattle.cw_open.specs.Runs.{IsReachedBy, at_any_time}
-use Rattle.cw_open.specs.Told.{unstopped, DiedBeneathVictim}
+use Rattle.cw_open.specs.Refused.{unstopped, DiedBeneathVictim}
 use Rattle.cw_open.proofs.NodeKinds.{pending_block, strand_no_block, fork_no_strand, fork_no_block_at}
 use Rattle.cw_open.proofs.Standing.{open_over, open_block, pending_open, runs, stands}
 use Rattle.cw_open.proofs.Trees.{IsWell}

@@ -7,7 +7,7 @@ use Rattle.cw_strand.specs.Strands.{is_over, takes_answer}
 use Rattle.cw_serial.specs.Jobs.{Job}
 use Rattle.cw_serial.specs.Room.Strands.{state_of, strands_of_job}
 use Rattle.cw_record.specs.declared.worker.Worker.{Worker}
-use Rattle.cw_record.specs.Worked.{want_of, job_of}
+use Rattle.cw_record.specs.OneWorker.{want_of, job_of}
 
 module _ (code : Worker) {w : Want} (says : (job : Job) → w ≡ (strands_of_job job).want (state_of code.strand)) where
   pub wanted_by : {x : Want} → w ≡ x → want_of code ≡ x

@@ -20,7 +20,7 @@ use Rattle.cw_record.specs.declared.worker.Branch.{Branch as Held}
 use Rattle.cw_record.specs.declared.worker.Branch.TheVariants.{Left, Right}
 use Rattle.cw_record.specs.declared.worker.Worker.{Worker}
 use Rattle.cw_record.specs.Drawn.{added, after_fork, after_join, after_start, drawn, forked}
-use Rattle.cw_record.specs.Worked.{SwitchesStrand, WaitsOnLeft, law_of, unstarted, want_of, job_of}
+use Rattle.cw_record.specs.OneWorker.{SwitchesStrand, WaitsOnLeft, law_of, unstarted, want_of, job_of}
 use Rattle.cw_record.proofs.Building.{IsBuilt, open_items}
 use Rattle.cw_record.proofs.Descending.{Descends, Crossing}
 use Rattle.cw_record.proofs.Doers.{doers_beside, doers_forked}

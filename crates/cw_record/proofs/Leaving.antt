@@ -32,7 +32,7 @@ use Rattle.cw_record.specs.Items.{items}
 use Rattle.cw_record.specs.Order.{node_of}
 use Rattle.cw_record.specs.Coherent.{IsMemory, HasNoOpenFork}
 use Rattle.cw_record.specs.Records.{IsWorkerRun}
-use Rattle.cw_record.specs.Worked.{law_of, unstarted, want_of, job_of}
+use Rattle.cw_record.specs.OneWorker.{law_of, unstarted, want_of, job_of}
 use Rattle.cw_record.proofs.AddedStates.{known_root}
 use Rattle.cw_record.proofs.Building.{IsBuilt, open_items}
 use Rattle.cw_record.proofs.Behind.{waiting_over, numbered_at_fault}

@@ -16,7 +16,7 @@ use Rattle.cw_record.specs.declared.worker.Branch.{Branch as Held}
 use Rattle.cw_record.specs.declared.worker.Branch.TheVariants.{Left, Right}
 use Rattle.cw_record.specs.declared.worker.Worker.{Worker}
 use Rattle.cw_record.specs.Drawn.{Drawn, drawn}
-use Rattle.cw_record.specs.Worked.{law_of, unstarted, want_of, job_of}
+use Rattle.cw_record.specs.OneWorker.{law_of, unstarted, want_of, job_of}
 use Rattle.cw_record.proofs.Building.{IsBuilt, open_items}
 use Rattle.cw_record.proofs.Descending.{Crossing, way_of, Descends}
 use Rattle.cw_record.proofs.GrowingWays.{strand_down}

@@ -8,7 +8,7 @@ use Rattle.cw_record.specs.declared.worker.Branch.{Branch}
 use Rattle.cw_record.specs.declared.worker.Branch.TheVariants.{Left, Right}
 use Rattle.cw_record.specs.declared.worker.Task.{Task}
 use Rattle.cw_record.specs.declared.worker.Worker.{Worker}
-use Rattle.cw_record.specs.Worked.{Acts, SwitchesStrand, AllStand, AllBranchesStand, BranchStands}
+use Rattle.cw_record.specs.OneWorker.{Acts, SwitchesStrand, AllStand, AllBranchesStand, BranchStands}
 
 -- what stands for one task stands for the same one
 stand_for : (t : Task) (new : Worker) → new.task ≡ t → IsOf t.program.now new.strand → AllBranchesStand t.program.now new.branches → AllStand new

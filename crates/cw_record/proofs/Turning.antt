@@ -23,7 +23,7 @@ use Rattle.cw_record.specs.declared.worker.Worker.{Worker}
 use Rattle.cw_record.specs.declared.worker.Run.{Run}
 use Rattle.cw_record.specs.declared.drawing.Drawing.{Drawing}
 use Rattle.cw_record.specs.declared.record_end.RecordEnd.{RecordEnd}
-use Rattle.cw_record.specs.Worked.{SwitchesStrand, WaitsOnLeft, law_of, unstarted, want_of}
+use Rattle.cw_record.specs.OneWorker.{SwitchesStrand, WaitsOnLeft, law_of, unstarted, want_of}
 use Rattle.cw_record.proofs.Acting.{Acted, acts_on, act_leaves_less, end_blocks}
 use Rattle.cw_record.proofs.Descending.{Descends}
 use Rattle.cw_record.proofs.Unstarted.{with_strands}

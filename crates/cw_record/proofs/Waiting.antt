@@ -8,7 +8,7 @@ use Rattle.cw_tree.specs.Nodes.{fresh_node}
 use Rattle.cw_serial.specs.declared.standing.Standing.{Standing as Running}
 use Rattle.cw_record.specs.declared.worker.Branch.{Branch}
 use Rattle.cw_record.specs.declared.worker.Branch.TheVariants.{Left, Right}
-use Rattle.cw_record.specs.Worked.{unstarted}
+use Rattle.cw_record.specs.OneWorker.{unstarted}
 use Rattle.cw_record.proofs.Unstarted.{with_strands}
 
 abbrev pub AreThere : ℕ → List Branch → Type 0

@@ -2,7 +2,7 @@
 use Rattle.std.proofs.Common.{◌≡◌, ap, sym, ◌∙◌, ℕ, List, [], ◌∷◌, refl, arith, pos}
 use Rattle.cw_code.specs.declared.FaultKind.TheVariants.{Zero, Overflow}
 use Rattle.cw_strand.specs.declared.want.Want.TheVariants.{Load, Store, Begin, End, Fault as Fails}
-use Rattle.cw_tree.specs.Rows.{pending}
+use Rattle.cw_tree.specs.Worked.{pending}
 use Rattle.cw_tree.specs.declared.node.Node.{Node}
 use Rattle.cw_tree.specs.Histories.{IsHistory}
 use Rattle.cw_tree.proofs.Checks.{each_below, is_tree, are_stamps, pending_last, are_refusals, rolls_back}

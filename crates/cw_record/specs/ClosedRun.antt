@@ -14,7 +14,7 @@ use Rattle.cw_tree.specs.InOrder.{in_order, conflicts_in_order, halt_in_order}
 use Rattle.cw_open.specs.Machine.{OpenMachine, has_finished, finished_dead, is_free}
 use Rattle.cw_open.specs.Laws.{NoneUndone}
 use Rattle.cw_open.specs.Times.{ReachedInTime}
-use Rattle.cw_open.specs.Told.{as_told, unstopped}
+use Rattle.cw_open.specs.Refused.{as_told, unstopped}
 use Rattle.cw_open.specs.Left.{AreKept}
 use Rattle.cw_open.specs.Spent.{HasSpent}
 use Rattle.cw_record.specs.declared.record_end.RecordEnd.{RecordEnd}

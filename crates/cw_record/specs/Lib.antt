@@ -5,7 +5,7 @@ pub mod Order
 pub mod Drawn
 pub mod Walked
 pub mod Replay
-pub mod Worked
+pub mod OneWorker
 pub mod Coherent
 pub mod ClosedRun
 pub mod Built

@@ -11,7 +11,7 @@ ghost use Rattle.cw_serial.specs.Room.Strands.{IsOf, state_of};
 ghost use Rattle.cw_serial.specs.Wants.{answer_to};
 ghost use Rattle.cw_record.specs.Drawn.{after_fork, after_join, after_start, blank, drawn};
 ghost use Rattle.cw_record.specs.Records.{IsWorkerRun};
-ghost use Rattle.cw_record.specs.Worked.{Acts, AllBranchesStand, AllStand, SwitchesStrand, WaitsOnLeft, job_of, law_of, unstarted, want_of};
+ghost use Rattle.cw_record.specs.OneWorker.{Acts, AllBranchesStand, AllStand, SwitchesStrand, WaitsOnLeft, job_of, law_of, unstarted, want_of};
 ghost use Rattle.cw_record.specs.declared.worker.Branch.TheVariants.{Right as OnRight};
 ghost use Rattle.cw_record.specs.declared.record_end.RecordEnd.TheVariants as ending;
 

@@ -6,7 +6,7 @@ use Rattle.cw_serial.specs.Room.Strands.{strands_of_job}
 use Rattle.cw_serial.proofs.Room.Lawful.{deep_of}
 use Rattle.cw_record.specs.Records.{job_of_record}
 use Rattle.cw_record.specs.Replay.{Replays}
-use Rattle.cw_replay.specs.Replays.{KeptRecordsReplay}
+use Rattle.cw_replay.specs.RecordsReplay.{KeptRecordsReplay}
 use Rattle.cw_replay.proofs.Theorem.{replays}
 
 pub kept_records_replay : KeptRecordsReplay

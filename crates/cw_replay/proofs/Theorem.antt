@@ -34,7 +34,7 @@ use Rattle.cw_record.specs.Order.{node_of, order_of}
 use Rattle.cw_record.specs.Coherent.{IsCoherent, HasOutputs, Follows, StrandEnded, IsMemory, HasNoOpenFork}
 use Rattle.cw_record.specs.Replay.{Replays, StandsRefused, WantsAgain}
 use Rattle.cw_record.proofs.Named.{strand_turns}
-use Rattle.cw_replay.specs.Replays.{RecordsReplay}
+use Rattle.cw_replay.specs.RecordsReplay.{RecordsReplay}
 use Rattle.cw_replay.proofs.Work.{Has}
 use Rattle.cw_replay.proofs.Orders.{SeenAfter, all_over}
 use Rattle.cw_replay.proofs.Ways.{not_ended}

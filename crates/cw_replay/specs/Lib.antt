@@ -1,4 +1,4 @@
-pub mod Replays
+pub mod RecordsReplay
 pub mod WorkedReplays
 pub mod Attempts
 pub mod SameMachines

@@ -4,7 +4,7 @@ use Rattle.cw_code.specs.declared.FaultKind.TheVariants.{Zero}
 use Rattle.cw_strand.specs.Strands.{Strands}
 use Rattle.cw_tree.specs.declared.node.Node.{Node}
 use Rattle.cw_tree.specs.declared.conflict.Conflict.{Conflict}
-use Rattle.cw_tree.specs.Rows.{pending}
+use Rattle.cw_tree.specs.Worked.{pending}
 use Rattle.cw_tree.specs.WorkedRun.{two_blocks, refused_write}
 use Rattle.cw_serial.specs.declared.ends.SerialEnd.TheVariants as last
 use Rattle.cw_serial.specs.Machine.{serial_end}

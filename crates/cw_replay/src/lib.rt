@@ -8,7 +8,7 @@
 
 ghost use Rattle.cw_replay.specs.Attempts.{AttemptsAreRecorded, ConflictsNeedForks};
 ghost use Rattle.cw_replay.specs.OverSource.{ForksNeedSpawns, RecordsReplayOverSource};
-ghost use Rattle.cw_replay.specs.Replays.{KeptRecordsReplay, PicksLeadThere, RecordsReplay};
+ghost use Rattle.cw_replay.specs.RecordsReplay.{KeptRecordsReplay, PicksLeadThere, RecordsReplay};
 ghost use Rattle.cw_replay.specs.SameMachines.{SameEnds, SameMachines, SameReplays};
 ghost use Rattle.cw_replay.specs.WorkedReplays.{WorkedReplays};
 ghost use Rattle.cw_strand.specs.Pasts.{WantTheSame};

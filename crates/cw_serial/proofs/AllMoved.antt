@@ -7,7 +7,7 @@ use Rattle.cw_serial.specs.declared.table.Table.{Table}
 use Rattle.cw_serial.specs.StrandTree.{StrandTree}
 use Rattle.cw_serial.specs.Machine.{steps_down}
 use Rattle.cw_serial.specs.Spots.{turn_to, standing, waiting, spot, IsSettled}
-use Rattle.cw_serial.specs.Held.{IsSpotAt, Holds, want_at, over_at, Moves, forks, joins, rests, Quiet, SettlesTo, IsFront}
+use Rattle.cw_serial.specs.TableInMemory.{IsSpotAt, Holds, want_at, over_at, Moves, forks, joins, rests, Quiet, SettlesTo, IsFront}
 use Rattle.cw_serial.proofs.Deep.{fork_want}
 use Rattle.cw_serial.proofs.Settled.{settled_stays}
 use Rattle.cw_serial.proofs.Replaced.{NoForks, NoJoins, settled_by}

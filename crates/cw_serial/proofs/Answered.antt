@@ -16,7 +16,7 @@ use Rattle.cw_serial.specs.InMemory.{before_end, want_before_end}
 use Rattle.cw_serial.specs.StrandTree.{StrandTree, stands, at, put}
 use Rattle.cw_serial.specs.Machine.{steps_down}
 use Rattle.cw_serial.specs.Spots.{turn_to, Spot, standing, waiting, spot, IsSettled}
-use Rattle.cw_serial.specs.Held.{IsSpotAt, Holds, Answers, SettlesTo, strand_in, strand_in_row, want_of, want_at, over_by, over_at, awaited_of, awaited_at}
+use Rattle.cw_serial.specs.TableInMemory.{IsSpotAt, Holds, Answers, SettlesTo, strand_in, strand_in_row, want_of, want_at, over_by, over_at, awaited_of, awaited_at}
 use Rattle.cw_serial.proofs.Replaced.{Beside, replaced, spot_beneath, spot_beside, spot_under, at_spot, at_is, put_is, settled_no_forks, settled_no_joins}
 use Rattle.cw_serial.proofs.Numbered.{turns_total, turns_unique, turns_of_left, turns_of_right}
 use Rattle.cw_serial.proofs.Waiting.{want_there, over_there, awaited_there, puts_here, puts_elsewhere}

@@ -6,7 +6,7 @@ use Rattle.cw_tree.specs.declared.picks.Name.{Name}
 use Rattle.cw_tree.specs.declared.picks.Turn.{Turn}
 use Rattle.cw_serial.specs.declared.table.Row.{Row}
 use Rattle.cw_serial.specs.Machine.{same_turn, is_beneath, steps_down}
-use Rattle.cw_serial.specs.Held.{StrandsAreNumbered}
+use Rattle.cw_serial.specs.TableInMemory.{StrandsAreNumbered}
 use Rattle.cw_serial.proofs.Turns.{turn_true, beneath_more}
 use Rattle.cw_serial.proofs.Numbers.{get_some, snoc_same, snoc_cases, turn_of, turns_last, turns_down}
 use Rattle.cw_serial.proofs.Numbered.{turns_unique, turns_within, parent_low}

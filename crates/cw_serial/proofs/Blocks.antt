@@ -9,7 +9,7 @@ use Rattle.cw_serial.specs.declared.machine.Begun.{Begun as Block}
 use Rattle.cw_serial.specs.declared.table.Row.{Row}
 use Rattle.cw_serial.specs.Wants.{blocks_after}
 use Rattle.cw_serial.specs.Machine.{Begun, same_name, steps_down}
-use Rattle.cw_serial.specs.Held.{IsFront, StrandsAreNumbered}
+use Rattle.cw_serial.specs.TableInMemory.{IsFront, StrandsAreNumbered}
 use Rattle.cw_serial.specs.InMemory.{AreBegun, begun_after}
 use Rattle.cw_serial.proofs.Numbers.{turns_more}
 use Rattle.cw_serial.proofs.Numbered.{turns_unique}

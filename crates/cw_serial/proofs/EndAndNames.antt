@@ -11,7 +11,7 @@ use Rattle.cw_serial.specs.declared.table.Table.{Table}
 use Rattle.cw_serial.specs.StrandTree.{StrandTree, stands, waits, ended, at}
 use Rattle.cw_serial.specs.Machine.{steps_down}
 use Rattle.cw_serial.specs.Spots.{Spot, standing, waiting, spot}
-use Rattle.cw_serial.specs.Held.{left_name, right_name, IsSpotAt, Holds, strand_in, strand_in_row, want_of, over_by, over_at}
+use Rattle.cw_serial.specs.TableInMemory.{left_name, right_name, IsSpotAt, Holds, strand_in, strand_in_row, want_of, over_by, over_at}
 use Rattle.cw_serial.specs.InMemory.{AreNames}
 use Rattle.cw_serial.proofs.Replaced.{at_spot, at_is}
 use Rattle.cw_serial.proofs.Numbers.{get_some}

@@ -13,7 +13,7 @@ use Rattle.cw_serial.specs.declared.table.Table.{Table}
 use Rattle.cw_serial.specs.StrandTree.{StrandTree, stands, waits}
 use Rattle.cw_serial.specs.Machine.{steps_down}
 use Rattle.cw_serial.specs.Spots.{turn_to, standing, waiting, spot, settle}
-use Rattle.cw_serial.specs.Held.{left_name, right_name, IsSpotAt, Holds, Forks}
+use Rattle.cw_serial.specs.TableInMemory.{left_name, right_name, IsSpotAt, Holds, Forks}
 use Rattle.cw_serial.proofs.Settled.{settle_fork}
 use Rattle.cw_serial.proofs.Sides.{side_none}
 use Rattle.cw_serial.proofs.Replaced.{Beside, replaced, replaced_itself, spot_left, spot_right, spot_beneath, spot_beside, spot_under, settle_replaced}

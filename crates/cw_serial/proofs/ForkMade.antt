@@ -10,7 +10,7 @@ use Rattle.cw_serial.specs.declared.table.Place.TheVariants.{Stands, Waits}
 use Rattle.cw_serial.specs.declared.table.Sides.{Sides}
 use Rattle.cw_serial.specs.declared.table.Row.{Row}
 use Rattle.cw_serial.specs.declared.table.Table.{Table}
-use Rattle.cw_serial.specs.Held.{left_name, right_name, number_of, StrandsAreNumbered, Forks}
+use Rattle.cw_serial.specs.TableInMemory.{left_name, right_name, number_of, StrandsAreNumbered, Forks}
 use Rattle.cw_serial.proofs.Numbers.{front_get, get_beyond}
 use Rattle.cw_serial.proofs.Numbered.{set_here, set_elsewhere, pair_cases}
 use Rattle.cw_serial.proofs.Waiting.{puts_here}

@@ -11,7 +11,7 @@ use Rattle.cw_serial.specs.declared.table.Table.{Table}
 use Rattle.cw_serial.specs.StrandTree.{StrandTree, stands, waits}
 use Rattle.cw_serial.specs.Machine.{steps_down}
 use Rattle.cw_serial.specs.Spots.{turn_to, Spot, standing, waiting, spot}
-use Rattle.cw_serial.specs.Held.{IsSpotAt, Holds}
+use Rattle.cw_serial.specs.TableInMemory.{IsSpotAt, Holds}
 use Rattle.cw_serial.proofs.Sides.{turn_is}
 use Rattle.cw_serial.proofs.Numbers.{get_some}
 use Rattle.cw_serial.proofs.Numbered.{turns_within, turns_of_left, turns_of_right}

@@ -12,7 +12,7 @@ use Rattle.cw_serial.specs.declared.table.Table.{Table}
 use Rattle.cw_serial.specs.StrandTree.{StrandTree, stands, waits}
 use Rattle.cw_serial.specs.Machine.{steps_down}
 use Rattle.cw_serial.specs.Spots.{turn_to, Spot, standing, waiting, spot, settle}
-use Rattle.cw_serial.specs.Held.{StrandsAreNumbered, IsSpotAt, Holds, Puts, Joins}
+use Rattle.cw_serial.specs.TableInMemory.{StrandsAreNumbered, IsSpotAt, Holds, Puts, Joins}
 use Rattle.cw_serial.proofs.Settled.{settle_join}
 use Rattle.cw_serial.proofs.Sides.{Way, to_left, to_right, nowhere, way, side_none}
 use Rattle.cw_serial.proofs.Replaced.{Beside, replaced, replaced_waiting, spot_left, spot_right, spot_beneath, spot_beside, settle_replaced}

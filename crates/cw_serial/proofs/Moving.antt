@@ -14,7 +14,7 @@ use Rattle.cw_serial.specs.declared.table.Sides.{Sides}
 use Rattle.cw_serial.specs.declared.table.Row.{Row}
 use Rattle.cw_serial.specs.declared.table.Table.{Table}
 use Rattle.cw_serial.specs.StrandTree.{StrandTree}
-use Rattle.cw_serial.specs.Held.{left_name, right_name, StrandsAreNumbered, want_at, over_at, awaited_at, Forks, Joins, Rests, Moves, forks, joins, rests, Quiet, SettlesTo}
+use Rattle.cw_serial.specs.TableInMemory.{left_name, right_name, StrandsAreNumbered, want_at, over_at, awaited_at, Forks, Joins, Rests, Moves, forks, joins, rests, Quiet, SettlesTo}
 use Rattle.cw_serial.proofs.Numbers.{get_beyond}
 use Rattle.cw_serial.proofs.Waiting.{Standing, want_there, want_here, over_there, over_row, over_here, over_wants_none, Awaiting, awaited_there, awaited_here, puts_here, puts_elsewhere}
 use Rattle.cw_serial.proofs.ForkMade.{was, now_waits, now_forks, Which, other, itself, on_left, on_right, which}

@@ -10,7 +10,7 @@ use Rattle.cw_serial.specs.declared.table.Sides.{Sides}
 use Rattle.cw_serial.specs.declared.table.Row.{Row}
 use Rattle.cw_serial.specs.Machine.{steps_down}
 use Rattle.cw_serial.specs.Spots.{turn_to}
-use Rattle.cw_serial.specs.Held.{root, left_name, right_name, number_of, StrandsAreNumbered}
+use Rattle.cw_serial.specs.TableInMemory.{root, left_name, right_name, number_of, StrandsAreNumbered}
 use Rattle.cw_serial.proofs.Numbers.{get_some, no_snoc, snoc_same, turn_of, turns_first, turns_last, turns_step, turns_down}
 
 -- ## Lists in which one element is another one

@@ -13,7 +13,7 @@ use Rattle.cw_serial.specs.StrandTree.{at}
 use Rattle.cw_serial.specs.Machine.{steps_down, root_turns, is_root}
 use Rattle.cw_serial.specs.Room.Strands.{StrandState, state_of, strands_of_job}
 use Rattle.cw_serial.specs.Spots.{turn_to, Spot, spot}
-use Rattle.cw_serial.specs.Held.{StrandsAreNumbered, number_of, side_of, started_of, started_at}
+use Rattle.cw_serial.specs.TableInMemory.{StrandsAreNumbered, number_of, side_of, started_of, started_at}
 use Rattle.cw_serial.specs.Orders.{SameStrand, AreKnown, root_number, known_at, parent_number, LeadDown, StandsNowhere}
 use Rattle.cw_serial.proofs.Numbers.{turn_of, turns_last, turns_step, turns_down}
 use Rattle.cw_serial.proofs.Numbered.{set_here, set_elsewhere, turns_unique, turns_of_left, turns_of_right}

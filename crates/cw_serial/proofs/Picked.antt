@@ -15,7 +15,7 @@ use Rattle.cw_serial.specs.StrandTree.{StrandTree, put}
 use Rattle.cw_serial.specs.Wants.{answer_to, memory_after, outputs_after, blocks_after}
 use Rattle.cw_serial.specs.Machine.{Begun, Machine, same_name, steps_down, may_pick, pick_at, pick}
 use Rattle.cw_serial.specs.Spots.{IsSettled}
-use Rattle.cw_serial.specs.Held.{Holds, IsFront, Answers, SettlesTo, strand_in_row, want_of, want_at}
+use Rattle.cw_serial.specs.TableInMemory.{Holds, IsFront, Answers, SettlesTo, strand_in_row, want_of, want_at}
 use Rattle.cw_serial.specs.InMemory.{AreBegun, begun_after, IsMachine, IsDone, DoesWant, Picks}
 use Rattle.cw_serial.proofs.Replaced.{at_is, at_spot}
 use Rattle.cw_serial.proofs.Answered.{StandsAt, stands_at, nobody_at, strand_is, answered_comes}

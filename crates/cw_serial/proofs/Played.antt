@@ -16,7 +16,7 @@ use Rattle.cw_serial.specs.declared.play.Play.{Play}
 use Rattle.cw_serial.specs.Machine.{Machine, steps_down, pick, pick_at, pick_named, machine_shows, play}
 use Rattle.cw_serial.specs.Room.Strands.{StrandState, strands_of_job}
 use Rattle.cw_serial.specs.MachineOf.{end_under}
-use Rattle.cw_serial.specs.Held.{StrandsAreNumbered, IsFront}
+use Rattle.cw_serial.specs.TableInMemory.{StrandsAreNumbered, IsFront}
 use Rattle.cw_serial.specs.InMemory.{IsMachine, Picks}
 use Rattle.cw_serial.specs.Orders.{AreKnown, Finds, IsNamed, IsPlay, Plays}
 use Rattle.cw_serial.proofs.Numbers.{turns_more}

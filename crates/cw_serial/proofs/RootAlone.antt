@@ -12,7 +12,7 @@ use Rattle.cw_serial.specs.declared.table.Table.{Table}
 use Rattle.cw_serial.specs.StrandTree.{stands, goes_on}
 use Rattle.cw_serial.specs.Machine.{steps_down}
 use Rattle.cw_serial.specs.Spots.{standing, spot}
-use Rattle.cw_serial.specs.Held.{root, IsSpotAt, Starts, SettlesTo, want_at, awaited_at}
+use Rattle.cw_serial.specs.TableInMemory.{root, IsSpotAt, Starts, SettlesTo, want_at, awaited_at}
 use Rattle.cw_serial.proofs.Numbers.{turns_first}
 use Rattle.cw_serial.proofs.Waiting.{want_there, awaited_there}
 use Rattle.cw_serial.proofs.Joining.{place_is}

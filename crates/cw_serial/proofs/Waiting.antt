@@ -10,7 +10,7 @@ use Rattle.cw_serial.specs.declared.table.Place.TheVariants.{Stands, Waits, Gone
 use Rattle.cw_serial.specs.declared.table.Sides.{Sides}
 use Rattle.cw_serial.specs.declared.table.Row.{Row}
 use Rattle.cw_serial.specs.declared.table.Table.{Table}
-use Rattle.cw_serial.specs.Held.{strand_in, strand_in_row, want_of, want_at, over_by, over_at, awaited_in, awaited_of, awaited_at, Puts, Joins}
+use Rattle.cw_serial.specs.TableInMemory.{strand_in, strand_in_row, want_of, want_at, over_by, over_at, awaited_in, awaited_of, awaited_at, Puts, Joins}
 use Rattle.cw_serial.proofs.Numbered.{set_here, set_elsewhere}
 
 -- a strand at its end wants no fork

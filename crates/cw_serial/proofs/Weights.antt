@@ -12,7 +12,7 @@ use Rattle.cw_serial.specs.declared.table.Place.TheVariants.{Stands, Waits, Gone
 use Rattle.cw_serial.specs.declared.table.Sides.{Sides}
 use Rattle.cw_serial.specs.declared.table.Row.{Row}
 use Rattle.cw_serial.specs.declared.table.Table.{Table}
-use Rattle.cw_serial.specs.Held.{left_name, right_name, Puts, Notes, Starts, Moves, forks, joins, rests}
+use Rattle.cw_serial.specs.TableInMemory.{left_name, right_name, Puts, Notes, Starts, Moves, forks, joins, rests}
 
 -- what a strand of this depth counts
 abbrev pub weight : ℕ → ℕ

@@ -3,7 +3,7 @@ use Rattle.std.specs.Prelude.{◌≡◌, ℕ, List, Some}
 use Rattle.cw_code.specs.declared.program.Program.{Program}
 use Rattle.cw_serial.specs.declared.standing.Standing.{Standing}
 use Rattle.cw_serial.specs.declared.table.Row.{Row}
-use Rattle.cw_serial.specs.Held.{strand_at}
+use Rattle.cw_serial.specs.TableInMemory.{strand_at}
 use Rattle.cw_serial.specs.Room.Strands.{IsOf}
 
 -- each strand that stands there is one of this program

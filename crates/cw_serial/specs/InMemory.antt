@@ -15,7 +15,7 @@ use Rattle.cw_serial.specs.StrandTree.{StrandTree, at}
 use Rattle.cw_serial.specs.Wants.{answer_to, memory_after, outputs_after, blocks_after}
 use Rattle.cw_serial.specs.Machine.{Begun, Machine, steps_down}
 use Rattle.cw_serial.specs.Spots.{IsSettled}
-use Rattle.cw_serial.specs.Held.{root, left_name, right_name, Holds}
+use Rattle.cw_serial.specs.TableInMemory.{root, left_name, right_name, Holds}
 
 -- the names of the strands that were started, each at its number
 abbrev pub names_in : Code → List Name

@@ -3,7 +3,7 @@ pub mod Jobs
 pub mod StrandTree
 pub mod Forks
 pub mod Spots
-pub mod Held
+pub mod TableInMemory
 pub mod AreOf
 pub mod Wants
 pub mod Machine
@@ -11,4 +11,4 @@ pub mod MachineOf
 pub mod DepthFirst
 pub mod InMemory
 pub mod Orders
-pub mod Rows
+pub mod Worked

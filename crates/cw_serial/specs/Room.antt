@@ -1,3 +1,3 @@
 pub mod Strands
 pub mod Saves
-pub mod Rows
+pub mod Worked

@@ -9,8 +9,8 @@
 ghost use Rattle.cw_serial.specs.Forks.{ForksAreMade};
 ghost use Rattle.cw_serial.specs.Jobs.{Job};
 ghost use Rattle.cw_serial.specs.Room.Strands.{strands_of_job};
-ghost use Rattle.cw_serial.specs.Room.Rows.{Ends, StrandEnds};
-ghost use Rattle.cw_serial.specs.Rows.{CrossingEnds};
+ghost use Rattle.cw_serial.specs.Room.Worked.{Ends, StrandEnds};
+ghost use Rattle.cw_serial.specs.Worked.{CrossingEnds};
 
 mod ends;
 mod machine;

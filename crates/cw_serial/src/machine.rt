@@ -35,7 +35,7 @@ impl Machine {
     ghost use Rattle.cw_serial.specs.StrandTree.{at};
     ghost use Rattle.cw_serial.specs.Machine.{Machine as State_of, steps_down, pick, may_pick, has_ended, end_of_named};
     ghost use Rattle.cw_serial.specs.MachineOf.{machine_of};
-    ghost use Rattle.cw_serial.specs.Held.{IsFront, started_at};
+    ghost use Rattle.cw_serial.specs.TableInMemory.{IsFront, started_at};
     ghost use Rattle.cw_serial.specs.Orders.{IsNamed, at_named};
     ghost use Rattle.cw_serial.specs.InMemory.{IsMachine, Runs, names_in, AreNames, Picks, DoesWant, want_before_end};
 

@@ -15,7 +15,7 @@ pub struct Known<'n> {
 impl<'n> Known<'n> {
     ghost use Rattle.std.specs.Prelude.{List, ℕ};
     ghost use Rattle.cw_tree.specs.declared.picks.Name.{Name as Named};
-    ghost use Rattle.cw_serial.specs.Held.{StrandsAreNumbered};
+    ghost use Rattle.cw_serial.specs.TableInMemory.{StrandsAreNumbered};
     ghost use Rattle.cw_serial.specs.InMemory.{names_in};
     ghost use Rattle.cw_serial.specs.Orders.{AreKnown, SameStrand, known_at, parent_number, root_number, LeadsUp, LeadDown, Finds};
 

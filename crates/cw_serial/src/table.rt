@@ -44,7 +44,7 @@ pub struct Table<S> {
 impl<S: Drop> Table<S> {
     ghost use Rattle.cw_tree.specs.declared.picks.Turn.{Turn};
     ghost use Rattle.cw_serial.specs.Machine.{steps_down, is_beneath};
-    ghost use Rattle.cw_serial.specs.Held.{StrandsAreNumbered, Starts, Puts, Notes, awaited_at, started_at};
+    ghost use Rattle.cw_serial.specs.TableInMemory.{StrandsAreNumbered, Starts, Puts, Notes, awaited_at, started_at};
 
     /// Adds a strand.
     fn start(&mut self, alloc: Global, name: Name, strand: S) -> Result<(), OutOfMemory>
@@ -142,7 +142,7 @@ impl Table<Standing> {
     ghost use Rattle.cw_serial.specs.Room.Strands.{StrandState, state_of, strands_of_job};
     ghost use Rattle.cw_serial.specs.StrandTree.{StrandTree, goes_on};
     ghost use Rattle.cw_serial.specs.Spots.{IsSettled};
-    ghost use Rattle.cw_serial.specs.Held.{Answers, answers_by, Moves, SettlesTo, Holds, IsFront, want_at, over_at};
+    ghost use Rattle.cw_serial.specs.TableInMemory.{Answers, answers_by, Moves, SettlesTo, Holds, IsFront, want_at, over_at};
     ghost use Rattle.cw_serial.specs.AreOf.{AreOf};
 
     /// The strand of main alone, with its forks made.

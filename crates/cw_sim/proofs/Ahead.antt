@@ -7,7 +7,7 @@ use Rattle.cw_tree.specs.Newest.{newest}
 use Rattle.cw_open.specs.Machine.{OpenMachine}
 use Rattle.cw_open.specs.Steps.{Met, Step, refuses, accesses, undoes, aborts, after_open_step as step_after, after_all}
 use Rattle.cw_open.specs.Times.{ReachedInTime, AreAhead}
-use Rattle.cw_open.specs.Told.{as_told}
+use Rattle.cw_open.specs.Refused.{as_told}
 use Rattle.cw_open.proofs.Ahead.{at_once_told, ahead_timely}
 use Rattle.cw_core.specs.declared.event.Event.{Event}
 use Rattle.cw_core.specs.declared.event.Event.TheVariants as event

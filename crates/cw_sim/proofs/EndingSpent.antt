@@ -13,7 +13,7 @@ use Rattle.cw_tree.specs.Nodes.{is_block_kind, is_pending_state, stamp_of, is_pe
 use Rattle.cw_tree.specs.Walks.{path, is_above, may_fall}
 use Rattle.cw_tree.specs.Series.{strand_of, last_of, place}
 use Rattle.cw_tree.specs.Shape.{IsTree}
-use Rattle.cw_tree.specs.Stacks.{access_at}
+use Rattle.cw_tree.specs.AccessStacks.{access_at}
 use Rattle.cw_tree.specs.VictimsAt.{victim_at}
 use Rattle.cw_tree.specs.Refusals.{victim_of, refused}
 use Rattle.cw_tree.proofs.There.{node_there}

@@ -3,7 +3,7 @@ use Rattle.std.proofs.Common.{◌≡◌, ℕ, zero, suc, List, [], ◌∷◌, le
 use Rattle.std.specs.Prelude.{ℤ, slice_get, unwrap_or}
 use Rattle.cw_tree.specs.declared.access.Entry.{Entry}
 use Rattle.cw_tree.specs.Accesses.{written}
-use Rattle.cw_tree.specs.Stacks.{access_at}
+use Rattle.cw_tree.specs.AccessStacks.{access_at}
 use Rattle.cw_open.specs.Left.{AreEntriesAt, AreKept}
 use Rattle.cw_core.specs.State.{CoreState}
 use Rattle.cw_core.specs.Closing.{journal, journals, journals_of}

@@ -13,7 +13,7 @@ use Rattle.cw_tree.specs.declared.node.Node.{Node}
 use Rattle.cw_tree.specs.declared.node.Kind.TheVariants.{Tried}
 use Rattle.cw_tree.specs.Nodes.{is_block_kind, is_pending_state, fresh_node}
 use Rattle.cw_tree.specs.Series.{place}
-use Rattle.cw_tree.specs.Stacks.{access_kind}
+use Rattle.cw_tree.specs.AccessStacks.{access_kind}
 use Rattle.cw_open.specs.Machine.{live_value}
 use Rattle.cw_open.specs.Steps.{refuses, accesses as makes, refusal, after_all}
 use Rattle.cw_core.specs.declared.event.Event.{Event}
@@ -28,7 +28,7 @@ use Rattle.cw_sim.specs.Moves.{does, given_for, meets_cell, stops_if_spent, acce
 use Rattle.cw_sim.specs.Kept.{CoreGoesOn}
 use Rattle.cw_sim.specs.Laws.{NamesCell}
 use Rattle.cw_sim.specs.Inside.{HasInside}
-use Rattle.cw_sim.specs.Held.{Seen, StandsFor, Comes, MayDo, MayAnswer, law_of, answered, access_of}
+use Rattle.cw_sim.specs.InMemory.{Seen, StandsFor, Comes, MayDo, MayAnswer, law_of, answered, access_of}
 use Rattle.cw_sim.specs.declared.moves.Simulation.{Simulation as InMemory}
 use Rattle.cw_sim.proofs.Fits.{free, access_fits}
 use Rattle.cw_sim.proofs.HeldActs.{fits_there, is_after, left_may}

@@ -12,8 +12,8 @@ use Rattle.cw_tree.specs.Nodes.{is_pending}
 use Rattle.cw_core.specs.Laws.{IsCore}
 use Rattle.cw_core.specs.State.{CoreState}
 use Rattle.cw_sim.specs.Workers.{changed, with_strand}
-use Rattle.cw_sim.specs.HeldThings.{thing_at, Puts}
-use Rattle.cw_sim.specs.Held.{Seen, StandsFor, law_of, has_body, MayAnswer, answered}
+use Rattle.cw_sim.specs.ThingsInMemory.{thing_at, Puts}
+use Rattle.cw_sim.specs.InMemory.{Seen, StandsFor, law_of, has_body, MayAnswer, answered}
 use Rattle.cw_sim.proofs.HeldThings.{puts_twice}
 use Rattle.cw_sim.specs.Inside.{goes_back}
 use Rattle.cw_sim.proofs.InsideKept.{changed_here, changed_other}

@@ -18,9 +18,9 @@ use Rattle.cw_core.specs.Laws.{IsCore}
 use Rattle.cw_serial.specs.Room.Saves.{IsSavedOf}
 use Rattle.cw_sim.specs.Moves.{does, answers}
 use Rattle.cw_sim.specs.Workers.{tree, changed}
-use Rattle.cw_sim.specs.HeldThings.{thing_at, Puts}
+use Rattle.cw_sim.specs.ThingsInMemory.{thing_at, Puts}
 use Rattle.cw_sim.specs.Kept.{CoreGoesOn}
-use Rattle.cw_sim.specs.Held.{Seen, StandsFor, Comes, MayStep, MayDo, MayAnswer, law_of, answered}
+use Rattle.cw_sim.specs.InMemory.{Seen, StandsFor, Comes, MayStep, MayDo, MayAnswer, law_of, answered}
 use Rattle.cw_sim.specs.declared.moves.Simulation.{Simulation as InMemory}
 use Rattle.cw_sim.proofs.Fits.{free, commit_fits}
 use Rattle.cw_sim.proofs.HeldActs.{fits_there, left_may}

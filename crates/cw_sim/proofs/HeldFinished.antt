@@ -11,7 +11,7 @@ use Rattle.cw_core.specs.State.{CoreState, waits_for_left, spent}
 use Rattle.cw_core.specs.Events.{fits, fits_now, is_stop, after_event}
 use Rattle.cw_sim.specs.Moves.{does}
 use Rattle.cw_sim.specs.Inside.{goes_back}
-use Rattle.cw_sim.specs.Held.{Seen, law_of, IsSteady, Wants}
+use Rattle.cw_sim.specs.InMemory.{Seen, law_of, IsSteady, Wants}
 use Rattle.cw_sim.specs.declared.moves.Simulation.{Simulation as InMemory}
 use Rattle.cw_sim.proofs.Finishing.{goes, done}
 use Rattle.cw_sim.proofs.InsideMoves.{finish_inside}

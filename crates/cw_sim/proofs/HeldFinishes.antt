@@ -20,8 +20,8 @@ use Rattle.cw_core.proofs.Going.{well}
 use Rattle.cw_sim.specs.Workers.{Worker, left_node, right_node, worker}
 use Rattle.cw_sim.specs.Moves.{does, follows, finishes}
 use Rattle.cw_sim.specs.Kept.{Runs, AreWorkers, CoreGoesOn, forks_around}
-use Rattle.cw_sim.specs.Held.{Seen, law_of, Comes, IsSteady, Wants, MayFinish, MayMeet, IsDead, HasFinished}
-use Rattle.cw_sim.specs.HeldWorkers.{IsLast}
+use Rattle.cw_sim.specs.InMemory.{Seen, law_of, Comes, IsSteady, Wants, MayFinish, MayMeet, IsDead, HasFinished}
+use Rattle.cw_sim.specs.WorkersInMemory.{IsLast}
 use Rattle.cw_sim.specs.declared.moves.Simulation.{Simulation as InMemory}
 use Rattle.cw_sim.proofs.EventsFit.{strand_here, is_free_here, finish_fits_here, fork_here, unjoined_here, right_fits_here}
 use Rattle.cw_sim.proofs.Finishing.{done, waits_here, not_around, none_beneath, takes_right}

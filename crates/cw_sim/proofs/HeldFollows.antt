@@ -10,8 +10,8 @@ use Rattle.cw_core.specs.State.{CoreState, is_split}
 use Rattle.cw_serial.specs.Room.Strands.{StrandState}
 use Rattle.cw_sim.specs.Workers.{Simulation, left_node, right_node, tree, worker_in}
 use Rattle.cw_sim.specs.Moves.{goes_to_right, meets, follows}
-use Rattle.cw_sim.specs.Held.{Seen, law_of, StandsFor, Comes, MayMeet, MayTurn, HasFinished}
-use Rattle.cw_sim.specs.HeldWorkers.{workers_of}
+use Rattle.cw_sim.specs.InMemory.{Seen, law_of, StandsFor, Comes, MayMeet, MayTurn, HasFinished}
+use Rattle.cw_sim.specs.WorkersInMemory.{workers_of}
 use Rattle.cw_sim.specs.declared.moves.Simulation.{Simulation as InMemory}
 use Rattle.cw_sim.proofs.HeldWorking.{run_stands}
 

@@ -26,9 +26,9 @@ use Rattle.cw_sim.specs.Workers.{Worker, left_node, right_node, changed, with_fo
 use Rattle.cw_sim.specs.Moves.{forks}
 use Rattle.cw_sim.specs.Kept.{CoreGoesOn}
 use Rattle.cw_sim.specs.Inside.{goes_back, HasInside}
-use Rattle.cw_sim.specs.Held.{Seen, law_of, job_of, has_body, IsBody, StandsFor, Comes, MayStep, MayFork}
-use Rattle.cw_sim.specs.HeldThings.{thing_at, Puts}
-use Rattle.cw_sim.specs.HeldWorkers.{worker_of, workers_of}
+use Rattle.cw_sim.specs.InMemory.{Seen, law_of, job_of, has_body, IsBody, StandsFor, Comes, MayStep, MayFork}
+use Rattle.cw_sim.specs.ThingsInMemory.{thing_at, Puts}
+use Rattle.cw_sim.specs.WorkersInMemory.{worker_of, workers_of}
 use Rattle.cw_sim.specs.declared.worker.Worker.{Worker as WorkerInMemory}
 use Rattle.cw_sim.specs.declared.moves.Simulation.{Simulation as InMemory}
 use Rattle.cw_sim.proofs.Fits.{fork_fits}

@@ -21,9 +21,9 @@ use Rattle.cw_sim.specs.Workers.{left_node, right_node, changed, worker_in}
 use Rattle.cw_sim.specs.Moves.{joins}
 use Rattle.cw_sim.specs.Kept.{CoreGoesOn}
 use Rattle.cw_sim.specs.Inside.{HasInside}
-use Rattle.cw_sim.specs.Held.{Seen, job_of, law_of, has_body, IsBody, StandsFor, Comes, MayJoin}
-use Rattle.cw_sim.specs.HeldThings.{thing_at, Puts}
-use Rattle.cw_sim.specs.HeldWorkers.{workers_of}
+use Rattle.cw_sim.specs.InMemory.{Seen, job_of, law_of, has_body, IsBody, StandsFor, Comes, MayJoin}
+use Rattle.cw_sim.specs.ThingsInMemory.{thing_at, Puts}
+use Rattle.cw_sim.specs.WorkersInMemory.{workers_of}
 use Rattle.cw_sim.specs.declared.moves.Simulation.{Simulation as InMemory}
 use Rattle.cw_sim.proofs.Fits.{join_fits}
 use Rattle.cw_sim.proofs.Halves.{left_child, right_child}

@@ -30,7 +30,7 @@ use Rattle.cw_core.specs.Events.{fits, after_event, next}
 use Rattle.cw_core.proofs.Kept.{events}
 use Rattle.cw_sim.specs.Kept.{CoreGoesOn, is_current}
 use Rattle.cw_sim.specs.Inside.{HasOneOpenFork, goes_back}
-use Rattle.cw_sim.specs.Held.{has_body}
+use Rattle.cw_sim.specs.InMemory.{has_body}
 use Rattle.cw_sim.proofs.After.{conflicts_after}
 use Rattle.cw_sim.proofs.InsideDying.{Dies, dies_on, not_its_block}
 use Rattle.cw_sim.proofs.InsideKept.{dying_same, more_left, shut_left, pending_more, more_pending}

@@ -8,8 +8,8 @@ use Rattle.cw_core.proofs.Forks.{IsChild}
 use Rattle.cw_core.proofs.Going.{well}
 use Rattle.cw_sim.specs.Workers.{left_node, right_node, worker_in}
 use Rattle.cw_sim.specs.Moves.{joins, meets}
-use Rattle.cw_sim.specs.Held.{Seen, law_of, Comes, MayMeet, MayJoin}
-use Rattle.cw_sim.specs.HeldWorkers.{workers_of}
+use Rattle.cw_sim.specs.InMemory.{Seen, law_of, Comes, MayMeet, MayJoin}
+use Rattle.cw_sim.specs.WorkersInMemory.{workers_of}
 use Rattle.cw_sim.specs.declared.moves.Simulation.{Simulation as InMemory}
 use Rattle.cw_sim.proofs.Halves.{right_child}
 use Rattle.cw_sim.proofs.HeldWorking.{run_stands}

@@ -23,9 +23,9 @@ use Rattle.cw_sim.specs.Workers.{tree, worker, worker_in, with_strand}
 use Rattle.cw_sim.specs.Moves.{does, others, steals, finishes, dies, acts, move}
 use Rattle.cw_sim.specs.Kept.{Runs}
 use Rattle.cw_sim.specs.Inside.{HasOneOpenFork as IsThere, goes_back}
-use Rattle.cw_sim.specs.Held.{Seen, law_of, IsBody, StandsFor, Comes, MayMove, Wants, MayStep, MayDo, MayRoll, MayFork, MayAct, MayDie, MayFinish}
-use Rattle.cw_sim.specs.HeldThings.{thing_at}
-use Rattle.cw_sim.specs.HeldWorkers.{worker_of}
+use Rattle.cw_sim.specs.InMemory.{Seen, law_of, IsBody, StandsFor, Comes, MayMove, Wants, MayStep, MayDo, MayRoll, MayFork, MayAct, MayDie, MayFinish}
+use Rattle.cw_sim.specs.ThingsInMemory.{thing_at}
+use Rattle.cw_sim.specs.WorkersInMemory.{worker_of}
 use Rattle.cw_sim.specs.declared.worker.Worker.{Worker as WorkerInMemory}
 use Rattle.cw_sim.specs.declared.moves.Simulation.{Simulation as InMemory}
 use Rattle.cw_sim.proofs.EventsFit.{strand_here, is_free_here}

@@ -9,9 +9,9 @@ use Rattle.cw_serial.specs.declared.standing.Standing.{Standing}
 use Rattle.cw_serial.specs.Room.Strands.{StrandState, strands_of_job, state_of, IsOf}
 use Rattle.cw_serial.specs.Room.Saves.{StandsAs}
 use Rattle.cw_serial.proofs.Room.Backs.{stands_as_it}
-use Rattle.cw_sim.specs.HeldThings.{thing_at, Puts}
-use Rattle.cw_sim.specs.HeldWorkers.{workers_of}
-use Rattle.cw_sim.specs.Held.{Seen, StandsFor, IsBody, has_body, job_of, opened}
+use Rattle.cw_sim.specs.ThingsInMemory.{thing_at, Puts}
+use Rattle.cw_sim.specs.WorkersInMemory.{workers_of}
+use Rattle.cw_sim.specs.InMemory.{Seen, StandsFor, IsBody, has_body, job_of, opened}
 use Rattle.cw_sim.specs.declared.moves.Task.{Task}
 use Rattle.cw_sim.specs.declared.moves.Simulation.{Simulation as InMemory}
 use Rattle.cw_sim.proofs.Opens.{opens}

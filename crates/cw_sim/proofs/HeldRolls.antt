@@ -15,9 +15,9 @@ use Rattle.cw_serial.specs.Room.Strands.{IsOf, state_of}
 use Rattle.cw_serial.specs.Room.Saves.{IsSavedOf, MayRollBack}
 use Rattle.cw_sim.specs.Moves.{does}
 use Rattle.cw_sim.specs.Workers.{changed, with_strand}
-use Rattle.cw_sim.specs.HeldThings.{thing_at, Puts}
+use Rattle.cw_sim.specs.ThingsInMemory.{thing_at, Puts}
 use Rattle.cw_sim.specs.Kept.{CoreGoesOn}
-use Rattle.cw_sim.specs.Held.{Seen, Comes, IsBody, MayRoll, law_of}
+use Rattle.cw_sim.specs.InMemory.{Seen, Comes, IsBody, MayRoll, law_of}
 use Rattle.cw_sim.specs.declared.moves.Simulation.{Simulation as InMemory}
 use Rattle.cw_sim.proofs.After.{conflicts_after}
 use Rattle.cw_sim.proofs.Fits.{rolls, roll_fits}

@@ -17,8 +17,8 @@ use Rattle.cw_sim.specs.Kept.{CoreGoesOn, IsKept}
 use Rattle.cw_sim.specs.Laws.{AreStrands}
 use Rattle.cw_sim.specs.HasWants.{HasWants}
 use Rattle.cw_sim.specs.Inside.{HasInside}
-use Rattle.cw_sim.specs.Held.{Seen, StandsFor, Comes, Ends, MayMove, opened}
-use Rattle.cw_sim.specs.HeldTurns.{AreAt}
+use Rattle.cw_sim.specs.InMemory.{Seen, StandsFor, Comes, Ends, MayMove, opened}
+use Rattle.cw_sim.specs.TurnsInMemory.{AreAt}
 use Rattle.cw_sim.specs.declared.turns.Turns.{Turns}
 use Rattle.cw_sim.specs.declared.moves.Simulation.{Simulation as InMemory}
 use Rattle.cw_sim.proofs.Closing.{moves_fit}

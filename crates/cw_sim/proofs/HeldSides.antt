@@ -25,7 +25,7 @@ use Rattle.cw_core.proofs.Going.{well}
 use Rattle.cw_core.proofs.Ordering.{strand_under}
 use Rattle.cw_sim.specs.Kept.{CoreGoesOn}
 use Rattle.cw_sim.specs.Inside.{HasOneOpenFork as IsThere, goes_back}
-use Rattle.cw_sim.specs.Held.{has_body}
+use Rattle.cw_sim.specs.InMemory.{has_body}
 use Rattle.cw_sim.proofs.InsideDying.{dies_by, died_by, by_dies, dead_dies}
 use Rattle.cw_sim.proofs.InsideWaits.{finished_alone}
 

@@ -16,8 +16,8 @@ use Rattle.cw_serial.specs.Room.Saves.{IsSavedOf}
 use Rattle.cw_sim.specs.Workers.{Simulation, tree}
 use Rattle.cw_sim.specs.Moves.{does, stops_if_spent}
 use Rattle.cw_sim.specs.Inside as inside
-use Rattle.cw_sim.specs.HeldThings.{thing_at}
-use Rattle.cw_sim.specs.Held.{Seen, StandsFor, has_body, law_of}
+use Rattle.cw_sim.specs.ThingsInMemory.{thing_at}
+use Rattle.cw_sim.specs.InMemory.{Seen, StandsFor, has_body, law_of}
 use Rattle.cw_sim.specs.declared.moves.Simulation.{Simulation as InMemory}
 
 -- ## The core moves

@@ -11,8 +11,8 @@ use Rattle.cw_core.proofs.Going.{well}
 use Rattle.cw_serial.specs.Room.Strands.{StrandState}
 use Rattle.cw_sim.specs.Workers.{Worker, Simulation, right_node, worker, worker_in}
 use Rattle.cw_sim.specs.Moves.{others, takes, steals}
-use Rattle.cw_sim.specs.HeldWorkers.{worker_of, workers_of, first_with_forks, workers_next as workers_after}
-use Rattle.cw_sim.specs.Held.{Seen, StandsFor, IsSteady, MayMove, MayTake, Comes}
+use Rattle.cw_sim.specs.WorkersInMemory.{worker_of, workers_of, first_with_forks, workers_next as workers_after}
+use Rattle.cw_sim.specs.InMemory.{Seen, StandsFor, IsSteady, MayMove, MayTake, Comes}
 use Rattle.cw_sim.specs.declared.worker.Worker.{Worker as WorkerInMemory}
 use Rattle.cw_sim.specs.declared.moves.Simulation.{Simulation as InMemory}
 use Rattle.cw_sim.proofs.EventsFit.{robbed_here, split_fits_here}

@@ -5,7 +5,7 @@ use Rattle.std.proofs.Math.ListN.{get_or-map}
 use Rattle.std.proofs.lemmas.List.{get_or-set_same, get_or-set_other, get_or_read, length-map}
 use Rattle.std.proofs.lemmas.Bool.Decides.{eqb_tells}
 use Rattle.slab.specs.Slab.{Slab, get, Updates}
-use Rattle.cw_sim.specs.HeldThings.{thing_at, Puts, under, things_of, AreKeys}
+use Rattle.cw_sim.specs.ThingsInMemory.{thing_at, Puts, under, things_of, AreKeys}
 
 -- a place that was emptied
 emptied : (ks : List (Option ℕ)) (i : ℕ) → thing_at (set ks i None) i ≡ None

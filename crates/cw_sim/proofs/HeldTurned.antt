@@ -9,8 +9,8 @@ use Rattle.cw_core.specs.State.{CoreState}
 use Rattle.cw_core.specs.Events.{after_event}
 use Rattle.cw_sim.specs.Workers.{left_node, right_node, worker, worker_in}
 use Rattle.cw_sim.specs.Moves.{does, takes_back, joins, goes_to_right}
-use Rattle.cw_sim.specs.Held.{Seen, law_of, Comes, IsSteady, MayJoin, MayTurn}
-use Rattle.cw_sim.specs.HeldWorkers.{workers_of, without}
+use Rattle.cw_sim.specs.InMemory.{Seen, law_of, Comes, IsSteady, MayJoin, MayTurn}
+use Rattle.cw_sim.specs.WorkersInMemory.{workers_of, without}
 use Rattle.cw_sim.specs.declared.moves.Simulation.{Simulation as InMemory}
 use Rattle.cw_sim.proofs.HeldFinished.{finish_done, finish_steady}
 use Rattle.cw_sim.proofs.HeldWorking.{run_stands, back_stands}

@@ -10,7 +10,7 @@ use Rattle.cw_tree.specs.Nodes.{below}
 use Rattle.cw_tree.specs.Walks.{has}
 use Rattle.cw_tree.proofs.Lists.{get_map_below}
 use Rattle.cw_sim.specs.Workers.{Worker, idle, worker_in}
-use Rattle.cw_sim.specs.HeldWorkers.{IsLast, without, worker_of, workers_of, first_with_forks, workers_next}
+use Rattle.cw_sim.specs.WorkersInMemory.{IsLast, without, worker_of, workers_of, first_with_forks, workers_next}
 use Rattle.cw_sim.specs.declared.worker.Worker.{Worker as InMemory}
 
 or_none : (a b : Bool) → (a || b) ≡ false → (a ≡ false) × (b ≡ false)

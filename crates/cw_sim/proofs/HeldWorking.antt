@@ -4,8 +4,8 @@ use Rattle.std.specs.Prelude.{slice_set}
 use Rattle.std.proofs.lemmas.List.{length-map}
 use Rattle.cw_sim.specs.Workers.{Worker, worker, worker_in, with_run}
 use Rattle.cw_sim.specs.Moves.{takes_back}
-use Rattle.cw_sim.specs.Held.{Seen, StandsFor}
-use Rattle.cw_sim.specs.HeldWorkers.{worker_of, workers_of, without}
+use Rattle.cw_sim.specs.InMemory.{Seen, StandsFor}
+use Rattle.cw_sim.specs.WorkersInMemory.{worker_of, workers_of, without}
 use Rattle.cw_sim.specs.declared.moves.Simulation.{Simulation as InMemory}
 
 module _ (c : InMemory) (z : Seen) (held : StandsFor c z) where

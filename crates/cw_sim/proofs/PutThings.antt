@@ -2,7 +2,7 @@
 use Rattle.std.proofs.Common.{◌≡◌, ◌≢◌, ℕ, List, refl, ap, sym, ◌∙◌, subst, cond, Option, Some}
 use Rattle.std.proofs.lemmas.Bool.{eq-eqb, ne_eqb}
 use Rattle.std.specs.Prelude.{IsSome}
-use Rattle.cw_sim.specs.HeldThings.{thing_at, Puts}
+use Rattle.cw_sim.specs.ThingsInMemory.{thing_at, Puts}
 
 module _ {T : Type 0} where
   -- what was put is there

@@ -9,7 +9,7 @@ use Rattle.cw_tree.specs.Nodes.{is_strand_kind, is_fork_kind, is_fork, fresh_nod
 use Rattle.cw_tree.specs.Walks.{has}
 use Rattle.cw_tree.specs.Series.{children, place}
 use Rattle.cw_tree.specs.Shape.{IsTree}
-use Rattle.cw_tree.specs.Stacks.{access_kind}
+use Rattle.cw_tree.specs.AccessStacks.{access_kind}
 use Rattle.cw_tree.proofs.NextTrees.{no_fork}
 use Rattle.cw_trace.proofs.InRange.{fork_low, strand_low}
 use Rattle.cw_open.specs.Machine.{OpenMachine, has_finished, is_running, rolls_back, live_value}

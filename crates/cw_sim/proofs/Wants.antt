@@ -13,7 +13,7 @@ use Rattle.cw_tree.specs.Newest.{newest}
 use Rattle.cw_tree.specs.Shape.{IsTree}
 use Rattle.cw_tree.proofs.There.{node_there}
 use Rattle.cw_open.specs.Machine.{OpenMachine, has_finished, waits, is_running, is_dying, in_block, is_free}
-use Rattle.cw_open.specs.Told.{unstopped}
+use Rattle.cw_open.specs.Refused.{unstopped}
 use Rattle.cw_open.proofs.Backed.{fork_child}
 use Rattle.cw_open.proofs.LawsHold.{at_any}
 use Rattle.cw_open.proofs.NodeKinds.{pending_block, strand_no_block}

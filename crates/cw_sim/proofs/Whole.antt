@@ -8,7 +8,7 @@ use Rattle.cw_tree.specs.Newest.{newest}
 use Rattle.cw_strand.specs.Strands.{Strands}
 use Rattle.cw_open.specs.Machine.{has_finished}
 use Rattle.cw_open.specs.Times.{ReachedInTime}
-use Rattle.cw_open.specs.Told.{as_told}
+use Rattle.cw_open.specs.Refused.{as_told}
 use Rattle.cw_core.specs.declared.event.Event.{Event}
 use Rattle.cw_core.specs.State.{CoreState, start}
 use Rattle.cw_core.specs.Events.{fits, after_event, all_fit, after_events}

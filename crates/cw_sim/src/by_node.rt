@@ -1,5 +1,5 @@
 ghost use Rattle.std.specs.Prelude.{◌≡◌, ◌<◌, ℕ, [], length, OnOk, IsSome, is_some, Some, None};
-ghost use Rattle.cw_sim.specs.HeldThings.{thing_at, Puts};
+ghost use Rattle.cw_sim.specs.ThingsInMemory.{thing_at, Puts};
 
 use cw_base::OutOfMemory;
 use slab::Slab;
@@ -18,7 +18,7 @@ impl<T> Model for ByNode<T> {
 
     ghost Value = { List (Option T) };
 
-    ghost use Rattle.cw_sim.specs.HeldThings.{things_of, AreKeys};
+    ghost use Rattle.cw_sim.specs.ThingsInMemory.{things_of, AreKeys};
 
     ghost view = { λ b. things_of b.slab b.keys.items };
 

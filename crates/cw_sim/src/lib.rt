@@ -6,7 +6,7 @@
 #![tactic(auto)]
 
 ghost use Rattle.cw_sim.specs.Laws.{ForksAreThere, MovesFit, NoneIsEarly, OpensWell};
-ghost use Rattle.cw_sim.specs.Rows.{Rows};
+ghost use Rattle.cw_sim.specs.Worked.{Rows};
 ghost use Rattle.cw_sim.specs.Runs.{RecordsAreCoherent, RunsAreClosed};
 ghost use Rattle.cw_strand.specs.Strands.{Strands};
 

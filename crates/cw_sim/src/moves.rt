@@ -56,8 +56,8 @@ fn given_for(write: Option<i64>, value: i64) -> Given
 
 // Each rule is the definition of its name.
 impl<'a> Simulation<'a> {
-    ghost use Rattle.cw_sim.specs.HeldTurns.{AreAt};
-    ghost use Rattle.cw_sim.specs.Held.{Comes, Ends, HasFinished, MayAct, MayAnswer, MayDie, MayDo, MayFinish, MayFork, MayJoin, MayMeet, MayMove, MayRoll, MayTake, MayTurn, Seen, StandsFor, access_of, answered, job_of, law_of, opened};
+    ghost use Rattle.cw_sim.specs.TurnsInMemory.{AreAt};
+    ghost use Rattle.cw_sim.specs.InMemory.{Comes, Ends, HasFinished, MayAct, MayAnswer, MayDie, MayDo, MayFinish, MayFork, MayJoin, MayMeet, MayMove, MayRoll, MayTake, MayTurn, Seen, StandsFor, access_of, answered, job_of, law_of, opened};
 
     /// Before the first move: worker 0 runs main, and the others are idle.
     fn opening(alloc: Global, task: Task<'a>, workers: u32) -> Result<Simulation<'a>, OutOfMemory>
@@ -378,7 +378,7 @@ impl<'a> Simulation<'a> {
     }
 }
 
-ghost use Rattle.cw_sim.specs.Held.{job_of};
+ghost use Rattle.cw_sim.specs.InMemory.{job_of};
 
 /// What the moves of so many workers leave, in the turns of a schedule, and whether they were used up.
 pub(crate) fn moved(

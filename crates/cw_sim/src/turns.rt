@@ -16,7 +16,7 @@ pub(crate) struct Turns<'a> {
 }
 
 impl<'a> Turns<'a> {
-    ghost use Rattle.cw_sim.specs.HeldTurns.{AreAt};
+    ghost use Rattle.cw_sim.specs.TurnsInMemory.{AreAt};
 
     /// Before the first move.
     pub(crate) fn new(schedule: &'a Schedule, workers: u32) -> Turns<'a>

@@ -16,7 +16,7 @@ pub(crate) struct Worker {
     pub(crate) inline: Vec<u32>,
 }
 
-ghost use Rattle.cw_sim.specs.HeldWorkers.{first_with_forks, workers_next, IsLast, without, workers_of};
+ghost use Rattle.cw_sim.specs.WorkersInMemory.{first_with_forks, workers_next, IsLast, without, workers_of};
 
 /// A worker in which no fork waits.
 fn resting(alloc: Global, runs: Option<u32>) -> Worker

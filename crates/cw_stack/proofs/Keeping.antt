@@ -6,7 +6,7 @@ use Rattle.std.proofs.lemmas.List.{map-append, take-map, length-take-le, length-
 use Rattle.cw_tree.specs.declared.access.Mark.{Mark}
 use Rattle.cw_tree.specs.declared.access.Entry.{Entry}
 use Rattle.cw_tree.specs.Accesses.{cell_value, written}
-use Rattle.cw_tree.specs.Stacks.{written_by, stamps, IsAccessStack}
+use Rattle.cw_tree.specs.AccessStacks.{written_by, stamps, IsAccessStack}
 use Rattle.cw_tree.proofs.Entries.{Notes, cell_value_more}
 use Rattle.cw_tree.proofs.Stacks.{stacks_tell, stack_extends, with_access}
 use Rattle.cw_stack.specs.Cells.{CellParts, entries_value, newest_entry, entry_of, AreSteps, first_value, IsCellInMemory, GoesWithTrees}

@@ -6,7 +6,7 @@ use Rattle.std.proofs.lemmas.Bool.{cases_lt}
 use Rattle.std.proofs.lemmas.List.{get_or-take, get_or-drop, get_or_push, length-take-le, length-map, length-drop, length_push, get_or_append_left, get_or-map, drop-map, get_or_default}
 use Rattle.std.proofs.lemmas.Option.{same_Some}
 use Rattle.cw_tree.specs.declared.access.Entry.{Entry}
-use Rattle.cw_tree.specs.Stacks.{stamps}
+use Rattle.cw_tree.specs.AccessStacks.{stamps}
 use Rattle.cw_stack.specs.Cells.{newest_entry}
 
 -- an earlier number is less than a later one

@@ -7,7 +7,7 @@ use Rattle.cw_tree.specs.declared.access.Entry.{Entry}
 use Rattle.cw_tree.specs.Nodes.{is_pending, stamp_of, fresh_node}
 use Rattle.cw_tree.specs.Walks.{IsRooted, is_above}
 use Rattle.cw_tree.specs.Accesses.{cell_value}
-use Rattle.cw_tree.specs.Stacks.{newest_conflicts, access_kind, written_by, stamps, IsAccessStack}
+use Rattle.cw_tree.specs.AccessStacks.{newest_conflicts, access_kind, written_by, stamps, IsAccessStack}
 
 pub record CellParts : Type 0 where
   pub first : ℤ

@@ -9,7 +9,7 @@ use Rattle.cw_tree.specs.declared.access.Entry.{Entry}
 use Rattle.cw_tree.specs.Nodes.{fresh_node, closed}
 use Rattle.cw_tree.specs.Accesses.{written, cell_value, live_accesses, IsChain}
 use Rattle.cw_tree.specs.Journals.{IsJournal}
-use Rattle.cw_tree.specs.Stacks.{newest_conflicts, written_by, stamps}
+use Rattle.cw_tree.specs.AccessStacks.{newest_conflicts, written_by, stamps}
 use Rattle.cw_tree.specs.Newest.{last_eight}
 use Rattle.cw_stack.specs.Cells.{entry_of}
 

@@ -2,7 +2,7 @@ ghost use Rattle.std.specs.Prelude.{◌≡◌, ◌↔◌, IsNone, ◌+◌, ◌<�
 ghost use Rattle.std.specs.Option.{option_map};
 ghost use Rattle.std.specs.List.Sorted.{IsStrictlyIncreasing};
 ghost use Rattle.cw_tree.specs.declared.access.Entry.{Entry};
-ghost use Rattle.cw_tree.specs.Stacks.{stamps};
+ghost use Rattle.cw_tree.specs.AccessStacks.{stamps};
 ghost use Rattle.cw_tree.specs.Newest.{last_eight};
 ghost use Rattle.cw_stack.specs.Cells.{entries_value, newest_entry, entry_of, AreSteps, GoesWithTrees, StaysWithTrees, TakesWhatIsBeneath};
 

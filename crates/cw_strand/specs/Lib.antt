@@ -11,4 +11,4 @@ pub mod Acting
 pub mod Compilation
 pub mod Programs
 pub mod Laws
-pub mod Rows
+pub mod Worked

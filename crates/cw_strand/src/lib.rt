@@ -11,7 +11,7 @@ ghost use Rattle.cw_strand.specs.Laws.{LocalWorkEnds, ForksEnd, EndsOnlyWhenDone
 ghost use Rattle.cw_strand.specs.Laws.{CodeIsNeverStuck, StandsOn, VisitedStand, CodeWorkEnds, CodeForksEnd, CodeNamesElements, BeginStaysBelow};
 ghost use Rattle.cw_strand.specs.Laws.{BreaksNoRule, WantsOfTheSource, CodeEndsOnlyWhenDone, CodeIsLawful, ClosesWithIt};
 ghost use Rattle.cw_strand.specs.Pasts.{CanBe, Past, WantTheSame};
-ghost use Rattle.cw_strand.specs.Rows.{Arrays, Calls, Choices, Depths, Faults, Traces, Forks, Loops, Returns, Spent, Codes, Endings};
+ghost use Rattle.cw_strand.specs.Worked.{Arrays, Calls, Choices, Depths, Faults, Traces, Forks, Loops, Returns, Spent, Codes, Endings};
 ghost use Rattle.cw_strand.specs.Strands.{Strands};
 ghost use Rattle.std.specs.Prelude.{◌↔◌};
 

@@ -6,7 +6,7 @@ pub mod Front
 pub mod Cursor
 pub mod Places
 pub mod Parser
-pub mod Rows
+pub mod Worked
 pub mod Printed
 pub mod Written
 pub mod PrintedRow

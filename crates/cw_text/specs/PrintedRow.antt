@@ -3,7 +3,7 @@ use Rattle.std.specs.Prelude.{◌≡◌, List, [], ◌∷◌, codes, pos, negsuc
 use Rattle.cw_text.specs.Syntax.{Term, name, number, at, call, none, more, unary, binary, declare, assign, assign_at, run, out, choose, repeat, atomic, spawn, sync, return, empty, first, Declaration, cell, func}
 use Rattle.cw_text.specs.Lexemes.{keywords, lexemes}
 use Rattle.cw_text.specs.Printed.{printed}
-use Rattle.cw_text.specs.Rows.{word}
+use Rattle.cw_text.specs.Worked.{word}
 use Rattle.cw_text.specs.declared.ast.Op.TheVariants as op
 
 abbrev pub a : Term

@@ -21,7 +21,7 @@ ghost use Rattle.cw_text.specs.Syntax.{Declaration};
 ghost use Rattle.cw_text.specs.Text.{program, reading};
 ghost use Rattle.cw_text.specs.WithoutLines.{IsReadAs, tokens_without_lines, tree_without_lines};
 ghost use Rattle.cw_text.specs.Written.{IsProgram};
-ghost use Rattle.cw_text.specs.Rows.{Tokens, Programs, Arrays, Choices, Functions, Heights, Brackets, Indexes, Branches, Calls, Refusals};
+ghost use Rattle.cw_text.specs.Worked.{Tokens, Programs, Arrays, Choices, Functions, Heights, Brackets, Indexes, Branches, Calls, Refusals};
 
 mod ast;
 mod cursor;

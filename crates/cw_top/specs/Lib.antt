@@ -7,4 +7,4 @@ pub mod Reasons
 pub mod Texts
 pub mod Outcome
 pub mod OverSource
-pub mod Rows
+pub mod Worked

@@ -17,7 +17,7 @@ mod reasons;
 mod text;
 mod top;
 
-ghost use Rattle.cw_top.specs.Rows.{Commands, Simulations};
+ghost use Rattle.cw_top.specs.Worked.{Commands, Simulations};
 
 pub use command::{Command, command_of};
 pub use outcome::{Note, Reply};

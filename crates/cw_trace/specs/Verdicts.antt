@@ -5,7 +5,7 @@ use Rattle.cw_tree.specs.declared.access.Mark.{Mark}
 use Rattle.cw_tree.specs.Nodes.{is_pending, touches, stamp_of}
 use Rattle.cw_tree.specs.Walks.{is_ancestor, is_above, nua, path, outermost}
 use Rattle.cw_tree.specs.Shape.{IsTree, AreStamps}
-use Rattle.cw_tree.specs.Stacks.{conflict_at}
+use Rattle.cw_tree.specs.AccessStacks.{conflict_at}
 use Rattle.cw_tree.specs.VictimsAt.{victim_at}
 use Rattle.cw_trace.specs.declared.verdict.Verdict.{Verdict}
 use Rattle.cw_trace.specs.declared.verdict.Verdict.TheVariants.{Free, Within, Against}

@@ -5,7 +5,7 @@ use Rattle.std.proofs.lemmas.List.Elements.{All-head, All-tail, All-cons, All-ni
 use Rattle.std.proofs.lemmas.Bool.{and_from, eq-eqb, not-true}
 use Rattle.cw_tree.specs.Nodes.{stamp_of, touches, touches_kind}
 use Rattle.cw_tree.specs.Accesses.{HasAccess}
-use Rattle.cw_tree.specs.Rows.{tried_often, Chains}
+use Rattle.cw_tree.specs.Worked.{tried_often, Chains}
 use Rattle.cw_tree.proofs.Checks.{all_below, each_below}
 use Rattle.cw_tree.proofs.There.{node_there}
 

@@ -8,7 +8,7 @@ use Rattle.cw_tree.specs.declared.node.Node.{Node}
 use Rattle.cw_tree.specs.Nodes.{is_pending}
 use Rattle.cw_tree.specs.Walks.{IsRooted, is_above, nua}
 use Rattle.cw_tree.specs.Accesses.{lets_follow, IsChain}
-use Rattle.cw_tree.specs.Stacks.{AreThere}
+use Rattle.cw_tree.specs.AccessStacks.{AreThere}
 use Rattle.cw_tree.specs.ChainLaws.{EachFollows, SomeAreChains, PartsAreChains, BeneathIsEnd}
 use Rattle.cw_tree.proofs.Lists.{In}
 use Rattle.cw_tree.proofs.Nearest.{Passes, follows_passes, passes_follows}

@@ -8,7 +8,7 @@ use Rattle.cw_tree.specs.declared.node.BlockState.{BlockState}
 use Rattle.cw_tree.specs.Nodes.{is_block_kind, is_pending_state, is_block, is_pending, closed}
 use Rattle.cw_tree.specs.Walks.{IsRooted, has, is_above, is_ancestor, nua, conflict}
 use Rattle.cw_tree.specs.Accesses.{lets_follow, IsChain}
-use Rattle.cw_tree.specs.Stacks.{newest_conflicts, AreThere}
+use Rattle.cw_tree.specs.AccessStacks.{newest_conflicts, AreThere}
 use Rattle.cw_tree.specs.ChainLaws.{ChainsGrow, ChainsClose, ConflictsAt, ConflictsGrow, ConflictsClose, NewestGrow, NewestClose, ChainsExtend}
 use Rattle.cw_tree.proofs.Ancestors.{ancestor_le, above_ancestor}
 use Rattle.cw_tree.proofs.Kept.{nua_kept}

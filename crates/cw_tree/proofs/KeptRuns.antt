@@ -7,7 +7,7 @@ use Rattle.cw_tree.specs.Nodes.{is_pending}
 use Rattle.cw_tree.specs.Shape.{NonePending}
 use Rattle.cw_tree.specs.Accesses.{live_accesses}
 use Rattle.cw_tree.specs.Journals.{AllEndedBetween, JournalsEnded}
-use Rattle.cw_tree.specs.Rows.{apart}
+use Rattle.cw_tree.specs.Worked.{apart}
 use Rattle.cw_tree.specs.WorkedRun.{two_blocks, refused_write, entry, two_writes, AllHold, Stops, Breaks}
 use Rattle.cw_tree.proofs.Checks.{each_below, is_tree, are_stamps, pending_last, are_refusals, rolls_back}
 use Rattle.cw_tree.proofs.KeptParts.{are_journals, is_entry, ended_between, recorded}

@@ -12,7 +12,7 @@ use Rattle.cw_tree.specs.Nodes.{touches_kind, touches, stamp_of, fresh_node, clo
 use Rattle.cw_tree.specs.Walks.{IsRooted}
 use Rattle.cw_tree.specs.Accesses.{cell_value, value_in, written_kind, read_kind, written, IsChain}
 use Rattle.cw_tree.specs.Journals.{IsEntry, AreEntries}
-use Rattle.cw_tree.specs.Stacks.{newest_conflicts, AreThere, access_kind, written_by, stamps, IsAccessStack}
+use Rattle.cw_tree.specs.AccessStacks.{newest_conflicts, AreThere, access_kind, written_by, stamps, IsAccessStack}
 use Rattle.cw_tree.specs.ChainLaws.{StacksGrow, StacksClose, FrontsOfStacks, StacksTell}
 use Rattle.cw_tree.proofs.Members.{map_same}
 use Rattle.cw_tree.proofs.Growing.{get_append, get_next, node_grown, node_new, number_grown}

@@ -10,7 +10,7 @@ use Rattle.cw_tree.specs.declared.node.Node.{Node}
 use Rattle.cw_tree.specs.declared.node.BlockState.{BlockState}
 use Rattle.cw_tree.specs.Nodes.{passes, touches_kind, touches, stamp_of, below, all_nodes, with_stamp, closed}
 use Rattle.cw_tree.specs.Accesses.{HasAccess, IsChain}
-use Rattle.cw_tree.specs.Stacks.{newest_conflicts, AreThere, access_at}
+use Rattle.cw_tree.specs.AccessStacks.{newest_conflicts, AreThere, access_at}
 use Rattle.cw_tree.specs.ChainLaws.{StampsGrow, StampsClose, StampsExtend, PartsOfStamps, EachStampFollows, SomeOfStamps, StampsBeneath, StampConflictsGrow, StampConflictsClose}
 use Rattle.cw_tree.proofs.Lists.{In, at_or_before}
 use Rattle.cw_tree.proofs.Members.{in_below, below_in, map_same}

@@ -6,7 +6,7 @@ use Rattle.cw_tree.specs.declared.access.Entry.{Entry}
 use Rattle.cw_tree.specs.Nodes.{touches_kind, is_pending_state, stamp_of, is_pending, closed}
 use Rattle.cw_tree.specs.Walks.{IsRooted, is_above, nua, conflict}
 use Rattle.cw_tree.specs.Accesses.{written, lets_follow, IsChain, IsChainOf}
-use Rattle.cw_tree.specs.Stacks.{conflict_at, newest_conflicts, AreThere, access_at, written_by, stamps, IsAccessStack}
+use Rattle.cw_tree.specs.AccessStacks.{conflict_at, newest_conflicts, AreThere, access_at, written_by, stamps, IsAccessStack}
 
 -- ## Conflicts of an access that is made next, at a place
 

@@ -9,10 +9,10 @@ pub mod Shape
 pub mod Journals
 pub mod Refusals
 pub mod Histories
-pub mod Stacks
+pub mod AccessStacks
 pub mod Laws
 pub mod ChainLaws
-pub mod Rows
+pub mod Worked
 pub mod WorkedRun
 pub mod VictimsAt
 pub mod NextNodes

@@ -2,7 +2,7 @@
 use Rattle.std.specs.Prelude.{◌≡◌, ℕ, ◌<◌, List, [], ◌∷◌, ◌++◌, length, Option, Some, None}
 use Rattle.cw_tree.specs.declared.node.Node.{Node}
 use Rattle.cw_tree.specs.Walks.{IsRooted, path, outermost, may_fall, victim}
-use Rattle.cw_tree.specs.Rows.{inside, apart}
+use Rattle.cw_tree.specs.Worked.{inside, apart}
 
 -- of place p and the nodes above it, the outermost pending block that is not above u
 abbrev pub victim_at : List Node → ℕ → ℕ → Option ℕ

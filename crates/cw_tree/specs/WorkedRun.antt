@@ -9,7 +9,7 @@ use Rattle.cw_tree.specs.Shape.{IsTree, AreStamps, NonePending}
 use Rattle.cw_tree.specs.Journals.{IsJournal, FitsCells, EndedBetween}
 use Rattle.cw_tree.specs.Refusals.{IsRefusal, AreRefusals, Spent}
 use Rattle.cw_tree.specs.Histories.{IsHistory}
-use Rattle.cw_tree.specs.Rows.{plain, committed, aborted, apart}
+use Rattle.cw_tree.specs.Worked.{plain, committed, aborted, apart}
 
 abbrev pub two_blocks : List Node
 two_blocks =

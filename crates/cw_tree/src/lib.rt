@@ -10,7 +10,7 @@
 #![tactic(auto)]
 
 ghost use Rattle.cw_tree.specs.Laws.{SeriesOrParallel};
-ghost use Rattle.cw_tree.specs.Rows.{Ancestors, Conflicts, Orders, Names, Texts, Attempts, Places, Values, Chains};
+ghost use Rattle.cw_tree.specs.Worked.{Ancestors, Conflicts, Orders, Names, Texts, Attempts, Places, Values, Chains};
 ghost use Rattle.cw_tree.specs.WorkedRun.{AllHold, Stops, Breaks};
 
 mod access;

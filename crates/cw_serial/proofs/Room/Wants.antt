@@ -10,7 +10,7 @@ use Rattle.cw_serial.specs.declared.table.Sides.{Sides}
 use Rattle.cw_serial.specs.declared.table.Table.{Table}
 use Rattle.cw_serial.specs.Jobs.{Job, bare}
 use Rattle.cw_serial.specs.Room.Strands.{StrandState, state_of, strands_of_job}
-use Rattle.cw_serial.specs.Held.{want_of, want_at, strand_at, over_by, over_at, awaited_at, Rests}
+use Rattle.cw_serial.specs.TableInMemory.{want_of, want_at, strand_at, over_by, over_at, awaited_at, Rests}
 
 pub same_want : (job other : Job) (a : StrandState) → (strands_of_job job).want a ≡ (strands_of_job other).want a
 unfolding strands_of_job

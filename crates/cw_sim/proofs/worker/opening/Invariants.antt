@@ -1,6 +1,6 @@
 use Rattle.std.proofs.Common.{◌≡◌, ◌-◌, ◌∷◌, replicate, Some}
 use Rattle.cw_sim.specs.Workers.{idle}
-use Rattle.cw_sim.specs.HeldWorkers.{workers_of}
+use Rattle.cw_sim.specs.WorkersInMemory.{workers_of}
 use Rattle.cw_sim.proofs.worker.opening.Given as goal
 
 abbrev pub invariant-loop-i : goal.invariant-loop-i

@@ -1,5 +1,5 @@
 use Rattle.std.proofs.Common.{◌≡◌, ◌-◌, length, drop}
-use Rattle.cw_sim.specs.HeldWorkers.{workers_of, first_with_forks, workers_next}
+use Rattle.cw_sim.specs.WorkersInMemory.{workers_of, first_with_forks, workers_next}
 use Rattle.cw_sim.proofs.worker.robbed.Given as goal
 
 -- those before were looked at, and none has forks

@@ -1,7 +1,7 @@
 -- The worker is as it was, without the fork that waits last in it.
 use Rattle.std.proofs.Common.{◌<◌, length, ap, sym, ◌∙◌, subst, arith}
 use Rattle.std.specs.Prelude.{not}
-use Rattle.cw_sim.specs.HeldWorkers.{IsLast, without, worker_of}
+use Rattle.cw_sim.specs.WorkersInMemory.{IsLast, without, worker_of}
 use Rattle.cw_sim.proofs.HeldWorkers.{changed_in, worker_there, popped, last_inline, last_deque, some_in_deque}
 use Rattle.cw_sim.proofs.worker.take_newest.Goals as goal
 

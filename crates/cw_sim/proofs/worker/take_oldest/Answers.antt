@@ -1,7 +1,7 @@
 -- The worker is as it was, without the first of its deque.
 use Rattle.std.proofs.Common.{◌≡◌, ◌<◌, ◌∷◌, ◌++◌, length, get_or, ap, sym, ◌∙◌, arith, Some}
 use Rattle.std.specs.Option.{option_to_list}
-use Rattle.cw_sim.specs.HeldWorkers.{worker_of}
+use Rattle.cw_sim.specs.WorkersInMemory.{worker_of}
 use Rattle.cw_sim.proofs.HeldWorkers.{changed_in, worker_there}
 use Rattle.cw_sim.proofs.worker.take_oldest.Goals as goal
 

@@ -1,7 +1,7 @@
 -- The worker is as it was, with one fork more.
 use Rattle.std.proofs.Common.{◌<◌, length, ap, sym, ◌∙◌, arith}
 use Rattle.cw_sim.specs.Workers.{with_fork}
-use Rattle.cw_sim.specs.HeldWorkers.{worker_of}
+use Rattle.cw_sim.specs.WorkersInMemory.{worker_of}
 use Rattle.cw_sim.proofs.HeldWorkers.{changed_in}
 use Rattle.cw_sim.proofs.worker.with_fork.Goals as goal
 

@@ -1,5 +1,5 @@
 use Rattle.std.proofs.Common.{◌≡◌, ◌<◌, ◌≤◌, ℕ, length, get_or}
-use Rattle.cw_tree.specs.Stacks.{stamps}
+use Rattle.cw_tree.specs.AccessStacks.{stamps}
 use Rattle.cw_stack.proofs.cell.place_of.Given as goal
 
 abbrev pub invariant-loop-place : goal.invariant-loop-place

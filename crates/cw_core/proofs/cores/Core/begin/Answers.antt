@@ -4,7 +4,7 @@ use Rattle.cw_tree.specs.Nodes.{fresh_node}
 use Rattle.cw_tree.specs.Series.{place}
 use Rattle.cw_trace.specs.Columns.{gap, begun_word}
 use Rattle.cw_core.specs.Kept.{IsRow, changed, with_tail, with_place, plain_tail, leaf_row}
-use Rattle.cw_core.specs.Held.{state_of}
+use Rattle.cw_core.specs.InMemory.{state_of}
 use Rattle.cw_core.specs.State.{gap_of}
 use Rattle.cw_core.specs.Events.{fits, after_event}
 use Rattle.cw_core.specs.declared.event.Event.TheVariants as event

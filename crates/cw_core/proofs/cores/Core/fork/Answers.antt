@@ -5,7 +5,7 @@ use Rattle.cw_tree.specs.Series.{place}
 use Rattle.cw_tree.specs.NextNodes.{fork_nodes}
 use Rattle.cw_trace.specs.Columns.{gap, used, forked}
 use Rattle.cw_core.specs.Kept.{changed, with_tail, with_wait, plain_tail, fork_rows}
-use Rattle.cw_core.specs.Held.{state_of}
+use Rattle.cw_core.specs.InMemory.{state_of}
 use Rattle.cw_core.specs.State.{column_of, gap_of}
 use Rattle.cw_core.specs.Events.{fits, may_fork, after_event}
 use Rattle.cw_core.specs.declared.event.Event.TheVariants as event

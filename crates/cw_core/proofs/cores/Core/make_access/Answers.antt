@@ -5,10 +5,10 @@ use Rattle.std.proofs.lemmas.Option.{slice_get_read}
 use Rattle.cw_tree.specs.declared.node.Node.{Node}
 use Rattle.cw_tree.specs.Nodes.{fresh_node}
 use Rattle.cw_tree.specs.Series.{place}
-use Rattle.cw_tree.specs.Stacks.{access_kind}
+use Rattle.cw_tree.specs.AccessStacks.{access_kind}
 use Rattle.cw_stack.specs.Cells as stack
 use Rattle.cw_open.specs.Machine.{live_value}
-use Rattle.cw_core.specs.Held.{state_of}
+use Rattle.cw_core.specs.InMemory.{state_of}
 use Rattle.cw_core.specs.Kept.{changed, with_tail, with_place, plain_tail, leaf_row, cell_changed, with_entry}
 use Rattle.cw_core.specs.State.{column_of}
 use Rattle.cw_core.specs.Events.{after_event}
@@ -47,7 +47,7 @@ add-requires c =
 pub invariant_of-self-in_err-add : goal.invariant_of-self-in_err-add
 invariant_of-self-in_err-add c =
     let kept = rooms_kept c.self.inside (record c.self.inside { cells = c.reserve_entry.new.cells; rows = c.reserve.new.self }) c.self.invariant c.in_ok-reserve_entry.ensures.kept c.reserve.ensures.items in
-    let P : List Node → Type 0 = λ t. Rattle.cw_core.specs.Held.IsCoreInMemory (record c.self.inside { tree = t; cells = c.reserve_entry.new.cells; rows = c.reserve.new.self }) in
+    let P : List Node → Type 0 = λ t. Rattle.cw_core.specs.InMemory.IsCoreInMemory (record c.self.inside { tree = t; cells = c.reserve_entry.new.cells; rows = c.reserve.new.self }) in
     subst P (sym c.in_err-add.ensures.err) kept
 
 pub returns-in_err-add-clause-err : goal.returns-in_err-add-clause-err

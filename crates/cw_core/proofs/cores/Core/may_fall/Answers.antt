@@ -1,7 +1,7 @@
 use Rattle.std.proofs.Common.{◌≡◌, length, ap, sym, ◌∙◌, arith, true}
 use Rattle.cw_tree.specs.Nodes.{number_in, stamp_of, is_pending}
 use Rattle.cw_tree.specs.Walks.{may_fall}
-use Rattle.cw_tree.specs.Stacks.{access_at}
+use Rattle.cw_tree.specs.AccessStacks.{access_at}
 use Rattle.cw_xconf.proofs.Rules.{holds_back}
 use Rattle.cw_core.specs.Kept.{IsRow, IsMarked}
 use Rattle.cw_core.proofs.HeldOut.{seen}

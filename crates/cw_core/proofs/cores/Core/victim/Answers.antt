@@ -3,9 +3,9 @@ use Rattle.std.specs.Option.{option_or}
 use Rattle.cw_tree.specs.Nodes.{parent_of}
 use Rattle.cw_tree.specs.Shape.{IsTree}
 use Rattle.cw_tree.specs.Walks.{path, outermost, may_fall}
-use Rattle.cw_tree.specs.Stacks.{access_at}
+use Rattle.cw_tree.specs.AccessStacks.{access_at}
 use Rattle.cw_core.specs.State.{CoreState}
-use Rattle.cw_core.specs.Held.{state_of}
+use Rattle.cw_core.specs.InMemory.{state_of}
 use Rattle.cw_core.proofs.Going.{well}
 use Rattle.cw_core.proofs.Falls.{walk_on, walk_ends}
 use Rattle.cw_core.proofs.cores.Core.victim.Goals as goal

@@ -2,7 +2,7 @@ use Rattle.std.proofs.Common.{◌≡◌, ◌<◌, length}
 use Rattle.std.specs.Option.{option_or}
 use Rattle.cw_tree.specs.Walks.{path, outermost, may_fall}
 use Rattle.cw_tree.specs.VictimsAt.{victim_at}
-use Rattle.cw_tree.specs.Stacks.{access_at}
+use Rattle.cw_tree.specs.AccessStacks.{access_at}
 use Rattle.cw_core.proofs.cores.Core.victim.Given as goal
 
 abbrev pub invariant-loop-node : goal.invariant-loop-node

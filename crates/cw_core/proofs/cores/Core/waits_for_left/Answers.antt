@@ -7,7 +7,7 @@ use Rattle.cw_tree.proofs.There.{node_there}
 use Rattle.cw_tree.specs.Shape.{IsTree}
 use Rattle.cw_open.specs.Machine.{has_finished}
 use Rattle.cw_core.specs.State.{CoreState, is_split}
-use Rattle.cw_core.specs.Held.{state_of}
+use Rattle.cw_core.specs.InMemory.{state_of}
 use Rattle.cw_core.specs.Kept.{IsRow, elder_list}
 use Rattle.cw_core.proofs.Going.{well}
 use Rattle.cw_core.proofs.LeftStrands.{waits_tell, elder_there}

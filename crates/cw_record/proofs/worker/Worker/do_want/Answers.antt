@@ -3,7 +3,7 @@ use Rattle.std.specs.Option.{IsSome}
 use Rattle.std.proofs.lemmas.Bool.{cases_lt}
 use Rattle.std.proofs.lemmas.List.{set_past}
 use Rattle.cw_serial.specs.Wants.{memory_after}
-use Rattle.cw_record.specs.Worked.{job_of}
+use Rattle.cw_record.specs.OneWorker.{job_of}
 use Rattle.cw_record.proofs.worker.Worker.do_want.Goals as goal
 use Rattle.cw_record.proofs.worker.Worker.do_want.Goals.{in-Some, in_default}
 

@@ -2,7 +2,7 @@ use Rattle.std.proofs.Common.{◌≡◌, ◌<◌, ◌++◌, length, map}
 use Rattle.std.specs.Prelude.{All}
 use Rattle.cw_tree.specs.Nodes.{fresh_node}
 use Rattle.cw_tree.specs.declared.node.Kind.TheVariants.{Strand}
-use Rattle.cw_record.specs.Worked.{unstarted}
+use Rattle.cw_record.specs.OneWorker.{unstarted}
 use Rattle.cw_record.proofs.worker.Worker.faulted.Given as goal
 
 abbrev pub invariant-loop-branch : goal.invariant-loop-branch

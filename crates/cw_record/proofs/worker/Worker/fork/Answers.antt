@@ -2,7 +2,7 @@ use Rattle.std.proofs.Common.{◌∙◌}
 use Rattle.cw_serial.specs.Jobs.{bare}
 use Rattle.cw_serial.specs.Room.Strands.{state_of}
 use Rattle.cw_serial.proofs.Room.Wants.{same_want}
-use Rattle.cw_record.specs.Worked.{job_of}
+use Rattle.cw_record.specs.OneWorker.{job_of}
 use Rattle.cw_record.proofs.worker.Worker.fork.Goals as goal
 
 pub fork-requires-clause-fork : goal.fork-requires-clause-fork

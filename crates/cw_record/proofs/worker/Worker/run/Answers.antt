@@ -1,6 +1,6 @@
 use Rattle.cw_serial.proofs.Room.Lawful.{closes_of}
 use Rattle.cw_serial.proofs.Room.Elements.{wants_there}
-use Rattle.cw_record.specs.Worked.{unstarted}
+use Rattle.cw_record.specs.OneWorker.{unstarted}
 use Rattle.cw_record.proofs.Conditions.{wanted_by, over_by, answered_by}
 use Rattle.cw_record.proofs.Leaving.{runs_first}
 use Rattle.cw_record.proofs.Shaped.{to_come_there}

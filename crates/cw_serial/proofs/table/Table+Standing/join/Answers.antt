@@ -5,7 +5,7 @@ use Rattle.cw_serial.specs.Jobs.{bare}
 use Rattle.cw_serial.specs.Room.Strands.{state_of, strands_of_job}
 use Rattle.cw_serial.specs.declared.table.Sides.{Sides}
 use Rattle.cw_serial.specs.declared.table.Place.TheVariants.{Stands, Gone}
-use Rattle.cw_serial.specs.Held.{joins, rests, awaited_at, over_at}
+use Rattle.cw_serial.specs.TableInMemory.{joins, rests, awaited_at, over_at}
 use Rattle.std.proofs.lemmas.Option.{same_Some}
 use Rattle.cw_tree.specs.declared.picks.Name.{Name}
 use Rattle.cw_serial.proofs.Room.Wants.{same_over_at, rests_over}

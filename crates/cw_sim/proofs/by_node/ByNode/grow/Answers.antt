@@ -1,7 +1,7 @@
 -- Empty places at the end are no keys.
 use Rattle.std.proofs.Common.{◌≡◌, ℕ, ◌+◌, ◌≤◌, ◌++◌, List, length, take, replicate, sym, ap, ◌∙◌, arith, Option, None}
 use Rattle.std.proofs.lemmas.List.{take_all}
-use Rattle.cw_sim.specs.HeldThings.{thing_at, under}
+use Rattle.cw_sim.specs.ThingsInMemory.{thing_at, under}
 use Rattle.cw_sim.proofs.HeldThings.{thing_of, thing_padded, keys_same}
 use Rattle.cw_sim.proofs.by_node.ByNode.grow.Goals as goal
 

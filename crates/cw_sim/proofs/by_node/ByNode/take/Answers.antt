@@ -1,7 +1,7 @@
 -- The key of the node is given up, and what was under it.
 use Rattle.std.proofs.Common.{List, refl, sym, subst, Option, None, set}
 use Rattle.std.specs.Prelude.{IsSome}
-use Rattle.cw_sim.specs.HeldThings.{thing_at, Puts, things_of}
+use Rattle.cw_sim.specs.ThingsInMemory.{thing_at, Puts, things_of}
 use Rattle.cw_sim.proofs.HeldThings.{take_keys, take_puts, key_was, key_low}
 use Rattle.cw_sim.proofs.by_node.ByNode.take.Goals as goal
 

@@ -1,6 +1,6 @@
 -- From move to move.
 use Rattle.std.proofs.Common.{refl}
-use Rattle.cw_sim.specs.Held.{job_of}
+use Rattle.cw_sim.specs.InMemory.{job_of}
 use Rattle.cw_sim.proofs.HeldRuns.{z, is_opened, along_next, may_move, comes_next, ends_over}
 use Rattle.cw_sim.proofs.moves.Simulation.runs.Goals as goal
 

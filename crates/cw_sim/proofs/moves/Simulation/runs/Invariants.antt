@@ -1,4 +1,4 @@
-use Rattle.cw_sim.specs.Held.{job_of}
+use Rattle.cw_sim.specs.InMemory.{job_of}
 use Rattle.cw_sim.proofs.HeldRuns.{IsAt, AreAlong}
 use Rattle.cw_sim.proofs.moves.Simulation.runs.Given as goal
 

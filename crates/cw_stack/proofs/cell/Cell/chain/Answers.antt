@@ -1,7 +1,7 @@
 use Rattle.std.proofs.Common.{◌≡◌, ◌-◌, List, length, take, drop, ap, sym, ◌∙◌, arith, subst}
 use Rattle.std.proofs.lemmas.List.{take_all, take_rest, drop-map, length-map}
 use Rattle.cw_tree.specs.declared.access.Entry.{Entry}
-use Rattle.cw_tree.specs.Stacks.{stamps}
+use Rattle.cw_tree.specs.AccessStacks.{stamps}
 use Rattle.cw_tree.specs.Newest.{last_eight}
 use Rattle.cw_stack.specs.Cells.{CellParts}
 use Rattle.cw_stack.proofs.cell.Cell.chain.Goals as goal

@@ -1,5 +1,5 @@
 use Rattle.std.proofs.Common.{◌≡◌, take}
-use Rattle.cw_tree.specs.Stacks.{stamps}
+use Rattle.cw_tree.specs.AccessStacks.{stamps}
 use Rattle.cw_stack.proofs.cell.Cell.chain.Given as goal
 
 abbrev pub invariant-loop-entry : goal.invariant-loop-entry

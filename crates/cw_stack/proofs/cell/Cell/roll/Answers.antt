@@ -5,7 +5,7 @@ use Rattle.std.proofs.lemmas.Int.{to_z-of_z}
 use Rattle.cw_tree.specs.declared.access.Entry.{Entry}
 use Rattle.cw_tree.specs.Nodes.{is_pending, stamp_of}
 use Rattle.cw_tree.specs.Walks.{is_above}
-use Rattle.cw_tree.specs.Stacks.{stamps, IsAccessStack}
+use Rattle.cw_tree.specs.AccessStacks.{stamps, IsAccessStack}
 use Rattle.cw_stack.specs.Cells.{CellParts, first_value, IsCellInMemory}
 use Rattle.cw_stack.proofs.Keeping.{first_front, kept_front}
 use Rattle.cw_stack.proofs.Rolling.{stays, beneath_taken, not_cleaned, contained, split_at}

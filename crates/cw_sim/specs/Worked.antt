@@ -7,12 +7,12 @@ use Rattle.cw_tree.specs.declared.closed.Halt.TheVariants.{Fault, Budget}
 use Rattle.cw_tree.specs.declared.conflict.Conflict.{Conflict}
 use Rattle.cw_tree.specs.declared.node.Kind.TheVariants.{Strand, Fork, Read, Write, Tried}
 use Rattle.cw_tree.specs.Nodes.{below}
-use Rattle.cw_tree.specs.Rows.{plain, committed, aborted}
+use Rattle.cw_tree.specs.Worked.{plain, committed, aborted}
 use Rattle.cw_strand.specs.Names.{cells_of, first_memory}
 use Rattle.cw_strand.specs.Running.{Standing}
 use Rattle.cw_strand.specs.Coded as coded
 use Rattle.cw_strand.specs.Laws.{compiled}
-use Rattle.cw_strand.specs.Rows as sources
+use Rattle.cw_strand.specs.Worked as sources
 use Rattle.cw_open.specs.Machine.{live_value, has_finished, waits}
 use Rattle.cw_io.specs.declared.schedule.Schedule.TheVariants.{List as Listed, Seeded}
 use Rattle.cw_record.specs.declared.record_end.RecordEnd.TheVariants as ends

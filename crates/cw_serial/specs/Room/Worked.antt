@@ -2,7 +2,7 @@
 use Rattle.std.specs.Prelude.{ℕ, ◌≡◌, List, [], ◌∷◌, codes, pos, true, false}
 use Rattle.cw_code.specs.declared.FaultKind.TheVariants.{Overflow}
 use Rattle.cw_strand.specs.Names.{cells_of, first_memory}
-use Rattle.cw_strand.specs.Rows.{tree, within}
+use Rattle.cw_strand.specs.Worked.{tree, within}
 use Rattle.cw_strand.specs.Laws.{compiled}
 use Rattle.cw_tree.specs.declared.picks.Name.{Name}
 use Rattle.cw_serial.specs.declared.ends.SerialEnd.{SerialEnd}

@@ -2,7 +2,7 @@
 use Rattle.std.specs.Prelude.{ℕ, zero, suc, ◌-◌, ◌≡◌, List, [], ◌∷◌, replicate, codes, Result, Ok, Err, Option, Some, None, ℤ, pos, negsuc}
 use Rattle.cw_text.specs.declared.fault.TextFault.{TextFault}
 use Rattle.cw_text.specs.Syntax.{Declaration, empty}
-use Rattle.cw_text.specs.Rows.{read}
+use Rattle.cw_text.specs.Worked.{read}
 use Rattle.cw_code.specs.declared.FaultKind.TheVariants.{Zero, Overflow, Range, Depth, Fuel, Size}
 use Rattle.cw_code.specs.declared.Limits.{Limits}
 use Rattle.cw_code.specs.declared.instruction.Code.{Code}

@@ -1,6 +1,6 @@
 -- What is seen of a core by its fields.
 use Rattle.std.specs.Prelude.{map}
-use Rattle.cw_tree.specs.Stacks.{stamps}
+use Rattle.cw_tree.specs.AccessStacks.{stamps}
 use Rattle.cw_core.specs.declared.cores.Core.TheInside.{Inside}
 use Rattle.cw_core.specs.State.{CoreState}
 use Rattle.cw_core.specs.Kept.{AreParts, stopped_by}

@@ -24,8 +24,8 @@ use Rattle.cw_sim.specs.Runs.{simulation_of}
 use Rattle.cw_sim.specs.Kept.{is_current, AreWorkers, CoreGoesOn}
 use Rattle.cw_sim.specs.HasWants.{HasWants}
 use Rattle.cw_sim.specs.Inside.{HasInside, goes_back}
-use Rattle.cw_sim.specs.HeldThings.{thing_at}
-use Rattle.cw_sim.specs.HeldWorkers.{workers_of, IsLast}
+use Rattle.cw_sim.specs.ThingsInMemory.{thing_at}
+use Rattle.cw_sim.specs.WorkersInMemory.{workers_of, IsLast}
 use Rattle.cw_sim.specs.declared.moves.Task.{Task}
 use Rattle.cw_sim.specs.declared.moves.Simulation.{Simulation as InMemory}
 

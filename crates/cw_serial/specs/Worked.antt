@@ -6,7 +6,7 @@ use Rattle.cw_strand.specs.Strands.{Strands}
 use Rattle.cw_serial.specs.declared.ends.SerialEnd.{SerialEnd}
 use Rattle.cw_serial.specs.declared.ends.SerialEnd.TheVariants as last
 use Rattle.cw_serial.specs.Machine.{serial_end}
-use Rattle.cw_serial.specs.Held.{root, left_name, right_name}
+use Rattle.cw_serial.specs.TableInMemory.{root, left_name, right_name}
 
 -- the root begins a block and forks, and the left strand wants to end the block
 abbrev pub crossing : Strands ℕ
