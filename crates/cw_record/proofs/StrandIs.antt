@@ -4,8 +4,8 @@ use Rattle.cw_tree.specs.declared.node.Node.{Node}
 use Rattle.cw_tree.specs.Nodes.{parent_of, is_strand}
 use Rattle.cw_tree.specs.Walks.{IsRooted}
 use Rattle.cw_tree.specs.Series.{strand_of}
-use Rattle.cw_tree.proofs.Climbs.{by_parent}
-use Rattle.cw_tree.proofs.Strands.{strand_of_root, strand_of_strand, strand_of_other}
+use Rattle.cw_tree.proofs.Walks.Climbs.{by_parent}
+use Rattle.cw_tree.proofs.Walks.Strands.{strand_of_root, strand_of_strand, strand_of_other}
 
 pub strand_is : (t : List Node) → IsRooted t → is_strand t 0 ≡ true → (n : ℕ) → n < length t → is_strand t (strand_of t n) ≡ true
 strand_is t r root n h =

@@ -12,15 +12,15 @@ use Rattle.cw_tree.specs.Names.{fork_counts_at}
 use Rattle.cw_tree.specs.ForkCounts.{lets_out, one_if}
 use Rattle.cw_tree.specs.Shape.{IsTree}
 use Rattle.cw_tree.specs.Links.{is_child}
-use Rattle.cw_tree.proofs.Ancestors.{ancestor_le}
+use Rattle.cw_tree.proofs.Walks.Ancestors.{ancestor_le}
 use Rattle.cw_tree.proofs.Counting.{count, count_none}
-use Rattle.cw_tree.proofs.Forks.{comes_to, comes, forks_to, forks_same, forks_stopped, forks_inside, child_from, child_to, is_same, same_truth}
-use Rattle.cw_tree.proofs.Numbers.{none_at_root, none_at_strand, forks_before}
-use Rattle.cw_tree.proofs.Passes.{to_none, to_more, to_same}
-use Rattle.cw_tree.proofs.DepthFirst.{IsChild}
+use Rattle.cw_tree.proofs.Names.Forks.{comes_to, comes, forks_to, forks_same, forks_stopped, forks_inside, child_from, child_to, is_same, same_truth}
+use Rattle.cw_tree.proofs.Names.Numbers.{none_at_root, none_at_strand, forks_before}
+use Rattle.cw_tree.proofs.Names.Passes.{to_none, to_more, to_same}
+use Rattle.cw_tree.proofs.InOrder.DepthFirst.{IsChild}
 use Rattle.cw_record.specs.Coherent.{InSeries}
 use Rattle.cw_replay.proofs.Kin.{fork_child}
-use Rattle.cw_replay.proofs.Sorts.{IsSort, Sort, fork, committed, aborted, of_strand, of_fork, of_block, of_aborted}
+use Rattle.cw_replay.proofs.RecordsReplay.Tasks.Sorts.{IsSort, Sort, fork, committed, aborted, of_strand, of_fork, of_block, of_aborted}
 
 pub in_series_append : {A : Type 0} (before after : ℕ → A) (a b c : A) (ns ms : List ℕ) → InSeries before after a ns b → InSeries before after b ms c → InSeries before after a (ns ++ ms) c
 in_series_append {A = A} before after a b c [] ms l m = let P : A → Type 0 = λ x. InSeries before after x ms c in subst P (sym l) m

@@ -3,8 +3,8 @@ use Rattle.std.proofs.Common.{◌≡◌, ℕ, ◌<◌, ◌≤◌, List, [], ◌�
 use Rattle.std.specs.Prelude.{◌⊎◌, All}
 use Rattle.std.proofs.lemmas.List.Elements.{All-head, All-tail}
 use Rattle.cw_tree.specs.Accesses.{put_by, by_key}
-use Rattle.cw_tree.proofs.Keys as keys
-use Rattle.cw_record.proofs.Sorts.{Rises, rises_by_key}
+use Rattle.cw_tree.proofs.InOrder.Keys as keys
+use Rattle.cw_record.proofs.Orders.Sorts.{Rises, rises_by_key}
 use Rattle.cw_replay.proofs.Lists.{In, to_number, of_number, Rising, Earlier, Distinct}
 
 all_at : (P : ℕ → Type 0) (xs : List ℕ) → All P xs → (v : ℕ) → In v xs → P v

@@ -11,9 +11,9 @@ use Rattle.cw_tree.specs.Names.{is_right}
 use Rattle.cw_tree.specs.Shape.{IsTree}
 use Rattle.cw_tree.specs.Links.{is_child}
 use Rattle.cw_tree.proofs.Lists.{any_in, any_from, all_in}
-use Rattle.cw_tree.proofs.Ancestors.{ancestor_above, ancestor_self, ancestor_up, ancestor_le, ancestor_trans}
-use Rattle.cw_tree.proofs.Kin.{above_in, AreOrdered, ancestor_linear, children_apart}
-use Rattle.cw_tree.proofs.DepthFirst.{IsChild, child_is}
+use Rattle.cw_tree.proofs.Walks.Ancestors.{ancestor_above, ancestor_self, ancestor_up, ancestor_le, ancestor_trans}
+use Rattle.cw_tree.proofs.Walks.Kin.{above_in, AreOrdered, ancestor_linear, children_apart}
+use Rattle.cw_tree.proofs.InOrder.DepthFirst.{IsChild, child_is}
 use Rattle.cw_replay.proofs.Lists.{In, Rising, filter_in, in_below, below_in, to_number, of_number, rising_filter, rising_below}
 
 pub child_in : (t : List Node) (q c : ℕ) → In c (children t q) → IsChild t q c

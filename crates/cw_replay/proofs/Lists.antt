@@ -5,7 +5,7 @@ use Rattle.std.specs.List.{filter, flat_map}
 use Rattle.cw_tree.specs.Nodes.{below}
 use Rattle.cw_tree.proofs.Lists as numbers
 use Rattle.cw_tree.proofs.Members as numbers_in
-use Rattle.cw_tree.proofs.Visits as numbers_met
+use Rattle.cw_tree.proofs.InOrder.Visits as numbers_met
 
 abbrev pub In : {X : Type 0} → X → List X → Type 0
 In v [] = ⊥

@@ -7,8 +7,8 @@ use Rattle.cw_tree.specs.declared.access.Mark.{Mark}
 use Rattle.cw_tree.specs.declared.access.Entry.{Entry}
 use Rattle.cw_tree.specs.Accesses.{cell_value, written}
 use Rattle.cw_tree.specs.AccessStacks.{written_by, stamps, IsAccessStack}
-use Rattle.cw_tree.proofs.Entries.{Notes, cell_value_more}
-use Rattle.cw_tree.proofs.Stacks.{stacks_tell, stack_extends, with_access}
+use Rattle.cw_tree.proofs.ChainLaws.Entries.{Notes, cell_value_more}
+use Rattle.cw_tree.proofs.ChainLaws.Stacks.{stacks_tell, stack_extends, with_access}
 use Rattle.cw_stack.specs.Cells.{CellParts, entries_value, newest_entry, entry_of, AreSteps, first_value, IsCellInMemory, GoesWithTrees}
 use Rattle.cw_stack.proofs.Rising.{rising_front, rising_more, above_last}
 

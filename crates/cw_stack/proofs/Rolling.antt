@@ -10,8 +10,8 @@ use Rattle.cw_tree.specs.declared.access.Entry.{Entry}
 use Rattle.cw_tree.specs.Nodes.{stamp_of, is_pending}
 use Rattle.cw_tree.specs.Walks.{IsRooted, is_above}
 use Rattle.cw_tree.specs.AccessStacks.{stamps, IsAccessStack}
-use Rattle.cw_tree.proofs.Chains.{beneath_is_end}
-use Rattle.cw_tree.proofs.Stacks.{stack_there, stacks_tell, fronts_of_stacks}
+use Rattle.cw_tree.proofs.ChainLaws.Chains.{beneath_is_end}
+use Rattle.cw_tree.proofs.ChainLaws.Stacks.{stack_there, stacks_tell, fronts_of_stacks}
 use Rattle.cw_stack.proofs.Rising.{earlier_less, filter_front, stamp_at, contains_rest}
 
 -- the entries with smaller stamps are those before the entry with the stamp

@@ -5,7 +5,7 @@ use Rattle.cw_strand.specs.Names.{first_memory}
 use Rattle.cw_tree.specs.declared.conflict.Conflict.{Conflict}
 use Rattle.cw_tree.specs.Nodes.{is_fork}
 use Rattle.cw_tree.specs.Refusals.{MaySpend, Spent, may_be_last, telling, tells}
-use Rattle.cw_tree.proofs.Visits.{all_come}
+use Rattle.cw_tree.proofs.InOrder.Visits.{all_come}
 use Rattle.cw_serial.specs.Room.Strands.{strands_of_job}
 use Rattle.cw_record.specs.declared.record.Record.{Record}
 use Rattle.cw_record.specs.declared.record_end.RecordEnd.{RecordEnd}
@@ -13,9 +13,9 @@ use Rattle.cw_record.specs.declared.record_end.RecordEnd.TheVariants.{Finished, 
 use Rattle.cw_record.specs.Coherent.{halt_of}
 use Rattle.cw_record.specs.Records.{job_of_record}
 use Rattle.cw_record.specs.Replay.{IsSpent, SameEnd}
-use Rattle.cw_record.proofs.OneRun.{same_end}
+use Rattle.cw_record.proofs.Replay.OneRun.{same_end}
 use Rattle.cw_replay.proofs.Found.{find_contains}
-use Rattle.cw_replay.proofs.Recorded.{conflict_has_fork, records_attempts}
+use Rattle.cw_replay.proofs.Attempts.Recorded.{conflict_has_fork, records_attempts}
 use Rattle.cw_top.specs.declared.command.Command.{Command}
 use Rattle.cw_top.specs.declared.outcome.Note.{Note}
 use Rattle.cw_top.specs.declared.outcome.Note.TheVariants as note

@@ -7,7 +7,7 @@ use Rattle.cw_strand.specs.Meaning.{MainTakes, strands_of_syntax}
 use Rattle.cw_serial.proofs.Room.Lawful.{source_takes}
 use Rattle.cw_record.specs.declared.record.Record.{Record}
 use Rattle.cw_record.specs.Replay.{Replays}
-use Rattle.cw_replay.proofs.OverSource.{over_source}
+use Rattle.cw_replay.proofs.OverSource.OverSource.{over_source}
 use Rattle.cw_top.specs.declared.command.Command.{Command}
 use Rattle.cw_top.specs.Outcome.{IsRunBy, IsRunOf}
 use Rattle.cw_top.specs.OverSource.{IsRunOfSource, IsRunOfSyntax}

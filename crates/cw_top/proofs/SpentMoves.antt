@@ -10,7 +10,7 @@ use Rattle.cw_top.specs.declared.command.Command.TheVariants.{Run, Sim}
 use Rattle.cw_top.specs.declared.outcome.Note.{Note}
 use Rattle.cw_top.specs.declared.outcome.Note.TheVariants as note
 use Rattle.cw_top.specs.Outcome.{HasSpentMoves, IsDoneAs, IsDoneBy, IsStatus, status_of_end}
-use Rattle.cw_sim.proofs.Unstopped.{left_told}
+use Rattle.cw_sim.proofs.Runs.Unstopped.{left_told}
 
 by_end : (e : RecordEnd) → 9 ≡ status_of_end e → e ≡ Moves
 by_end (Finished m o) is = cc

@@ -13,7 +13,7 @@ use Rattle.cw_record.specs.declared.record_end.RecordEnd.{RecordEnd}
 use Rattle.cw_record.specs.declared.record_end.RecordEnd.TheVariants.{Finished, Fault, Budget, Moves}
 use Rattle.cw_record.specs.Records.{HasEnded, IsReplayed}
 use Rattle.cw_record.specs.Replay.{SameEnd}
-use Rattle.cw_record.proofs.OneRun.{same_end}
+use Rattle.cw_record.proofs.Replay.OneRun.{same_end}
 use Rattle.cw_top.specs.declared.command.Command.{Command}
 use Rattle.cw_top.specs.declared.command.Command.TheVariants.{Run, Sim}
 use Rattle.cw_top.specs.declared.outcome.Note.{Note}

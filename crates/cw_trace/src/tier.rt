@@ -89,7 +89,7 @@ fn part_of(i: usize, owner: u32, trace: u32, fork: u32) -> u32
 
 /// The strands of a trace from a fork on become those of the left trace, but the right strand, which gets its own.
 /// Smaller columns never change.
-#[tactic(auto, using(crate::proofs::Edits::parts_more, crate::proofs::Edits::parts_done))]
+#[tactic(auto, using(crate::proofs::Marks::Edits::parts_more, crate::proofs::Marks::Edits::parts_done))]
 fn part(owners: &mut [u32], trace: u32, fork: u32)
     requires fork { fork + 1 < 2 ^ 32 }
     requires there { fork ≤ length owners.old }
@@ -114,7 +114,7 @@ fn back_to(owner: u32, trace: u32, fork: u32) -> u32
 }
 
 /// The strands of both traces of a split fork go back to a trace. Smaller columns never change.
-#[tactic(auto, using(crate::proofs::Edits::back_more))]
+#[tactic(auto, using(crate::proofs::Marks::Edits::back_more))]
 fn put_back(owners: &mut [u32], trace: u32, fork: u32)
     requires fork { fork + 1 < 2 ^ 32 }
     requires there { fork ≤ length owners.old }

@@ -6,8 +6,8 @@ use Rattle.cw_trace.specs.Columns.{ColumnTable}
 use Rattle.cw_trace.specs.Told.{Read, Answer, Owner, Inside, Number, Test, held, HoldsRead, Stays}
 use Rattle.cw_trace.specs.Query.{IsWithinTrace, is_it, by_place, Gives, Covers, same_trace, other_trace, verdict}
 use Rattle.cw_trace.specs.Verdicts.{TellsOfTree, TellsByReading, TellsOfBlock}
-use Rattle.cw_trace.proofs.Agreeing.{gives_later, gives_held, covers_later, covers_held}
-use Rattle.cw_trace.proofs.Answering.{decides, decides_by_reading, covers_blocks}
+use Rattle.cw_trace.proofs.Query.Agreeing.{gives_later, gives_held, covers_later, covers_held}
+use Rattle.cw_trace.proofs.Query.Answering.{decides, decides_by_reading, covers_blocks}
 
 module _ (told : Read → Answer → Type 0) where
   -- a number that was told, by another name

@@ -1,4 +1,4 @@
-use Rattle.cw_core.proofs.Kept.{cells, strands}
+use Rattle.cw_core.proofs.Events.Kept.{cells, strands}
 use Rattle.cw_core.proofs.cores_stand.Goals as goal
 
 pub returns : goal.returns

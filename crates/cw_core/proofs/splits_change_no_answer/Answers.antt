@@ -1,5 +1,5 @@
-use Rattle.cw_core.proofs.Alike.{alike_after}
-use Rattle.cw_core.proofs.Splits.{splits, answers, lists}
+use Rattle.cw_core.proofs.Laws.Alike.{alike_after}
+use Rattle.cw_core.proofs.Laws.Splits.{splits, answers, lists}
 use Rattle.cw_core.proofs.splits_change_no_answer.Goals as goal
 
 pub returns : goal.returns

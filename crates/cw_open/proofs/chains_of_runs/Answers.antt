@@ -1,4 +1,4 @@
-use Rattle.cw_open.proofs.LawsHold.{chains, ended}
+use Rattle.cw_open.proofs.Runs.LawsHold.{chains, ended}
 use Rattle.cw_open.proofs.chains_of_runs.Goals as goal
 
 pub returns : goal.returns

@@ -1,4 +1,4 @@
-use Rattle.cw_open.proofs.RenamedHistory.{cells_stay, journals_stay, ends_stay, refusals_stay, rolls_back_stays, faults_stay}
+use Rattle.cw_open.proofs.Reordered.History.{cells_stay, journals_stay, ends_stay, refusals_stay, rolls_back_stays, faults_stay}
 use Rattle.cw_open.proofs.closed_in_order.Goals as goal
 
 pub returns : goal.returns

@@ -1,4 +1,4 @@
-use Rattle.cw_open.proofs.Ahead.{at_once_told, ahead_timely}
+use Rattle.cw_open.proofs.Times.Ahead.{at_once_told, ahead_timely}
 use Rattle.cw_open.proofs.conflicts_at_once.Goals as goal
 
 pub returns : goal.returns

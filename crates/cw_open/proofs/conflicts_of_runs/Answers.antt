@@ -1,5 +1,5 @@
-use Rattle.cw_open.proofs.GoingBack.{askers_tried}
-use Rattle.cw_open.proofs.Recorded.{conflicts_recorded}
+use Rattle.cw_open.proofs.Refused.GoingBack.{askers_tried}
+use Rattle.cw_open.proofs.Refused.Recorded.{conflicts_recorded}
 use Rattle.cw_open.proofs.conflicts_of_runs.Goals as goal
 
 pub returns : goal.returns

@@ -1,4 +1,4 @@
-use Rattle.cw_open.proofs.GoingBack.{aborted_victims, committed_safe, dying_back, dead_back}
+use Rattle.cw_open.proofs.Refused.GoingBack.{aborted_victims, committed_safe, dying_back, dead_back}
 use Rattle.cw_open.proofs.dying_go_back.Goals as goal
 
 pub returns : goal.returns

@@ -1,6 +1,6 @@
-use Rattle.cw_open.proofs.Leaving.{histories_left}
-use Rattle.cw_open.proofs.RenamedHistory.{histories_in_order}
-use Rattle.cw_open.proofs.Unstopped.{told_any_time}
+use Rattle.cw_open.proofs.Reordered.Leaving.{histories_left}
+use Rattle.cw_open.proofs.Reordered.History.{histories_in_order}
+use Rattle.cw_open.proofs.Runs.Unstopped.{told_any_time}
 use Rattle.cw_open.proofs.histories_of_runs.Goals as goal
 
 pub returns : goal.returns

@@ -1,4 +1,4 @@
-use Rattle.cw_open.proofs.LawsHold.{cells, rise, are_live, have_all}
+use Rattle.cw_open.proofs.Runs.LawsHold.{cells, rise, are_live, have_all}
 use Rattle.cw_open.proofs.lists_of_runs.Goals as goal
 
 pub returns : goal.returns

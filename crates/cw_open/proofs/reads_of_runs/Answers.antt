@@ -1,4 +1,4 @@
-use Rattle.cw_open.proofs.Reading.{reads_met}
+use Rattle.cw_open.proofs.Laws.Reading.{reads_met}
 use Rattle.cw_open.proofs.reads_of_runs.Goals as goal
 
 pub returns : goal.returns

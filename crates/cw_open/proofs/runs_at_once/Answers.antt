@@ -1,4 +1,4 @@
-use Rattle.cw_open.proofs.LawsHold.{at_any, are_told}
+use Rattle.cw_open.proofs.Runs.LawsHold.{at_any, are_told}
 use Rattle.cw_open.proofs.runs_at_once.Goals as goal
 
 pub returns : goal.returns

@@ -1,4 +1,4 @@
-use Rattle.cw_open.proofs.Unstopped.{stops_left_out}
+use Rattle.cw_open.proofs.Runs.Unstopped.{stops_left_out}
 use Rattle.cw_open.proofs.stops_are_left_out.Goals as goal
 
 pub returns : goal.returns

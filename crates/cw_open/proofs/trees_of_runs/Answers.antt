@@ -1,4 +1,4 @@
-use Rattle.cw_open.proofs.LawsHold.{trees, open_nodes, places, clocks}
+use Rattle.cw_open.proofs.Runs.LawsHold.{trees, open_nodes, places, clocks}
 use Rattle.cw_open.proofs.trees_of_runs.Goals as goal
 
 pub returns : goal.returns

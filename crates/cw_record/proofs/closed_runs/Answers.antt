@@ -1,4 +1,4 @@
-use Rattle.cw_record.proofs.ClosedRuns.{coherent_end}
+use Rattle.cw_record.proofs.ClosedRun.Runs.{coherent_end}
 use Rattle.cw_record.proofs.closed_runs.Goals as goal
 
 pub returns : goal.returns

@@ -1,4 +1,4 @@
-use Rattle.cw_record.proofs.WorkedEnds.{ends}
+use Rattle.cw_record.proofs.WorkedEnds.Ends.{ends}
 use Rattle.cw_record.proofs.worked_ends.Goals as goal
 
 pub returns : goal.returns

@@ -1,4 +1,4 @@
-use Rattle.cw_record.proofs.WorkedRecord.{coherent}
+use Rattle.cw_record.proofs.WorkedRecord.Record.{coherent}
 use Rattle.cw_record.proofs.worked_record.Goals as goal
 
 pub returns : goal.returns

@@ -1,5 +1,5 @@
-use Rattle.cw_tree.proofs.Visits.{all_come}
-use Rattle.cw_replay.proofs.Recorded.{records_attempts}
+use Rattle.cw_tree.proofs.InOrder.Visits.{all_come}
+use Rattle.cw_replay.proofs.Attempts.Recorded.{records_attempts}
 use Rattle.cw_replay.proofs.attempts_are_recorded.Goals as goal
 
 pub returns : goal.returns

@@ -1,4 +1,4 @@
-use Rattle.cw_replay.proofs.Recorded.{conflict_has_fork}
+use Rattle.cw_replay.proofs.Attempts.Recorded.{conflict_has_fork}
 use Rattle.cw_replay.proofs.conflicts_need_forks.Goals as goal
 
 pub returns : goal.returns

@@ -1,4 +1,4 @@
-use Rattle.cw_replay.proofs.ForksSpawned.{forks_need_spawns}
+use Rattle.cw_replay.proofs.Spawning.ForksSpawned.{forks_need_spawns}
 use Rattle.cw_replay.proofs.forks_need_spawns.Goals as goal
 
 pub returns : goal.returns

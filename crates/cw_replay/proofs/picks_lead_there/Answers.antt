@@ -1,4 +1,4 @@
-use Rattle.cw_record.proofs.OneRun.{replay_ends}
+use Rattle.cw_record.proofs.Replay.OneRun.{replay_ends}
 use Rattle.cw_replay.proofs.picks_lead_there.Goals as goal
 
 pub returns : goal.returns

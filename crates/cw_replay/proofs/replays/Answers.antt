@@ -1,4 +1,4 @@
-use Rattle.cw_replay.proofs.Theorem.{replays}
+use Rattle.cw_replay.proofs.RecordsReplay.Ends.Theorem.{replays}
 use Rattle.cw_replay.proofs.replays.Goals as goal
 
 pub returns : goal.returns

@@ -1,4 +1,4 @@
-use Rattle.cw_replay.proofs.SameMachines.{same_replays}
+use Rattle.cw_replay.proofs.SameMachines.SameMachines.{same_replays}
 use Rattle.cw_replay.proofs.same_wants_replay.Goals as goal
 
 pub returns : goal.returns

@@ -1,4 +1,4 @@
-use Rattle.cw_replay.proofs.SameMachines.{same_ends, same_machines}
+use Rattle.cw_replay.proofs.SameMachines.SameMachines.{same_ends, same_machines}
 use Rattle.cw_replay.proofs.same_wants_same_machine.Goals as goal
 
 pub returns-clause-machines : goal.returns-clause-machines

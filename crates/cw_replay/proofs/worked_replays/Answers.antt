@@ -1,4 +1,4 @@
-use Rattle.cw_replay.proofs.Worked.{worked_replays}
+use Rattle.cw_replay.proofs.WorkedReplays.Worked.{worked_replays}
 use Rattle.cw_replay.proofs.worked_replays.Goals as goal
 
 pub returns : goal.returns

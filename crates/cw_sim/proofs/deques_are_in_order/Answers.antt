@@ -1,4 +1,4 @@
-use Rattle.cw_sim.proofs.Deques.{none_early, are_there}
+use Rattle.cw_sim.proofs.Laws.Deques.{none_early, are_there}
 use Rattle.cw_sim.proofs.deques_are_in_order.Goals as goal
 
 pub returns : goal.returns

@@ -1,4 +1,4 @@
-use Rattle.cw_sim.proofs.Closing.{moves_fit}
+use Rattle.cw_sim.proofs.Runs.Closing.{moves_fit}
 use Rattle.cw_sim.proofs.moves_fit.Goals as goal
 
 pub returns : goal.returns

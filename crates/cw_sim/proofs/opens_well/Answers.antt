@@ -1,4 +1,4 @@
-use Rattle.cw_sim.proofs.Opens.{opens}
+use Rattle.cw_sim.proofs.Laws.Opens.{opens}
 use Rattle.cw_sim.proofs.opens_well.Goals as goal
 
 pub returns : goal.returns

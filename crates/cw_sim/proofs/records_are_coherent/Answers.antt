@@ -1,4 +1,4 @@
-use Rattle.cw_sim.proofs.Closing.{records_coherent}
+use Rattle.cw_sim.proofs.Runs.Closing.{records_coherent}
 use Rattle.cw_sim.proofs.records_are_coherent.Goals as goal
 
 pub returns : goal.returns

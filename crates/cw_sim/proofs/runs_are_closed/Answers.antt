@@ -1,4 +1,4 @@
-use Rattle.cw_sim.proofs.Closing.{runs_closed}
+use Rattle.cw_sim.proofs.Runs.Closing.{runs_closed}
 use Rattle.cw_sim.proofs.runs_are_closed.Goals as goal
 
 pub returns : goal.returns

@@ -1,5 +1,5 @@
-use Rattle.cw_trace.proofs.TierLaws.{reading, goes_on_beneath, start, leaf, begin, close, join}
-use Rattle.cw_trace.proofs.WholeRuns.{suspended}
+use Rattle.cw_trace.proofs.Keeps.TierLaws.{reading, goes_on_beneath, start, leaf, begin, close, join}
+use Rattle.cw_trace.proofs.Keeps.WholeRuns.{suspended}
 use Rattle.cw_trace.proofs.tier_laws.Goals as goal
 
 pub returns-clause-reading : goal.returns-clause-reading

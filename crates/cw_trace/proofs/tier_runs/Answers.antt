@@ -1,4 +1,4 @@
-use Rattle.cw_trace.proofs.WholeRuns.{each_run_stands, each_run_goes_on}
+use Rattle.cw_trace.proofs.Keeps.WholeRuns.{each_run_stands, each_run_goes_on}
 use Rattle.cw_trace.proofs.tier_runs.Goals as goal
 
 pub returns-clause-stands : goal.returns-clause-stands

@@ -1,4 +1,4 @@
-use Rattle.cw_tree.proofs.Parting.{series_or_parallel}
+use Rattle.cw_tree.proofs.Walks.Parting.{series_or_parallel}
 use Rattle.cw_tree.proofs.series_or_parallel.Goals as goal
 
 pub returns : goal.returns

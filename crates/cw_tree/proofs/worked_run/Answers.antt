@@ -1,4 +1,4 @@
-use Rattle.cw_tree.proofs.KeptRuns.{holds, stops, breaks}
+use Rattle.cw_tree.proofs.Worked.KeptRuns.{holds, stops, breaks}
 use Rattle.cw_tree.proofs.worked_run.Goals as goal
 
 pub returns : goal.returns

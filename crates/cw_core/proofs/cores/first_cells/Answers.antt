@@ -3,7 +3,7 @@ use Rattle.std.specs.Prelude.{pos}
 use Rattle.std.proofs.lemmas.Int.{to_z-of_z}
 use Rattle.std.proofs.lemmas.List.{take_all}
 use Rattle.cw_core.specs.Kept.{fresh_cell}
-use Rattle.cw_core.proofs.FirstCells.{cell_is, cells_more}
+use Rattle.cw_core.proofs.Kept.FirstCells.{cell_is, cells_more}
 use Rattle.cw_core.proofs.cores.first_cells.Goals as goal
 
 pub loop-value-preserved : goal.loop-value-preserved

@@ -2,7 +2,7 @@ use Rattle.std.proofs.Common.{rules}
 use Rattle.std.specs.Prelude.{vec_len}
 use Rattle.std.proofs.lemmas.Option.{slice_get_read}
 use Rattle.cw_core.specs.Kept.{without_room}
-use Rattle.cw_core.proofs.Entering.{firsts_kept, plain_same}
+use Rattle.cw_core.proofs.Kept.Entering.{firsts_kept, plain_same}
 use Rattle.cw_core.proofs.held.reserve_entry.Goals as goal
 
 pub returns-clause-kept : goal.returns-clause-kept

@@ -1,5 +1,5 @@
 use Rattle.std.proofs.Common.{sym, ◌∙◌, ◌<◌, arith}
-use Rattle.cw_core.proofs.Undoing.{all_before}
+use Rattle.cw_core.proofs.Undone.Undoing.{all_before}
 use Rattle.cw_core.proofs.undo.cut.Goals as goal
 
 pub returns-else-mark-stamp-clause-entries : goal.returns-else-mark-stamp-clause-entries

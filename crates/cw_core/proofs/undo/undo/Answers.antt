@@ -1,7 +1,7 @@
 use Rattle.std.proofs.Common.{◌≡◌, ◌≢◌, ℕ, Bool, false, List, ap, sym, subst}
 use Rattle.cw_stack.specs.Cells.{CellParts}
-use Rattle.cw_core.proofs.Walking.{IsStep, step_of}
-use Rattle.cw_core.proofs.UndoWalk.{Undoing, starts, may_cut, after_cut, after_none, all_undone}
+use Rattle.cw_core.proofs.Undone.Walking.{IsStep, step_of}
+use Rattle.cw_core.proofs.Undone.UndoWalk.{Undoing, starts, may_cut, after_cut, after_none, all_undone}
 use Rattle.cw_core.proofs.undo.undo.Goals.{then-down, else-down+then-node-block, then-down-2, else-down-2}
 use Rattle.cw_core.proofs.undo.undo.Goals as goal
 

@@ -1,5 +1,5 @@
-use Rattle.cw_core.proofs.Walking.{walk_left}
-use Rattle.cw_core.proofs.UndoWalk.{Undoing}
+use Rattle.cw_core.proofs.Undone.Walking.{walk_left}
+use Rattle.cw_core.proofs.Undone.UndoWalk.{Undoing}
 use Rattle.cw_core.proofs.undo.undo.Given as goal
 
 abbrev pub invariant-walk : goal.invariant-walk

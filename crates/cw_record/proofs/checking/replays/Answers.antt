@@ -7,7 +7,7 @@ use Rattle.cw_record.specs.Order.{ending_strand, order_of}
 use Rattle.cw_record.specs.Replay.{SameEnd}
 use Rattle.cw_record.specs.Records.{IsReplayed}
 use Rattle.cw_record.specs.Replaying.{ItemsAreDone}
-use Rattle.cw_record.proofs.OneRun.{same_end, replays_if_done}
+use Rattle.cw_record.proofs.Replay.OneRun.{same_end, replays_if_done}
 use Rattle.cw_record.proofs.checking.replays.Goals as goal
 use Rattle.cw_record.proofs.checking.replays.Goals.{then-not-names_strand-via-then-not-names_strand, then-not-names_strand-via-else-not-names_strand+then-not-is_same_end}
 

@@ -1,6 +1,6 @@
 use Rattle.std.proofs.Common.{◌≡◌, sym, subst}
 use Rattle.std.specs.Bool.{Decides}
-use Rattle.cw_record.proofs.SameOrders.{names_decide}
+use Rattle.cw_record.proofs.Orders.SameOrders.{names_decide}
 use Rattle.cw_record.proofs.checking.same_names.Goals as goal
 
 pub returns : goal.returns

@@ -5,7 +5,7 @@ use Rattle.std.proofs.lemmas.Int.{to_z-of_z}
 use Rattle.std.proofs.lemmas.List.{set_past}
 use Rattle.cw_strand.specs.Names.{first_memory}
 use Rattle.cw_record.specs.Built.{value_left}
-use Rattle.cw_record.proofs.LeftMemory.{one_more_left}
+use Rattle.cw_record.proofs.ClosedRun.LeftMemory.{one_more_left}
 use Rattle.cw_record.proofs.left.memory_left.Goals as goal
 use Rattle.cw_record.proofs.left.memory_left.Goals.{in-Some, in_default}
 

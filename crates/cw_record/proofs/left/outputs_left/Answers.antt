@@ -2,7 +2,7 @@ use Rattle.std.proofs.Common.{List, length, sym, ◌∙◌, subst, arith, None}
 use Rattle.std.specs.Prelude.{All}
 use Rattle.cw_record.specs.declared.items.OrderItem.{OrderItem}
 use Rattle.cw_record.specs.declared.items.OrderItem.TheVariants.{Begins}
-use Rattle.cw_record.proofs.ItemsThere.{OfTree, items_there}
+use Rattle.cw_record.proofs.Orders.ItemsThere.{OfTree, items_there}
 use Rattle.cw_record.proofs.left.outputs_left.Goals as goal
 
 pub node-requires-in-loop-item : goal.node-requires-in-loop-item

@@ -1,7 +1,7 @@
 use Rattle.std.proofs.Common.{ap, sym, ◌∙◌, rules, SFits, w64}
 use Rattle.std.specs.Option.{option_copied, option_map_or}
 use Rattle.std.proofs.lemmas.Int.{to_z-of_z}
-use Rattle.cw_record.proofs.LeftMemory.{last_value}
+use Rattle.cw_record.proofs.ClosedRun.LeftMemory.{last_value}
 use Rattle.cw_record.proofs.left.value_left.Goals as goal
 
 pub returns-in-Some : goal.returns-in-Some

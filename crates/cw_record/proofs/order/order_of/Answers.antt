@@ -9,9 +9,9 @@ use Rattle.cw_record.specs.declared.items.OrderItem.{OrderItem}
 use Rattle.cw_record.specs.Items.{items, place_of_end}
 use Rattle.cw_record.specs.Listed.{listed_names, strand_number}
 use Rattle.cw_record.specs.Order.{ending_strand, pick_of}
-use Rattle.cw_tree.proofs.There.{node_there}
-use Rattle.cw_record.proofs.ItemsThere.{OfTree, items_there}
-use Rattle.cw_record.proofs.Listing.{numbers_length, number_is}
+use Rattle.cw_tree.proofs.Walks.There.{node_there}
+use Rattle.cw_record.proofs.Orders.ItemsThere.{OfTree, items_there}
+use Rattle.cw_record.proofs.Orders.Listing.{numbers_length, number_is}
 use Rattle.cw_record.proofs.order.order_of.Goals as goal
 
 pub picks-requires-clause-there : goal.picks-requires-clause-there

@@ -5,7 +5,7 @@ use Rattle.cw_tree.proofs.Lists.{get_map_below}
 use Rattle.cw_record.specs.declared.items.OrderItem.TheVariants.{Begins}
 use Rattle.cw_record.specs.Listed.{strand_number}
 use Rattle.cw_record.specs.Order.{pick_of}
-use Rattle.cw_record.proofs.Listing.{numbers_length}
+use Rattle.cw_record.proofs.Orders.Listing.{numbers_length}
 use Rattle.cw_record.proofs.order.picks.Goals as goal
 
 pub index-requires : goal.index-requires

@@ -2,7 +2,7 @@ use Rattle.std.proofs.Common.{arith, ap, sym, ◌∙◌, nat_eq, length, ◌-◌
 use Rattle.std.specs.Prelude.{unwrap_or}
 use Rattle.std.proofs.lemmas.Bool.{eq-eqb, ne_eqb}
 use Rattle.cw_tree.specs.Series.{strand_of}
-use Rattle.cw_record.proofs.Scans.{table_len, table_at, last_found, last_passed}
+use Rattle.cw_record.proofs.Orders.Scans.{table_len, table_at, last_found, last_passed}
 use Rattle.cw_record.proofs.place.last_of.Goals as goal
 
 pub bounds-strands-n : goal.bounds-strands-n

@@ -3,7 +3,7 @@ use Rattle.std.specs.Prelude.{◌&&◌, unwrap_or}
 use Rattle.std.proofs.lemmas.Bool.{eq-eqb, ne_eqb, and_from, and_left, and_right}
 use Rattle.cw_tree.specs.Nodes.{is_pending}
 use Rattle.cw_tree.specs.Series.{strand_of}
-use Rattle.cw_record.proofs.Scans.{table_len, table_at, last_found, last_passed}
+use Rattle.cw_record.proofs.Orders.Scans.{table_len, table_at, last_found, last_passed}
 use Rattle.cw_record.proofs.place.place.Goals as goal
 use Rattle.cw_record.proofs.place.place.Goals.{else-is_pending-via-then-is_pending+else-strands-n, else-is_pending-via-else-is_pending}
 

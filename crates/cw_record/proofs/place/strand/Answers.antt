@@ -1,7 +1,7 @@
 use Rattle.std.proofs.Common.{arith, ap, sym, ◌∙◌, ◌≡◌, false, get_or, length}
 use Rattle.cw_tree.specs.Series.{strand_of}
 use Rattle.cw_tree.proofs.Lists.{length_map_below, get_map_below}
-use Rattle.cw_tree.proofs.Strands.{strand_of_other}
+use Rattle.cw_tree.proofs.Walks.Strands.{strand_of_other}
 use Rattle.std.proofs.lemmas.Bool.{false≢true, eq-eqb}
 use Rattle.cw_tree.specs.Nodes.{is_strand}
 use Rattle.cw_record.proofs.place.strand.Goals as goal

@@ -1,7 +1,7 @@
 use Rattle.std.proofs.Common.{arith, ap, sym, ◌∙◌, nat_eq, length, Some}
 use Rattle.cw_tree.specs.Series.{strand_of}
-use Rattle.cw_record.proofs.Scans.{table_len, table_at}
-use Rattle.cw_record.proofs.Tells.{tells_block}
+use Rattle.cw_record.proofs.Orders.Scans.{table_len, table_at}
+use Rattle.cw_record.proofs.Orders.Tells.{tells_block}
 use Rattle.cw_record.proofs.place.tells.Goals as goal
 
 pub bounds-strands-block : goal.bounds-strands-block

@@ -5,8 +5,8 @@ use Rattle.cw_serial.specs.Room.Strands.{strands_of_job}
 use Rattle.cw_record.specs.declared.record_end.RecordEnd.{RecordEnd}
 use Rattle.cw_record.specs.Coherent.{IsCoherent}
 use Rattle.cw_record.specs.Records.{IsNumberedDepthFirst}
-use Rattle.cw_record.proofs.LeftRuns.{left_coherent}
-use Rattle.cw_record.proofs.NumberedTrees.{numbered_in_order}
+use Rattle.cw_record.proofs.ClosedRun.LeftRuns.{left_coherent}
+use Rattle.cw_record.proofs.ClosedRun.NumberedTrees.{numbered_in_order}
 use Rattle.cw_record.proofs.record.build.Goals as goal
 
 pub returns-clause-coherent : goal.returns-clause-coherent

@@ -9,7 +9,7 @@ use Rattle.cw_record.specs.Coherent.{IsCoherent, HasOutputs}
 use Rattle.cw_record.specs.Order.{order_of}
 use Rattle.cw_record.specs.Records.{IsWorkerRun}
 use Rattle.cw_record.specs.Replay.{Replays}
-use Rattle.cw_record.proofs.Ending.{replays}
+use Rattle.cw_record.proofs.OneWorker.Ending.{replays}
 use Rattle.cw_record.proofs.record.depth_first.Goals as goal
 
 pub returns-clause-replays : goal.returns-clause-replays

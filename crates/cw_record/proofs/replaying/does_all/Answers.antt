@@ -8,7 +8,7 @@ use Rattle.cw_serial.specs.InMemory.{Runs}
 use Rattle.cw_serial.specs.Orders.{IsPlay}
 use Rattle.cw_record.specs.Records.{job_of_record}
 use Rattle.cw_record.specs.Replaying.{ItemsAreDone, WantsRefused}
-use Rattle.cw_record.proofs.Replayed.{all, stands_first, all_listed, listed_at, item_there, other_want, no_pick, does_item, all_done}
+use Rattle.cw_record.proofs.Replay.Replayed.{all, stands_first, all_listed, listed_at, item_there, other_want, no_pick, does_item, all_done}
 use Rattle.cw_record.proofs.replaying.does_all.Goals as goal
 
 pub loop-place-init : goal.loop-place-init

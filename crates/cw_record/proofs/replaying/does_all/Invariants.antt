@@ -1,5 +1,5 @@
 use Rattle.cw_serial.specs.InMemory.{Runs}
-use Rattle.cw_record.proofs.Replayed.{Stands}
+use Rattle.cw_record.proofs.Replay.Replayed.{Stands}
 use Rattle.cw_record.proofs.replaying.does_all.Given as goal
 
 abbrev pub invariant-loop-place : goal.invariant-loop-place

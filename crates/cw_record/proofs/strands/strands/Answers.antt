@@ -4,8 +4,8 @@ use Rattle.std.proofs.lemmas.List.{take_all}
 use Rattle.std.proofs.lemmas.List.Elements.{filter_more}
 use Rattle.cw_tree.specs.Nodes.{is_strand}
 use Rattle.cw_tree.specs.Series.{depth_first}
-use Rattle.cw_tree.proofs.Visits.{as_many}
-use Rattle.cw_tree.proofs.Renumbered.{some_node, visited_there}
+use Rattle.cw_tree.proofs.InOrder.Visits.{as_many}
+use Rattle.cw_tree.proofs.InOrder.Renumbered.{some_node, visited_there}
 use Rattle.cw_record.proofs.strands.strands.Goals as goal
 use Rattle.cw_record.proofs.strands.strands.Goals.{then-is_strand+in_ok-push, else-is_strand}
 

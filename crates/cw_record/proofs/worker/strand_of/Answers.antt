@@ -1,6 +1,6 @@
 use Rattle.std.proofs.Common.{arith, ◌∙◌, sym, ap, ◌<◌}
 use Rattle.cw_tree.specs.Series.{strand_of}
-use Rattle.cw_tree.proofs.Strands.{strand_of_other}
+use Rattle.cw_tree.proofs.Walks.Strands.{strand_of_other}
 use Rattle.cw_record.proofs.worker.strand_of.Goals as goal
 
 pub loop-at-preserved : goal.loop-at-preserved

@@ -1,7 +1,7 @@
 -- Whether the run was spent.
 use Rattle.cw_sim.specs.Runs.{simulation_of}
 use Rattle.cw_sim.specs.InMemory.{Seen, job_of}
-use Rattle.cw_sim.proofs.HeldRecords.{over_same}
+use Rattle.cw_sim.proofs.InMemory.Records.{over_same}
 use Rattle.cw_sim.proofs.moves.moved.Goals as goal
 
 pub returns-in-Ok-clause-spent : goal.returns-in-Ok-clause-spent

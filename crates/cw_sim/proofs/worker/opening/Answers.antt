@@ -2,7 +2,7 @@
 use Rattle.std.proofs.Common.{◌≡◌, ◌+◌, ◌-◌, ◌∷◌, ap, ◌∙◌, arith, replicate, Some}
 use Rattle.cw_sim.specs.Workers.{Worker, idle}
 use Rattle.cw_sim.specs.WorkersInMemory.{workers_of}
-use Rattle.cw_sim.proofs.HeldWorkers.{idle_more, is_idle}
+use Rattle.cw_sim.proofs.InMemory.Workers.{idle_more, is_idle}
 use Rattle.cw_sim.proofs.worker.opening.Goals as goal
 
 pub loop-i-preserved : goal.loop-i-preserved

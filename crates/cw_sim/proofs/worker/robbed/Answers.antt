@@ -2,7 +2,7 @@
 use Rattle.std.proofs.Common.{◌≡◌, ◌+◌, ◌-◌, ◌%◌, length, drop, refl, ap, sym, ◌∙◌, arith}
 use Rattle.std.proofs.lemmas.Nat.{mod_below}
 use Rattle.cw_sim.specs.WorkersInMemory.{workers_of, first_with_forks, workers_next}
-use Rattle.cw_sim.proofs.HeldWorkers.{found_here, not_here, none_after, empty_there, some_there}
+use Rattle.cw_sim.proofs.InMemory.Workers.{found_here, not_here, none_after, empty_there, some_there}
 use Rattle.cw_sim.proofs.worker.robbed.Goals as goal
 
 pub returns-then-not-is_empty : goal.returns-then-not-is_empty

@@ -2,7 +2,7 @@
 use Rattle.std.proofs.Common.{◌<◌, length, ap, sym, ◌∙◌, subst, arith}
 use Rattle.std.specs.Prelude.{not}
 use Rattle.cw_sim.specs.WorkersInMemory.{IsLast, without, worker_of}
-use Rattle.cw_sim.proofs.HeldWorkers.{changed_in, worker_there, popped, last_inline, last_deque, some_in_deque}
+use Rattle.cw_sim.proofs.InMemory.Workers.{changed_in, worker_there, popped, last_inline, last_deque, some_in_deque}
 use Rattle.cw_sim.proofs.worker.take_newest.Goals as goal
 
 pub returns-then-is_none : goal.returns-then-is_none

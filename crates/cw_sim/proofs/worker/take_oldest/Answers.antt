@@ -2,7 +2,7 @@
 use Rattle.std.proofs.Common.{◌≡◌, ◌<◌, ◌∷◌, ◌++◌, length, get_or, ap, sym, ◌∙◌, arith, Some}
 use Rattle.std.specs.Option.{option_to_list}
 use Rattle.cw_sim.specs.WorkersInMemory.{worker_of}
-use Rattle.cw_sim.proofs.HeldWorkers.{changed_in, worker_there}
+use Rattle.cw_sim.proofs.InMemory.Workers.{changed_in, worker_there}
 use Rattle.cw_sim.proofs.worker.take_oldest.Goals as goal
 
 pub returns : goal.returns

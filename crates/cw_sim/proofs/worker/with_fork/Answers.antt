@@ -2,7 +2,7 @@
 use Rattle.std.proofs.Common.{◌<◌, length, ap, sym, ◌∙◌, arith}
 use Rattle.cw_sim.specs.Workers.{with_fork}
 use Rattle.cw_sim.specs.WorkersInMemory.{worker_of}
-use Rattle.cw_sim.proofs.HeldWorkers.{changed_in}
+use Rattle.cw_sim.proofs.InMemory.Workers.{changed_in}
 use Rattle.cw_sim.proofs.worker.with_fork.Goals as goal
 
 pub returns-in_ok-push_back : goal.returns-in_ok-push_back

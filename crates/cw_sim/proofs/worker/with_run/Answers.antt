@@ -1,6 +1,6 @@
 -- The worker is as it was, but for what it runs.
 use Rattle.std.proofs.Common.{◌<◌, length, refl, arith}
-use Rattle.cw_sim.proofs.HeldWorkers.{changed_in}
+use Rattle.cw_sim.proofs.InMemory.Workers.{changed_in}
 use Rattle.cw_sim.proofs.worker.with_run.Goals as goal
 
 pub returns : goal.returns

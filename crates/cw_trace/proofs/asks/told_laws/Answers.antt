@@ -1,4 +1,4 @@
-use Rattle.cw_trace.proofs.Agreeing.{gives_later, gives_held, covers_later, covers_held}
+use Rattle.cw_trace.proofs.Query.Agreeing.{gives_later, gives_held, covers_later, covers_held}
 use Rattle.cw_trace.proofs.asks.told_laws.Goals as goal
 
 pub returns : goal.returns

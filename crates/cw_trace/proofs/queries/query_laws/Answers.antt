@@ -1,4 +1,4 @@
-use Rattle.cw_trace.proofs.Answering.{decides, decides_by_reading, decides_in_runs, covers_blocks, finds_victims}
+use Rattle.cw_trace.proofs.Query.Answering.{decides, decides_by_reading, decides_in_runs, covers_blocks, finds_victims}
 use Rattle.cw_trace.proofs.queries.query_laws.Goals as goal
 
 pub returns : goal.returns

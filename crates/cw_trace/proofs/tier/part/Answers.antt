@@ -1,4 +1,4 @@
-use Rattle.cw_trace.proofs.Edits.{parts_before}
+use Rattle.cw_trace.proofs.Marks.Edits.{parts_before}
 use Rattle.cw_trace.proofs.tier.part.Goals as goal
 
 pub loop-i-init : goal.loop-i-init

@@ -4,7 +4,7 @@ use Rattle.std.specs.Ordering.{nat_cmp}
 use Rattle.std.proofs.lemmas.List.{take_all}
 use Rattle.std.proofs.lemmas.List.Sorted.{IsNonDecreasingBy-from_sort_by_key, answers_always}
 use Rattle.cw_tree.specs.InOrder.{conflict_in_order, by_asker}
-use Rattle.cw_tree.proofs.Askers.{asker_of, sorted_is}
+use Rattle.cw_tree.proofs.InOrder.Askers.{asker_of, sorted_is}
 use Rattle.cw_tree.proofs.closed.conflicts_in_order.Goals as goal
 
 pub returns : goal.returns

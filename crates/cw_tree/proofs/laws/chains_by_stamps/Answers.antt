@@ -1,4 +1,4 @@
-use Rattle.cw_tree.proofs.Stamps.{stamps_grow, stamps_close, stamps_extend, parts_of_stamps, each_stamp_follows, some_of_stamps, stamps_beneath, stamp_conflicts_grow, stamp_conflicts_close}
+use Rattle.cw_tree.proofs.ChainLaws.Stamps.{stamps_grow, stamps_close, stamps_extend, parts_of_stamps, each_stamp_follows, some_of_stamps, stamps_beneath, stamp_conflicts_grow, stamp_conflicts_close}
 use Rattle.cw_tree.proofs.laws.chains_by_stamps.Goals as goal
 
 pub returns : goal.returns

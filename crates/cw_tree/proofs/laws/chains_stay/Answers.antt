@@ -1,5 +1,5 @@
-use Rattle.cw_tree.proofs.Chains.{parts_are_chains, each_follows, some_are_chains, beneath_is_end}
-use Rattle.cw_tree.proofs.ChainsChange.{chains_grow, chains_close, chains_extend}
+use Rattle.cw_tree.proofs.ChainLaws.Chains.{parts_are_chains, each_follows, some_are_chains, beneath_is_end}
+use Rattle.cw_tree.proofs.ChainLaws.Change.{chains_grow, chains_close, chains_extend}
 use Rattle.cw_tree.proofs.laws.chains_stay.Goals as goal
 
 pub returns : goal.returns

@@ -1,4 +1,4 @@
-use Rattle.cw_tree.proofs.ChainsChange.{conflicts_at, conflicts_grow, conflicts_close, newest_grow, newest_close}
+use Rattle.cw_tree.proofs.ChainLaws.Change.{conflicts_at, conflicts_grow, conflicts_close, newest_grow, newest_close}
 use Rattle.cw_tree.proofs.laws.conflicts_at_places.Goals as goal
 
 pub returns : goal.returns

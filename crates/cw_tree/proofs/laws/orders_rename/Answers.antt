@@ -1,6 +1,6 @@
-use Rattle.cw_tree.proofs.Renaming.{trees_stay, nodes_stay, numbers_differ, ancestors_stay}
-use Rattle.cw_tree.proofs.Siblings.{siblings_stay, numbered_depth_first}
-use Rattle.cw_tree.proofs.InOrderSound.{series_stay, sound_stays}
+use Rattle.cw_tree.proofs.InOrder.Renaming.{trees_stay, nodes_stay, numbers_differ, ancestors_stay}
+use Rattle.cw_tree.proofs.Walks.Siblings.{siblings_stay, numbered_depth_first}
+use Rattle.cw_tree.proofs.InOrder.Sound.{series_stay, sound_stays}
 use Rattle.cw_tree.proofs.laws.orders_rename.Goals as goal
 
 pub returns : goal.returns

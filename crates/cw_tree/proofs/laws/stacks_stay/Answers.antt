@@ -1,4 +1,4 @@
-use Rattle.cw_tree.proofs.Stacks.{stacks_grow, stacks_close, fronts_of_stacks, stacks_tell}
+use Rattle.cw_tree.proofs.ChainLaws.Stacks.{stacks_grow, stacks_close, fronts_of_stacks, stacks_tell}
 use Rattle.cw_tree.proofs.laws.stacks_stay.Goals as goal
 
 pub returns : goal.returns

@@ -1,4 +1,4 @@
-use Rattle.cw_tree.proofs.NextPending.{sound_grows, sound_refuses, sound_forks, sound_closes}
+use Rattle.cw_tree.proofs.NextNodes.Pending.{sound_grows, sound_refuses, sound_forks, sound_closes}
 use Rattle.cw_tree.proofs.laws.trees_stay_sound.Goals as goal
 
 pub returns : goal.returns

@@ -1,5 +1,5 @@
 use Rattle.std.proofs.Common.{refl}
-use Rattle.cw_tree.proofs.VictimsAt.{victims_at, victims_grow}
+use Rattle.cw_tree.proofs.VictimsAt.At.{victims_at, victims_grow}
 use Rattle.cw_tree.proofs.laws.victims_at_places.Goals as goal
 
 pub returns : goal.returns

@@ -1,5 +1,5 @@
 use Rattle.cw_trace.specs.Query.{free, around_within, around_against}
-use Rattle.cw_trace.proofs.Agreeing.{stands_later}
+use Rattle.cw_trace.proofs.Query.Agreeing.{stands_later}
 use Rattle.cw_xconf.proofs.query.ask_around.Goals as goal
 
 pub returns-in-None-clause-given : goal.returns-in-None-clause-given

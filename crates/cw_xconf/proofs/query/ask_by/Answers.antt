@@ -1,6 +1,6 @@
 use Rattle.cw_trace.specs.Query.{own_within, own_against, around}
 use Rattle.cw_trace.specs.declared.verdict.Verdict.TheVariants.{Within, Against}
-use Rattle.cw_trace.proofs.Agreeing.{has_word_later}
+use Rattle.cw_trace.proofs.Query.Agreeing.{has_word_later}
 use Rattle.cw_xconf.proofs.Rules.{tells_of_tree}
 use Rattle.std.proofs.Common.{sym, ◌∙◌}
 use Rattle.cw_xconf.proofs.query.ask_by.Goals as goal

@@ -6,9 +6,9 @@ use Rattle.cw_core.specs.declared.event.Event.TheVariants as event
 use Rattle.cw_core.specs.State.{CoreState}
 use Rattle.cw_core.specs.Events.{fits, is_met}
 use Rattle.cw_core.specs.Kept.{IsBarrier}
-use Rattle.cw_core.proofs.HeldOut.{seen, running_there, finds}
-use Rattle.cw_core.proofs.HeldAccess.{runs_access, cell_there}
-use Rattle.cw_core.proofs.Barriers.{off, on}
+use Rattle.cw_core.proofs.InMemory.Out.{seen, running_there, finds}
+use Rattle.cw_core.proofs.InMemory.Access.{runs_access, cell_there}
+use Rattle.cw_core.proofs.Kept.Barriers.{off, on}
 use Rattle.cw_core.proofs.cores.Core.barrier.Goals as goal
 
 pub row-asker-requires : goal.row-asker-requires

@@ -8,7 +8,7 @@ use Rattle.cw_core.specs.InMemory.{state_of}
 use Rattle.cw_core.specs.State.{gap_of}
 use Rattle.cw_core.specs.Events.{fits, after_event}
 use Rattle.cw_core.specs.declared.event.Event.TheVariants as event
-use Rattle.cw_core.proofs.HeldOut.{seen, now_of, runs_free, running_there, finds, tries, begin_state, begin_kept}
+use Rattle.cw_core.proofs.InMemory.Out.{seen, now_of, runs_free, running_there, finds, tries, begin_state, begin_kept}
 use Rattle.cw_core.proofs.cores.Core.begin.Goals as goal
 
 pub row-own-requires : goal.row-own-requires

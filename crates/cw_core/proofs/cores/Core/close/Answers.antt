@@ -3,7 +3,7 @@ use Rattle.std.specs.Prelude.{slice_get}
 use Rattle.cw_stack.specs.Cells.{CellParts, AreSteps}
 use Rattle.cw_tree.specs.InOrder.{halt_in_order}
 use Rattle.cw_core.specs.Closing.{journals_of}
-use Rattle.cw_core.proofs.Journals.{closed_journals}
+use Rattle.cw_core.proofs.Events.Journals.{closed_journals}
 use Rattle.cw_core.proofs.cores.Core.close.Goals as goal
 
 pub returns-in-Ok-in_order-clause-journals : goal.returns-in-Ok-in_order-clause-journals

@@ -8,8 +8,8 @@ use Rattle.cw_core.specs.InMemory.{state_of}
 use Rattle.cw_core.specs.State.{gap_of}
 use Rattle.cw_core.specs.Kept.{changed, with_tail, with_place, plain_tail}
 use Rattle.cw_core.specs.declared.event.Event.TheVariants as event
-use Rattle.cw_core.proofs.HeldOut.{seen, running_there, finds}
-use Rattle.cw_core.proofs.Commits.{may_commit, block_here, parent_low, commit_state, commit_kept}
+use Rattle.cw_core.proofs.InMemory.Out.{seen, running_there, finds}
+use Rattle.cw_core.proofs.Kept.Commits.{may_commit, block_here, parent_low, commit_state, commit_kept}
 use Rattle.cw_core.proofs.cores.Core.commit.Goals as goal
 
 pub row-own-requires : goal.row-own-requires

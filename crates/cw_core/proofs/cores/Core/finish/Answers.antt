@@ -2,7 +2,7 @@ use Rattle.std.proofs.Common.{◌≡◌, arith, true}
 use Rattle.cw_core.specs.Events.{fits}
 use Rattle.cw_core.specs.InMemory.{state_of}
 use Rattle.cw_core.specs.declared.event.Event.TheVariants as event
-use Rattle.cw_core.proofs.HeldOut.{seen, running_there, runs_finish, finish_kept}
+use Rattle.cw_core.proofs.InMemory.Out.{seen, running_there, runs_finish, finish_kept}
 use Rattle.cw_core.proofs.cores.Core.finish.Goals as goal
 
 pub finish_row-requires : goal.finish_row-requires

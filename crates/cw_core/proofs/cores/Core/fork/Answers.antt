@@ -9,8 +9,8 @@ use Rattle.cw_core.specs.InMemory.{state_of}
 use Rattle.cw_core.specs.State.{column_of, gap_of}
 use Rattle.cw_core.specs.Events.{fits, may_fork, after_event}
 use Rattle.cw_core.specs.declared.event.Event.TheVariants as event
-use Rattle.cw_core.proofs.HeldOut.{seen, running_there, finds}
-use Rattle.cw_core.proofs.HeldFork.{runs_fork, may, may_not, fork_state, fork_kept, fork_reply, inline_reply}
+use Rattle.cw_core.proofs.InMemory.Out.{seen, running_there, finds}
+use Rattle.cw_core.proofs.InMemory.Fork.{runs_fork, may, may_not, fork_state, fork_kept, fork_reply, inline_reply}
 use Rattle.cw_core.proofs.cores.Core.fork.Goals as goal
 
 pub row-own-requires : goal.row-own-requires

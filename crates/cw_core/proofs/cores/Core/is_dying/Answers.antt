@@ -1,6 +1,6 @@
 use Rattle.std.proofs.Common.{sym, ◌∙◌}
-use Rattle.cw_core.proofs.Dying.{dying_is}
-use Rattle.cw_core.proofs.HeldOut.{strand_runs}
+use Rattle.cw_core.proofs.Fits.Dying.{dying_is}
+use Rattle.cw_core.proofs.InMemory.Out.{strand_runs}
 use Rattle.cw_core.proofs.cores.Core.is_dying.Goals as goal
 
 pub returns : goal.returns

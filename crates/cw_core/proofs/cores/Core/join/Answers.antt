@@ -1,7 +1,7 @@
 use Rattle.std.proofs.Common.{ap, ◌∙◌, arith, length}
 use Rattle.cw_core.specs.InMemory.{state_of}
 use Rattle.cw_core.specs.Kept.{changed, with_joined, with_back}
-use Rattle.cw_core.proofs.HeldJoin.{join_there, may_here, row_here, halves_there, strand_low, merge_low, merge_left, merge_named, join_state, join_kept}
+use Rattle.cw_core.proofs.InMemory.Join.{join_there, may_here, row_here, halves_there, strand_low, merge_low, merge_left, merge_named, join_state, join_kept}
 use Rattle.cw_core.proofs.cores.Core.join.Goals as goal
 
 pub row-row-requires : goal.row-row-requires

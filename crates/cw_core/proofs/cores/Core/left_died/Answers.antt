@@ -4,7 +4,7 @@ use Rattle.std.specs.List.{list_any}
 use Rattle.std.proofs.lemmas.Bool.{and_right}
 use Rattle.cw_open.specs.Machine.{finished_dead}
 use Rattle.cw_core.specs.Kept.{elder_list}
-use Rattle.cw_core.proofs.Fits.{died_tells, elder_low}
+use Rattle.cw_core.proofs.Fits.Fits.{died_tells, elder_low}
 use Rattle.cw_core.proofs.cores.Core.left_died.Goals as goal
 
 pub row-requires : goal.row-requires

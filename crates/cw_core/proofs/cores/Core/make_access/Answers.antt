@@ -13,8 +13,8 @@ use Rattle.cw_core.specs.Kept.{changed, with_tail, with_place, plain_tail, leaf_
 use Rattle.cw_core.specs.State.{column_of}
 use Rattle.cw_core.specs.Events.{after_event}
 use Rattle.cw_core.specs.declared.event.Event.TheVariants as event
-use Rattle.cw_core.proofs.HeldOut.{running_there, finds}
-use Rattle.cw_core.proofs.HeldAccess.{runs_access, cell_there, rooms_len, rooms_state, rooms_kept, has_room, comes_later, found_value, made_reply, answered, on_err, access_state, access_kept}
+use Rattle.cw_core.proofs.InMemory.Out.{running_there, finds}
+use Rattle.cw_core.proofs.InMemory.Access.{runs_access, cell_there, rooms_len, rooms_state, rooms_kept, has_room, comes_later, found_value, made_reply, answered, on_err, access_state, access_kept}
 use Rattle.cw_core.proofs.cores.Core.make_access.Goals as goal
 
 pub row-own-requires : goal.row-own-requires

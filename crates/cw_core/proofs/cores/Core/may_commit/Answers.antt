@@ -1,7 +1,7 @@
 use Rattle.std.proofs.Common.{ap, sym, ◌∙◌}
 use Rattle.std.specs.Prelude.{◌&&◌}
 use Rattle.cw_open.specs.Machine.{in_block}
-use Rattle.cw_core.proofs.Fits.{commit_tells}
+use Rattle.cw_core.proofs.Fits.Fits.{commit_tells}
 use Rattle.cw_core.proofs.cores.Core.may_commit.Goals as goal
 
 pub returns-then-goes_on : goal.returns-then-goes_on

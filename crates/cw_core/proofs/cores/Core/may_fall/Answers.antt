@@ -4,8 +4,8 @@ use Rattle.cw_tree.specs.Walks.{may_fall}
 use Rattle.cw_tree.specs.AccessStacks.{access_at}
 use Rattle.cw_xconf.proofs.Rules.{holds_back}
 use Rattle.cw_core.specs.Kept.{IsRow, IsMarked}
-use Rattle.cw_core.proofs.HeldOut.{seen}
-use Rattle.cw_core.proofs.Falls.{strand_low, falls_so}
+use Rattle.cw_core.proofs.InMemory.Out.{seen}
+use Rattle.cw_core.proofs.Kept.Falls.{strand_low, falls_so}
 use Rattle.cw_core.proofs.cores.Core.may_fall.Goals as goal
 
 pub row-requires : goal.row-requires

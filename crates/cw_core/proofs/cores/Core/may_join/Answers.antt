@@ -1,5 +1,5 @@
 use Rattle.std.proofs.Common.{sym, ◌∙◌}
-use Rattle.cw_core.proofs.Fits.{left_there, right_there}
+use Rattle.cw_core.proofs.Fits.Fits.{left_there, right_there}
 use Rattle.cw_core.proofs.cores.Core.may_join.Goals as goal
 
 pub has_finished-requires : goal.has_finished-requires

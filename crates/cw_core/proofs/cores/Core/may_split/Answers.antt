@@ -1,6 +1,6 @@
 use Rattle.std.proofs.Common.{ap, sym, ◌∙◌}
 use Rattle.std.specs.Prelude.{◌&&◌}
-use Rattle.cw_core.proofs.Fits.{right_there, fresh, split_tells}
+use Rattle.cw_core.proofs.Fits.Fits.{right_there, fresh, split_tells}
 use Rattle.cw_core.proofs.cores.Core.may_split.Goals as goal
 
 pub is_unstarted-requires : goal.is_unstarted-requires

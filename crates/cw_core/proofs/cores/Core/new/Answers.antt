@@ -1,5 +1,5 @@
 use Rattle.std.proofs.Common.{◌∙◌, ap, ◌++◌, ◌∷◌, []}
-use Rattle.cw_core.proofs.HeldStart.{start_state, start_kept}
+use Rattle.cw_core.proofs.InMemory.Start.{start_state, start_kept}
 use Rattle.cw_core.proofs.cores.Core.new.Goals as goal
 
 pub invariant_of-result : goal.invariant_of-result

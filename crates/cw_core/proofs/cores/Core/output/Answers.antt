@@ -6,7 +6,7 @@ use Rattle.cw_tree.specs.Series.{place}
 use Rattle.cw_core.specs.Kept.{changed, with_tail, with_place, plain_tail, leaf_row}
 use Rattle.cw_core.specs.Events.{fits, after_event}
 use Rattle.cw_core.specs.declared.event.Event.TheVariants as event
-use Rattle.cw_core.proofs.HeldOut.{seen, now_of, runs_free, running_there, finds, out_state, out_kept}
+use Rattle.cw_core.proofs.InMemory.Out.{seen, now_of, runs_free, running_there, finds, out_state, out_kept}
 use Rattle.cw_core.proofs.cores.Core.output.Goals as goal
 
 pub row-place-requires : goal.row-place-requires

@@ -8,10 +8,10 @@ use Rattle.cw_core.specs.State.{CoreState}
 use Rattle.cw_core.specs.Kept.{IsRow, changed, with_tail, with_victim, tried_tail, leaf_row, tried_again}
 use Rattle.cw_core.specs.Events.{after_event, reply_to}
 use Rattle.cw_core.specs.declared.event.Event.TheVariants as event
-use Rattle.cw_core.proofs.HeldOut.{seen, running_there}
-use Rattle.cw_core.proofs.HeldOut as out
-use Rattle.cw_core.proofs.HeldAccess.{runs_access, cell_there}
-use Rattle.cw_core.proofs.HeldRefused.{finds, tells, tried_fits, each_pending, spends_so, conflict_is, refused_view, refused_kept, refused_reply}
+use Rattle.cw_core.proofs.InMemory.Out.{seen, running_there}
+use Rattle.cw_core.proofs.InMemory.Out as out
+use Rattle.cw_core.proofs.InMemory.Access.{runs_access, cell_there}
+use Rattle.cw_core.proofs.InMemory.Refused.{finds, tells, tried_fits, each_pending, spends_so, conflict_is, refused_view, refused_kept, refused_reply}
 use Rattle.cw_core.proofs.cores.Core.refuse_access.Goals as goal
 
 pub row-place-requires : goal.row-place-requires

@@ -9,9 +9,9 @@ use Rattle.cw_core.specs.State.{gap_of}
 use Rattle.cw_core.specs.Undone.{MayUndo, AreUndone}
 use Rattle.cw_core.specs.Kept.{IsRow, changed, with_tail, with_rolled, aborted_tail}
 use Rattle.cw_core.specs.declared.event.Event.TheVariants as event
-use Rattle.cw_core.proofs.HeldOut.{seen, finds}
-use Rattle.cw_core.proofs.Rolled.{may_undo, is_pending_block}
-use Rattle.cw_core.proofs.Rolls.{may_roll, block_here, parent_low, roll_state, roll_kept, none_left}
+use Rattle.cw_core.proofs.InMemory.Out.{seen, finds}
+use Rattle.cw_core.proofs.Kept.Rolled.{may_undo, is_pending_block}
+use Rattle.cw_core.proofs.Kept.Rolls.{may_roll, block_here, parent_low, roll_state, roll_kept, none_left}
 use Rattle.cw_core.proofs.cores.Core.roll.Goals as goal
 
 pub row-attempt-requires : goal.row-attempt-requires

@@ -1,7 +1,7 @@
 use Rattle.std.proofs.Common.{ap, sym, ◌∙◌}
 use Rattle.std.specs.Prelude.{◌&&◌}
 use Rattle.cw_open.specs.Machine.{is_dying, in_block}
-use Rattle.cw_core.proofs.Fits.{rolls_tell}
+use Rattle.cw_core.proofs.Fits.Fits.{rolls_tell}
 use Rattle.cw_core.proofs.cores.Core.rolls_back.Goals as goal
 
 pub returns-then-not-is_running : goal.returns-then-not-is_running

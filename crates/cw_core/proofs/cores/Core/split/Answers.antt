@@ -1,7 +1,7 @@
 use Rattle.std.proofs.Common.{◌/◌, ap, sym, ◌∙◌, arith, length, refl}
 use Rattle.std.proofs.lemmas.Option.{slice_get_read}
 use Rattle.cw_core.specs.InMemory.{state_of}
-use Rattle.cw_core.proofs.HeldSplit.{split_there, cuts, split_state, split_kept, split_reply, early_state, early_reply, before, popped}
+use Rattle.cw_core.proofs.InMemory.Split.{split_there, cuts, split_state, split_kept, split_reply, early_state, early_reply, before, popped}
 use Rattle.cw_core.proofs.cores.Core.split.Goals as goal
 
 pub row-column-requires : goal.row-column-requires

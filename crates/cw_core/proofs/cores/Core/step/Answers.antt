@@ -2,7 +2,7 @@ use Rattle.std.proofs.Common.{◌≡◌, refl, rules}
 use Rattle.std.specs.Prelude.{OnOk}
 use Rattle.cw_core.specs.Events.{after_event}
 use Rattle.cw_core.specs.declared.event.Event.TheVariants as event
-use Rattle.cw_core.proofs.Stepping.{runs, stands, stands_after, chains, chains_after}
+use Rattle.cw_core.proofs.Events.Stepping.{runs, stands, stands_after, chains, chains_after}
 use Rattle.cw_core.proofs.cores.Core.step.Goals as goal
 
 pub returns-in-Fork-clause-run : goal.returns-in-Fork-clause-run

@@ -1,8 +1,8 @@
 use Rattle.std.proofs.Common.{◌≡◌, ap, ◌∙◌, true}
 use Rattle.cw_core.specs.Events.{fits, after_event}
 use Rattle.cw_core.specs.declared.event.Event.TheVariants as event
-use Rattle.cw_core.proofs.HeldOut.{seen}
-use Rattle.cw_core.proofs.Stopping.{stop_state, stop_kept}
+use Rattle.cw_core.proofs.InMemory.Out.{seen}
+use Rattle.cw_core.proofs.Kept.Stopping.{stop_state, stop_kept}
 use Rattle.cw_core.proofs.cores.Core.stop.Goals as goal
 
 pub invariant_of-self : goal.invariant_of-self

@@ -6,8 +6,8 @@ use Rattle.cw_tree.specs.Walks.{path, outermost, may_fall}
 use Rattle.cw_tree.specs.AccessStacks.{access_at}
 use Rattle.cw_core.specs.State.{CoreState}
 use Rattle.cw_core.specs.InMemory.{state_of}
-use Rattle.cw_core.proofs.Going.{well}
-use Rattle.cw_core.proofs.Falls.{walk_on, walk_ends}
+use Rattle.cw_core.proofs.Events.Going.{well}
+use Rattle.cw_core.proofs.Kept.Falls.{walk_on, walk_ends}
 use Rattle.cw_core.proofs.cores.Core.victim.Goals as goal
 
 pub loop-node-preserved : goal.loop-node-preserved

@@ -3,14 +3,14 @@ use Rattle.std.specs.Prelude.{◌&&◌, ◌||◌, not}
 use Rattle.std.specs.List.{list_any}
 use Rattle.std.proofs.lemmas.Bool.{and_right}
 use Rattle.cw_tree.specs.Nodes.{is_fork_kind, parent_of}
-use Rattle.cw_tree.proofs.There.{node_there}
+use Rattle.cw_tree.proofs.Walks.There.{node_there}
 use Rattle.cw_tree.specs.Shape.{IsTree}
 use Rattle.cw_open.specs.Machine.{has_finished}
 use Rattle.cw_core.specs.State.{CoreState, is_split}
 use Rattle.cw_core.specs.InMemory.{state_of}
 use Rattle.cw_core.specs.Kept.{IsRow, elder_list}
-use Rattle.cw_core.proofs.Going.{well}
-use Rattle.cw_core.proofs.LeftStrands.{waits_tell, elder_there}
+use Rattle.cw_core.proofs.Events.Going.{well}
+use Rattle.cw_core.proofs.Fits.LeftStrands.{waits_tell, elder_there}
 use Rattle.cw_core.proofs.cores.Core.waits_for_left.Goals as goal
 
 pub row-requires-in-Some : goal.row-requires-in-Some

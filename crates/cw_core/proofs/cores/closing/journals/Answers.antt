@@ -2,7 +2,7 @@ use Rattle.std.proofs.Common.{◌≡◌, ◌<◌, [], ◌∷◌, ◌++◌, ap, s
 use Rattle.std.specs.Prelude.{slice_get}
 use Rattle.std.proofs.lemmas.Bool.{cases_lt}
 use Rattle.std.proofs.lemmas.Option.{slice_get-get_or, slice_get_within}
-use Rattle.cw_tree.proofs.Renumbered.{map_take_more}
+use Rattle.cw_tree.proofs.InOrder.Renumbered.{map_take_more}
 use Rattle.cw_stack.specs.Cells.{CellParts, AreSteps}
 use Rattle.cw_core.proofs.cores.closing.journals.Goals as goal
 

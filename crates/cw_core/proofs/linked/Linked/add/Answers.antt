@@ -3,7 +3,7 @@ use Rattle.cw_tree.specs.declared.node.Node.{Node}
 use Rattle.cw_tree.specs.Nodes.{fresh_node}
 use Rattle.cw_core.specs.declared.linked.Link.{Link}
 use Rattle.cw_core.specs.Links.{AreLinks, put_link}
-use Rattle.cw_core.proofs.Links.{links_grown}
+use Rattle.cw_core.proofs.Undone.Links.{links_grown}
 use Rattle.cw_core.proofs.linked.Linked.add.Goals as goal
 
 pub invariant_of-self-2 : goal.invariant_of-self-2

@@ -1,8 +1,8 @@
 use Rattle.std.proofs.Common.{List, sym, refl, subst}
 use Rattle.cw_tree.specs.declared.node.Node.{Node}
-use Rattle.cw_tree.proofs.Closing.{length_closed, number_closed}
+use Rattle.cw_tree.proofs.NextNodes.Closing.{length_closed, number_closed}
 use Rattle.cw_core.specs.Links.{AreLinks}
-use Rattle.cw_core.proofs.Links.{links_closed}
+use Rattle.cw_core.proofs.Undone.Links.{links_closed}
 use Rattle.cw_core.proofs.linked.Linked.close.Goals as goal
 
 pub invariant_of-self : goal.invariant_of-self

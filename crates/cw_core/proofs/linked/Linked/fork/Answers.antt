@@ -2,7 +2,7 @@ use Rattle.std.proofs.Common.{◌≡◌, ◌+◌, ◌<◌, length, List, ap, sym
 use Rattle.cw_tree.specs.declared.node.Node.{Node}
 use Rattle.cw_core.specs.declared.linked.Link.{Link}
 use Rattle.cw_core.specs.Links.{AreLinks, put_link}
-use Rattle.cw_core.proofs.Links.{links_forked}
+use Rattle.cw_core.proofs.Undone.Links.{links_forked}
 use Rattle.cw_core.proofs.linked.Linked.fork.Goals as goal
 
 pub invariant_of-self-2 : goal.invariant_of-self-2

@@ -1,4 +1,4 @@
-use Rattle.cw_record.proofs.Listing.{Listing}
+use Rattle.cw_record.proofs.Orders.Listing.{Listing}
 use Rattle.cw_record.proofs.listed.Firsts.of_tree.Given as goal
 
 abbrev pub invariant-loop-strand : goal.invariant-loop-strand

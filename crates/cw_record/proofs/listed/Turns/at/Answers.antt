@@ -1,7 +1,7 @@
 use Rattle.std.proofs.Common.{arith, ap, length}
 use Rattle.cw_tree.specs.Names.{fork_number, is_right}
 use Rattle.cw_tree.proofs.Lists.{length_map_below}
-use Rattle.cw_tree.proofs.Turns.{turn_at}
+use Rattle.cw_tree.proofs.Names.Turns.{turn_at}
 use Rattle.cw_record.proofs.listed.Turns.at.Goals as goal
 
 pub index-requires : goal.index-requires

@@ -1,5 +1,5 @@
 use Rattle.std.proofs.Common.{arith}
-use Rattle.cw_record.proofs.Listing.{numbers_length, listed_root, listed_strand}
+use Rattle.cw_record.proofs.Orders.Listing.{numbers_length, listed_root, listed_strand}
 use Rattle.cw_record.proofs.listed.Turns.listed_name.Goals as goal
 
 pub returns-then-strand-eq0 : goal.returns-then-strand-eq0

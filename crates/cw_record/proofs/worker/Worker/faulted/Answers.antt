@@ -1,10 +1,10 @@
 use Rattle.std.proofs.Common.{arith, ◌∙◌, sym, ap, length, ◌∷◌}
-use Rattle.cw_tree.proofs.Growing.{length_more}
+use Rattle.cw_tree.proofs.NextNodes.Growing.{length_more}
 use Rattle.cw_tree.specs.Nodes.{fresh_node}
 use Rattle.cw_tree.specs.declared.node.Kind.TheVariants.{Strand}
 use Rattle.cw_record.specs.OneWorker.{unstarted}
-use Rattle.cw_record.proofs.Unstarted.{with_strands}
-use Rattle.cw_record.proofs.Waiting.{first_there, rest_there, more_there, one_unstarted}
+use Rattle.cw_record.proofs.OneWorker.Unstarted.{with_strands}
+use Rattle.cw_record.proofs.OneWorker.Waiting.{first_there, rest_there, more_there, one_unstarted}
 use Rattle.cw_record.proofs.worker.Worker.faulted.Goals as goal
 use Rattle.cw_record.proofs.worker.Worker.faulted.Goals.{in-Left+in_ok-starts-in-Left, in-Right}
 

@@ -1,11 +1,11 @@
 use Rattle.cw_serial.proofs.Room.Lawful.{closes_of}
 use Rattle.cw_serial.proofs.Room.Elements.{wants_there}
 use Rattle.cw_record.specs.OneWorker.{unstarted}
-use Rattle.cw_record.proofs.Conditions.{wanted_by, over_by, answered_by}
-use Rattle.cw_record.proofs.Leaving.{runs_first}
-use Rattle.cw_record.proofs.Shaped.{to_come_there}
-use Rattle.cw_record.proofs.Turning.{first_fork_there, act_run, fork_run, turn_run, join_run, finish_answer, fault_answer, end_at_block}
-use Rattle.cw_record.proofs.Standings.{act_stands, turn_stands, join_stands}
+use Rattle.cw_record.proofs.OneWorker.Conditions.{wanted_by, over_by, answered_by}
+use Rattle.cw_record.proofs.OneWorker.Leaving.{runs_first}
+use Rattle.cw_record.proofs.OneWorker.Shaped.{to_come_there}
+use Rattle.cw_record.proofs.OneWorker.Turning.{first_fork_there, act_run, fork_run, turn_run, join_run, finish_answer, fault_answer, end_at_block}
+use Rattle.cw_record.proofs.OneWorker.Standings.{act_stands, turn_stands, join_stands}
 use Rattle.cw_record.proofs.worker.Worker.run.Goals as goal
 
 pub wants-init : goal.wants-init

@@ -2,7 +2,7 @@ use Rattle.cw_serial.specs.Jobs.{Job}
 use Rattle.cw_serial.specs.Room.Strands.{StrandState}
 use Rattle.cw_serial.proofs.Working.{Worker as Working}
 use Rattle.cw_record.specs.OneWorker.{AllStand}
-use Rattle.cw_record.proofs.Running.{Runs, left_to_do}
+use Rattle.cw_record.proofs.OneWorker.Running.{Runs, left_to_do}
 use Rattle.cw_record.proofs.worker.Worker.run.Given as goal
 
 abbrev pub invariant-wants : goal.invariant-wants

@@ -1,7 +1,7 @@
 -- The node has a key that no other one has, and the thing under it.
 use Rattle.std.proofs.Common.{◌<◌, List, length, set, refl, ap, subst, arith, Option, Some}
 use Rattle.cw_sim.specs.ThingsInMemory.{Puts, things_of}
-use Rattle.cw_sim.proofs.HeldThings.{put_keys, put_puts, things_length}
+use Rattle.cw_sim.proofs.InMemory.Things.{put_keys, put_puts, things_length}
 use Rattle.cw_sim.proofs.by_node.ByNode.add.Goals as goal
 
 pub invariant_of-self-2 : goal.invariant_of-self-2

@@ -2,7 +2,7 @@
 use Rattle.std.proofs.Common.{◌≡◌, ℕ, ◌+◌, ◌≤◌, ◌++◌, List, length, take, replicate, sym, ap, ◌∙◌, arith, Option, None}
 use Rattle.std.proofs.lemmas.List.{take_all}
 use Rattle.cw_sim.specs.ThingsInMemory.{thing_at, under}
-use Rattle.cw_sim.proofs.HeldThings.{thing_of, thing_padded, keys_same}
+use Rattle.cw_sim.proofs.InMemory.Things.{thing_of, thing_padded, keys_same}
 use Rattle.cw_sim.proofs.by_node.ByNode.grow.Goals as goal
 
 padded : (xs ys : List (Option ℕ)) (n k : ℕ) → length xs ≤ n → ys ≡ take n xs ++ replicate k None → (m : ℕ) → thing_at ys m ≡ thing_at xs m

@@ -2,7 +2,7 @@
 use Rattle.std.proofs.Common.{List, refl, sym, subst, Option, None, set}
 use Rattle.std.specs.Prelude.{IsSome}
 use Rattle.cw_sim.specs.ThingsInMemory.{thing_at, Puts, things_of}
-use Rattle.cw_sim.proofs.HeldThings.{take_keys, take_puts, key_was, key_low}
+use Rattle.cw_sim.proofs.InMemory.Things.{take_keys, take_puts, key_was, key_low}
 use Rattle.cw_sim.proofs.by_node.ByNode.take.Goals as goal
 
 pub invariant_of-self : goal.invariant_of-self

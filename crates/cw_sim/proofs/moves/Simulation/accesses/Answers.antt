@@ -4,7 +4,7 @@ use Rattle.std.proofs.lemmas.Int.{to_z-of_z}
 use Rattle.std.proofs.lemmas.Result.{on_ok_weaker}
 use Rattle.cw_core.specs.declared.event.Event.TheVariants as event
 use Rattle.cw_sim.specs.Moves.{given_for, does}
-use Rattle.cw_sim.proofs.HeldAccesses.{access_fits_there, access_may, access_comes, refused_stands, refused_comes}
+use Rattle.cw_sim.proofs.InMemory.Accesses.{access_fits_there, access_may, access_comes, refused_stands, refused_comes}
 use Rattle.cw_sim.proofs.moves.Simulation.accesses.Goals as goal
 use Rattle.cw_sim.proofs.moves.Simulation.accesses.Goals.{in-Value, in_default}
 

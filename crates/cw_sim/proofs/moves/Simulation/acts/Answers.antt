@@ -3,7 +3,7 @@ use Rattle.std.proofs.Common.{refl, ap, sym, ◌∙◌, w64, SFits, rules, inl, 
 use Rattle.std.proofs.lemmas.Int.{to_z-of_z}
 use Rattle.std.proofs.lemmas.Result.{on_ok_weaker}
 use Rattle.cw_strand.specs.declared.want.Want.TheVariants as want
-use Rattle.cw_sim.proofs.HeldMoves.{may_do, may_fork, may_finish, fault_fits, faulted, acts_so}
+use Rattle.cw_sim.proofs.InMemory.Moves.{may_do, may_fork, may_finish, fault_fits, faulted, acts_so}
 use Rattle.cw_sim.proofs.moves.Simulation.acts.Goals as goal
 
 pub accesses-requires : goal.accesses-requires

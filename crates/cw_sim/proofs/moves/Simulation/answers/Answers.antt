@@ -1,6 +1,6 @@
 -- The body goes on as its strand does.
 use Rattle.std.proofs.lemmas.Result.{on_ok_weaker}
-use Rattle.cw_sim.proofs.HeldAnswers.{answered_stands}
+use Rattle.cw_sim.proofs.InMemory.Answers.{answered_stands}
 use Rattle.cw_sim.proofs.moves.Simulation.answers.Goals as goal
 
 pub returns : goal.returns

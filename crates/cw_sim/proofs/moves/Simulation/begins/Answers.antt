@@ -1,6 +1,6 @@
 -- What the body needs to stand here again is kept, the core begins the block, and the strand is answered.
 use Rattle.std.proofs.lemmas.Result.{on_ok_weaker}
-use Rattle.cw_sim.proofs.HeldBegins.{begin_fits_there, begin_body, begun, begin_may, begin_comes}
+use Rattle.cw_sim.proofs.InMemory.Begins.{begin_fits_there, begin_body, begun, begin_may, begin_comes}
 use Rattle.cw_sim.proofs.moves.Simulation.begins.Goals as goal
 
 pub at-requires : goal.at-requires

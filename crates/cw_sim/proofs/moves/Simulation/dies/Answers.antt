@@ -1,7 +1,7 @@
 -- The strand stands in a block, or comes to its end.
 use Rattle.std.proofs.Common.{sym}
 use Rattle.std.proofs.lemmas.Result.{on_ok_weaker}
-use Rattle.cw_sim.proofs.HeldMoves.{dying_strand, may_roll, may_finish_dead, died_rolled, died_finished}
+use Rattle.cw_sim.proofs.InMemory.Moves.{dying_strand, may_roll, may_finish_dead, died_rolled, died_finished}
 use Rattle.cw_sim.proofs.moves.Simulation.dies.Goals as goal
 
 pub in_block-requires : goal.in_block-requires

@@ -2,7 +2,7 @@
 use Rattle.std.proofs.lemmas.Result.{on_ok_weaker}
 use Rattle.cw_core.specs.declared.event.Event.TheVariants as event
 use Rattle.cw_sim.specs.Moves.{does}
-use Rattle.cw_sim.proofs.HeldEnds.{block_some, end_within, end_fits_there, end_may, end_comes}
+use Rattle.cw_sim.proofs.InMemory.Ends.{block_some, end_within, end_fits_there, end_may, end_comes}
 use Rattle.cw_sim.proofs.moves.Simulation.ends.Goals as goal
 
 pub take-requires : goal.take-requires

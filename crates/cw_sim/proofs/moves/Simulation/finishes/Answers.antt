@@ -1,6 +1,6 @@
 -- The strand finishes, and what follows asks no more than that.
 use Rattle.std.proofs.lemmas.Result.{on_ok_weaker}
-use Rattle.cw_sim.proofs.HeldFinishes.{finish_fits, has_finished_now, finish_comes}
+use Rattle.cw_sim.proofs.InMemory.Finishes.{finish_fits, has_finished_now, finish_comes}
 use Rattle.cw_sim.proofs.moves.Simulation.finishes.Goals as goal
 
 pub step-requires : goal.step-requires

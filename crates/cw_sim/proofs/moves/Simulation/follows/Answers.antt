@@ -2,7 +2,7 @@
 use Rattle.std.proofs.Common.{length, ap, sym, ◌∙◌, arith}
 use Rattle.std.proofs.lemmas.Result.{on_ok_weaker}
 use Rattle.cw_tree.specs.Nodes.{parent_of}
-use Rattle.cw_sim.proofs.HeldFollows.{strand_there, follows_main, may_meet, may_turn, follows_left, follows_right, follows_split}
+use Rattle.cw_sim.proofs.InMemory.Follows.{strand_there, follows_main, may_meet, may_turn, follows_left, follows_right, follows_split}
 use Rattle.cw_sim.proofs.moves.Simulation.follows.Goals as goal
 use Rattle.cw_sim.proofs.moves.Simulation.follows.Goals.{else-strand-fork-via-then-strand-fork+else-not-is_split, else-strand-fork-via-else-strand-fork}
 

@@ -4,7 +4,7 @@ use Rattle.cw_core.specs.Events.{may_fork}
 use Rattle.cw_sim.specs.Workers.{with_fork, worker_in}
 use Rattle.cw_sim.specs.WorkersInMemory.{workers_of}
 use Rattle.cw_sim.specs.declared.moves.Simulation.{Simulation as InMemory}
-use Rattle.cw_sim.proofs.HeldForks.{body_there, workers_there, body_stands_there, body_forks, fits_here, columns_by, is_left, is_right, forks_come}
+use Rattle.cw_sim.proofs.InMemory.Forks.{body_there, workers_there, body_stands_there, body_forks, fits_here, columns_by, is_left, is_right, forks_come}
 use Rattle.cw_sim.proofs.moves.Simulation.forks.Goals as goal
 use Rattle.cw_sim.proofs.moves.Simulation.forks.Goals.{in-Forked, in_default}
 

@@ -1,8 +1,8 @@
 -- The right strand is a node, and what follows is as in the definition.
 use Rattle.std.proofs.Common.{arith}
 use Rattle.std.proofs.lemmas.Result.{on_ok_weaker}
-use Rattle.cw_sim.proofs.HeldMeets.{nodes_there}
-use Rattle.cw_sim.proofs.HeldTurned.{turned, both_join, turned_dead}
+use Rattle.cw_sim.proofs.InMemory.Meets.{nodes_there}
+use Rattle.cw_sim.proofs.InMemory.Turned.{turned, both_join, turned_dead}
 use Rattle.cw_sim.proofs.moves.Simulation.goes_to_right.Goals as goal
 
 pub overflow_add-strand : goal.overflow_add-strand

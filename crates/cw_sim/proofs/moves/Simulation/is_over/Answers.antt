@@ -1,7 +1,7 @@
 -- There is main.
 use Rattle.std.proofs.Common.{◌<◌, length, sym, subst}
 use Rattle.cw_core.specs.State.{CoreState}
-use Rattle.cw_core.proofs.Going.{well}
+use Rattle.cw_core.proofs.Events.Going.{well}
 use Rattle.cw_sim.proofs.moves.Simulation.is_over.Goals as goal
 
 pub has_finished-requires : goal.has_finished-requires

@@ -3,7 +3,7 @@ use Rattle.std.proofs.Common.{refl, sym, ◌∙◌, subst, arith}
 use Rattle.cw_serial.specs.declared.standing.Standing.{Standing}
 use Rattle.cw_sim.specs.InMemory.{Seen, MayJoin}
 use Rattle.cw_sim.specs.declared.moves.Simulation.{Simulation as InMemory}
-use Rattle.cw_sim.proofs.HeldJoins.{IsParent, nodes_there, left_has, right_has, fits_here, parent_running, parent_dying, right_stands, given_up, lives_on, joins_come}
+use Rattle.cw_sim.proofs.InMemory.Joins.{IsParent, nodes_there, left_has, right_has, fits_here, parent_running, parent_dying, right_stands, given_up, lives_on, joins_come}
 use Rattle.cw_sim.proofs.moves.Simulation.joins.Goals as goal
 use Rattle.cw_sim.proofs.moves.Simulation.joins.Goals.{then-is_dying, else-is_dying+in_ok-join}
 

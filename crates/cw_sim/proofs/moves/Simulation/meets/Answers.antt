@@ -3,7 +3,7 @@ use Rattle.std.proofs.Common.{◌+◌, sym, arith}
 use Rattle.std.proofs.lemmas.Bool.{and_left, and_right}
 use Rattle.std.proofs.lemmas.Result.{on_ok_weaker}
 use Rattle.cw_open.specs.Machine.{has_finished}
-use Rattle.cw_sim.proofs.HeldMeets.{nodes_there, may_join, met_joins, met_alone}
+use Rattle.cw_sim.proofs.InMemory.Meets.{nodes_there, may_join, met_joins, met_alone}
 use Rattle.cw_sim.proofs.moves.Simulation.meets.Goals as goal
 use Rattle.cw_sim.proofs.moves.Simulation.meets.Goals.{else-has_finished-via-then-has_finished+else-has_finished-2, else-has_finished-via-else-has_finished}
 

@@ -1,7 +1,7 @@
 -- Worker w is there, and what it makes is the move of the definition.
 use Rattle.std.proofs.Common.{sym, ◌∙◌}
 use Rattle.std.proofs.lemmas.Result.{on_ok_weaker}
-use Rattle.cw_sim.proofs.HeldMoves.{runs_so, moves_idle, runs_there, has_body_there, may_die, moves_dying, may_act, moves_acting}
+use Rattle.cw_sim.proofs.InMemory.Moves.{runs_so, moves_idle, runs_there, has_body_there, may_die, moves_dying, may_act, moves_acting}
 use Rattle.cw_sim.proofs.moves.Simulation.moves.Goals as goal
 
 pub returns-in_default : goal.returns-in_default

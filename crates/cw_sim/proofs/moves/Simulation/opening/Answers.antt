@@ -2,7 +2,7 @@
 use Rattle.std.proofs.Common.{refl, ap, ◌∙◌}
 use Rattle.cw_strand.specs.Names.{first_memory}
 use Rattle.cw_core.specs.State.{start}
-use Rattle.cw_sim.proofs.HeldOpens.{opens_stands}
+use Rattle.cw_sim.proofs.InMemory.Opens.{opens_stands}
 use Rattle.cw_sim.proofs.moves.Simulation.opening.Goals as goal
 
 pub returns : goal.returns

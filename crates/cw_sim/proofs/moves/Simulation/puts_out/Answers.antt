@@ -5,7 +5,7 @@ use Rattle.std.proofs.lemmas.Result.{on_ok_weaker}
 use Rattle.cw_core.specs.declared.event.Event.TheVariants as event
 use Rattle.cw_core.specs.Events.{after_event}
 use Rattle.cw_sim.specs.Moves.{does}
-use Rattle.cw_sim.proofs.HeldActs.{out_may, out_comes}
+use Rattle.cw_sim.proofs.InMemory.Acts.{out_may, out_comes}
 use Rattle.cw_sim.proofs.moves.Simulation.puts_out.Goals as goal
 
 pub answers-requires : goal.answers-requires

@@ -1,7 +1,7 @@
 -- The core rolls the block back, and the body goes back to its begin.
 use Rattle.std.proofs.lemmas.Result.{on_ok_weaker}
-use Rattle.cw_sim.proofs.HeldEnds.{block_some}
-use Rattle.cw_sim.proofs.HeldRolls.{roll_fits_there, roll_body, roll_back, roll_comes}
+use Rattle.cw_sim.proofs.InMemory.Ends.{block_some}
+use Rattle.cw_sim.proofs.InMemory.Rolls.{roll_fits_there, roll_body, roll_back, roll_comes}
 use Rattle.cw_sim.proofs.moves.Simulation.rolls.Goals as goal
 
 pub take-saved-requires : goal.take-saved-requires

@@ -1,7 +1,7 @@
 -- From move to move.
 use Rattle.std.proofs.Common.{refl}
 use Rattle.cw_sim.specs.InMemory.{job_of}
-use Rattle.cw_sim.proofs.HeldRuns.{z, is_opened, along_next, may_move, comes_next, ends_over}
+use Rattle.cw_sim.proofs.InMemory.Runs.{z, is_opened, along_next, may_move, comes_next, ends_over}
 use Rattle.cw_sim.proofs.moves.Simulation.runs.Goals as goal
 
 pub loop-n-init : goal.loop-n-init

@@ -1,5 +1,5 @@
 use Rattle.cw_sim.specs.InMemory.{job_of}
-use Rattle.cw_sim.proofs.HeldRuns.{IsAt, AreAlong}
+use Rattle.cw_sim.proofs.InMemory.Runs.{IsAt, AreAlong}
 use Rattle.cw_sim.proofs.moves.Simulation.runs.Given as goal
 
 abbrev pub invariant-loop-n : goal.invariant-loop-n

@@ -1,6 +1,6 @@
 -- What is robbed in memory is what the definition robs.
 use Rattle.std.proofs.lemmas.Result.{on_ok_weaker}
-use Rattle.cw_sim.proofs.HeldTakes.{may_take, stolen, none_stolen}
+use Rattle.cw_sim.proofs.InMemory.Takes.{may_take, stolen, none_stolen}
 use Rattle.cw_sim.proofs.moves.Simulation.steals.Goals as goal
 
 pub takes-requires : goal.takes-requires

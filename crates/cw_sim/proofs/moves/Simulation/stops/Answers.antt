@@ -2,7 +2,7 @@
 use Rattle.std.proofs.Common.{ap, ◌∙◌}
 use Rattle.cw_core.specs.declared.event.Event.TheVariants as event
 use Rattle.cw_core.specs.Events.{after_event}
-use Rattle.cw_sim.proofs.HeldStill.{stop_stands}
+use Rattle.cw_sim.proofs.InMemory.Still.{stop_stands}
 use Rattle.cw_sim.proofs.moves.Simulation.stops.Goals as goal
 
 pub returns : goal.returns

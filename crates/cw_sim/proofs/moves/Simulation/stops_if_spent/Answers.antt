@@ -1,6 +1,6 @@
 -- Where no budget is spent, all is as it was.
 use Rattle.std.proofs.Common.{sym, ◌∙◌}
-use Rattle.cw_sim.proofs.HeldStill.{unspent_stands}
+use Rattle.cw_sim.proofs.InMemory.Still.{unspent_stands}
 use Rattle.cw_sim.proofs.moves.Simulation.stops_if_spent.Goals as goal
 
 pub returns-in-None : goal.returns-in-None

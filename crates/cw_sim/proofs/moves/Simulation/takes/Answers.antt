@@ -1,6 +1,6 @@
 -- There is a fork to take; its split fits; its right strand is a node; and the workers are as the definition says.
 use Rattle.std.proofs.Common.{arith}
-use Rattle.cw_sim.proofs.HeldTakes.{some_taken, split_fits, right_there, still_there, taken_comes}
+use Rattle.cw_sim.proofs.InMemory.Takes.{some_taken, split_fits, right_there, still_there, taken_comes}
 use Rattle.cw_sim.proofs.moves.Simulation.takes.Goals as goal
 
 pub unreachable-requires : goal.unreachable-requires

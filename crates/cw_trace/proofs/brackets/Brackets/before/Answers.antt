@@ -1,6 +1,6 @@
 use Rattle.std.proofs.Common.{◌<◌, length, arith}
-use Rattle.cw_trace.proofs.Bracketing.{mark_low, marked, told}
-use Rattle.cw_trace.proofs.Numbering.{has_contains}
+use Rattle.cw_trace.proofs.Marks.Bracketing.{mark_low, marked, told}
+use Rattle.cw_trace.proofs.Marks.Numbering.{has_contains}
 use Rattle.cw_trace.proofs.brackets.Brackets.before.Goals as goal
 
 pub index-requires : goal.index-requires

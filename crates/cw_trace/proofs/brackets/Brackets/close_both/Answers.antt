@@ -1,7 +1,7 @@
 use Rattle.std.proofs.Common.{◌+◌, ap, ◌∙◌, arith}
 use Rattle.std.specs.Prelude.{◌*◌}
 use Rattle.cw_tree.specs.Walks.{has}
-use Rattle.cw_trace.proofs.FourMarks.{out, stays_out, four_out, next_opening, next_closing}
+use Rattle.cw_trace.proofs.Marks.FourMarks.{out, stays_out, four_out, next_opening, next_closing}
 use Rattle.cw_trace.proofs.brackets.Brackets.close_both.Goals as goal
 
 pub remove-requires-2 : goal.remove-requires-2

@@ -2,8 +2,8 @@ use Rattle.std.proofs.Common.{◌<◌, length, refl, ap, ◌∙◌, arith}
 use Rattle.std.specs.Vec.{with_item}
 use Rattle.cw_tree.specs.Walks.{has}
 use Rattle.cw_trace.specs.Marks.{with_mark}
-use Rattle.cw_trace.proofs.Bracketing.{mark_low, marked, Place, place_some, place_none, HasInserted, inserted}
-use Rattle.cw_trace.proofs.Numbering.{has_contains}
+use Rattle.cw_trace.proofs.Marks.Bracketing.{mark_low, marked, Place, place_some, place_none, HasInserted, inserted}
+use Rattle.cw_trace.proofs.Marks.Numbering.{has_contains}
 use Rattle.cw_trace.proofs.brackets.Brackets.insert.Goals as goal
 use Rattle.cw_trace.proofs.brackets.Brackets.insert.Goals.{in-Some, in-None}
 

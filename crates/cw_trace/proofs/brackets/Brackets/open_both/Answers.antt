@@ -3,8 +3,8 @@ use Rattle.std.specs.Prelude.{◌*◌, ◌||◌}
 use Rattle.std.proofs.lemmas.Bool.{ne_eqb}
 use Rattle.cw_tree.specs.Walks.{has}
 use Rattle.cw_trace.specs.Columns.{place_after}
-use Rattle.cw_trace.proofs.FourMarks.{Stage, stage_has, stage_length, stage_more, next_opening, next_closing}
-use Rattle.cw_trace.proofs.Numbering.{has_here, has_later}
+use Rattle.cw_trace.proofs.Marks.FourMarks.{Stage, stage_has, stage_length, stage_more, next_opening, next_closing}
+use Rattle.cw_trace.proofs.Marks.Numbering.{has_here, has_later}
 use Rattle.cw_trace.proofs.brackets.Brackets.open_both.Goals as goal
 
 -- the marks of the fork, as they are counted up

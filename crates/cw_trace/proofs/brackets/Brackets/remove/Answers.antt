@@ -1,7 +1,7 @@
 use Rattle.std.proofs.Common.{◌<◌, length, nat_eq, not, refl, ap, ◌∙◌, arith}
 use Rattle.std.specs.List.{filter}
-use Rattle.cw_trace.proofs.Bracketing.{mark_low, marked, HasRemoved, removed}
-use Rattle.cw_trace.proofs.Numbering.{has_contains}
+use Rattle.cw_trace.proofs.Marks.Bracketing.{mark_low, marked, HasRemoved, removed}
+use Rattle.cw_trace.proofs.Marks.Numbering.{has_contains}
 use Rattle.cw_trace.proofs.brackets.Brackets.remove.Goals as goal
 
 pub index-requires : goal.index-requires

@@ -1,4 +1,4 @@
-use Rattle.cw_trace.proofs.Kept.{fork_keeps_all}
+use Rattle.cw_trace.proofs.Keeps.Kept.{fork_keeps_all}
 use Rattle.cw_trace.proofs.tier.Tier.fork.Goals as goal
 
 pub returns-clause-keeps : goal.returns-clause-keeps

@@ -1,4 +1,4 @@
-use Rattle.cw_trace.proofs.Kept.{merge_keeps_to}
+use Rattle.cw_trace.proofs.Keeps.Kept.{merge_keeps_to}
 use Rattle.cw_trace.proofs.tier.Tier.merge.Goals as goal
 
 pub returns-clause-keeps : goal.returns-clause-keeps

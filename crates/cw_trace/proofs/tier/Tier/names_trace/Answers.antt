@@ -2,7 +2,7 @@ use Rattle.std.proofs.Common.{ap, sym, ◌∙◌, arith}
 use Rattle.std.proofs.lemmas.Bool.{le-ltb}
 use Rattle.cw_trace.specs.Columns.{is_trace}
 use Rattle.cw_trace.specs.Tier.{traces_of}
-use Rattle.cw_trace.proofs.BeyondColumns.{no_trace}
+use Rattle.cw_trace.proofs.Query.BeyondColumns.{no_trace}
 use Rattle.cw_trace.proofs.tier.Tier.names_trace.Goals as goal
 
 pub returns-else-trace-len : goal.returns-else-trace-len

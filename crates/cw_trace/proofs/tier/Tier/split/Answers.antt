@@ -1,5 +1,5 @@
-use Rattle.cw_trace.proofs.Barring.{none_bars_ok, next_bars_err}
-use Rattle.cw_trace.proofs.Kept.{split_keeps_ok}
+use Rattle.cw_trace.proofs.Outward.Barring.{none_bars_ok, next_bars_err}
+use Rattle.cw_trace.proofs.Keeps.Kept.{split_keeps_ok}
 use Rattle.cw_trace.proofs.tier.Tier.split.Goals as goal
 
 pub returns-clause-keeps : goal.returns-clause-keeps

@@ -2,7 +2,7 @@ use Rattle.std.proofs.Common.{◌≡◌, false, ap, sym, ◌∙◌, inl, inr}
 use Rattle.std.specs.Prelude.{◌⊎◌}
 use Rattle.cw_trace.specs.Columns.{is_trace, inside}
 use Rattle.cw_trace.specs.Tier.{traces_of}
-use Rattle.cw_trace.proofs.BeyondColumns.{not_inside}
+use Rattle.cw_trace.proofs.Query.BeyondColumns.{not_inside}
 use Rattle.cw_trace.proofs.tier.Tier.stands_within.Goals as goal
 use Rattle.cw_trace.proofs.tier.Tier.stands_within.Goals.{else-names_trace-via-then-names_trace+else-names_trace-2, else-names_trace-via-else-names_trace}
 

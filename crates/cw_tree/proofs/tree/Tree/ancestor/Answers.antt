@@ -1,6 +1,6 @@
 use Rattle.std.proofs.Common.{arith, ap, sym, ◌∙◌, ◌≢◌, subst}
 use Rattle.cw_tree.specs.Walks.{IsNumbered, is_ancestor}
-use Rattle.cw_tree.proofs.Ancestors.{ancestor_step, ancestor_here}
+use Rattle.cw_tree.proofs.Walks.Ancestors.{ancestor_step, ancestor_here}
 use Rattle.cw_tree.proofs.tree.Tree.ancestor.Goals as goal
 
 pub loop-n-preserved : goal.loop-n-preserved

@@ -1,4 +1,4 @@
-use Rattle.cw_tree.proofs.DepthFirst.{walk_goes_on, walk_smaller}
+use Rattle.cw_tree.proofs.InOrder.DepthFirst.{walk_goes_on, walk_smaller}
 use Rattle.cw_tree.proofs.tree.Tree.depth_first.Goals as goal
 
 pub loop-n-preserved : goal.loop-n-preserved

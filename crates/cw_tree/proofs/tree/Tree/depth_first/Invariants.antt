@@ -1,5 +1,5 @@
 use Rattle.std.proofs.Common.{length}
-use Rattle.cw_tree.proofs.DepthFirst.{Walking, ahead}
+use Rattle.cw_tree.proofs.InOrder.DepthFirst.{Walking, ahead}
 use Rattle.cw_tree.proofs.tree.Tree.depth_first.Given as goal
 
 abbrev pub invariant-loop-n : goal.invariant-loop-n

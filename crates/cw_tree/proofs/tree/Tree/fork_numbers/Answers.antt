@@ -1,5 +1,5 @@
 use Rattle.std.proofs.Common.{arith, ap, ◌∙◌, ◌<◌, length}
-use Rattle.cw_tree.proofs.PassUp.{up_start, up_step, up_end, number_is, number_fits, sum_fits}
+use Rattle.cw_tree.proofs.Names.PassUp.{up_start, up_step, up_end, number_is, number_fits, sum_fits}
 use Rattle.cw_tree.proofs.tree.Tree.fork_numbers.Goals as goal
 
 pub loop-n-init : goal.loop-n-init

@@ -1,4 +1,4 @@
-use Rattle.cw_tree.proofs.PassUp.{CountedUp}
+use Rattle.cw_tree.proofs.Names.PassUp.{CountedUp}
 use Rattle.cw_tree.proofs.tree.Tree.fork_numbers.Given as goal
 
 abbrev pub invariant-loop-n : goal.invariant-loop-n

@@ -1,5 +1,5 @@
 use Rattle.std.proofs.Common.{arith, ap, ◌∙◌, length}
-use Rattle.cw_tree.proofs.PassDown.{down_start, children_fit, own_counted, down_fits, down_step}
+use Rattle.cw_tree.proofs.Names.PassDown.{down_start, children_fit, own_counted, down_fits, down_step}
 use Rattle.cw_tree.proofs.tree.Tree.forks_inside.Goals as goal
 
 pub loop-n-init : goal.loop-n-init

@@ -1,4 +1,4 @@
-use Rattle.cw_tree.proofs.PassDown.{CountedDown}
+use Rattle.cw_tree.proofs.Names.PassDown.{CountedDown}
 use Rattle.cw_tree.proofs.tree.Tree.forks_inside.Given as goal
 
 abbrev pub invariant-loop-n : goal.invariant-loop-n

@@ -3,8 +3,8 @@ use Rattle.std.proofs.lemmas.List.{take_all}
 use Rattle.cw_tree.specs.Walks.{IsNumbered}
 use Rattle.cw_tree.specs.Series.{depth_first}
 use Rattle.cw_tree.specs.InOrder.{node_in_order, in_order}
-use Rattle.cw_tree.proofs.Visits.{as_many}
-use Rattle.cw_tree.proofs.Renumbered.{some_node, visited_there, map_take_more, in_order_numbered}
+use Rattle.cw_tree.proofs.InOrder.Visits.{as_many}
+use Rattle.cw_tree.proofs.InOrder.Renumbered.{some_node, visited_there, map_take_more, in_order_numbered}
 use Rattle.cw_tree.proofs.tree.Tree.in_order.Goals as goal
 
 pub renamed_node-requires-clause-there : goal.renamed_node-requires-clause-there

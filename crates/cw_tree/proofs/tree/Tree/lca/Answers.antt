@@ -1,6 +1,6 @@
 use Rattle.std.proofs.Common.{arith, ap, sym, ◌∙◌, ◌<◌}
 use Rattle.cw_tree.specs.Walks.{lca}
-use Rattle.cw_tree.proofs.Meets.{lca_left, lca_right}
+use Rattle.cw_tree.proofs.Walks.Meets.{lca_left, lca_right}
 use Rattle.cw_tree.proofs.tree.Tree.lca.Goals as goal
 
 pub loop-left-preserved-then-left-right : goal.loop-left-preserved-then-left-right

@@ -1,6 +1,6 @@
 use Rattle.std.proofs.Common.{arith, ◌∙◌}
 use Rattle.cw_tree.specs.Nodes.{is_pending}
-use Rattle.cw_tree.proofs.Climbs.{found_above, not_found_above}
+use Rattle.cw_tree.proofs.Walks.Climbs.{found_above, not_found_above}
 use Rattle.cw_tree.proofs.tree.Tree.nua.Goals as goal
 
 pub returns-then-is_pending : goal.returns-then-is_pending

@@ -1,6 +1,6 @@
 use Rattle.std.proofs.Common.{arith, ap, ◌+◌, ◌<◌, ℕ, List, length, get_or, set, subst, sym}
-use Rattle.cw_tree.proofs.Visits.{as_many}
-use Rattle.cw_tree.proofs.Renumbered.{Placed, some_node, visited_there, placed_step, placed_end}
+use Rattle.cw_tree.proofs.InOrder.Visits.{as_many}
+use Rattle.cw_tree.proofs.InOrder.Renumbered.{Placed, some_node, visited_there, placed_step, placed_end}
 use Rattle.cw_tree.proofs.tree.Tree.numbers.Goals as goal
 
 pub overflow_cast-place : goal.overflow_cast-place

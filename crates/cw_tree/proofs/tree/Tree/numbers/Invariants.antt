@@ -1,4 +1,4 @@
-use Rattle.cw_tree.proofs.Renumbered.{Placed}
+use Rattle.cw_tree.proofs.InOrder.Renumbered.{Placed}
 use Rattle.cw_tree.proofs.tree.Tree.numbers.Given as goal
 
 abbrev pub invariant-loop-place : goal.invariant-loop-place

@@ -1,5 +1,5 @@
 use Rattle.std.proofs.Common.{arith}
-use Rattle.cw_tree.proofs.Renumbered.{number_is, past_is}
+use Rattle.cw_tree.proofs.InOrder.Renumbered.{number_is, past_is}
 use Rattle.cw_tree.proofs.tree.Tree.renamed.Goals as goal
 
 pub returns-then-place-numbers : goal.returns-then-place-numbers

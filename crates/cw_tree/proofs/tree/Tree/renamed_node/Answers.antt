@@ -1,4 +1,4 @@
-use Rattle.cw_tree.proofs.Renumbered.{node_is}
+use Rattle.cw_tree.proofs.InOrder.Renumbered.{node_is}
 use Rattle.cw_tree.proofs.tree.Tree.renamed_node.Goals as goal
 
 pub returns : goal.returns

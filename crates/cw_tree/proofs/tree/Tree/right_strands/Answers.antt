@@ -1,6 +1,6 @@
 use Rattle.std.proofs.Common.{arith, ap, sym, ◌+◌, ◌<◌, Bool, length, set, subst}
 use Rattle.std.specs.Prelude.{◌||◌}
-use Rattle.cw_tree.proofs.Sides.{Told, told_step, told_end}
+use Rattle.cw_tree.proofs.Names.Sides.{Told, told_step, told_end}
 use Rattle.cw_tree.proofs.tree.Tree.right_strands.Goals as goal
 
 pub loop-n-preserved : goal.loop-n-preserved

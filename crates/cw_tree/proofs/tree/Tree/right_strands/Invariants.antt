@@ -1,4 +1,4 @@
-use Rattle.cw_tree.proofs.Sides.{Told}
+use Rattle.cw_tree.proofs.Names.Sides.{Told}
 use Rattle.cw_tree.proofs.tree.Tree.right_strands.Given as goal
 
 abbrev pub invariant-loop-n : goal.invariant-loop-n

@@ -1,7 +1,7 @@
 use Rattle.std.proofs.Common.{arith, ap, sym, ◌∙◌, ◌++◌, length, map}
 use Rattle.cw_tree.specs.Names.{fork_number, is_right, strands_on, turn}
 use Rattle.cw_tree.proofs.Lists.{length_map_below}
-use Rattle.cw_tree.proofs.Turns.{turn_at, turns_strand, turns_other}
+use Rattle.cw_tree.proofs.Names.Turns.{turn_at, turns_strand, turns_other}
 use Rattle.cw_tree.proofs.tree.Tree.turns.Goals as goal
 
 pub index-requires : goal.index-requires

@@ -3,7 +3,7 @@ use Rattle.std.specs.Prelude.{◌⊎◌}
 use Rattle.std.proofs.lemmas.Bool.{and_left}
 use Rattle.cw_tree.specs.Nodes.{is_pending}
 use Rattle.cw_tree.specs.Walks.{IsNumbered, lca, may_fall}
-use Rattle.cw_tree.proofs.Victims.{way_start, way_up, way_end, takes, passes_by, shared_stays, nothing_yet}
+use Rattle.cw_tree.proofs.VictimsAt.Victims.{way_start, way_up, way_end, takes, passes_by, shared_stays, nothing_yet}
 use Rattle.cw_tree.proofs.tree.Tree.victim_plain.Goals as goal
 use Rattle.cw_tree.proofs.tree.Tree.victim_plain.Goals.{else-at-u-via-then-at-u+else-is_pending, else-at-u-via-else-at-u}
 

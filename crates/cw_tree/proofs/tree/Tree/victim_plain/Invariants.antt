@@ -1,7 +1,7 @@
 use Rattle.std.proofs.Common.{◌≡◌}
 use Rattle.std.specs.Option.{option_or}
 use Rattle.cw_tree.specs.Walks.{above, outermost, victim, may_fall}
-use Rattle.cw_tree.proofs.Victims.{OnWay}
+use Rattle.cw_tree.proofs.VictimsAt.Victims.{OnWay}
 use Rattle.cw_tree.proofs.tree.Tree.victim_plain.Given as goal
 
 -- the victim stands above the node that was reached, or else was found

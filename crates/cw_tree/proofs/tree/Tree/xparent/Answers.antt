@@ -1,6 +1,6 @@
 use Rattle.std.proofs.Common.{arith, ◌∙◌}
 use Rattle.cw_tree.specs.Nodes.{is_block}
-use Rattle.cw_tree.proofs.Climbs.{found_above, not_found_above}
+use Rattle.cw_tree.proofs.Walks.Climbs.{found_above, not_found_above}
 use Rattle.cw_tree.proofs.tree.Tree.xparent.Goals as goal
 
 pub returns-then-is_block : goal.returns-then-is_block

@@ -1,5 +1,5 @@
 use Rattle.std.proofs.Common.{arith, ap, ◌<◌, length, rules}
-use Rattle.cw_tree.proofs.Children.{met_start, met_step, met_end_last, met_end_before}
+use Rattle.cw_tree.proofs.Walks.Children.{met_start, met_step, met_end_last, met_end_before}
 use Rattle.cw_tree.proofs.tree.order.Family.of_tree.Goals as goal
 
 pub loop-n-init : goal.loop-n-init

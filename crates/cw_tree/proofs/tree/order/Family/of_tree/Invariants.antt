@@ -1,4 +1,4 @@
-use Rattle.cw_tree.proofs.Children.{Met}
+use Rattle.cw_tree.proofs.Walks.Children.{Met}
 use Rattle.cw_tree.proofs.tree.order.Family.of_tree.Given as goal
 
 abbrev pub invariant-loop-n : goal.invariant-loop-n

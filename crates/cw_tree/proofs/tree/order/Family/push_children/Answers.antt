@@ -1,7 +1,7 @@
 use Rattle.std.proofs.Common.{arith, ap, sym, ℕ, List, length, subst}
 use Rattle.cw_tree.proofs.Lists.{length_map_below}
 use Rattle.cw_tree.specs.Links.{last_child, child_before}
-use Rattle.cw_tree.proofs.Children.{Pushing, push_start, push_step, push_smaller}
+use Rattle.cw_tree.proofs.Walks.Children.{Pushing, push_start, push_step, push_smaller}
 use Rattle.cw_tree.proofs.tree.order.Family.push_children.Goals as goal
 
 pub index-next-requires : goal.index-next-requires

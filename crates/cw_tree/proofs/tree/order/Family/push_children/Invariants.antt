@@ -1,4 +1,4 @@
-use Rattle.cw_tree.proofs.Children.{Pushing, size}
+use Rattle.cw_tree.proofs.Walks.Children.{Pushing, size}
 use Rattle.cw_tree.proofs.tree.order.Family.push_children.Given as goal
 
 abbrev pub invariant-loop-next : goal.invariant-loop-next

@@ -1,0 +1,14 @@
+pub mod Accessing
+pub mod Closing
+pub mod Complete
+pub mod Forks
+pub mod Going
+pub mod Joined
+pub mod Journals
+pub mod Kept
+pub mod Making
+pub mod OneFork
+pub mod Ordering
+pub mod Places
+pub mod Rolling
+pub mod Stepping

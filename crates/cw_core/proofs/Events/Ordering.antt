@@ -1,0 +1,157 @@
+-- What the tier asks of open nodes holds of a core, and where a strand may go on.
+use Rattle.std.proofs.Common.{◌≡◌, ℕ, ◌+◌, ◌<◌, List, length, refl, ap, sym, ◌∙◌, subst, arith, true, false, inl, inr, nat_eq, nat_lt}
+use Rattle.std.specs.Prelude.{◌⊎◌, ◌&&◌, ◌||◌, not}
+use Rattle.std.specs.List.{list_any}
+use Rattle.std.proofs.lemmas.Bool.{and_parts, and_from, and_left, and_right, and_cases, or_cases, or_from, or_left, or_right, cases_lt, cases_eq, not-true, not-false, not_from_false, not_from_true, false_from_ne_true, true_from_ne_false, lt-ltb, eq-eqb}
+use Rattle.cw_tree.specs.declared.node.Node.{Node}
+use Rattle.cw_tree.specs.Nodes.{parent_of, is_fork, is_strand, is_pending, all_nodes}
+use Rattle.cw_tree.specs.Walks.{has}
+use Rattle.cw_tree.specs.Series.{children, place}
+use Rattle.cw_tree.specs.Shape.{IsTree}
+use Rattle.cw_tree.proofs.Lists.{In, any_from}
+use Rattle.cw_tree.proofs.Members.{below_in}
+use Rattle.cw_tree.proofs.NextNodes.Trees.{is_child, no_fork}
+use Rattle.cw_trace.specs.Columns.{used}
+use Rattle.cw_trace.specs.Stands.{fork_column}
+use Rattle.cw_trace.specs.Keeps.{Keeps}
+use Rattle.cw_trace.specs.Running.{IsUnsplit, IsOrdered, MayGoOn}
+use Rattle.cw_open.specs.Machine.{OpenMachine, has_finished, is_running}
+use Rattle.cw_open.specs.Open.{is_open}
+use Rattle.cw_open.proofs.Laws.Filtered.{filter_in}
+use Rattle.cw_open.proofs.Open.NodeKinds.{fork_no_strand, fork_no_block_at, strand_no_block, pending_block}
+use Rattle.cw_open.proofs.Open.Standing.{stands, place_open, none_open, pending_open}
+use Rattle.cw_open.proofs.Open.Trees.{IsWell, stands_well}
+use Rattle.cw_core.specs.State.{CoreState, joined_columns, has_columns, is_split, waits_for_left}
+use Rattle.cw_core.specs.Laws.{IsLeftFirst}
+use Rattle.cw_core.proofs.Events.Joined.{joins_have, joins_tell}
+
+-- what hangs from a fork is a strand
+pub strand_under : (t : List Node) → IsTree t → (n : ℕ) → 0 < n → n < length t → is_fork t (parent_of t n) ≡ true → is_strand t n ≡ true
+strand_under t tree n some h fork =
+    let low : parent_of t n < n = tree.rooted n some h in
+    let (l, r, these, strands) = tree.forks (parent_of t n) (omega arith) fork in
+    let both = and_parts (is_strand t l) (is_strand t r) strands in
+    let child : In n (children t (parent_of t n)) = filter_in (is_child t (parent_of t n)) n (all_nodes t) (below_in n (length t) h) (and_from (nat_lt 0 n) (nat_eq (parent_of t n) (parent_of t n)) (lt-ltb 0 n some) (eq-eqb (parent_of t n) (parent_of t n) refl)) in
+    let P : List ℕ → Type 0 = λ ns. In n ns in
+    elim (subst P these child) [ inl q ↦ ap (is_strand t) q ∙ both.0 | inr q ↦ elim q [ inl e ↦ ap (is_strand t) e ∙ both.1 | inr e ↦ absurd e ] ]
+
+-- a strand that finished is open no more
+pub closed_strand : (m : OpenMachine) (s : ℕ) → is_strand m.tree s ≡ true → has_finished m s ≡ true → is_open m s ≡ false
+closed_strand m s strand done =
+    or_from (is_strand m.tree s && not (has_finished m s) || is_fork m.tree s && not (has m.joined s)) (is_pending m.tree s)
+    (or_from (is_strand m.tree s && not (has_finished m s)) (is_fork m.tree s && not (has m.joined s)) (and_right (is_strand m.tree s) _ (not_from_true _ done)) (and_left (is_fork m.tree s) _ (false_from_ne_true (is_fork m.tree s) (λ e. absurd (cc (strand, fork_no_strand m.tree s e))))))
+    (false_from_ne_true (is_pending m.tree s) (λ e. absurd (cc (strand_no_block m.tree s strand, pending_block m.tree s e))))
+
+module _ (k : CoreState) (w : IsWell k.machine) (forks : (f : ℕ) → has k.machine.joined f ≡ true → is_fork k.machine.tree f ≡ true) (left : IsLeftFirst k.tier k.machine.tree k.splits (is_open k.machine)) (tier : Keeps k.tier k.words k.machine.tree k.splits (joined_columns k)) where
+  abbrev t : List Node
+  t = k.machine.tree
+
+  abbrev m : OpenMachine
+  m = k.machine
+
+  tree : IsTree t
+  tree = w.sound.tree
+
+  -- a fork has columns where there is room for them, and then they are in use
+  pub columns_used : (f : ℕ) → is_fork t f ≡ true → has_columns k f ≡ true → fork_column t f + 1 < used k.tier
+  columns_used f fork e = (tier.forks f fork).0 e
+
+  pub used_columns : (f : ℕ) → is_fork t f ≡ true → fork_column t f + 1 < used k.tier → has_columns k f ≡ true
+  used_columns f fork low = (tier.forks f fork).1 low
+
+  pub open_fork : (f : ℕ) → is_fork t f ≡ true → has m.joined f ≡ false → is_open m f ≡ true
+  open_fork f fork e =
+      or_left (is_strand t f && not (has_finished m f) || is_fork t f && not (has m.joined f)) (is_pending t f)
+      (or_right (is_strand t f && not (has_finished m f)) (is_fork t f && not (has m.joined f)) (and_from (is_fork t f) (not (has m.joined f)) fork (not_from_false (has m.joined f) e)))
+
+  open_unjoined : (f : ℕ) → is_fork t f ≡ true → is_open m f ≡ true → has m.joined f ≡ false
+  open_unjoined f fork e =
+      elim (or_cases (is_strand t f && not (has_finished m f) || is_fork t f && not (has m.joined f)) (is_pending t f) e) [
+        | inr z ↦ absurd (cc (pending_block t f z, fork_no_block_at t f fork))
+        | inl z ↦ elim (or_cases (is_strand t f && not (has_finished m f)) (is_fork t f && not (has m.joined f)) z) [
+          | inl y ↦ absurd (cc ((and_parts (is_strand t f) (not (has_finished m f)) y).0, fork_no_strand t f fork))
+          | inr y ↦ not-true (has m.joined f) (and_parts (is_fork t f) (not (has m.joined f)) y).1
+        ]
+      ]
+
+  pub unjoined : (f : ℕ) → is_fork t f ≡ true → has m.joined f ≡ false → has (joined_columns k) (fork_column t f) ≡ false
+  unjoined f fork e = false_from_ne_true (has (joined_columns k) (fork_column t f)) (λ z. absurd (cc (e, joins_tell t k.tier.room m.joined forks f fork z)))
+
+  open_kinds : (n : ℕ) → is_open m n ≡ true → (is_strand t n ≡ true) ⊎ ((is_fork t n ≡ true) ⊎ (is_pending t n ≡ true))
+  open_kinds n e =
+      elim (or_cases (is_strand t n && not (has_finished m n) || is_fork t n && not (has m.joined n)) (is_pending t n) e) [
+        | inr z ↦ inr (inr z)
+        | inl z ↦ elim (or_cases (is_strand t n && not (has_finished m n)) (is_fork t n && not (has m.joined n)) z) [
+          | inl y ↦ inl (and_parts (is_strand t n) (not (has_finished m n)) y).0
+          | inr y ↦ inr (inl (and_parts (is_fork t n) (not (has m.joined n)) y).0)
+        ]
+      ]
+
+  one_open : (n c : ℕ) → 0 < n → 0 < c → n < length t → c < length t → is_open m n ≡ true → is_open m c ≡ true → parent_of t n ≡ parent_of t c → is_fork t (parent_of t n) ≡ false → n ≡ c
+  one_open n c sn sc hn hc en ec same nf =
+      elim (cases_lt n c) [
+        | inl less ↦ absurd (cc (en, w.nested.last n c sn less hc same nf))
+        | inr le ↦ elim (cases_eq n c) [
+          | inl e ↦ e
+          | inr ne ↦ absurd (cc (ec, w.nested.last c n sc (omega arith) hn (sym same) (ap (is_fork t) (sym same) ∙ nf)))
+        ]
+      ]
+
+  pub ordered : has_finished m 0 ≡ false → IsOrdered k.tier t k.splits (joined_columns k) (is_open m)
+  ordered runs = record {
+    root = or_left (is_strand t 0 && not (has_finished m 0) || is_fork t 0 && not (has m.joined 0)) (is_pending t 0)
+        (or_left (is_strand t 0 && not (has_finished m 0)) (is_fork t 0 && not (has m.joined 0)) (and_from (is_strand t 0) (not (has_finished m 0)) tree.root (not_from_false (has_finished m 0) runs)));
+    pending = pending_open m tree w.nested;
+    forks = λ f fork low e.
+        open_fork f fork (false_from_ne_true (has m.joined f) (λ z. absurd (cc (e, joins_have t k.tier.room m.joined f z (used_columns f fork low)))));
+    joined = λ f fork low e. unjoined f fork (open_unjoined f fork e);
+    kinds = λ n h e. open_kinds n e;
+    outer = w.nested.outer;
+    one = one_open;
+    left_first = λ l r n some less h same fork unsplit hn over ne. left l r n some less h same fork unsplit hn over ne;
+  }
+
+  -- ## A strand that may go on
+
+  module _ (s : ℕ) (running : is_running m s ≡ true) (ready : waits_for_left k s ≡ false) where
+    abbrev p : ℕ
+    p = place t s
+
+    unsplit_no : (f : ℕ) → is_fork t f ≡ true → IsUnsplit k.tier t k.splits f → is_split k f ≡ false
+    unsplit_no f fork u =
+        false_from_ne_true (is_split k f) (λ e.
+        let z = and_parts (has_columns k f) (has k.splits (fork_column t f)) e in
+        let low = columns_used f fork z.0 in
+        elim u [ inl high ↦ absurd (omega arith) | inr no_cut ↦ absurd (cc (no_cut, z.1)) ])
+
+    left_done : (l : ℕ) → 0 < l → l < p → parent_of t l ≡ parent_of t p → is_fork t (parent_of t p) ≡ true → IsUnsplit k.tier t k.splits (parent_of t p) → is_open m l ≡ false
+    left_done l some less same fork unsplit =
+        let at = stands m tree w.nested s running in
+        let there = at.there in
+        elim at.kind [
+          | inr pending ↦
+              absurd (
+              let strand : is_strand t p ≡ true = strand_under t tree p (omega arith) there fork in
+              cc (pending_block t p pending, strand_no_block t p strand))
+          | inl e ↦
+              (let P : ℕ → Type 0 = λ p. (l < p) × (parent_of t l ≡ parent_of t p) × (is_fork t (parent_of t p) ≡ true) × IsUnsplit k.tier t k.splits (parent_of t p) in
+              let z = subst P e (less, same, fork, unsplit) in
+              elim (and_cases (not (is_split k (parent_of t s))) (list_any (λ x. nat_lt x s && not (has_finished m x)) (children t (parent_of t s))) ready) [
+                | inl split ↦ absurd (cc (unsplit_no (parent_of t s) z.2 z.3, not-false (is_split k (parent_of t s)) split))
+                | inr none ↦
+                    (let low : l < length t = omega arith in
+                    let child : In l (children t (parent_of t s)) = filter_in (is_child t (parent_of t s)) l (all_nodes t) (below_in l (length t) low) (and_from (nat_lt 0 l) (nat_eq (parent_of t l) (parent_of t s)) (lt-ltb 0 l some) (eq-eqb (parent_of t l) (parent_of t s) z.1)) in
+                    let done : has_finished m l ≡ true =
+                    true_from_ne_false (has_finished m l) (λ f. absurd (cc (none, any_from (λ x. nat_lt x s && not (has_finished m x)) l (children t (parent_of t s)) child (and_from (nat_lt l s) (not (has_finished m l)) (lt-ltb l s z.0) (not_from_false (has_finished m l) f))))) in
+                    closed_strand m l (strand_under t tree l some low (ap (is_fork t) z.1 ∙ z.2)) done)
+              ])
+        ]
+
+    pub may_go_on : MayGoOn k.tier t k.splits (is_open m) p
+    may_go_on = record {
+      there = (stands_well m w s running).there;
+      opened = place_open m tree w.nested s running;
+      no_fork = no_fork t p (stands_well m w s running).holds;
+      innermost = λ n some h up e. absurd (cc (e, none_open m tree w.nested s running n some h up));
+      left_done = left_done;
+    }

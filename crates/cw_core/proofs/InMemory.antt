@@ -1,0 +1,7 @@
+pub mod Access
+pub mod Fork
+pub mod Join
+pub mod Out
+pub mod Refused
+pub mod Split
+pub mod Start

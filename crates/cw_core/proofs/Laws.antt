@@ -1,0 +1,4 @@
+pub mod Alike
+pub mod EarlySplits
+pub mod LeftFirst
+pub mod Splits

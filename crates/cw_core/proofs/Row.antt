@@ -1,0 +1,10 @@
+pub mod Changed
+pub mod Close
+pub mod ForkRows
+pub mod ForkTails
+pub mod Grow
+pub mod RefusedStakes
+pub mod Rejoining
+pub mod RollVictims
+pub mod Stakes
+pub mod Tails

@@ -1,0 +1,4 @@
+pub mod Links
+pub mod UndoWalk
+pub mod Undoing
+pub mod Walking

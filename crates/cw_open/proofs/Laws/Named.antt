@@ -1,0 +1,129 @@
+-- Accesses by their stamps, and which nodes are live, as the tree changes.
+use Rattle.std.proofs.Common.{◌≡◌, ℕ, ◌<◌, List, [], ◌∷◌, ◌++◌, length, refl, ap, sym, ◌∙◌, arith, Bool, true, false, cond, Option, Some, None, inl, inr, nat_eq}
+use Rattle.std.specs.Prelude.{◌&&◌, ◌||◌, not, unwrap_or}
+use Rattle.std.specs.List.{find, list_all}
+use Rattle.std.proofs.lemmas.Bool.{and_parts, and_from, and_right, or_from, not-true, not_from_false, false_from_ne_true, eqb-true, ltb-true}
+use Rattle.cw_tree.specs.declared.node.Node.{Node}
+use Rattle.cw_tree.specs.declared.node.Kind.{Kind}
+use Rattle.cw_tree.specs.declared.node.Kind.TheVariants.{Read, Write, Strand, Fork, Block, Out, Tried}
+use Rattle.cw_tree.specs.declared.node.BlockState.{BlockState}
+use Rattle.cw_tree.specs.declared.node.BlockState.TheVariants.{Pending, Committed, Aborted}
+use Rattle.cw_tree.specs.Nodes.{is_strand_kind, is_tried_kind, is_block_kind, is_pending_state, is_aborted_state, touches_kind, stamp_of, is_strand, is_tried, is_block, is_pending, is_aborted, touches, all_nodes}
+use Rattle.cw_tree.specs.Walks.{IsRooted, path, above, is_ancestor, is_above}
+use Rattle.cw_tree.specs.Series.{strand_of}
+use Rattle.cw_tree.specs.Shape.{AreStamps}
+use Rattle.cw_tree.specs.Accesses.{is_live}
+use Rattle.cw_tree.specs.AccessStacks.{access_at}
+use Rattle.cw_tree.specs.NextNodes.{IsPlace}
+use Rattle.cw_tree.proofs.Lists.{In, all_in, all_from}
+use Rattle.cw_tree.proofs.Walks.There.{node_there}
+use Rattle.cw_tree.proofs.Walks.Kin.{in_ancestor, in_above, above_in}
+use Rattle.cw_tree.proofs.Walks.Ancestors.{above_ancestor, ancestor_le}
+use Rattle.cw_tree.proofs.NextNodes.Growing.{node_grown, above_grown, above_new}
+use Rattle.cw_tree.proofs.ChainLaws.Stamps.{named}
+use Rattle.cw_open.proofs.Open.NodeKinds.{at_node, not_at_node}
+
+-- ## What a stamp names
+
+find_passes : (p : ℕ → Bool) (xs : List ℕ) (m : ℕ) → find p xs ≡ Some m → p m ≡ true
+find_passes p [] m e = absurd (cc e)
+find_passes p (x ∷ xs) m e = by (p x) refl e (find_passes p xs m) where
+  by : (b : Bool) → p x ≡ b → cond b (Some x) (find p xs) ≡ Some m → (find p xs ≡ Some m → p m ≡ true) → p m ≡ true
+  by true is f more = let same : x ≡ m = cc f in sym (ap p same) ∙ is
+  by false is f more = more f
+
+-- the strand of a node is one
+pub strand_is : (t : List Node) → is_strand t 0 ≡ true → (n : ℕ) → is_strand t (strand_of t n) ≡ true
+strand_is t root n = by (find (is_strand t) (path t n)) refl where
+  by : (o : Option ℕ) → find (is_strand t) (path t n) ≡ o → is_strand t (unwrap_or o 0) ≡ true
+  by None e = root
+  by (Some s) e = find_passes (is_strand t) (path t n) s e
+
+access_kind_no : (c : ℕ) (k : Kind) → touches_kind c k ≡ true → (is_strand_kind k ≡ false) × (is_tried_kind k ≡ false) × (is_block_kind k ≡ false)
+access_kind_no c (Read d v) e = (refl, refl, refl)
+access_kind_no c (Write d v) e = (refl, refl, refl)
+access_kind_no c Strand e = absurd (cc e)
+access_kind_no c Fork e = absurd (cc e)
+access_kind_no c Block e = absurd (cc e)
+access_kind_no c (Out v) e = absurd (cc e)
+access_kind_no c (Tried d) e = absurd (cc e)
+
+-- an access has a stamp
+pub access_stamped : (t : List Node) → AreStamps t → (c n : ℕ) → touches t c n ≡ true → 0 < stamp_of t n
+access_stamped t s c n e =
+    let no_strand = not_at_node t (λ x. touches_kind c x.kind) (λ x. is_strand_kind x.kind) (λ x f. (access_kind_no c x.kind f).0) n e in
+    let no_tried = not_at_node t (λ x. touches_kind c x.kind) (λ x. is_tried_kind x.kind) (λ x f. (access_kind_no c x.kind f).1) n e in
+    ltb-true 0 (stamp_of t n) (s.there n (node_there (λ x. touches_kind c x.kind) t n e) ∙ not_from_false (is_strand t n || is_tried t n) (or_from (is_strand t n) (is_tried t n) no_strand no_tried))
+
+-- and the stamp names it
+pub access_named : (t : List Node) → AreStamps t → (c n : ℕ) → touches t c n ≡ true → access_at t (stamp_of t n) ≡ n
+access_named t s c n e =
+    let w = named t c (stamp_of t n) (n, e, refl) in
+    let same : stamp_of t (access_at t (stamp_of t n)) ≡ stamp_of t n = eqb-true (stamp_of t (access_at t (stamp_of t n))) (stamp_of t n) (find_passes (λ m. nat_eq (stamp_of t m) (stamp_of t n)) (all_nodes t) (access_at t (stamp_of t n)) w.found) in
+    let some = access_stamped t s c n e in
+    s.distinct (access_at t (stamp_of t n)) n w.there (node_there (λ x. touches_kind c x.kind) t n e) (omega (arith, same)) same
+
+-- ## Live nodes
+
+all_same : (p q : ℕ → Bool) (xs : List ℕ) → ((v : ℕ) → In v xs → p v ≡ q v) → list_all p xs ≡ list_all q xs
+all_same p q [] e = refl
+all_same p q (x ∷ xs) e = ap (λ b. b && list_all p xs) (e x (inl refl)) ∙ ap (λ b. q x && b) (all_same p q xs (λ v i. e v (inr i)))
+
+-- what is above a live node was not rolled back
+pub live_tells : (t : List Node) (n b : ℕ) → is_live t n ≡ true → is_above t b n ≡ true → is_aborted t b ≡ false
+live_tells t n b e over = not-true (is_aborted t b) (all_in (λ a. not (is_aborted t a)) b (above t n) e (above_in t b n over))
+
+pub live_from : (t : List Node) (n : ℕ) → ((b : ℕ) → is_above t b n ≡ true → is_aborted t b ≡ false) → is_live t n ≡ true
+live_from t n f = all_from (λ a. not (is_aborted t a)) (above t n) (λ b i. not_from_false (is_aborted t b) (f b (in_above t b n i)))
+
+pub live_grown : (t s : List Node) → IsRooted t → (n : ℕ) → n < length t → is_live (t ++ s) n ≡ is_live t n
+live_grown t s r n h =
+    ap (list_all (λ a. not (is_aborted (t ++ s) a))) (above_grown t s r n h)
+    ∙ all_same (λ a. not (is_aborted (t ++ s) a)) (λ a. not (is_aborted t a)) (above t n)
+    (λ b i.
+    let le = ancestor_le t r b n h (above_ancestor t b n (in_above t b n i)) in
+    ap not (node_grown t s (λ x. is_block_kind x.kind && is_aborted_state x.state) b (omega arith)))
+
+both_states : (s : BlockState) → is_aborted_state s ≡ true → is_pending_state s ≡ false
+both_states Aborted e = refl
+both_states Pending e = absurd (cc e)
+both_states Committed e = absurd (cc e)
+
+pub aborted_done : (t : List Node) (n : ℕ) → is_aborted t n ≡ true → is_pending t n ≡ false
+aborted_done t =
+    not_at_node t (λ x. is_block_kind x.kind && is_aborted_state x.state) (λ x. is_block_kind x.kind && is_pending_state x.state)
+    (λ x e. let z = and_parts (is_block_kind x.kind) (is_aborted_state x.state) e in and_right (is_block_kind x.kind) (is_pending_state x.state) (both_states x.state z.1))
+
+pub aborted_block : (t : List Node) (n : ℕ) → is_aborted t n ≡ true → is_block t n ≡ true
+aborted_block t = at_node t (λ x. is_block_kind x.kind && is_aborted_state x.state) (λ x. is_block_kind x.kind) (λ x e. (and_parts (is_block_kind x.kind) (is_aborted_state x.state) e).0)
+
+-- the blocks around a place were not rolled back
+pub none_aborted : (t : List Node) (p : ℕ) → IsPlace t p → (b : ℕ) → is_ancestor t b p ≡ true → is_aborted t b ≡ false
+none_aborted t p w b over = false_from_ne_true (is_aborted t b) (λ e. absurd (cc (aborted_done t b e, w.around b (and_from (is_block t b) (is_ancestor t b p) (aborted_block t b e) over))))
+
+-- so a node that is made there is live
+pub live_new : (t : List Node) (x : Node) → IsRooted t → IsPlace t x.parent → is_live (t ++ x ∷ []) (length t) ≡ true
+live_new t x r w =
+    ap (list_all (λ a. not (is_aborted (t ++ x ∷ []) a))) (above_new t x r w.there)
+    ∙ all_from (λ a. not (is_aborted (t ++ x ∷ []) a)) (path t x.parent)
+    (λ b i.
+    let over = in_ancestor t b x.parent i in
+    let there = w.there in
+    let le = ancestor_le t r b x.parent there over in
+    not_from_false (is_aborted (t ++ x ∷ []) b) (node_grown t (x ∷ []) (λ y. is_block_kind y.kind && is_aborted_state y.state) b (omega arith) ∙ none_aborted t x.parent w b over))
+
+block_kind_no : (k : Kind) → is_block_kind k ≡ true → (is_strand_kind k ≡ false) × (is_tried_kind k ≡ false)
+block_kind_no Block e = (refl, refl)
+block_kind_no Strand e = absurd (cc e)
+block_kind_no Fork e = absurd (cc e)
+block_kind_no (Read c v) e = absurd (cc e)
+block_kind_no (Write c v) e = absurd (cc e)
+block_kind_no (Out v) e = absurd (cc e)
+block_kind_no (Tried c) e = absurd (cc e)
+
+-- a block has a stamp
+pub block_stamp : (t : List Node) → AreStamps t → (n : ℕ) → is_block t n ≡ true → 0 < stamp_of t n
+block_stamp t s n e =
+    let no_strand = not_at_node t (λ x. is_block_kind x.kind) (λ x. is_strand_kind x.kind) (λ x f. (block_kind_no x.kind f).0) n e in
+    let no_tried = not_at_node t (λ x. is_block_kind x.kind) (λ x. is_tried_kind x.kind) (λ x f. (block_kind_no x.kind f).1) n e in
+    ltb-true 0 (stamp_of t n) (s.there n (node_there (λ x. is_block_kind x.kind) t n e) ∙ not_from_false (is_strand t n || is_tried t n) (or_from (is_strand t n) (is_tried t n) no_strand no_tried))

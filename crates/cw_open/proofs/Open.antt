@@ -1,0 +1,7 @@
+pub mod Growth
+pub mod Nesting
+pub mod NodeKinds
+pub mod Standing
+pub mod Staying
+pub mod TreeSteps
+pub mod Trees

@@ -1,0 +1,16 @@
+pub mod Asking
+pub mod Attempted
+pub mod Backed
+pub mod BackedStates
+pub mod BackedSteps
+pub mod Backing
+pub mod BackingCloses
+pub mod Falling
+pub mod Fell
+pub mod GoingBack
+pub mod Onward
+pub mod OnwardSteps
+pub mod Recorded
+pub mod Refusing
+pub mod Told
+pub mod Victims

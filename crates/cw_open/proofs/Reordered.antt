@@ -1,0 +1,8 @@
+pub mod Conflicts
+pub mod History
+pub mod KeysRise
+pub mod Leaving
+pub mod Places
+pub mod Renamed
+pub mod SeriesRise
+pub mod Spending

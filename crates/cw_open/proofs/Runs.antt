@@ -1,0 +1,3 @@
+pub mod LawsHold
+pub mod States
+pub mod Unstopped

@@ -1,0 +1,3 @@
+pub mod AddedStates
+pub mod KeptStates
+pub mod States

@@ -1,0 +1,4 @@
+pub mod Faulting
+pub mod Spending
+pub mod Stops
+pub mod Theorem

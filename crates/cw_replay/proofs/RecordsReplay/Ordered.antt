@@ -1,0 +1,5 @@
+pub mod Climbing
+pub mod Entries
+pub mod Ordering
+pub mod Respecting
+pub mod Runs

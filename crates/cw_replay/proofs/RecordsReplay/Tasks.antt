@@ -1,0 +1,10 @@
+pub mod Accounts
+pub mod Fitting
+pub mod Folds
+pub mod Places
+pub mod Quiet
+pub mod Series
+pub mod Single
+pub mod Sorts
+pub mod Standing
+pub mod Tasks

@@ -1,0 +1,4 @@
+pub mod Next
+pub mod Orders
+pub mod Ways
+pub mod Work

@@ -1,0 +1,3 @@
+pub mod ForkCode
+pub mod ForksSpawned
+pub mod NeverForking

@@ -1,0 +1,11 @@
+pub mod Acts
+pub mod Dying
+pub mod Ends
+pub mod Forks
+pub mod Joins
+pub mod Kept
+pub mod Law
+pub mod Moves
+pub mod Opens
+pub mod Quiet
+pub mod Waits

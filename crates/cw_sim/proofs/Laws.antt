@@ -1,0 +1,17 @@
+pub mod Deques
+pub mod Early
+pub mod EventsFit
+pub mod Fits
+pub mod MoveActs
+pub mod MoveFinishes
+pub mod MoveForks
+pub mod MoveFresh
+pub mod MoveJoins
+pub mod MoveKeeps
+pub mod MoveNumbers
+pub mod MoveSteals
+pub mod Moving
+pub mod Opens
+pub mod Ready
+pub mod Unsplit
+pub mod Wants

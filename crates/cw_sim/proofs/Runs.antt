@@ -1,0 +1,10 @@
+pub mod Ahead
+pub mod Closing
+pub mod Ending
+pub mod EndingMain
+pub mod EndingSpent
+pub mod Entries
+pub mod Strands
+pub mod Turns
+pub mod Unstopped
+pub mod Whole

@@ -1,0 +1,4 @@
+pub mod Fork
+pub mod Made
+pub mod Merge
+pub mod Split

@@ -1,0 +1,15 @@
+pub mod Adding
+pub mod Ending
+pub mod Forking
+pub mod GoingOn
+pub mod Grow
+pub mod Inlining
+pub mod Joining
+pub mod Keeping
+pub mod Kept
+pub mod Meaning
+pub mod Owners
+pub mod Sides
+pub mod TierLaws
+pub mod TreeGrows
+pub mod WholeRuns

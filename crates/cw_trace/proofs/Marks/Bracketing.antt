@@ -1,0 +1,147 @@
+-- What brackets keep: each mark has its element, also as marks are put in and taken out.
+use Rattle.std.proofs.Common.{◌≡◌, ◌≢◌, ℕ, ◌+◌, ◌<◌, ◌≤◌, ◌∷◌, map, length, nat_eq, not, refl, sym, ap, ◌∙◌, arith, Bool, true, false, Option, Some, None, inl, inr, subst}
+use Rattle.std.specs.Prelude.{◌⊎◌, ◌↔◌, IsTrue, slice_index, slice_index_or, slice_set}
+use Rattle.std.specs.List.{filter, Contains, IsDistinct}
+use Rattle.std.specs.Option.{option_map}
+use Rattle.std.proofs.lemmas.List.{get_or_read, get_or-set_same, get_or-set_other, length-set}
+use Rattle.cw_order.specs.Order.{placed_after, without, position}
+use Rattle.cw_tree.specs.Walks.{has}
+use Rattle.cw_trace.specs.declared.brackets.Brackets.TheInside.{Inside}
+use Rattle.cw_trace.specs.Columns.{stands_before}
+use Rattle.cw_trace.specs.Marks.{Marks, with_mark}
+use Rattle.cw_trace.specs.Brackets.{bracket_of, marks_of, AreBracketsInMemory}
+use Rattle.cw_trace.proofs.Marks.Numbering.{Differ, has_map, map_has, map_alike, map_placed, map_without, map_before, has_cases, has_contains, placed_has, without_has}
+
+pub kept_differ : (a : Inside) → AreBracketsInMemory a → Differ (bracket_of a) a.order.elements
+kept_differ a k = λ x y hx hy e. sym (k.back x hx) ∙ ap (slice_index a.elements.items) e ∙ k.back y hy
+
+-- the element e of mark m, as it is read
+pub record Marked (a : Inside) (m e : ℕ) : Type 0 where
+  pub there : has a.order.elements e ≡ true
+  pub marks : bracket_of a e ≡ m
+  pub low : m < a.order.room
+
+pub mark_low : (a : Inside) (s : Marks) → AreBracketsInMemory a → marks_of a ≡ s → (m : ℕ) → has s.marks m ≡ true → m < length a.elements.items
+mark_low a s k v m h =
+    let z = has_map (bracket_of a) a.order.elements m (ap (λ x. has x.marks m) v ∙ h) in
+    let low = k.mark_low z.0 z.1 in
+    omega (arith, z.2, k.all_marks)
+
+pub marked : (a : Inside) (s : Marks) → AreBracketsInMemory a → marks_of a ≡ s → (m e : ℕ) → has s.marks m ≡ true → e ≡ slice_index_or a.elements.items m e → Marked a m e
+marked a s k v m e h q =
+    let z = has_map (bracket_of a) a.order.elements m (ap (λ x. has x.marks m) v ∙ h) in
+    let low = k.mark_low z.0 z.1 in
+    let read : e ≡ slice_index a.elements.items m = get_or_read a.elements.items m e (mark_low a s k v m h) q 0 in
+    let same : e ≡ z.0 = read ∙ ap (slice_index a.elements.items) (sym z.2) ∙ k.back z.0 z.1 in
+    record { there = ap (has a.order.elements) same ∙ z.1; marks = ap (bracket_of a) same ∙ z.2; low = omega (arith, z.2) }
+
+-- the element after which a new one goes
+pub record Place (a : Inside) (at place : Option ℕ) : Type 0 where
+  pub there : (x : ℕ) → place ≡ Some x → has a.order.elements x ≡ true
+  pub marks : at ≡ option_map (bracket_of a) place
+
+pub place_some : (a : Inside) (at place : Option ℕ) (m e : ℕ) → at ≡ Some m → place ≡ Some e → Marked a m e → Place a at place
+place_some a at place m e p q w = record {
+  there = λ x h. (let same : e ≡ x = cc (q, h) in ap (has a.order.elements) (sym same) ∙ w.there);
+  marks = p ∙ ap Some (sym w.marks) ∙ sym (ap (option_map (bracket_of a)) q);
+}
+
+pub place_none : (a : Inside) (at place : Option ℕ) → at ≡ None → place ≡ None → Place a at place
+place_none a at place p q = record { there = λ x h. absurd (cc (q, h)); marks = p ∙ sym (ap (option_map (bracket_of a)) q) }
+
+-- one mark more
+pub record HasInserted (a d : Inside) (at : Option ℕ) (m : ℕ) : Type 0 where
+  pub kept : AreBracketsInMemory d
+  pub marks : (marks_of d).marks ≡ with_mark at m (marks_of a).marks
+
+pub inserted : (a d : Inside) (at place : Option ℕ) (e m : ℕ) → AreBracketsInMemory a → at ≡ option_map (bracket_of a) place → ((x : ℕ) → place ≡ Some x → has a.order.elements x ≡ true)
+    → (Contains a.order.elements e → ⊥) → e ≤ a.order.room → d.order.elements ≡ placed_after place e a.order.elements → IsDistinct nat_eq d.order.elements → d.order.room ≡ a.order.room
+    → d.elements.items ≡ slice_set a.elements.items m e → d.marks.items ≡ slice_set a.marks.items e m → m < a.order.room → has (marks_of a).marks m ≡ false → HasInserted a d at m
+inserted a d at place e m k same_at there fresh high placed distinct room elements marks low lacks = record {
+  kept = record {
+    all_marks = ap length elements ∙ length-set a.elements.items m e ∙ k.all_marks ∙ sym room;
+    all_elements = ap length marks ∙ length-set a.marks.items e m ∙ k.all_elements ∙ ap (λ n. n + 1) (sym room);
+    distinct = distinct;
+    low = λ x h. elim (cases x h) [ inl q ↦ omega (arith, q, room) | inr g ↦ (let l = k.low x g in omega (arith, room)) ];
+    mark_low = λ x h. elim (cases x h) [ inl q ↦ omega (arith, ap (bracket_of d) (sym q), mark_new, room) | inr g ↦ (let l = k.mark_low x g in omega (arith, mark_old x g, room)) ];
+    back = λ x h. elim (cases x h) [
+      | inl q ↦ ap (slice_index d.elements.items) (ap (bracket_of d) (sym q) ∙ mark_new) ∙ ap (λ xs. slice_index xs m) elements ∙ get_or-set_same a.elements.items m e 0 (omega (arith, k.all_marks)) ∙ q
+      | inr g ↦ ap (slice_index d.elements.items) (mark_old x g) ∙ ap (λ xs. slice_index xs (bracket_of a x)) elements ∙ get_or-set_other a.elements.items m (bracket_of a x) e 0 (other x g) ∙ k.back x g
+    ];
+  };
+  marks =
+      ap (map (bracket_of d)) placed
+      ∙ map_placed (bracket_of d) place at e a.order.elements differ there (same_at ∙ same_place place there)
+      ∙ ap (λ n. with_mark at n (map (bracket_of d) a.order.elements)) mark_new
+      ∙ ap (with_mark at m) (map_alike (bracket_of d) (bracket_of a) a.order.elements mark_old);
+} where
+  cases : (x : ℕ) → has d.order.elements x ≡ true → (e ≡ x) ⊎ (has a.order.elements x ≡ true)
+  cases x h = placed_has place e a.order.elements x (ap (λ xs. has xs x) (sym placed) ∙ h)
+
+  mark_new : bracket_of d e ≡ m
+  mark_new = ap (λ xs. slice_index xs e) marks ∙ get_or-set_same a.marks.items e m 0 (omega (arith, k.all_elements))
+
+  differs : (x : ℕ) → has a.order.elements x ≡ true → x ≢ e
+  differs x g q = fresh (has_contains a.order.elements e (ap (has a.order.elements) (sym q) ∙ g))
+
+  mark_old : (x : ℕ) → has a.order.elements x ≡ true → bracket_of d x ≡ bracket_of a x
+  mark_old x g = ap (λ xs. slice_index xs x) marks ∙ get_or-set_other a.marks.items e x m 0 (differs x g)
+
+  other : (x : ℕ) → has a.order.elements x ≡ true → bracket_of a x ≢ m
+  other x g q = cc (sym (ap (has (map (bracket_of a) a.order.elements)) q) ∙ map_has (bracket_of a) a.order.elements x g, lacks)
+
+  differ : Differ (bracket_of d) a.order.elements
+  differ x y hx hy q = kept_differ a k x y hx hy (sym (mark_old x hx) ∙ q ∙ mark_old y hy)
+
+  same_place : (place : Option ℕ) → ((x : ℕ) → place ≡ Some x → has a.order.elements x ≡ true) → option_map (bracket_of a) place ≡ option_map (bracket_of d) place
+  same_place None h = refl
+  same_place (Some x) h = ap Some (sym (mark_old x (h x refl)))
+
+-- one mark fewer
+pub record HasRemoved (a d : Inside) (m : ℕ) : Type 0 where
+  pub kept : AreBracketsInMemory d
+  pub marks : (marks_of d).marks ≡ filter (λ b. not (nat_eq b m)) (marks_of a).marks
+
+pub removed : (a d : Inside) (e m : ℕ) → AreBracketsInMemory a → Marked a m e → d.order.elements ≡ without e a.order.elements → IsDistinct nat_eq d.order.elements → d.order.room ≡ a.order.room → d.elements.items ≡ a.elements.items → d.marks.items ≡ a.marks.items → HasRemoved a d m
+removed a d e m k w out distinct room elements marks = record {
+  kept = record {
+    all_marks = ap length elements ∙ k.all_marks ∙ sym room;
+    all_elements = ap length marks ∙ k.all_elements ∙ ap (λ n. n + 1) (sym room);
+    distinct = distinct;
+    low = λ x h. (let l = k.low x (old x h) in omega (arith, room));
+    mark_low = λ x h. (let l = k.mark_low x (old x h) in omega (arith, same x, room));
+    back = λ x h. ap (slice_index d.elements.items) (same x) ∙ ap (λ xs. slice_index xs (bracket_of a x)) elements ∙ k.back x (old x h);
+  };
+  marks =
+      ap (map (bracket_of d)) out ∙ map_alike (bracket_of d) (bracket_of a) (without e a.order.elements) (λ x h. same x)
+      ∙ map_without (bracket_of a) e a.order.elements with_own
+      ∙ ap (λ n. filter (λ b. not (nat_eq b n)) (map (bracket_of a) a.order.elements)) w.marks;
+} where
+  old : (x : ℕ) → has d.order.elements x ≡ true → has a.order.elements x ≡ true
+  old x h = without_has e a.order.elements x (ap (λ xs. has xs x) (sym out) ∙ h)
+
+  same : (x : ℕ) → bracket_of d x ≡ bracket_of a x
+  same x = ap (λ xs. slice_index xs x) marks
+
+  there : (x : ℕ) → (e ≡ x) ⊎ (has a.order.elements x ≡ true) → has a.order.elements x ≡ true
+  there x (inl q) = ap (has a.order.elements) (sym q) ∙ w.there
+  there x (inr h) = h
+
+  with_own : Differ (bracket_of a) (e ∷ a.order.elements)
+  with_own x y hx hy q = kept_differ a k x y (there x (has_cases e a.order.elements x hx)) (there y (has_cases e a.order.elements y hy)) q
+
+-- which of two marks comes first
+pub told : (a : Inside) (s : Marks) → AreBracketsInMemory a → marks_of a ≡ s → (m n x y : ℕ) → Marked a m x → Marked a n y → (r : Bool) → IsTrue r ↔ (position a.order.elements x < position a.order.elements y) → r ≡ stands_before s.marks m n
+told a s k v m n x y p q r w = by_case r (stands_before s.marks m n) refl w where
+  both : (position a.order.elements x < position a.order.elements y) ↔ (stands_before s.marks m n ≡ true)
+  both =
+      let z = map_before (bracket_of a) a.order.elements k.distinct (kept_differ a k) x y p.there q.there in
+      let P : ℕ → Type 0 = λ i. (position a.order.elements x < position a.order.elements y) ↔ (stands_before (marks_of a).marks i (bracket_of a y) ≡ true) in
+      let R : ℕ → Type 0 = λ j. (position a.order.elements x < position a.order.elements y) ↔ (stands_before (marks_of a).marks m j ≡ true) in
+      let S : Marks → Type 0 = λ u. (position a.order.elements x < position a.order.elements y) ↔ (stands_before u.marks m n ≡ true) in
+      subst S v (subst R q.marks (subst P p.marks z))
+
+  by_case : (r b : Bool) → stands_before s.marks m n ≡ b → IsTrue r ↔ (position a.order.elements x < position a.order.elements y) → r ≡ stands_before s.marks m n
+  by_case true b e w = sym (both.0 (w.0 refl))
+  by_case false true e w = absurd (cc (w.1 (both.1 e)))
+  by_case false false e w = sym e

@@ -1,0 +1,5 @@
+pub mod Counting
+pub mod InRange
+pub mod UpFrom
+pub mod UpsKept
+pub mod WithStamps

@@ -1,0 +1,9 @@
+pub mod CellJournals
+pub mod Chains
+pub mod Change
+pub mod Entries
+pub mod LiveAccesses
+pub mod Nearest
+pub mod Rows
+pub mod Stacks
+pub mod Stamps

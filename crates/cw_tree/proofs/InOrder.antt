@@ -1,0 +1,7 @@
+pub mod Askers
+pub mod DepthFirst
+pub mod Keys
+pub mod Renaming
+pub mod Renumbered
+pub mod Sound
+pub mod Visits

@@ -1,0 +1,229 @@
+-- A depth-first walk comes to each node once, and to a parent before its children.
+use Rattle.std.proofs.Common.{◌≡◌, ℕ, zero, suc, ◌+◌, ◌<◌, ◌≤◌, List, [], ◌∷◌, ◌++◌, length, get_or, refl, ap, sym, ◌∙◌, arith, Bool, true, false, cond, inl, inr, subst, nat_eq}
+use Rattle.std.specs.Prelude.{◌⊎◌}
+use Rattle.std.specs.List.{filter, flat_map, IsDistinct, AllByRecursion, position_or_len}
+use Rattle.std.proofs.lemmas.Bool.{and_from, lt-ltb, eq-eqb, eqb-true, ne_eqb}
+use Rattle.std.proofs.lemmas.Map.Steps.{length-le_from_distinct_below, le-length_from_below}
+use Rattle.std.proofs.lemmas.List.Sums.{position_or_len_is}
+use Rattle.cw_tree.specs.declared.node.Node.{Node}
+use Rattle.cw_tree.specs.Nodes.{parent_of, below}
+use Rattle.cw_tree.specs.Walks.{IsRooted, is_ancestor}
+use Rattle.cw_tree.specs.Series.{children, walk, depth_first}
+use Rattle.cw_tree.specs.Links.{is_child}
+use Rattle.cw_tree.specs.InOrder.{renamed}
+use Rattle.cw_tree.proofs.Lists.{In, any_in, any_from}
+use Rattle.cw_tree.proofs.Members.{in_append, append_in, in_below, below_in, in_filter}
+use Rattle.cw_tree.proofs.Walks.Climbs.{by_parent}
+use Rattle.cw_tree.proofs.Walks.Ancestors.{ancestor_self, ancestor_up, ancestor_trans, ancestor_le}
+use Rattle.cw_tree.proofs.Walks.Kin.{children_apart}
+use Rattle.cw_tree.proofs.InOrder.DepthFirst.{IsChild, child_is, whole, walk_step}
+
+-- ## Members of lists
+
+pub in_flat : (f : ℕ → List ℕ) (v : ℕ) (xs : List ℕ) → In v (flat_map f xs) → (x : ℕ) × In x xs × In v (f x)
+in_flat f v [] h = absurd h
+in_flat f v (x ∷ xs) h = elim (in_append v (f x) (flat_map f xs) h) [ inl a ↦ (x, inl refl, a) | inr b ↦ (let z = in_flat f v xs b in (z.0, inr z.1, z.2)) ]
+
+pub flat_in : (f : ℕ → List ℕ) (v x : ℕ) (xs : List ℕ) → In x xs → In v (f x) → In v (flat_map f xs)
+flat_in f v x [] h g = absurd h
+flat_in f v x (y ∷ xs) (inl e) g = let P : ℕ → Type 0 = λ z. In v (f z) in append_in v (f y) (flat_map f xs) (inl (subst P e g))
+flat_in f v x (y ∷ xs) (inr h) g = append_in v (f y) (flat_map f xs) (inr (flat_in f v x xs h g))
+
+pub filter_in : (p : ℕ → Bool) (v : ℕ) (xs : List ℕ) → In v xs → p v ≡ true → In v (filter p xs)
+filter_in p v [] h e = absurd h
+filter_in p v (x ∷ xs) h e =
+    by (p x) refl (λ i. filter_in p v xs i e) h where
+      by : (b : Bool) → p x ≡ b → (In v xs → In v (filter p xs)) → (v ≡ x) ⊎ In v xs → In v (cond b (x ∷ filter p xs) (filter p xs))
+      by true f more (inl q) = inl q
+      by true f more (inr i) = inr (more i)
+      by false f more (inl q) = absurd (let g : true ≡ false = sym e ∙ ap p q ∙ f in cc)
+      by false f more (inr i) = more i
+
+pub at_in : (xs : List ℕ) (i : ℕ) → i < length xs → In (get_or xs i 0) xs
+at_in [] i h = absurd (omega arith)
+at_in (x ∷ xs) zero h = inl refl
+at_in (x ∷ xs) (suc i) h = inr (at_in xs i (omega arith))
+
+pub in_at : (v : ℕ) (xs : List ℕ) → In v xs → (i : ℕ) × (i < length xs) × (get_or xs i 0 ≡ v)
+in_at v [] h = absurd h
+in_at v (x ∷ xs) (inl e) = (0, omega arith, sym e)
+in_at v (x ∷ xs) (inr h) = let z = in_at v xs h in (suc z.0, omega (arith, z.1), z.2)
+
+-- no number stands twice in a list
+abbrev pub Apart : List ℕ → Type 0
+Apart [] = Unit {0}
+Apart (x ∷ xs) = (In x xs → ⊥) × Apart xs
+
+apart_append : (xs ys : List ℕ) → Apart xs → Apart ys → ((v : ℕ) → In v xs → In v ys → ⊥) → Apart (xs ++ ys)
+apart_append [] ys a b n = b
+apart_append (x ∷ xs) ys a b n = ((λ h. elim (in_append x xs ys h) [ inl i ↦ a.0 i | inr j ↦ n x (inl refl) j ]), apart_append xs ys a.1 b (λ v i j. n v (inr i) j))
+
+apart_flat : (f : ℕ → List ℕ) (xs : List ℕ) → Apart xs → ((x : ℕ) → In x xs → Apart (f x)) → ((x y v : ℕ) → In x xs → In y xs → In v (f x) → In v (f y) → x ≡ y) → Apart (flat_map f xs)
+apart_flat f [] a each same = tt
+apart_flat f (x ∷ xs) a each same =
+    apart_append (f x) (flat_map f xs) (each x (inl refl)) (apart_flat f xs a.1 (λ y i. each y (inr i)) (λ y z v i j. same y z v (inr i) (inr j)))
+    (λ v i j.
+    let z = in_flat f v xs j in
+    let e : x ≡ z.0 = same x z.0 v (inl refl) (inr z.1) i z.2 in
+    let P : ℕ → Type 0 = λ y. In y xs in
+    a.0 (subst P (sym e) z.1))
+
+apart_filter : (p : ℕ → Bool) (xs : List ℕ) → Apart xs → Apart (filter p xs)
+apart_filter p [] a = tt
+apart_filter p (x ∷ xs) a =
+    by (p x) (apart_filter p xs a.1) where
+      by : (b : Bool) → Apart (filter p xs) → Apart (cond b (x ∷ filter p xs) (filter p xs))
+      by true h = ((λ i. a.0 (in_filter p x xs i).0), h)
+      by false h = h
+
+apart_below : (k : ℕ) → Apart (below k)
+apart_below zero = tt
+apart_below (suc k) =
+    apart_append (below k) (k ∷ []) (apart_below k) ((λ h. h), tt) (λ v i j. let low : v < k = in_below v k i in elim j [ inl e ↦ omega arith | inr z ↦ z ])
+
+pub apart_at : (xs : List ℕ) (i j : ℕ) → Apart xs → i < j → j < length xs → get_or xs i 0 ≡ get_or xs j 0 → ⊥
+apart_at [] i j a l h e = omega arith
+apart_at (x ∷ xs) i zero a l h e = omega arith
+apart_at (x ∷ xs) zero (suc j) a l h e = let P : ℕ → Type 0 = λ y. In y xs in a.0 (subst P (sym e) (at_in xs j (omega arith)))
+apart_at (x ∷ xs) (suc i) (suc j) a l h e = apart_at xs i j a.1 (omega arith) (omega arith) e
+
+not_equal : (x : ℕ) (ys : List ℕ) → (In x ys → ⊥) → AllByRecursion (λ y. nat_eq x y ≡ false) ys
+not_equal x [] h = tt
+not_equal x (y ∷ ys) h = (ne_eqb x y (λ e. h (inl e)), not_equal x ys (λ i. h (inr i)))
+
+distinct : (xs : List ℕ) → Apart xs → IsDistinct nat_eq xs
+unfolding IsDistinct
+distinct [] a = tt
+distinct (x ∷ xs) a = (not_equal x xs a.0, distinct xs a.1)
+
+-- a number's place in a list in which no number stands twice
+pub place_is : (xs : List ℕ) (i : ℕ) → Apart xs → i < length xs → position_or_len (λ m. nat_eq m (get_or xs i 0)) xs ≡ i
+place_is xs i a h =
+    position_or_len_is (λ m. nat_eq m (get_or xs i 0)) xs i 0 (omega arith) (λ k l. ne_eqb (get_or xs k 0) (get_or xs i 0) (λ e. apart_at xs k i a l h e))
+    (λ l. eq-eqb (get_or xs i 0) (get_or xs i 0) refl)
+
+-- ## Parents come first
+
+-- the parent of each node of a list was seen or comes before it
+abbrev pub Follows : List Node → List ℕ → List ℕ → Type 0
+Follows t seen [] = Unit {0}
+Follows t seen (x ∷ xs) = In (parent_of t x) seen × Follows t (x ∷ seen) xs
+
+module _ (t : List Node) where
+  follows_more : (seen more xs : List ℕ) → ((v : ℕ) → In v seen → In v more) → Follows t seen xs → Follows t more xs
+  follows_more seen more [] f h = tt
+  follows_more seen more (x ∷ xs) f h = (f (parent_of t x) h.0, follows_more (x ∷ seen) (x ∷ more) xs (λ v i. elim i [ inl e ↦ inl e | inr j ↦ inr (f v j) ]) h.1)
+
+  follows_append : (seen xs ys : List ℕ) → Follows t seen xs → Follows t seen ys → Follows t seen (xs ++ ys)
+  follows_append seen [] ys h g = g
+  follows_append seen (x ∷ xs) ys h g = (h.0, follows_append (x ∷ seen) xs ys h.1 (follows_more seen (x ∷ seen) ys (λ v i. inr i) g))
+
+  follows_flat : (f : ℕ → List ℕ) (seen xs : List ℕ) → ((x : ℕ) → In x xs → Follows t seen (f x)) → Follows t seen (flat_map f xs)
+  follows_flat f seen [] each = tt
+  follows_flat f seen (x ∷ xs) each = follows_append seen (f x) (flat_map f xs) (each x (inl refl)) (follows_flat f seen xs (λ y i. each y (inr i)))
+
+  walk_follows : (k n : ℕ) (seen : List ℕ) → In (parent_of t n) seen → Follows t seen (walk t k n)
+  walk_follows zero n seen h = (h, tt)
+  walk_follows (suc k) n seen h = (h, follows_flat (walk t k) (n ∷ seen) (children t n) (λ x i. walk_follows k x (n ∷ seen) (inl (child_is t n x i).parent)))
+
+  earlier : (seen xs : List ℕ) (j : ℕ) → Follows t seen xs → j < length xs → In (parent_of t (get_or xs j 0)) seen ⊎ ((i : ℕ) × (i < j) × (get_or xs i 0 ≡ parent_of t (get_or xs j 0)))
+  earlier seen [] j h l = absurd (omega arith)
+  earlier seen (x ∷ xs) zero h l = inl h.0
+  earlier seen (x ∷ xs) (suc j) h l =
+      elim (earlier (x ∷ seen) xs j h.1 (omega arith)) [
+        | inl i ↦ elim i [ inl e ↦ inr (0, omega arith, sym e) | inr s ↦ inl s ]
+        | inr z ↦ inr (suc z.0, omega (arith, z.1), z.2)
+      ]
+
+-- ## Each node once
+
+module _ (t : List Node) (r : IsRooted t) where
+  child_over : (n m : ℕ) → IsChild t n m → is_ancestor t n m ≡ true
+  child_over n m c =
+      let P : ℕ → Type 0 = λ x. is_ancestor t n x ≡ true in
+      ancestor_up t r n m c.some c.there (subst P (sym c.parent) (ancestor_self t n))
+
+  walk_beneath : (k n v : ℕ) → n < length t → In v (walk t k n) → (v < length t) × (is_ancestor t n v ≡ true)
+  walk_beneath zero n v h (inl e) = let P : ℕ → Type 0 = λ x. is_ancestor t n x ≡ true in (omega arith, subst P (sym e) (ancestor_self t n))
+  walk_beneath zero n v h (inr z) = absurd z
+  walk_beneath (suc k) n v h (inl e) = let P : ℕ → Type 0 = λ x. is_ancestor t n x ≡ true in (omega arith, subst P (sym e) (ancestor_self t n))
+  walk_beneath (suc k) n v h (inr j) =
+      let z = in_flat (walk t k) v (children t n) j in
+      let c = child_is t n z.0 z.1 in
+      let y = walk_beneath k z.0 v c.there z.2 in
+      (y.0, ancestor_trans t r n z.0 v y.0 (child_over n z.0 c) y.1)
+
+  walk_apart : (k n : ℕ) → n < length t → Apart (walk t k n)
+  walk_apart zero n h = ((λ i. i), tt)
+  walk_apart (suc k) n h = (
+    (λ j.
+        let z = in_flat (walk t k) n (children t n) j in
+        let c = child_is t n z.0 z.1 in
+        let y = walk_beneath k z.0 n c.there z.2 in
+        let le : z.0 ≤ n = ancestor_le t r z.0 n h y.1 in
+        let low : parent_of t z.0 < z.0 = r z.0 c.some c.there in
+        omega (arith, c.parent)),
+    apart_flat (walk t k) (children t n) (apart_filter (is_child t n) (below (length t)) (apart_below (length t))) (λ x i. walk_apart k x (child_is t n x i).there)
+        (λ x y v i j a b.
+        let c = child_is t n x i in
+        let d = child_is t n y j in
+        let e = walk_beneath k x v c.there a in
+        let f = walk_beneath k y v d.there b in
+        children_apart t r x y v e.0 c.some d.some (c.parent ∙ sym d.parent) e.1 f.1),
+  )
+
+  pub walk_self : (k n : ℕ) → In n (walk t k n)
+  walk_self zero n = inl refl
+  walk_self (suc k) n = inl refl
+
+  pub child_in : (n m : ℕ) → IsChild t n m → In m (children t n)
+  child_in n m c = filter_in (is_child t n) m (below (length t)) (below_in m (length t) c.there) (and_from _ _ (lt-ltb 0 m c.some) (eq-eqb (parent_of t m) n c.parent))
+
+  walk_child : (k n v m : ℕ) → length t ≤ n + k → In v (walk t k n) → IsChild t v m → In m (walk t k n)
+  walk_child zero n v m h (inl e) c = let low : parent_of t m < m = r m c.some c.there in absurd (let there = c.there in let same = c.parent in omega arith)
+  walk_child zero n v m h (inr z) c = absurd z
+  walk_child (suc k) n v m h (inl e) c =
+      let P : ℕ → Type 0 = λ x. IsChild t x m in
+      inr (flat_in (walk t k) m m (children t n) (child_in n m (subst P e c)) (walk_self k m))
+  walk_child (suc k) n v m h (inr j) c =
+      let z = in_flat (walk t k) v (children t n) j in
+      let d = child_is t n z.0 z.1 in
+      let low : parent_of t z.0 < z.0 = r z.0 d.some d.there in
+      let same : parent_of t z.0 ≡ n = d.parent in
+      inr (flat_in (walk t k) m z.0 (children t n) z.1 (walk_child k z.0 v m (omega arith) z.2 c))
+
+  pub all_come : (v : ℕ) → v < length t → In v (depth_first t)
+  all_come = by_parent t r (λ v. In v (depth_first t)) (walk_self (length t) 0) (λ v p h more. walk_child (length t) 0 (parent_of t v) v (omega arith) more (record { some = p; there = h; parent = refl }))
+
+  module _ (some : 0 < length t) where
+    pub once : Apart (depth_first t)
+    once = walk_apart (length t) 0 some
+
+    pub come_there : (v : ℕ) → In v (depth_first t) → v < length t
+    come_there v i = (walk_beneath (length t) 0 v some i).0
+
+    pub as_many : length (depth_first t) ≡ length t
+    as_many =
+        let high : length (depth_first t) ≤ length t = length-le_from_distinct_below (depth_first t) (length t) (distinct (depth_first t) once) (λ q h. let z = any_in (nat_eq q) (depth_first t) h in let low : z.0 < length t = come_there z.0 z.1 in let e : q ≡ z.0 = eqb-true q z.0 z.2 in omega arith) in
+        let low : length t ≤ length (depth_first t) = le-length_from_below (depth_first t) (length t) (λ q h. any_from (nat_eq q) q (depth_first t) (all_come q h) (eq-eqb q q refl)) in
+        omega arith
+
+    pub renamed_is : (i : ℕ) → i < length t → renamed t (get_or (depth_first t) i 0) ≡ i
+    renamed_is i h = place_is (depth_first t) i once (omega (arith, as_many))
+
+    pub first_is : get_or (depth_first t) 0 0 ≡ 0
+    first_is = ap (λ xs. get_or xs 0 0) (walk_step t r 0)
+
+    pub parent_earlier : (k : ℕ) → 0 < k → k < length t → (i : ℕ) × (i < k) × (get_or (depth_first t) i 0 ≡ parent_of t (get_or (depth_first t) k 0))
+    parent_earlier zero p h = absurd (omega arith)
+    parent_earlier (suc k) p h =
+        let rest : List ℕ = flat_map (whole t) (children t 0) in
+        let is : depth_first t ≡ 0 ∷ rest = walk_step t r 0 in
+        let long : k < length rest = omega (arith, as_many, ap length is) in
+        let P : List ℕ → Type 0 = λ xs. (i : ℕ) × (i < suc k) × (get_or xs i 0 ≡ parent_of t (get_or xs (suc k) 0)) in
+        subst P (sym is) (
+        elim (earlier t (0 ∷ []) rest k (follows_flat t (whole t) (0 ∷ []) (children t 0) (λ x i. walk_follows t (length t) x (0 ∷ []) (inl (child_is t 0 x i).parent))) long) [
+          | inl i ↦ elim i [ inl e ↦ (0, omega arith, sym e) | inr z ↦ absurd z ]
+          | inr z ↦ (suc z.0, omega (arith, z.1), z.2)
+        ]
+        )

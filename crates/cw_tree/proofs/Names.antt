@@ -1,0 +1,9 @@
+pub mod Forks
+pub mod KeptNames
+pub mod Naming
+pub mod Numbers
+pub mod PassDown
+pub mod PassUp
+pub mod Passes
+pub mod Sides
+pub mod Turns

@@ -1,0 +1,14 @@
+pub mod Agreeing
+pub mod Ancestors
+pub mod Children
+pub mod Climbs
+pub mod Kin
+pub mod Meets
+pub mod NewStrands
+pub mod Parting
+pub mod Reaching
+pub mod Siblings
+pub mod StrandForks
+pub mod Strands
+pub mod There
+pub mod Upward
