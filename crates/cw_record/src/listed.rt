@@ -122,7 +122,11 @@ impl Turns {
 }
 
 // The first strand that was put at a step, which is this one where there was none.
-fn first_at(strands: &mut BTreeMap<NameStep, u32>, step: NameStep, strand: u32) -> Result<u32, OutOfMemory>
+fn first_at(
+    strands: &mut BTreeMap<NameStep, u32>,
+    step: NameStep,
+    strand: u32,
+) -> Result<u32, OutOfMemory>
     ensures found { IfOk result (λ first. Some first ≡ option_or (get step_cmp strands.old step) (Some strand)) }
     ensures kept { OnOk result ((s : NameStep) → get step_cmp strands.new s ≡ option_or (get step_cmp strands.old s) (if is_eq (step_cmp step s) then Some strand else None)) }
 {

@@ -27,7 +27,7 @@ use Rattle.cw_sim.specs.Inside.{HasInside, goes_back}
 use Rattle.cw_sim.specs.ThingsInMemory.{thing_at}
 use Rattle.cw_sim.specs.WorkersInMemory.{workers_of, IsLast}
 use Rattle.cw_sim.specs.declared.moves.Task.{Task}
-use Rattle.cw_sim.specs.declared.moves.Simulation.{Simulation as InMemory}
+use Rattle.cw_sim.specs.declared.moves.Driver.{Driver}
 
 -- ## What it stands for
 
@@ -55,7 +55,7 @@ pub record IsBody (z : Seen) (x : ℕ) (body : Standing) : Type 0 where
   pub at : goes_back z.m.core.machine x ≡ false → state_of body ≡ z.m.at x
   pub like : StandsAs (state_of body) (z.there x)
 
-pub record StandsFor (c : InMemory) (z : Seen) : Type 0 where
+pub record StandsFor (c : Driver) (z : Seen) : Type 0 where
   pub job : job_of c.task ≡ z.job
   pub core : c.core ≡ z.m.core
   pub is_core : IsCore z.m.core.machine.first z.m.core
@@ -65,26 +65,26 @@ pub record StandsFor (c : InMemory) (z : Seen) : Type 0 where
   pub saved : (b : ℕ) → is_pending (tree z.m) b ≡ true → (kept : Kept) × (thing_at c.saved b ≡ Some kept) × IsSavedOf z.job.program kept (z.m.saved b)
 
 -- it stands for this simulation of the same job now, in which bodies stand somewhere inside their blocks
-abbrev pub Comes : InMemory → Seen → Simulation StrandState → Type 0
+abbrev pub Comes : Driver → Seen → Simulation StrandState → Type 0
 Comes c z m = (there : ℕ → StrandState) × (StandsFor c (record z { m = m; there = there }) × HasInside (law_of z) m there)
 
 -- ## What the rules ask
 
 -- between any two events of a move
-pub record IsSteady (c : InMemory) (z : Seen) : Type 0 where
+pub record IsSteady (c : Driver) (z : Seen) : Type 0 where
   pub stands : StandsFor c z
   pub core : CoreGoesOn z.m.core.machine.first z.m.core
   pub inside : HasInside (law_of z) z.m z.there
 
 -- between two moves, and worker w is there
-pub record MayMove (c : InMemory) (w : ℕ) (z : Seen) : Type 0 where
+pub record MayMove (c : Driver) (w : ℕ) (z : Seen) : Type 0 where
   pub steady : IsSteady c z
   pub there : w < length z.m.workers
   pub workers : AreWorkers z.m.core z.m.workers
   pub wants : HasWants (law_of z) (length z.m.core.machine.first) z.m
 
 -- worker w may take the oldest fork of worker v, which has one
-pub record MayTake (c : InMemory) (w v : ℕ) (z : Seen) : Type 0 where
+pub record MayTake (c : Driver) (w v : ℕ) (z : Seen) : Type 0 where
   pub may : MayMove c w z
   pub there : v < length z.m.workers
   pub some : 0 < length (worker z.m v).deque
@@ -101,26 +101,26 @@ access_of cell None = Load cell
 access_of cell (Some value) = Store cell value
 
 -- strand x may make a step
-pub record MayStep (c : InMemory) (x : ℕ) (z : Seen) : Type 0 where
+pub record MayStep (c : Driver) (x : ℕ) (z : Seen) : Type 0 where
   pub steady : IsSteady c z
   pub wants : HasWants (law_of z) (length z.m.core.machine.first) z.m
   pub running : is_running z.m.core.machine x ≡ true
   pub ready : waits_for_left z.m.core x ≡ false
 
 -- it may do what it wants
-pub record MayDo (c : InMemory) (x : ℕ) (want : Want) (z : Seen) : Type 0 where
+pub record MayDo (c : Driver) (x : ℕ) (want : Want) (z : Seen) : Type 0 where
   pub step : MayStep c x z
   pub alive : is_dying z.m.core.machine x ≡ false
   pub wanted : Wants z x want
 
 -- it has to roll its innermost block back
-pub record MayRoll (c : InMemory) (x : ℕ) (z : Seen) : Type 0 where
+pub record MayRoll (c : Driver) (x : ℕ) (z : Seen) : Type 0 where
   pub step : MayStep c x z
   pub dying : is_dying z.m.core.machine x ≡ true
   pub within : in_block z.m.core.machine x ≡ true
 
 -- its want was met, and its body is to be told
-pub record MayAnswer (c : InMemory) (x : ℕ) (z : Seen) : Type 0 where
+pub record MayAnswer (c : Driver) (x : ℕ) (z : Seen) : Type 0 where
   pub stands : StandsFor c z
   pub body : has_body z.m.core x ≡ true
   pub alive : goes_back z.m.core.machine x ≡ false
@@ -129,25 +129,25 @@ abbrev pub answered : ℕ → Given → Seen → Seen
 answered x given z = record z { m = answers (law_of z) x given z.m; there = changed x ((law_of z).answer (z.m.at x) given) z.there }
 
 -- worker w runs strand x, which may fork
-pub record MayFork (c : InMemory) (w x : ℕ) (z : Seen) : Type 0 where
+pub record MayFork (c : Driver) (w x : ℕ) (z : Seen) : Type 0 where
   pub fork : MayDo c x Fork z
   pub there : w < length z.m.workers
 
 -- worker w runs strand x, which stands at this want
-pub record MayAct (c : InMemory) (w x : ℕ) (want : Want) (z : Seen) : Type 0 where
+pub record MayAct (c : Driver) (w x : ℕ) (want : Want) (z : Seen) : Type 0 where
   pub may : MayMove c w z
   pub runs : (worker z.m w).runs ≡ Some x
   pub alive : is_dying z.m.core.machine x ≡ false
   pub wanted : Wants z x want
 
 -- worker w runs strand x, which is dying
-pub record MayDie (c : InMemory) (w x : ℕ) (z : Seen) : Type 0 where
+pub record MayDie (c : Driver) (w x : ℕ) (z : Seen) : Type 0 where
   pub may : MayMove c w z
   pub runs : (worker z.m w).runs ≡ Some x
   pub dying : is_dying z.m.core.machine x ≡ true
 
 -- worker w runs strand x, which has no block to end and comes to its end, dead or not
-pub record MayFinish (c : InMemory) (w x : ℕ) (dead : Bool) (z : Seen) : Type 0 where
+pub record MayFinish (c : Driver) (w x : ℕ) (dead : Bool) (z : Seen) : Type 0 where
   pub may : MayMove c w z
   pub runs : (worker z.m w).runs ≡ Some x
   pub dies : is_dying z.m.core.machine x ≡ dead
@@ -156,14 +156,14 @@ pub record MayFinish (c : InMemory) (w x : ℕ) (dead : Bool) (z : Seen) : Type 
 -- ## A strand that has finished
 
 -- worker w had a strand of fork f, which was not joined yet
-pub record MayMeet (c : InMemory) (w f : ℕ) (z : Seen) : Type 0 where
+pub record MayMeet (c : Driver) (w f : ℕ) (z : Seen) : Type 0 where
   pub steady : IsSteady c z
   pub there : w < length z.m.workers
   pub fork : is_fork (tree z.m) f ≡ true
   pub joined : has z.m.core.machine.joined f ≡ false
 
 -- both strands of the fork have finished
-pub record MayJoin (c : InMemory) (w f : ℕ) (z : Seen) : Type 0 where
+pub record MayJoin (c : Driver) (w f : ℕ) (z : Seen) : Type 0 where
   pub meet : MayMeet c w f z
   pub left : has_finished z.m.core.machine (left_node f) ≡ true
   pub right : has_finished z.m.core.machine (right_node f) ≡ true
@@ -175,13 +175,13 @@ pub record IsDead (z : Seen) (f : ℕ) : Type 0 where
   pub stays : Wants z (right_node f) End → ⊥
 
 -- the left strand has finished, dead or not, and the right one is still to be started by worker w
-pub record MayTurn (c : InMemory) (w f : ℕ) (dead : Bool) (z : Seen) : Type 0 where
+pub record MayTurn (c : Driver) (w f : ℕ) (dead : Bool) (z : Seen) : Type 0 where
   pub meet : MayMeet c w f z
   pub last : IsLast (worker z.m w) f
   pub died : dead ≡ true → IsDead z f
 
 -- strand x of worker w has finished, dead or not
-pub record HasFinished (c : InMemory) (w x : ℕ) (dead : Bool) (z : Seen) : Type 0 where
+pub record HasFinished (c : Driver) (w x : ℕ) (dead : Bool) (z : Seen) : Type 0 where
   pub steady : IsSteady c z
   pub there : w < length z.m.workers
   pub strand : is_strand (tree z.m) x ≡ true
@@ -197,5 +197,5 @@ opened job workers =
     record { job = job; m = first_simulation (first_memory job.program.cells) job.limits.strands job.limits.aborts workers start; there = λ x. start }
 
 -- it stands for what the moves of so many workers come to
-abbrev pub Ends : InMemory → Job → (workers : ℕ) → Schedule → Type 0
+abbrev pub Ends : Driver → Job → (workers : ℕ) → Schedule → Type 0
 Ends c job workers schedule = (there : ℕ → StrandState) × StandsFor c (record { job = job; m = simulation_of job workers schedule; there = there })

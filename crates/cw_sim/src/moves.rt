@@ -33,7 +33,7 @@ pub(crate) struct Task<'a> {
 
 /// The workers, the core that they share, and the strands of a program where they stand.
 #[derive(Drop)]
-pub(crate) struct Simulation<'a> {
+pub(crate) struct Driver<'a> {
     pub(crate) task: Task<'a>,
     pub(crate) core: Core,
     /// The strands that stand somewhere: those that run, those that are still to be started, and those that have finished beside one that
@@ -55,12 +55,12 @@ fn given_for(write: Option<i64>, value: i64) -> Given
 }
 
 // Each rule is the definition of its name.
-impl<'a> Simulation<'a> {
+impl<'a> Driver<'a> {
     ghost use Rattle.cw_sim.specs.TurnsInMemory.{AreAt};
     ghost use Rattle.cw_sim.specs.InMemory.{Comes, Ends, HasFinished, MayAct, MayAnswer, MayDie, MayDo, MayFinish, MayFork, MayJoin, MayMeet, MayMove, MayRoll, MayTake, MayTurn, Seen, StandsFor, access_of, answered, job_of, law_of, opened};
 
     /// Before the first move: worker 0 runs main, and the others are idle.
-    fn opening(alloc: Global, task: Task<'a>, workers: u32) -> Result<Simulation<'a>, OutOfMemory>
+    fn opening(alloc: Global, task: Task<'a>, workers: u32) -> Result<Driver<'a>, OutOfMemory>
         requires words { TakesWords task.program.now (length task.words.now) }
         requires strands { 0 < task.limits.strands }
         requires workers { 0 < workers }
@@ -71,7 +71,7 @@ impl<'a> Simulation<'a> {
         let main = Standing::start(alloc, task.program, task.words, task.limits)?;
         let mut bodies = ByNode::new(alloc);
         bodies.put(0, main)?;
-        Ok(Simulation {
+        Ok(Driver {
             task,
             core,
             bodies,
@@ -396,7 +396,7 @@ pub(crate) fn moved(
     ensures spent { IfOk result (λ r. r.1 ≡ not (is_over (simulation_of (job_of task.entry) workers schedule.now))) }
     ensures few { OnOk result (length (tree (simulation_of (job_of task.entry) workers schedule.now)) < 2 ^ 32) }
 {
-    let mut simulation = Simulation::opening(alloc, task, workers)?;
+    let mut simulation = Driver::opening(alloc, task, workers)?;
     let mut turns = Turns::new(schedule, workers);
     simulation.runs(&mut turns)?;
     let spent = !simulation.is_over();

@@ -17,10 +17,10 @@ entry_wrote mark None v = refl
 entry_wrote mark (Some w) v = refl
 
 -- what entries leave of v
-abbrev pub left_by : ℤ → List Entry → ℤ
-left_by v es = cell_value v (map written_by es)
+abbrev pub value_after : ℤ → List Entry → ℤ
+value_after v es = cell_value v (map written_by es)
 
-pub left_more : (v : ℤ) (es : List Entry) (e : Entry) → left_by v (es ++ e ∷ []) ≡ unwrap_or (written_by e) (left_by v es)
+pub left_more : (v : ℤ) (es : List Entry) (e : Entry) → value_after v (es ++ e ∷ []) ≡ unwrap_or (written_by e) (value_after v es)
 left_more v es e = ap (cell_value v) (map-append written_by es (e ∷ [])) ∙ cell_value_more v (map written_by es) (written_by e)
 
 -- ## One more entry
@@ -29,7 +29,7 @@ pub first_more : (v w : ℤ) (es : List Entry) (e : Entry) → e.old ≡ v → f
 first_more v w [] e q = q
 first_more v w (x ∷ es) e q = refl
 
-steps_more : (v : ℤ) (es : List Entry) (e : Entry) → e.old ≡ left_by v es → e.value ≡ unwrap_or (written_by e) (left_by v es) → AreSteps v es → AreSteps v (es ++ e ∷ [])
+steps_more : (v : ℤ) (es : List Entry) (e : Entry) → e.old ≡ value_after v es → e.value ≡ unwrap_or (written_by e) (value_after v es) → AreSteps v es → AreSteps v (es ++ e ∷ [])
 steps_more v [] e old value s = (old, value, tt)
 steps_more v (x ∷ es) e old value s = (s.0, s.1, steps_more (unwrap_or (written_by x) v) es e old value s.2)
 
@@ -47,13 +47,13 @@ kept_more mark write v es cleaned k later =
       rising = subst P (sym (map-append (λ x. x.mark.stamp) es (e ∷ []))) (rising_more (stamps es) mark.stamp k.rising (above_last es mark.stamp later));
       few = omega arith;
       steps = subst Q (sym first) (steps_more (first_value v es) es e k.value (sym wrote ∙ ap (λ z. unwrap_or (written_by e) z) k.value) k.steps);
-      value = sym (ap (λ z. left_by z (es ++ e ∷ [])) first ∙ left_more (first_value v es) es e ∙ ap (λ z. unwrap_or (written_by e) z) (sym k.value) ∙ wrote);
+      value = sym (ap (λ z. value_after z (es ++ e ∷ [])) first ∙ left_more (first_value v es) es e ∙ ap (λ z. unwrap_or (written_by e) z) (sym k.value) ∙ wrote);
     }
 
 -- ## The oldest entries
 
 -- each entry met what those before it left
-pub old_at : (v : ℤ) (es : List Entry) (k : ℕ) (d : Entry) → k < length es → AreSteps v es → (get_or es k d).old ≡ left_by v (take k es)
+pub old_at : (v : ℤ) (es : List Entry) (k : ℕ) (d : Entry) → k < length es → AreSteps v es → (get_or es k d).old ≡ value_after v (take k es)
 old_at v [] k d h s = absurd (omega arith)
 old_at v (x ∷ es) zero d h s = s.0
 old_at v (x ∷ es) (suc k) d h s = old_at (unwrap_or (written_by x) v) es k d (omega arith) s.2
@@ -79,7 +79,7 @@ kept_front v es cleaned k d h le w =
       rising = subst P (take-map (λ e. e.mark.stamp) k es) (rising_front k (stamps es) (omega arith) w.rising);
       few = omega arith;
       steps = subst Q (sym first) (steps_front (first_value v es) es k w.steps);
-      value = old_at (first_value v es) es k d h w.steps ∙ ap (λ z. left_by z (take k es)) (sym first);
+      value = old_at (first_value v es) es k d h w.steps ∙ ap (λ z. value_after z (take k es)) (sym first);
     }
 
 -- ## In a tree
@@ -87,7 +87,7 @@ kept_front v es cleaned k d h le w =
 pub goes_with_trees : (old new : CellParts) (mark : Mark) (write : Option ℤ) (answer : ℤ)
     → new.first ≡ old.first → new.entries ≡ old.entries ++ entry_of mark write (entries_value old) ∷ [] → answer ≡ unwrap_or write (entries_value old) → GoesWithTrees old new mark.stamp write answer
 goes_with_trees old new mark write answer first entries is t c p us r hp w free =
-    let tell : left_by old.first old.entries ≡ cell_value old.first (map (written t) us) = ap (cell_value old.first) (stacks_tell t c old.first us old.entries w).0 in
+    let tell : value_after old.first old.entries ≡ cell_value old.first (map (written t) us) = ap (cell_value old.first) (stacks_tell t c old.first us old.entries w).0 in
     let e = entry_of mark write (entries_value old) in
     let note : Notes e mark.stamp (is_some write) answer (cell_value old.first (map (written t) us)) = record { stamp = refl; wrote = refl; value = sym is; old = tell } in
     let P : ℤ → List Entry → Type 0 = λ v es. IsAccessStack (with_access t r c p hp write answer mark.stamp) c v (us ++ length t ∷ []) es in

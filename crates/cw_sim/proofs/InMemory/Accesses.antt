@@ -29,7 +29,7 @@ use Rattle.cw_sim.specs.Kept.{CoreGoesOn}
 use Rattle.cw_sim.specs.Laws.{NamesCell}
 use Rattle.cw_sim.specs.Inside.{HasInside}
 use Rattle.cw_sim.specs.InMemory.{Seen, StandsFor, Comes, MayDo, MayAnswer, law_of, answered, access_of}
-use Rattle.cw_sim.specs.declared.moves.Simulation.{Simulation as InMemory}
+use Rattle.cw_sim.specs.declared.moves.Driver.{Driver}
 use Rattle.cw_sim.proofs.Laws.Fits.{free, access_fits}
 use Rattle.cw_sim.proofs.InMemory.Acts.{fits_there, is_after, left_may}
 use Rattle.cw_sim.proofs.InMemory.Left as left
@@ -79,7 +79,7 @@ spent_inside : {A : Type 0} (s : Strands A) (m : Simulation A) (there : ℕ → 
 spent_inside s m there None old = old
 spent_inside s m there (Some x) old = stop_inside s m (halt.Budget x) there old
 
-module _ (c : InMemory) (x cell : ℕ) (write : Option ℤ) (z : Seen) (may : MayDo c x (access_of cell write) z) where
+module _ (c : Driver) (x cell : ℕ) (write : Option ℤ) (z : Seen) (may : MayDo c x (access_of cell write) z) where
   abbrev k : CoreState
   k = z.m.core
 
@@ -148,7 +148,7 @@ module _ (c : InMemory) (x cell : ℕ) (write : Option ℤ) (z : Seen) (may : Ma
         (λ b q. may.step.steady.stands.saved b (left.plain_more k.machine.first k on e fit node more plain b q))
 
     -- and it stands for the move once it is
-    pub access_comes : (given : Given) → given ≡ given_for write v → (d : InMemory) → StandsFor d (answered x given (record z { m = does e z.m })) → Comes d z (accesses (law_of z) x cell write z.m)
+    pub access_comes : (given : Given) → given ≡ given_for write v → (d : Driver) → StandsFor d (answered x given (record z { m = does e z.m })) → Comes d z (accesses (law_of z) x cell write z.m)
     access_comes given is d stands =
         let P : Reply → Type 0 = λ r. Comes d z (meets_cell (law_of z) x write r (does e z.m)) in
         let Q : Given → Type 0 = λ g. StandsFor d (answered x g (record z { m = does e z.m })) in
@@ -188,7 +188,7 @@ module _ (c : InMemory) (x cell : ℕ) (write : Option ℤ) (z : Seen) (may : Ma
         (left.plain_more k.machine.first k on e fit tried tried_more refl)
 
     -- and it stands for the move once the run has stopped, where it has to
-    pub refused_comes : (d : InMemory) → StandsFor d (record z { m = stops_if_spent (law_of z) (does e z.m) }) → Comes d z (accesses (law_of z) x cell write z.m)
+    pub refused_comes : (d : Driver) → StandsFor d (record z { m = stops_if_spent (law_of z) (does e z.m) }) → Comes d z (accesses (law_of z) x cell write z.m)
     refused_comes d stands =
         let P : Bool → Type 0 = λ b. Comes d z (meets_cell (law_of z) x write (reply_by against (unwrap_or write (live_value k.machine cell)) b) (does e z.m)) in
         subst P (sym met) (

@@ -22,7 +22,7 @@ use Rattle.cw_sim.specs.Moves.{does, answers}
 use Rattle.cw_sim.specs.Workers.{tree, changed}
 use Rattle.cw_sim.specs.ThingsInMemory.{thing_at}
 use Rattle.cw_sim.specs.InMemory.{Seen, StandsFor, Comes, MayStep, MayDo, MayAnswer, law_of, answered}
-use Rattle.cw_sim.specs.declared.moves.Simulation.{Simulation as InMemory}
+use Rattle.cw_sim.specs.declared.moves.Driver.{Driver}
 use Rattle.cw_sim.proofs.Laws.Fits.{out_fits}
 use Rattle.cw_sim.proofs.InMemory.Left as left
 use Rattle.cw_sim.proofs.InMemory.Still.{moved_stands}
@@ -33,7 +33,7 @@ use Rattle.cw_sim.proofs.Kept.Quiet.{out_more}
 
 -- ## A strand that makes a step
 
-module _ (c : InMemory) (x : ℕ) (z : Seen) (step : MayStep c x z) where
+module _ (c : Driver) (x : ℕ) (z : Seen) (step : MayStep c x z) where
   abbrev pub seen : CoreState
   seen = z.m.core
 
@@ -66,7 +66,7 @@ module _ (c : InMemory) (x : ℕ) (z : Seen) (step : MayStep c x z) where
 
 -- ## An output
 
-module _ (c : InMemory) (x : ℕ) (v : ℤ) (z : Seen) (may : MayDo c x (want.Out v) z) where
+module _ (c : Driver) (x : ℕ) (v : ℤ) (z : Seen) (may : MayDo c x (want.Out v) z) where
   pub out_fits_there : fits c.core (event.Out x v) ≡ true
   out_fits_there = fits_there c x z may.step (event.Out x v) (out_fits (first c x z may.step) z.m.core may.step.steady.core x may.step.running may.step.ready v may.alive)
 
@@ -82,7 +82,7 @@ module _ (c : InMemory) (x : ℕ) (v : ℤ) (z : Seen) (may : MayDo c x (want.Ou
       (λ b e. may.step.steady.stands.saved b (left.plain_more z.m.core.machine.first z.m.core on (event.Out x v) fit node more refl b e))
 
   -- and it stands for the move once it is
-  pub out_comes : (d : InMemory) → StandsFor d (answered x Nothing (record z { m = does (event.Out x v) z.m })) → Comes d z (answers (law_of z) x Nothing (does (event.Out x v) z.m))
+  pub out_comes : (d : Driver) → StandsFor d (answered x Nothing (record z { m = does (event.Out x v) z.m })) → Comes d z (answers (law_of z) x Nothing (does (event.Out x v) z.m))
   out_comes d stands =
       let on = may.step.steady.core in
       let P : Want → Type 0 = λ w. IsAnswer w Nothing in

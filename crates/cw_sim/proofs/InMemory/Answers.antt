@@ -17,7 +17,7 @@ use Rattle.cw_sim.specs.InMemory.{Seen, StandsFor, law_of, has_body, MayAnswer, 
 use Rattle.cw_sim.proofs.InMemory.Things.{puts_twice}
 use Rattle.cw_sim.specs.Inside.{goes_back}
 use Rattle.cw_sim.proofs.Inside.Kept.{changed_here, changed_other}
-use Rattle.cw_sim.specs.declared.moves.Simulation.{Simulation as InMemory}
+use Rattle.cw_sim.specs.declared.moves.Driver.{Driver}
 
 -- a strand stands where it stands
 pub stands_as : (now there : StrandState) → now ≡ there → StandsAs now there
@@ -29,7 +29,7 @@ stands_as now there e =
 
 -- The core moves, and strand x has this body now, which stands here, and is the strand itself. Of other strands none gets a body, those that went
 -- back still do, and of each pending block what its strand needs is kept.
-pub changed_stands : (c : InMemory) (k : CoreState) (x : ℕ) (z : Seen) (new : CoreState) (kept : List (Option Kept)) (saved : ℕ → StrandState) (bodies : List (Option Standing)) (body : Standing) (a : StrandState)
+pub changed_stands : (c : Driver) (k : CoreState) (x : ℕ) (z : Seen) (new : CoreState) (kept : List (Option Kept)) (saved : ℕ → StrandState) (bodies : List (Option Standing)) (body : Standing) (a : StrandState)
     → StandsFor c z → k ≡ new → IsCore new.machine.first new
     → ((y : ℕ) → y ≢ x → has_body new y ≡ true → has_body z.m.core y ≡ true)
     → ((y : ℕ) → y ≢ x → has_body z.m.core y ≡ true → goes_back new.machine y ≡ false → goes_back z.m.core.machine y ≡ false)
@@ -71,7 +71,7 @@ changed_stands c k x z new kept saved bodies body a old core is_core was back pe
   like y e = stands_as (state_of body) (changed x a z.there y) (is ∙ here y e z.there)
 
 -- strand x alone has another body
-pub puts_body : (c : InMemory) (x : ℕ) (z : Seen) (bodies : List (Option Standing)) (body : Standing) (a : StrandState) → StandsFor c z → Puts c.bodies x (Some body) bodies → IsOf z.job.program body → state_of body ≡ a
+pub puts_body : (c : Driver) (x : ℕ) (z : Seen) (bodies : List (Option Standing)) (body : Standing) (a : StrandState) → StandsFor c z → Puts c.bodies x (Some body) bodies → IsOf z.job.program body → state_of body ≡ a
     → StandsFor (record c { bodies = bodies }) (record z { m = with_strand x a z.m; there = changed x a z.there })
 puts_body c x z bodies body a old =
     changed_stands c c.core x z z.m.core c.saved z.m.saved bodies body a old old.core old.is_core (λ y ne h. h) (λ y ne h g. g) old.saved
@@ -79,7 +79,7 @@ puts_body c x z bodies body a old =
 pub some_inj : {X : Type 0} {a b : X} → Some a ≡ Some b → a ≡ b
 some_inj e = cc
 
-module _ (c : InMemory) (z : Seen) (old : StandsFor c z) where
+module _ (c : Driver) (z : Seen) (old : StandsFor c z) where
   -- the program that is run
   pub program_is : c.task.program.now ≡ z.job.program
   program_is = ap (λ j. j.program) old.job
@@ -91,7 +91,7 @@ module _ (c : InMemory) (z : Seen) (old : StandsFor c z) where
       ap state_of (some_inj (sym at ∙ b.1)) ∙ b.2.at alive
 
 -- the body of strand x was answered, and put back
-pub answered_stands : (c : InMemory) (x : ℕ) (given : Given) (z : Seen) (without bodies : List (Option Standing)) (was body : Standing) → MayAnswer c x z
+pub answered_stands : (c : Driver) (x : ℕ) (given : Given) (z : Seen) (without bodies : List (Option Standing)) (was body : Standing) → MayAnswer c x z
     → thing_at c.bodies x ≡ Some was → Puts c.bodies x None without → Puts without x (Some body) bodies → IsOf c.task.program.now body
     → ((job : Job) → job.program ≡ c.task.program.now → state_of body ≡ (strands_of_job job).answer (state_of was) given)
     → StandsFor (record c { bodies = bodies }) (answered x given z)

@@ -23,7 +23,7 @@ use Rattle.cw_sim.specs.Workers.{tree, changed}
 use Rattle.cw_sim.specs.ThingsInMemory.{thing_at, Puts}
 use Rattle.cw_sim.specs.Kept.{CoreGoesOn}
 use Rattle.cw_sim.specs.InMemory.{Seen, StandsFor, Comes, IsBody, MayDo, MayAnswer, law_of, answered}
-use Rattle.cw_sim.specs.declared.moves.Simulation.{Simulation as InMemory}
+use Rattle.cw_sim.specs.declared.moves.Driver.{Driver}
 use Rattle.cw_sim.proofs.Laws.Fits.{begin_fits}
 use Rattle.cw_sim.proofs.InMemory.Acts.{fits_there, left_may}
 use Rattle.cw_sim.proofs.InMemory.Answers.{some_inj, body_is}
@@ -32,7 +32,7 @@ use Rattle.cw_sim.proofs.Inside.Kept.{more_left, pending_more, changed_here, cha
 use Rattle.cw_sim.proofs.Inside.Moves.{begin_inside}
 use Rattle.cw_sim.proofs.Kept.Quiet.{begin_more}
 
-module _ (c : InMemory) (x : ℕ) (z : Seen) (may : MayDo c x Begin z) where
+module _ (c : Driver) (x : ℕ) (z : Seen) (may : MayDo c x Begin z) where
   abbrev k : CoreState
   k = z.m.core
 
@@ -95,7 +95,7 @@ module _ (c : InMemory) (x : ℕ) (z : Seen) (may : MayDo c x Begin z) where
         ])
 
   -- and it stands for the move once it is
-  pub begin_comes : (d : InMemory) → StandsFor d (answered x Nothing begun) → Comes d z (begins (law_of z) x z.m)
+  pub begin_comes : (d : Driver) → StandsFor d (answered x Nothing begun) → Comes d z (begins (law_of z) x z.m)
   begin_comes d stands = (
     changed x ((law_of z).answer (z.m.at x) Nothing) z.there,
     (

@@ -21,7 +21,7 @@ use Rattle.cw_sim.specs.Workers.{tree, changed}
 use Rattle.cw_sim.specs.ThingsInMemory.{thing_at, Puts}
 use Rattle.cw_sim.specs.Kept.{CoreGoesOn}
 use Rattle.cw_sim.specs.InMemory.{Seen, StandsFor, Comes, MayStep, MayDo, MayAnswer, law_of, answered}
-use Rattle.cw_sim.specs.declared.moves.Simulation.{Simulation as InMemory}
+use Rattle.cw_sim.specs.declared.moves.Driver.{Driver}
 use Rattle.cw_sim.proofs.Laws.Fits.{free, commit_fits}
 use Rattle.cw_sim.proofs.InMemory.Acts.{fits_there, left_may}
 use Rattle.cw_sim.proofs.InMemory.Left as left
@@ -30,19 +30,19 @@ use Rattle.cw_sim.proofs.Inside.Moves.{commit_inside}
 use Rattle.cw_sim.proofs.Kept.Quiet.{commit_shut}
 
 -- what its block is in memory
-pub place_there : (c : InMemory) (x : ℕ) (z : Seen) (b : ℕ) → MayStep c x z → b ≡ place c.core.machine.tree x → b ≡ place (tree z.m) x
+pub place_there : (c : Driver) (x : ℕ) (z : Seen) (b : ℕ) → MayStep c x z → b ≡ place c.core.machine.tree x → b ≡ place (tree z.m) x
 place_there c x z b step is = is ∙ ap (λ k. place k.machine.tree x) step.steady.stands.core
 
 -- where it stands in one, what is needed to go back to the begin is kept
-pub block_kept : (c : InMemory) (x : ℕ) (z : Seen) (b : ℕ) → MayStep c x z → in_block z.m.core.machine x ≡ true → b ≡ place c.core.machine.tree x → (s : Kept) × (thing_at c.saved b ≡ Some s) × IsSavedOf z.job.program s (z.m.saved b)
+pub block_kept : (c : Driver) (x : ℕ) (z : Seen) (b : ℕ) → MayStep c x z → in_block z.m.core.machine x ≡ true → b ≡ place c.core.machine.tree x → (s : Kept) × (thing_at c.saved b ≡ Some s) × IsSavedOf z.job.program s (z.m.saved b)
 block_kept c x z b step within is =
     step.steady.stands.saved b
     (ap (is_pending (tree z.m)) (place_there c x z b step is) ∙ left.within_pending z.m.core.machine.first z.m.core step.steady.core x step.running within)
 
-pub block_some : (c : InMemory) (x : ℕ) (z : Seen) (b : ℕ) → MayStep c x z → in_block z.m.core.machine x ≡ true → b ≡ place c.core.machine.tree x → IsSome (thing_at c.saved b)
+pub block_some : (c : Driver) (x : ℕ) (z : Seen) (b : ℕ) → MayStep c x z → in_block z.m.core.machine x ≡ true → b ≡ place c.core.machine.tree x → IsSome (thing_at c.saved b)
 block_some c x z b step within is = ap is_some (block_kept c x z b step within is).1
 
-module _ (c : InMemory) (x : ℕ) (z : Seen) (may : MayDo c x End z) where
+module _ (c : Driver) (x : ℕ) (z : Seen) (may : MayDo c x End z) where
   abbrev k : CoreState
   k = z.m.core
 
@@ -72,7 +72,7 @@ module _ (c : InMemory) (x : ℕ) (z : Seen) (may : MayDo c x End z) where
       (old.0, puts n ∙ ap (λ o. cond o None (thing_at c.saved n)) (ne_eqb n b (λ q. few.0 (q ∙ place_there c x z b may.step at))) ∙ old.1, old.2))
 
   -- and it stands for the move once it is
-  pub end_comes : (d : InMemory) → StandsFor d (answered x Nothing (record z { m = does (event.Commit x) z.m })) → Comes d z (answers (law_of z) x Nothing (does (event.Commit x) z.m))
+  pub end_comes : (d : Driver) → StandsFor d (answered x Nothing (record z { m = does (event.Commit x) z.m })) → Comes d z (answers (law_of z) x Nothing (does (event.Commit x) z.m))
   end_comes d stands =
       let P : Want → Type 0 = λ w. IsAnswer w Nothing in (
         changed x ((law_of z).answer (z.m.at x) Nothing) z.there,

@@ -12,7 +12,7 @@ use Rattle.cw_core.specs.Events.{fits, fits_now, is_stop, after_event}
 use Rattle.cw_sim.specs.Moves.{does}
 use Rattle.cw_sim.specs.Inside.{goes_back}
 use Rattle.cw_sim.specs.InMemory.{Seen, law_of, IsSteady, Wants}
-use Rattle.cw_sim.specs.declared.moves.Simulation.{Simulation as InMemory}
+use Rattle.cw_sim.specs.declared.moves.Driver.{Driver}
 use Rattle.cw_sim.proofs.Kept.Finishing.{goes, done}
 use Rattle.cw_sim.proofs.Inside.Moves.{finish_inside}
 
@@ -25,7 +25,7 @@ still_back k x dead y e =
 
 -- ## After the event
 
-module _ (c : InMemory) (z : Seen) (old : IsSteady c z) (x : ℕ) (dead : Bool) (fit : fits z.m.core (event.Finish x dead) ≡ true) (off : is_dying z.m.core.machine x ≡ false → Wants z x End → ⊥) where
+module _ (c : Driver) (z : Seen) (old : IsSteady c z) (x : ℕ) (dead : Bool) (fit : fits z.m.core (event.Finish x dead) ≡ true) (off : is_dying z.m.core.machine x ≡ false → Wants z x End → ⊥) where
   abbrev k : CoreState
   k = z.m.core
 

@@ -22,7 +22,7 @@ use Rattle.cw_sim.specs.Moves.{does, follows, finishes}
 use Rattle.cw_sim.specs.Kept.{Runs, AreWorkers, CoreGoesOn, forks_around}
 use Rattle.cw_sim.specs.InMemory.{Seen, law_of, Comes, IsSteady, Wants, MayFinish, MayMeet, IsDead, HasFinished}
 use Rattle.cw_sim.specs.WorkersInMemory.{IsLast}
-use Rattle.cw_sim.specs.declared.moves.Simulation.{Simulation as InMemory}
+use Rattle.cw_sim.specs.declared.moves.Driver.{Driver}
 use Rattle.cw_sim.proofs.Laws.EventsFit.{strand_here, is_free_here, finish_fits_here, fork_here, unjoined_here, right_fits_here}
 use Rattle.cw_sim.proofs.Kept.Finishing.{done, waits_here, not_around, none_beneath, takes_right}
 use Rattle.cw_sim.proofs.Kept.Halves.{right_child, right_strand}
@@ -47,7 +47,7 @@ fresh_lives first k on r some there fresh =
     let le = ancestor_le t rooted r (parent_of t r) (omega arith) up in
     omega arith))
 
-module _ (c : InMemory) (w x : ℕ) (dead : Bool) (z : Seen) (may : MayFinish c w x dead z) where
+module _ (c : Driver) (w x : ℕ) (dead : Bool) (z : Seen) (may : MayFinish c w x dead z) where
   abbrev k : CoreState
   k = z.m.core
 
@@ -136,7 +136,7 @@ module _ (c : InMemory) (w x : ℕ) (dead : Bool) (z : Seen) (may : MayFinish c 
   -- ## After it has finished
 
   module _ (new : CoreState) (is : new ≡ after_event c.core (event.Finish x dead)) where
-    abbrev d : InMemory
+    abbrev d : Driver
     d = record c { core = new }
 
     abbrev y : Seen
@@ -167,5 +167,5 @@ module _ (c : InMemory) (w x : ℕ) (dead : Bool) (z : Seen) (may : MayFinish c 
     }
 
     -- what follows is what comes of it
-    pub finish_comes : (e : InMemory) → (HasFinished d w x dead y → Comes e y (follows (law_of z) w x dead y.m)) → Comes e z (finishes (law_of z) w x dead z.m)
+    pub finish_comes : (e : Driver) → (HasFinished d w x dead y → Comes e y (follows (law_of z) w x dead y.m)) → Comes e z (finishes (law_of z) w x dead z.m)
     finish_comes e comes = comes has_finished_now

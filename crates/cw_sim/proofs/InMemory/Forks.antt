@@ -30,7 +30,7 @@ use Rattle.cw_sim.specs.InMemory.{Seen, law_of, job_of, has_body, IsBody, Stands
 use Rattle.cw_sim.specs.ThingsInMemory.{thing_at, Puts}
 use Rattle.cw_sim.specs.WorkersInMemory.{worker_of, workers_of}
 use Rattle.cw_sim.specs.declared.worker.Worker.{Worker as WorkerInMemory}
-use Rattle.cw_sim.specs.declared.moves.Simulation.{Simulation as InMemory}
+use Rattle.cw_sim.specs.declared.moves.Driver.{Driver}
 use Rattle.cw_sim.proofs.Laws.Fits.{fork_fits}
 use Rattle.cw_sim.proofs.InMemory.Sides.{body_stands, stands_body}
 use Rattle.cw_sim.proofs.Inside.Forks as inside
@@ -39,7 +39,7 @@ use Rattle.cw_sim.proofs.Inside.Waits.{going, running_stands}
 use Rattle.cw_sim.proofs.InMemory.PutThings.{put_here, put_other, some_here, same_thing}
 use Rattle.cw_sim.proofs.Kept.Workers.{set_run}
 
-module _ (c : InMemory) (w x : ℕ) (z : Seen) (may : MayFork c w x z) where
+module _ (c : Driver) (w x : ℕ) (z : Seen) (may : MayFork c w x z) where
   abbrev k : CoreState
   k = z.m.core
 
@@ -134,7 +134,7 @@ module _ (c : InMemory) (w x : ℕ) (z : Seen) (may : MayFork c w x z) where
 
   -- ## After the fork
 
-  module _ (new : InMemory) (l r : Standing) (task : new.task ≡ c.task) (forked : new.core ≡ after_event c.core (event.Fork x)) (saved : new.saved ≡ c.saved)
+  module _ (new : Driver) (l r : Standing) (task : new.task ≡ c.task) (forked : new.core ≡ after_event c.core (event.Fork x)) (saved : new.saved ≡ c.saved)
       (fork : ℕ) (is_fork : fork ≡ length c.core.machine.tree) (first second : List (Option Standing))
       (takes : Puts c.bodies x None first) (puts_left : Puts first (left_node fork) (Some l) second) (puts_right : Puts second (right_node fork) (Some r) new.bodies)
       (left_at : state_of l ≡ left) (right_at : state_of r ≡ right) (left_of_program : IsOf c.task.program.now l) (right_of_program : IsOf c.task.program.now r) where

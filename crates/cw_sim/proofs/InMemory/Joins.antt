@@ -24,7 +24,7 @@ use Rattle.cw_sim.specs.Inside.{HasInside}
 use Rattle.cw_sim.specs.InMemory.{Seen, job_of, law_of, has_body, IsBody, StandsFor, Comes, MayJoin}
 use Rattle.cw_sim.specs.ThingsInMemory.{thing_at, Puts}
 use Rattle.cw_sim.specs.WorkersInMemory.{workers_of}
-use Rattle.cw_sim.specs.declared.moves.Simulation.{Simulation as InMemory}
+use Rattle.cw_sim.specs.declared.moves.Driver.{Driver}
 use Rattle.cw_sim.proofs.Laws.Fits.{join_fits}
 use Rattle.cw_sim.proofs.Kept.Halves.{left_child, right_child}
 use Rattle.cw_sim.proofs.InMemory.Sides.{side_body, side_lives, side_gone, was_body}
@@ -33,7 +33,7 @@ use Rattle.cw_sim.proofs.Inside.Moves.{join_inside}
 use Rattle.cw_sim.proofs.Kept.Joining.{goes, parent_runs}
 use Rattle.cw_sim.proofs.InMemory.PutThings.{put_here, put_other, some_here, same_thing}
 
-module _ (c : InMemory) (w f : ℕ) (z : Seen) (may : MayJoin c w f z) where
+module _ (c : Driver) (w f : ℕ) (z : Seen) (may : MayJoin c w f z) where
   abbrev k : CoreState
   k = z.m.core
 
@@ -165,7 +165,7 @@ module _ (c : InMemory) (w f : ℕ) (z : Seen) (may : MayJoin c w f z) where
 
   -- ## After the join
 
-  module _ (new : InMemory) (body : Standing) (is : IsParent body) (task : new.task ≡ c.task) (core : new.core ≡ after_event c.core (event.Join f)) (saved : new.saved ≡ c.saved)
+  module _ (new : Driver) (body : Standing) (is : IsParent body) (task : new.task ≡ c.task) (core : new.core ≡ after_event c.core (event.Join f)) (saved : new.saved ≡ c.saved)
       (parent : ℕ) (forked : parent ≡ strand_of c.core.machine.tree f) (first second : List (Option Standing))
       (takes_left : Puts c.bodies (left_node f) None first) (takes_right : Puts first (right_node f) None second) (puts : Puts second parent (Some body) new.bodies)
       (workers : workers_of new.workers.items ≡ slice_set (workers_of c.workers.items) w (record (worker_in (workers_of c.workers.items) w) { runs = Some parent })) where

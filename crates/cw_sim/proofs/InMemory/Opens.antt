@@ -13,7 +13,7 @@ use Rattle.cw_sim.specs.ThingsInMemory.{thing_at, Puts}
 use Rattle.cw_sim.specs.WorkersInMemory.{workers_of}
 use Rattle.cw_sim.specs.InMemory.{Seen, StandsFor, IsBody, has_body, job_of, opened}
 use Rattle.cw_sim.specs.declared.moves.Task.{Task}
-use Rattle.cw_sim.specs.declared.moves.Simulation.{Simulation as InMemory}
+use Rattle.cw_sim.specs.declared.moves.Driver.{Driver}
 use Rattle.cw_sim.proofs.Laws.Opens.{opens}
 
 none_pending : (first : List ℤ) (n : ℕ) → is_pending (opening_machine first).tree n ≡ false
@@ -33,7 +33,7 @@ module _ (t : Task) (workers : ℕ) where
   body bodies main at of there (suc x) has = absurd (cc has)
 
   -- a new core, main put in the place of no body, and new workers
-  pub opens_stands : (c : InMemory) (main : Standing) (none bodies : List (Option Standing))
+  pub opens_stands : (c : Driver) (main : Standing) (none bodies : List (Option Standing))
       → 0 < t.limits.strands
       → c.task ≡ t
       → c.core ≡ start (first_memory t.program.now.cells) t.limits.strands t.limits.aborts

@@ -18,7 +18,7 @@ use Rattle.cw_sim.specs.Workers.{changed, with_strand}
 use Rattle.cw_sim.specs.ThingsInMemory.{thing_at, Puts}
 use Rattle.cw_sim.specs.Kept.{CoreGoesOn}
 use Rattle.cw_sim.specs.InMemory.{Seen, Comes, IsBody, MayRoll, law_of}
-use Rattle.cw_sim.specs.declared.moves.Simulation.{Simulation as InMemory}
+use Rattle.cw_sim.specs.declared.moves.Driver.{Driver}
 use Rattle.cw_sim.proofs.Kept.After.{conflicts_after}
 use Rattle.cw_sim.proofs.Laws.Fits.{rolls, roll_fits}
 use Rattle.cw_sim.proofs.InMemory.Acts.{fits_there}
@@ -31,7 +31,7 @@ use Rattle.cw_sim.proofs.Inside.Moves.{may_go_back, roll_inside}
 use Rattle.cw_sim.proofs.Inside.Quiet.{IsLeft}
 use Rattle.cw_sim.proofs.Kept.Quiet.{roll_shut}
 
-module _ (c : InMemory) (x : ℕ) (z : Seen) (may : MayRoll c x z) where
+module _ (c : Driver) (x : ℕ) (z : Seen) (may : MayRoll c x z) where
   abbrev k : CoreState
   k = z.m.core
 

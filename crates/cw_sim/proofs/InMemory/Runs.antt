@@ -20,7 +20,7 @@ use Rattle.cw_sim.specs.Inside.{HasInside}
 use Rattle.cw_sim.specs.InMemory.{Seen, StandsFor, Comes, Ends, MayMove, opened}
 use Rattle.cw_sim.specs.TurnsInMemory.{AreAt}
 use Rattle.cw_sim.specs.declared.turns.Turns.{Turns}
-use Rattle.cw_sim.specs.declared.moves.Simulation.{Simulation as InMemory}
+use Rattle.cw_sim.specs.declared.moves.Driver.{Driver}
 use Rattle.cw_sim.proofs.Runs.Closing.{moves_fit}
 use Rattle.cw_sim.proofs.Inside.Opens.{opens_inside}
 use Rattle.cw_sim.proofs.Laws.MoveNumbers.{move_number}
@@ -44,7 +44,7 @@ module _ (job : Job) (workers : ℕ) (schedule : Schedule) where
 
   -- Before the n-th move memory stands for a simulation of the job, in which all is kept while it goes on, and of which the other moves make
   -- what all moves come to.
-  pub record IsAt (c : InMemory) (n : ℕ) : Type 0 where
+  pub record IsAt (c : Driver) (n : ℕ) : Type 0 where
     pub m : Simulation StrandState
     pub there : ℕ → StrandState
     pub stands : StandsFor c (record { job = job; m = m; there = there })
@@ -68,7 +68,7 @@ module _ (job : Job) (workers : ℕ) (schedule : Schedule) where
   along_next t u n a next schedules counts = record { at = next; schedule_same = schedules ∙ a.schedule_same; workers_same = counts ∙ a.workers_same }
 
   -- before the first move it is so
-  pub is_opened : (c : InMemory) → 0 < job.limits.strands → 0 < workers → StandsFor c (opened job workers) → IsAt c 0
+  pub is_opened : (c : Driver) → 0 < job.limits.strands → 0 < workers → StandsFor c (opened job workers) → IsAt c 0
   is_opened c room some stands = record {
     m = (opened job workers).m;
     there = (opened job workers).there;
@@ -81,7 +81,7 @@ module _ (job : Job) (workers : ℕ) (schedule : Schedule) where
 
   -- ## At a move
 
-  module _ (c : InMemory) (n : ℕ) (is : IsAt c n) where
+  module _ (c : Driver) (n : ℕ) (is : IsAt c n) where
     -- the simulation that it stands for
     abbrev pub z : Seen
     z = record { job = job; m = is.m; there = is.there }
@@ -131,7 +131,7 @@ module _ (job : Job) (workers : ℕ) (schedule : Schedule) where
         one k false e = refl
 
         -- what its move comes to stands before the next one
-        pub comes_next : (d : InMemory) → n < limit → Comes d z (move s w is.m) → IsAt d (n + 1)
+        pub comes_next : (d : Driver) → n < limit → Comes d z (move s w is.m) → IsAt d (n + 1)
         comes_next d more comes = record {
           m = move s w is.m;
           there = comes.0;

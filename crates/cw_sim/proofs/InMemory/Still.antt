@@ -18,11 +18,11 @@ use Rattle.cw_sim.specs.Moves.{does, stops_if_spent}
 use Rattle.cw_sim.specs.Inside as inside
 use Rattle.cw_sim.specs.ThingsInMemory.{thing_at}
 use Rattle.cw_sim.specs.InMemory.{Seen, StandsFor, has_body, law_of}
-use Rattle.cw_sim.specs.declared.moves.Simulation.{Simulation as InMemory}
+use Rattle.cw_sim.specs.declared.moves.Driver.{Driver}
 
 -- ## The core moves
 
-module _ (c : InMemory) (k : CoreState) (z : Seen) (new : CoreState) (old : StandsFor c z) (is : k ≡ new) (core : IsCore k.machine.first k)
+module _ (c : Driver) (k : CoreState) (z : Seen) (new : CoreState) (old : StandsFor c z) (is : k ≡ new) (core : IsCore k.machine.first k)
     (bodies : (x : ℕ) → has_body new x ≡ true → has_body z.m.core x ≡ true)
     (back : (x : ℕ) → inside.goes_back new.machine x ≡ false → inside.goes_back z.m.core.machine x ≡ false) where
   core_now : IsCore new.machine.first new
@@ -50,14 +50,14 @@ module _ (c : InMemory) (k : CoreState) (z : Seen) (new : CoreState) (old : Stan
 -- ## The run stops
 
 -- a halt stops the run, and moves no strand
-pub stop_stands : (c : InMemory) (k : CoreState) (z : Seen) (h : Halt) → StandsFor c z → k ≡ after_event z.m.core (event.Stop h) → IsCore k.machine.first k
+pub stop_stands : (c : Driver) (k : CoreState) (z : Seen) (h : Halt) → StandsFor c z → k ≡ after_event z.m.core (event.Stop h) → IsCore k.machine.first k
     → StandsFor (record c { core = k }) (record z { m = does (event.Stop h) z.m })
 stop_stands c k z (halt.Fault x kind) old e core = still_stands c k z (after_event z.m.core (event.Stop (halt.Fault x kind))) old e core (λ n h. h) (λ n h. h) (λ n h. h)
 stop_stands c k z (halt.Budget x) old e core = still_stands c k z (after_event z.m.core (event.Stop (halt.Budget x))) old e core (λ n h. h) (λ n h. h) (λ n h. h)
 stop_stands c k z halt.Memory old e core = still_stands c k z (after_event z.m.core (event.Stop halt.Memory)) old e core (λ n h. h) (λ n h. h) (λ n h. h)
 
 -- where no budget is spent it goes on
-pub unspent_stands : (c : InMemory) (z : Seen) → StandsFor c z → spent c.core ≡ None → StandsFor c (record z { m = stops_if_spent (law_of z) z.m })
+pub unspent_stands : (c : Driver) (z : Seen) → StandsFor c z → spent c.core ≡ None → StandsFor c (record z { m = stops_if_spent (law_of z) z.m })
 unspent_stands c z old none =
     let P : Option ℕ → Type 0 = λ o. StandsFor c (record z { m = option_map_or (λ x. does (event.Stop (halt.Budget x)) z.m) o z.m }) in
     subst P (sym (ap spent (sym old.core) ∙ none)) old

@@ -14,7 +14,7 @@ use Rattle.cw_sim.specs.Moves.{others, takes, steals}
 use Rattle.cw_sim.specs.WorkersInMemory.{worker_of, workers_of, first_with_forks, workers_next as workers_after}
 use Rattle.cw_sim.specs.InMemory.{Seen, StandsFor, IsSteady, MayMove, MayTake, Comes}
 use Rattle.cw_sim.specs.declared.worker.Worker.{Worker as WorkerInMemory}
-use Rattle.cw_sim.specs.declared.moves.Simulation.{Simulation as InMemory}
+use Rattle.cw_sim.specs.declared.moves.Driver.{Driver}
 use Rattle.cw_sim.proofs.Laws.EventsFit.{robbed_here, split_fits_here}
 use Rattle.cw_sim.proofs.Kept.Halves.{right_child}
 use Rattle.cw_sim.proofs.Kept.Workers.{worker_past}
@@ -30,7 +30,7 @@ oldest [] some = absurd (omega (arith, some))
 oldest (d ∷ ds) some = record { fork = d; rest = ds; is = refl }
 
 -- what a simulation stands for it comes to, where nothing is done
-pub as_it_is : (c : InMemory) (z : Seen) → IsSteady c z → Comes c z z.m
+pub as_it_is : (c : Driver) (z : Seen) → IsSteady c z → Comes c z z.m
 as_it_is c z steady = (z.there, (steady.stands, steady.inside))
 
 -- ## The first of other workers with forks
@@ -72,7 +72,7 @@ found_some ws (u ∷ us) v e = by (found_some ws us v) (worker_in ws u).deque re
 some_there : (ws : List Worker) (v : ℕ) → 0 < length (worker_in ws v).deque → v < length ws
 some_there ws v some = elim (cases_lt v (length ws)) [ inl h ↦ h | inr h ↦ absurd (let none = ap (λ u. length u.deque) (worker_past ws v h) in omega (arith, none, some)) ]
 
-module _ (c : InMemory) (w : ℕ) (z : Seen) (may : MayMove c w z) (now : List WorkerInMemory) (read : now ≡ c.workers.items) (r : Option ℕ) (is : r ≡ first_with_forks (workers_of now) (workers_after w (length now))) where
+module _ (c : Driver) (w : ℕ) (z : Seen) (may : MayMove c w z) (now : List WorkerInMemory) (read : now ≡ c.workers.items) (r : Option ℕ) (is : r ≡ first_with_forks (workers_of now) (workers_after w (length now))) where
   -- what was found in memory
   found : first_with_forks z.m.workers (others z.m w) ≡ r
   found =
@@ -87,7 +87,7 @@ module _ (c : InMemory) (w : ℕ) (z : Seen) (may : MayMove c w z) (now : List W
       record { may = may; there = some_there z.m.workers v some; some = some }
 
   -- what comes of the taking comes of the stealing
-  pub stolen : (v : ℕ) → r ≡ Some v → (d : InMemory) → (MayTake c w v z → (f : ℕ) (fs : List ℕ) → (worker z.m v).deque ≡ f ∷ fs → Comes d z (takes w v f fs z.m)) → Comes d z (steals w (others z.m w) z.m)
+  pub stolen : (v : ℕ) → r ≡ Some v → (d : Driver) → (MayTake c w v z → (f : ℕ) (fs : List ℕ) → (worker z.m v).deque ≡ f ∷ fs → Comes d z (takes w v f fs z.m)) → Comes d z (steals w (others z.m w) z.m)
   stolen v e d comes =
       let first = oldest (worker z.m v).deque (may_take v e).some in
       let P : Simulation StrandState → Type 0 = λ m. Comes d z m in
@@ -105,7 +105,7 @@ module _ (c : InMemory) (w : ℕ) (z : Seen) (may : MayMove c w z) (now : List W
 abbrev pub TakesOldest : (old new : List Worker) (v : ℕ) → Option ℕ → Type 0
 TakesOldest old new v r = (f : ℕ) (fs : List ℕ) → (worker_in old v).deque ≡ f ∷ fs → (r ≡ Some f) × (new ≡ slice_set old v (record (worker_in old v) { deque = fs }))
 
-module _ (c : InMemory) (w v : ℕ) (z : Seen) (may : MayTake c w v z) (r : Option ℕ) (new : List WorkerInMemory) (took : TakesOldest (workers_of c.workers.items) (workers_of new) v r) where
+module _ (c : Driver) (w v : ℕ) (z : Seen) (may : MayTake c w v z) (r : Option ℕ) (new : List WorkerInMemory) (took : TakesOldest (workers_of c.workers.items) (workers_of new) v r) where
   abbrev k : CoreState
   k = z.m.core
 
@@ -158,7 +158,7 @@ module _ (c : InMemory) (w v : ℕ) (z : Seen) (may : MayTake c w v z) (r : Opti
         omega (arith, n, low)
 
     -- once it was split, and worker w has its right strand
-    pub taken_comes : (j : CoreState) (rest : InMemory) → j ≡ after_event c.core (event.Split fork) → IsCore j.machine.first j
+    pub taken_comes : (j : CoreState) (rest : Driver) → j ≡ after_event c.core (event.Split fork) → IsCore j.machine.first j
         → workers_of rest.workers.items ≡ slice_set (workers_of new) w (record (worker_in (workers_of new) w) { runs = Some (right_node fork) })
         → (f : ℕ) (fs : List ℕ) → (worker z.m v).deque ≡ f ∷ fs → Comes (record c { core = j; workers = rest.workers }) z (takes w v f fs z.m)
     taken_comes j rest e core ran f fs q = (

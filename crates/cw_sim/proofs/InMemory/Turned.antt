@@ -11,16 +11,16 @@ use Rattle.cw_sim.specs.Workers.{left_node, right_node, worker, worker_in}
 use Rattle.cw_sim.specs.Moves.{does, takes_back, joins, goes_to_right}
 use Rattle.cw_sim.specs.InMemory.{Seen, law_of, Comes, IsSteady, MayJoin, MayTurn}
 use Rattle.cw_sim.specs.WorkersInMemory.{workers_of, without}
-use Rattle.cw_sim.specs.declared.moves.Simulation.{Simulation as InMemory}
+use Rattle.cw_sim.specs.declared.moves.Driver.{Driver}
 use Rattle.cw_sim.proofs.InMemory.Finished.{finish_done, finish_steady}
 use Rattle.cw_sim.proofs.InMemory.Working.{run_stands, back_stands}
 
-module _ (c : InMemory) (w f : ℕ) (dead : Bool) (z : Seen) (may : MayTurn c w f dead z) (took : InMemory)
+module _ (c : Driver) (w f : ℕ) (dead : Bool) (z : Seen) (may : MayTurn c w f dead z) (took : Driver)
     (takes : workers_of took.workers.items ≡ slice_set (workers_of c.workers.items) w (without f (worker_in (workers_of c.workers.items) w))) where
   abbrev k : CoreState
   k = z.m.core
 
-  abbrev back : InMemory
+  abbrev back : Driver
   back = record c { workers = took.workers }
 
   abbrev y : Seen
@@ -30,7 +30,7 @@ module _ (c : InMemory) (w f : ℕ) (dead : Bool) (z : Seen) (may : MayTurn c w 
   back_steady = record { stands = back_stands c z may.meet.steady.stands took w f takes; core = may.meet.steady.core; inside = may.meet.steady.inside }
 
   -- a live one: the worker goes on with the right one
-  pub turned : dead ≡ false → (new : InMemory) → workers_of new.workers.items ≡ slice_set (workers_of took.workers.items) w (record (worker_in (workers_of took.workers.items) w) { runs = Some (right_node f) })
+  pub turned : dead ≡ false → (new : Driver) → workers_of new.workers.items ≡ slice_set (workers_of took.workers.items) w (record (worker_in (workers_of took.workers.items) w) { runs = Some (right_node f) })
       → Comes (record c { workers = new.workers }) z (goes_to_right (law_of z) w f dead z.m)
   turned e new workers =
       let P : Bool → Type 0 = λ b. Comes (record c { workers = new.workers }) z (goes_to_right (law_of z) w f b z.m) in
@@ -42,7 +42,7 @@ module _ (c : InMemory) (w f : ℕ) (dead : Bool) (z : Seen) (may : MayTurn c w 
     x = record y { m = does (event.Finish (right_node f) true) y.m }
 
     module _ (new : CoreState) (core : new ≡ after_event c.core (event.Finish (right_node f) dead)) where
-      abbrev d : InMemory
+      abbrev d : Driver
       d = record back { core = new }
 
       -- both have finished then
@@ -59,7 +59,7 @@ module _ (c : InMemory) (w f : ℕ) (dead : Bool) (z : Seen) (may : MayTurn c w 
       }
 
       -- and they join
-      pub turned_dead : (e : InMemory) → (MayJoin d w f x → Comes e x (joins (law_of x) w f x.m)) → Comes e z (goes_to_right (law_of z) w f dead z.m)
+      pub turned_dead : (e : Driver) → (MayJoin d w f x → Comes e x (joins (law_of x) w f x.m)) → Comes e z (goes_to_right (law_of z) w f dead z.m)
       turned_dead e comes =
           let P : Bool → Type 0 = λ b. Comes e z (goes_to_right (law_of z) w f b z.m) in
           let there = comes both_join in

@@ -6,11 +6,11 @@ use Rattle.cw_sim.specs.Workers.{Worker, worker, worker_in, with_run}
 use Rattle.cw_sim.specs.Moves.{takes_back}
 use Rattle.cw_sim.specs.InMemory.{Seen, StandsFor}
 use Rattle.cw_sim.specs.WorkersInMemory.{worker_of, workers_of, without}
-use Rattle.cw_sim.specs.declared.moves.Simulation.{Simulation as InMemory}
+use Rattle.cw_sim.specs.declared.moves.Driver.{Driver}
 
-module _ (c : InMemory) (z : Seen) (held : StandsFor c z) where
+module _ (c : Driver) (z : Seen) (held : StandsFor c z) where
   -- it stands for others, while the core and all strands stay
-  pub with_workers : (new : InMemory) (ws : List Worker) → workers_of new.workers.items ≡ ws → StandsFor (record c { workers = new.workers }) (record z { m = record z.m { workers = ws } })
+  pub with_workers : (new : Driver) (ws : List Worker) → workers_of new.workers.items ≡ ws → StandsFor (record c { workers = new.workers }) (record z { m = record z.m { workers = ws } })
   with_workers new ws e = record {
     job = held.job;
     core = held.core;
@@ -28,11 +28,11 @@ module _ (c : InMemory) (z : Seen) (held : StandsFor c z) where
       omega (arith, n, one, low)
 
   -- worker w goes on with this strand, or is idle
-  pub run_stands : (new : InMemory) (w : ℕ) (r : Option ℕ) → workers_of new.workers.items ≡ slice_set (workers_of c.workers.items) w (record (worker_in (workers_of c.workers.items) w) { runs = r })
+  pub run_stands : (new : Driver) (w : ℕ) (r : Option ℕ) → workers_of new.workers.items ≡ slice_set (workers_of c.workers.items) w (record (worker_in (workers_of c.workers.items) w) { runs = r })
       → StandsFor (record c { workers = new.workers }) (record z { m = with_run w r z.m })
   run_stands new w r e = with_workers new (slice_set z.m.workers w (record (worker z.m w) { runs = r })) (e ∙ ap (λ ws. slice_set ws w (record (worker_in ws w) { runs = r })) held.workers)
 
   -- fork f no more waits in it
-  pub back_stands : (new : InMemory) (w f : ℕ) → workers_of new.workers.items ≡ slice_set (workers_of c.workers.items) w (without f (worker_in (workers_of c.workers.items) w))
+  pub back_stands : (new : Driver) (w f : ℕ) → workers_of new.workers.items ≡ slice_set (workers_of c.workers.items) w (without f (worker_in (workers_of c.workers.items) w))
       → StandsFor (record c { workers = new.workers }) (record z { m = takes_back w f z.m })
   back_stands new w f e = with_workers new (slice_set z.m.workers w (without f (worker z.m w))) (e ∙ ap (λ ws. slice_set ws w (without f (worker_in ws w))) held.workers)

@@ -1,5 +1,0 @@
-use Rattle.cw_strand.specs.Standing.{StandsIn}
-use Rattle.cw_parts.proofs.tests.strands.wants_are.Given as goal
-
-abbrev pub invariant-loop-want : goal.invariant-loop-want
-invariant-loop-want g l = StandsIn l.program.code l.strand

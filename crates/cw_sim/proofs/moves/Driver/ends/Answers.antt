@@ -1,0 +1,29 @@
+-- The core ends the block, and the strand is answered.
+use Rattle.std.proofs.lemmas.Result.{on_ok_weaker}
+use Rattle.cw_core.specs.declared.event.Event.TheVariants as event
+use Rattle.cw_sim.specs.Moves.{does}
+use Rattle.cw_sim.proofs.InMemory.Ends.{block_some, end_within, end_fits_there, end_may, end_comes}
+use Rattle.cw_sim.proofs.moves.Driver.ends.Goals as goal
+
+pub take-requires : goal.take-requires
+take-requires c =
+    let (z, may) = c.requires in
+    block_some c.args.self.now c.args.strand z c.place-block.result may.step (end_within c.args.self.now c.args.strand z may) c.place-block.ensures
+
+pub step-requires : goal.step-requires
+step-requires c = let (z, may) = c.requires in end_fits_there c.args.self.now c.args.strand z may
+
+pub answers-requires : goal.answers-requires
+answers-requires c =
+    let (z, may) = c.requires in (
+      record z { m = does (event.Commit c.args.strand) z.m },
+      end_may c.args.self.now c.args.strand z may c.place-block.result c.take.new.self c.step.new.self c.place-block.ensures c.take.ensures.takes c.in_ok-step.ensures.ok c.in_ok-step.ensures.stands,
+    )
+
+pub returns : goal.returns
+returns c =
+    on_ok_weaker c.answers.result
+    (λ stands z may. end_comes c.args.self.now c.args.strand z may c.answers.new.self
+    (stands (record z { m = does (event.Commit c.args.strand) z.m })
+    (end_may c.args.self.now c.args.strand z may c.place-block.result c.take.new.self c.step.new.self c.place-block.ensures c.take.ensures.takes c.in_ok-step.ensures.ok c.in_ok-step.ensures.stands)))
+    c.answers.ensures
