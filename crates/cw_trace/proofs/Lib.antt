@@ -1,4 +1,4 @@
-pub mod Columns
+pub mod Sound
 pub mod Keeps
 pub mod Marks
 pub mod Outward

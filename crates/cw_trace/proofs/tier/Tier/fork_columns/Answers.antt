@@ -4,8 +4,8 @@ use Rattle.std.proofs.lemmas.List.{get_or_read}
 use Rattle.std.proofs.lemmas.Bool.{ne_eqb, eq-eqb}
 use Rattle.cw_trace.specs.Columns.{used, owner, gap, outer_at}
 use Rattle.cw_trace.specs.Tier.{traces_of, AreSound, IsTierInMemory}
-use Rattle.cw_trace.proofs.Columns.Fork.{sound_fork}
-use Rattle.cw_trace.proofs.Columns.Made.{forked_is}
+use Rattle.cw_trace.proofs.Sound.Fork.{sound_fork}
+use Rattle.cw_trace.proofs.Sound.Made.{forked_is}
 use Rattle.cw_trace.proofs.tier.Tier.fork_columns.Goals as goal
 use Rattle.cw_trace.proofs.tier.Tier.fork_columns.Goals.{then-word-eq0, else-word-eq0}
 

@@ -5,9 +5,9 @@ use Rattle.std.specs.Vec.{vec_len, with_item, with_items}
 use Rattle.std.proofs.lemmas.List.{get_or_read, length-map, length-set, with_items_is}
 use Rattle.cw_trace.specs.Columns.{used, owner, is_trace, around_fork, back_to, row_in}
 use Rattle.cw_trace.specs.Tier.{traces_of, AreSound, IsTierInMemory}
-use Rattle.cw_trace.proofs.Columns.Merge.{merge_parent_low, merge_trace_low, merge_left, merge_right, merge_smaller, sound_merge}
+use Rattle.cw_trace.proofs.Sound.Merge.{merge_parent_low, merge_trace_low, merge_left, merge_right, merge_smaller, sound_merge}
 use Rattle.cw_trace.proofs.Marks.Counts.{SameLengths}
-use Rattle.cw_trace.proofs.Columns.Made.{merged_is}
+use Rattle.cw_trace.proofs.Sound.Made.{merged_is}
 use Rattle.cw_trace.specs.declared.tier.Tier.TheInside.{Inside}
 use Rattle.cw_trace.specs.Traces.{Traces}
 use Rattle.cw_trace.proofs.tier.Tier.merge_columns.Goals as goal

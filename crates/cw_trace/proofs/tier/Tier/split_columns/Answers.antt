@@ -5,10 +5,10 @@ use Rattle.std.specs.Vec.{vec_len, with_item, with_items}
 use Rattle.cw_tree.specs.Walks.{has}
 use Rattle.cw_trace.specs.Columns.{used, owner, gap, is_trace, opening_mark, parts, row_in}
 use Rattle.cw_trace.specs.Tier.{traces_of, AreSound, IsTierInMemory}
-use Rattle.cw_trace.proofs.Columns.Split.{split_around, split_left, split_right, split_few, sound_split}
+use Rattle.cw_trace.proofs.Sound.Split.{split_around, split_left, split_right, split_few, sound_split}
 use Rattle.cw_trace.proofs.Marks.Counts.{SameLengths}
 use Rattle.cw_trace.proofs.Marks.Edits.{length_parts}
-use Rattle.cw_trace.proofs.Columns.Made.{split_is}
+use Rattle.cw_trace.proofs.Sound.Made.{split_is}
 use Rattle.cw_trace.proofs.tier.Tier.split_columns.Goals as goal
 
 pub row_of-row-requires : goal.row_of-row-requires
