@@ -3,5 +3,4 @@ pub mod Fits
 pub mod InMemory
 pub mod Kept
 pub mod Laws
-pub mod Row
 mod Undone

@@ -32,7 +32,7 @@ use Rattle.cw_core.proofs.Events.Places.{waits_for}
 use Rattle.cw_core.proofs.Kept.PartsGrow.{unspent, none_spent}
 use Rattle.cw_core.proofs.Fits.Ready.{row_there}
 use Rattle.cw_core.proofs.Kept.SameTree.{forks_same, held_same}
-use Rattle.cw_core.proofs.Row.Rejoining.{join_rows}
+use Rattle.cw_core.proofs.Kept.Rejoining.{join_rows}
 use Rattle.cw_core.proofs.InMemory.Out.{seen, now_of}
 
 pub record MayJoin (k : CoreState) (f : ℕ) : Type 0 where

@@ -45,7 +45,7 @@ use Rattle.cw_core.proofs.Kept.Entering.{live_is}
 use Rattle.cw_core.proofs.InMemory.Out.{seen}
 use Rattle.cw_core.proofs.InMemory.Out as out
 use Rattle.cw_core.proofs.InMemory.Access.{runs_access}
-use Rattle.cw_core.proofs.Row.RefusedStakes.{victim_free, victim_marked}
+use Rattle.cw_core.proofs.Kept.RefusedStakes.{victim_free, victim_marked}
 use Rattle.cw_core.proofs.Kept.RefusedParts.{refused_state, counted_same, refused_parts}
 use Rattle.cw_core.proofs.Kept.RefusedTold.{after_refused, victim_attempt, own_attempt, spends, refused_access, refused_block}
 

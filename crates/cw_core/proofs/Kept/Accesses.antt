@@ -35,7 +35,7 @@ use Rattle.cw_core.specs.Kept.{AreParts, IsEntryOf, IsHeld, changed, with_tail, 
 use Rattle.cw_core.proofs.Events.Going.{well, at_place}
 use Rattle.cw_core.proofs.Events.Kept.{events, free_ready}
 use Rattle.cw_core.proofs.Events.Places.{place_grown}
-use Rattle.cw_core.proofs.Row.Grow.{tail_here}
+use Rattle.cw_core.proofs.Kept.RowsGrow.{tail_here}
 use Rattle.cw_core.proofs.Fits.Ready.{strand_there}
 use Rattle.cw_core.proofs.Kept.PartsGrow.{askers_still, unspent, none_spent, forks_still, entry_still, held_still, closed_still, rows_grown}
 use Rattle.cw_core.proofs.Kept.Entering.{changed_cell, there_or_last, firsts_kept, live_is}

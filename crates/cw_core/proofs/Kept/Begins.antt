@@ -27,10 +27,10 @@ use Rattle.cw_core.specs.Events.{fits, fits_now, is_stop, after_event}
 use Rattle.cw_core.specs.Kept.{AreParts, changed, with_tail, with_place, plain_tail, leaf_row}
 use Rattle.cw_core.proofs.Events.Going.{well, at_place}
 use Rattle.cw_core.proofs.Events.Kept.{events, free_ready}
-use Rattle.cw_core.proofs.Row.Tails.{suffix_same, child_low, elders_more}
+use Rattle.cw_core.proofs.Kept.Tails.{suffix_same, child_low, elders_more}
 use Rattle.cw_core.proofs.Events.Places.{place_grown, place_begun}
-use Rattle.cw_core.proofs.Row.Stakes.{no_victim}
-use Rattle.cw_core.proofs.Row.Grow.{tail_here}
+use Rattle.cw_core.proofs.Kept.Stakes.{no_victim}
+use Rattle.cw_core.proofs.Kept.RowsGrow.{tail_here}
 use Rattle.cw_core.proofs.Kept.PartsGrow.{all_at, askers_still, unspent, none_spent, forks_still, held_still, closed_still, rows_grown}
 
 module _ (k : CoreState) (rows : List Row) (forks : List ℕ) (cells : List CellParts) (last : Option ℕ) (w : AreParts k rows forks cells last) where

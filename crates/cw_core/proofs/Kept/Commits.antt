@@ -22,9 +22,9 @@ use Rattle.cw_core.specs.Events.{fits, after_event}
 use Rattle.cw_core.specs.Kept.{IsTail, IsNow, IsRow, AreRows, AreParts, changed, with_tail, with_place, plain_tail}
 use Rattle.cw_core.specs.InMemory.{state_of, IsCoreInMemory}
 use Rattle.cw_core.proofs.Events.Kept.{events}
-use Rattle.cw_core.proofs.Row.Changed.{length_changed, was_changed}
+use Rattle.cw_core.proofs.Kept.Changed.{length_changed, was_changed}
 use Rattle.cw_core.proofs.Kept.PartsGrow.{unspent, none_spent}
-use Rattle.cw_core.proofs.Row.Close.{open_block, there, low, made_closed, tail_closed, place_here, place_other, victim_closed, now_closed}
+use Rattle.cw_core.proofs.Kept.RowsClose.{open_block, there, low, made_closed, tail_closed, place_here, place_other, victim_closed, now_closed}
 use Rattle.cw_core.proofs.Kept.PartsClose.{forks_closed, held_closed, askers_closed, one_closed, tail_shut}
 use Rattle.cw_core.proofs.InMemory.Out.{now_of, max_next}
 

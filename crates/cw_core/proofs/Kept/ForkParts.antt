@@ -35,8 +35,8 @@ use Rattle.cw_core.specs.Kept.{AreParts, AreForks, IsEntryOf, IsHeld, changed, w
 use Rattle.cw_core.proofs.Events.Going.{well, at_place, column_place}
 use Rattle.cw_core.proofs.Events.Kept.{events, free_ready}
 use Rattle.cw_core.proofs.Kept.PartsGrow.{unspent, none_spent}
-use Rattle.cw_core.proofs.Row.ForkTails.{closed_apart}
-use Rattle.cw_core.proofs.Row.ForkRows.{rows_forked}
+use Rattle.cw_core.proofs.Kept.ForkTails.{closed_apart}
+use Rattle.cw_core.proofs.Kept.ForkRows.{rows_forked}
 use Rattle.cw_core.proofs.Kept.Entering.{there_or_last}
 
 module _ (k : CoreState) (rows : List Row) (forks : List ℕ) (cells : List CellParts) (last : Option ℕ) (w : AreParts k rows forks cells last) (s : ℕ) (fit : fits k (event.Fork s) ≡ true) where

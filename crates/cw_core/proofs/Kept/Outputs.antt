@@ -21,7 +21,7 @@ use Rattle.cw_core.specs.Kept.{AreParts, changed, with_tail, with_place, plain_t
 use Rattle.cw_core.proofs.Events.Going.{well}
 use Rattle.cw_core.proofs.Events.Kept.{events, free_ready}
 use Rattle.cw_core.proofs.Events.Places.{place_grown}
-use Rattle.cw_core.proofs.Row.Grow.{tail_here}
+use Rattle.cw_core.proofs.Kept.RowsGrow.{tail_here}
 use Rattle.cw_core.proofs.Kept.PartsGrow.{askers_still, unspent, none_spent, forks_still, held_still, closed_still, rows_grown}
 
 module _ (k : CoreState) (rows : List Row) (forks : List ℕ) (cells : List CellParts) (last : Option ℕ) (w : AreParts k rows forks cells last) where

@@ -26,8 +26,8 @@ use Rattle.cw_open.proofs.Open.NodeKinds.{pending_block}
 use Rattle.cw_core.specs.State.{CoreState, waits_for_left}
 use Rattle.cw_core.specs.Laws.{IsCore}
 use Rattle.cw_core.specs.Kept.{IsTail, AreForks, IsHeld}
-use Rattle.cw_core.proofs.Row.Tails.{suffix_same, suffix_more}
-use Rattle.cw_core.proofs.Row.Close.{shape, blocks, children_same, aborted_other, pending_other, pending_here, open_block, tried_same, front, there, rooted}
+use Rattle.cw_core.proofs.Kept.Tails.{suffix_same, suffix_more}
+use Rattle.cw_core.proofs.Kept.RowsClose.{shape, blocks, children_same, aborted_other, pending_other, pending_here, open_block, tried_same, front, there, rooted}
 
 -- one number more passes the test
 count_flip : (p r : ℕ → Bool) (b n : ℕ) → b < n → p b ≡ false → r b ≡ true → ((x : ℕ) → x ≢ b → r x ≡ p x) → length (filter r (below n)) ≡ suc (length (filter p (below n)))

@@ -33,9 +33,9 @@ use Rattle.cw_core.specs.Events.{fits, fits_now, is_stop}
 use Rattle.cw_core.specs.Laws.{IsCore}
 use Rattle.cw_core.specs.Kept.{IsTail, IsNow, IsRow, AreRows, AreForks, IsEntryOf, IsHeld, IsVictim, is_counted, changed, with_tail, with_place, leaf_row}
 use Rattle.cw_core.proofs.Events.Going.{well}
-use Rattle.cw_core.proofs.Row.Changed.{length_changed, was_changed, was_there}
-use Rattle.cw_core.proofs.Row.Stakes.{stake_old, falls_still}
-use Rattle.cw_core.proofs.Row.Grow.{made_grown, now_grown, new_row, tail_other, waits_same}
+use Rattle.cw_core.proofs.Kept.Changed.{length_changed, was_changed, was_there}
+use Rattle.cw_core.proofs.Kept.Stakes.{stake_old, falls_still}
+use Rattle.cw_core.proofs.Kept.RowsGrow.{made_grown, now_grown, new_row, tail_other, waits_same}
 
 pub all_at : {X : Type 0} (P : X → Type 0) (xs : List X) (i : ℕ) (x : X) → slice_get xs i ≡ Some x → All P xs → P x
 all_at P xs i x e all = subst P (get_or_from_slice_get xs i x x e) (All-get_or P xs i x (slice_get_within xs i x e) all)

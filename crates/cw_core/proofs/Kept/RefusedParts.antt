@@ -26,12 +26,12 @@ use Rattle.cw_core.specs.State.{CoreState, waits_for_left, spent}
 use Rattle.cw_core.specs.Laws.{IsCore}
 use Rattle.cw_core.specs.Kept.{IsTail, IsNow, IsRow, AreRows, AreForks, IsHeld, AreParts, IsVictim, is_counted, changed, with_tail, with_victim, tried_tail, leaf_row}
 use Rattle.cw_core.proofs.Events.Going.{well, at_place}
-use Rattle.cw_core.proofs.Row.Tails.{suffix_same, suffix_more, child_low, children_here}
+use Rattle.cw_core.proofs.Kept.Tails.{suffix_same, suffix_more, child_low, children_here}
 use Rattle.cw_core.proofs.Events.Places.{place_grown}
-use Rattle.cw_core.proofs.Row.Changed.{length_changed, was_changed, was_there}
-use Rattle.cw_core.proofs.Row.Grow.{tried_grown, made_grown, now_grown, new_row, tail_other, waits_same}
+use Rattle.cw_core.proofs.Kept.Changed.{length_changed, was_changed, was_there}
+use Rattle.cw_core.proofs.Kept.RowsGrow.{tried_grown, made_grown, now_grown, new_row, tail_other, waits_same}
 use Rattle.cw_core.proofs.Kept.PartsGrow.{askers_still, forks_still, held_still, closed_still}
-use Rattle.cw_core.proofs.Row.RefusedStakes.{victim_other}
+use Rattle.cw_core.proofs.Kept.RefusedStakes.{victim_other}
 use Rattle.cw_core.proofs.Kept.Entering.{there_or_last}
 
 module _ (first : List ℤ) (k : CoreState) (core : IsCore first k) (s : ℕ) (free : is_free k.machine s ≡ true) (ready : waits_for_left k s ≡ false) (c : ℕ) (conflict : Conflict) (asks : conflict.asker ≡ length k.machine.tree) where

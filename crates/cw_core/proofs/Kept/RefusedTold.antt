@@ -28,8 +28,8 @@ use Rattle.cw_core.specs.Laws.{IsCore}
 use Rattle.cw_core.specs.Kept.{IsTail, IsRow, tried_again}
 use Rattle.cw_core.specs.declared.row.Tail.{Tail}
 use Rattle.cw_core.proofs.Events.Going.{well, at_place}
-use Rattle.cw_core.proofs.Row.Tails.{suffix_same, child_low, elders_more}
-use Rattle.cw_core.proofs.Row.Grow.{tried_grown, made_grown}
+use Rattle.cw_core.proofs.Kept.Tails.{suffix_same, child_low, elders_more}
+use Rattle.cw_core.proofs.Kept.RowsGrow.{tried_grown, made_grown}
 
 -- a refused access leads to its state
 pub after_refused : (k : CoreState) (s c : ℕ) (write : Option ℤ) → is_met k s c ≡ true

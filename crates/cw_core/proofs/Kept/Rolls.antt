@@ -24,16 +24,16 @@ use Rattle.cw_core.specs.Events.{fits, after_event}
 use Rattle.cw_core.specs.Kept.{IsTail, IsNow, IsRow, IsAtStake, IsVictim, IsHeld, AreRows, AreParts, is_counted, changed, with_tail, with_rolled, without, aborted_tail, stopped_by}
 use Rattle.cw_core.specs.Undone.{AreUndone, NoneBeneath, is_beneath}
 use Rattle.cw_core.proofs.Events.Kept.{events}
-use Rattle.cw_core.proofs.Row.Changed.{length_changed, was_changed}
+use Rattle.cw_core.proofs.Kept.Changed.{length_changed, was_changed}
 use Rattle.cw_core.proofs.Kept.PartsGrow.{unspent, none_spent}
-use Rattle.cw_core.proofs.Row.Close.{open_block, there, low, made_closed, tail_closed, place_here, place_other, now_closed, stake_closed, counted_same, falls_other, asker_low, rooted}
+use Rattle.cw_core.proofs.Kept.RowsClose.{open_block, there, low, made_closed, tail_closed, place_here, place_other, now_closed, stake_closed, counted_same, falls_other, asker_low, rooted}
 use Rattle.cw_core.proofs.Kept.PartsClose.{forks_closed, held_closed, askers_closed, one_closed, tail_shut}
 use Rattle.cw_core.proofs.InMemory.Out.{now_of, max_next}
 use Rattle.cw_core.proofs.Undone.Undoing.{get_among, among_was}
 use Rattle.cw_core.proofs.Events.Rolling.{ls, rolled, state_with, machine_is}
 use Rattle.cw_core.proofs.Kept.Rolled.{among_get, lists_of}
 use Rattle.cw_core.proofs.Kept.RolledLists.{rolled_lists, rolled_firsts}
-use Rattle.cw_core.proofs.Row.RollVictims.{last_victim, other_victim}
+use Rattle.cw_core.proofs.Kept.RollVictims.{last_victim, other_victim}
 
 pub record MayRoll (k : CoreState) (s : ℕ) : Type 0 where
   pub rolls : rolls_back k.machine s ≡ true

@@ -24,7 +24,7 @@ use Rattle.cw_core.proofs.Laws.Alike.{parts_length}
 use Rattle.cw_core.proofs.Events.Kept.{events}
 use Rattle.cw_core.proofs.Events.Going.{well, root_open}
 use Rattle.cw_core.proofs.Events.Ordering.{open_fork, ordered, unjoined}
-use Rattle.cw_core.proofs.Row.Changed.{length_changed, was_changed}
+use Rattle.cw_core.proofs.Kept.Changed.{length_changed, was_changed}
 use Rattle.cw_core.proofs.Kept.PartsGrow.{unspent, none_spent}
 use Rattle.cw_core.proofs.Kept.SameTree.{with_same_tree, made_same, forks_same, held_same}
 

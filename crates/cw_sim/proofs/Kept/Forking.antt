@@ -27,7 +27,7 @@ use Rattle.cw_core.specs.declared.event.Event.TheVariants as event
 use Rattle.cw_core.specs.State.{CoreState, has_columns, is_split, waits_for_left}
 use Rattle.cw_core.specs.Events.{fits, after_event, may_fork, next}
 use Rattle.cw_core.specs.Laws.{IsCore}
-use Rattle.cw_core.proofs.Row.ForkTails.{fork_children, other_children}
+use Rattle.cw_core.proofs.Kept.ForkTails.{fork_children, other_children}
 use Rattle.cw_core.proofs.Events.Going.{well, at_place}
 use Rattle.cw_core.proofs.Events.Kept.{events}
 use Rattle.cw_core.proofs.Kept.PartsGrow.{none_spent}

@@ -14,7 +14,7 @@ use Rattle.cw_trace.specs.Columns.{used}
 use Rattle.cw_open.specs.Machine.{has_finished, is_running, waits}
 use Rattle.cw_core.specs.State.{CoreState, has_columns}
 use Rattle.cw_core.proofs.Events.Places.{waits_grown}
-use Rattle.cw_core.proofs.Row.Tails.{children_other}
+use Rattle.cw_core.proofs.Kept.Tails.{children_other}
 use Rattle.cw_sim.proofs.Kept.Same.{SameWays, split_same, columns_same}
 
 -- core z is core k with one node more

@@ -20,7 +20,7 @@ use Rattle.cw_open.specs.Machine.{is_running}
 use Rattle.cw_open.proofs.Open.Standing.{begun_in}
 use Rattle.cw_open.proofs.Open.Trees.{IsWell}
 use Rattle.cw_core.proofs.Events.Places.{place_grown, place_begun}
-use Rattle.cw_core.proofs.Row.Tails.{child_low, children_here, children_other}
+use Rattle.cw_core.proofs.Kept.Tails.{child_low, children_here, children_other}
 use Rattle.cw_record.specs.Coherent.{InSeries, IsWanted, entered}
 use Rattle.cw_record.proofs.Coherent.AddedStates.{state_same, state_other}
 use Rattle.cw_record.proofs.Coherent.KeptStates.{does_same}

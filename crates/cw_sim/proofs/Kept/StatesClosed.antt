@@ -25,7 +25,7 @@ use Rattle.cw_open.proofs.Open.Trees.{IsWell}
 use Rattle.cw_core.specs.State.{waits_for_left}
 use Rattle.cw_core.proofs.Events.Going.{well}
 use Rattle.cw_core.proofs.Events.Ordering.{strand_under}
-use Rattle.cw_core.proofs.Row.Close.{open_block, there, low, blocks, children_same, pending_other, pending_here, front, place_other, place_here}
+use Rattle.cw_core.proofs.Kept.RowsClose.{open_block, there, low, blocks, children_same, pending_other, pending_here, front, place_other, place_here}
 use Rattle.cw_record.specs.Coherent.{InSeries, IsClosed, IsWanted, entered}
 use Rattle.cw_record.proofs.Coherent.AddedStates.{state_same, state_other}
 use Rattle.cw_record.proofs.Coherent.States.{Closes}

@@ -20,9 +20,9 @@ use Rattle.cw_open.specs.Machine.{is_running}
 use Rattle.cw_open.proofs.Laws.ListSteps.{none_new}
 use Rattle.cw_open.proofs.Open.Standing.{begun_in}
 use Rattle.cw_open.proofs.Open.Trees.{IsWell}
-use Rattle.cw_core.proofs.Row.ForkTails.{place_children, fork_children, other_children, no_children}
+use Rattle.cw_core.proofs.Kept.ForkTails.{place_children, fork_children, other_children, no_children}
 use Rattle.cw_core.proofs.Events.Places.{last_pass, place_grown, waits_for}
-use Rattle.cw_core.proofs.Row.Tails.{child_low}
+use Rattle.cw_core.proofs.Kept.Tails.{child_low}
 use Rattle.cw_record.specs.Coherent.{InSeries, IsForkOf, IsWanted, entered}
 use Rattle.cw_record.proofs.Coherent.AddedStates.{state_same, state_other}
 use Rattle.cw_sim.specs.Workers.{Simulation, left_node, right_node, changed, tree}

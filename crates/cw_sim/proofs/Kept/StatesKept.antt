@@ -21,7 +21,7 @@ use Rattle.cw_open.proofs.Open.Standing.{open_block}
 use Rattle.cw_open.proofs.Open.Trees.{IsWell}
 use Rattle.cw_core.proofs.Events.Forks.{in_child}
 use Rattle.cw_core.proofs.Events.Ordering.{closed_strand}
-use Rattle.cw_core.proofs.Row.Tails.{child_low}
+use Rattle.cw_core.proofs.Kept.Tails.{child_low}
 use Rattle.cw_record.specs.Coherent.{InSeries, IsForkOf, IsClosed, IsWanted, entered}
 use Rattle.cw_record.specs.ClosedRun.{AreStates}
 use Rattle.cw_record.specs.Replay.{IsAccessOf}

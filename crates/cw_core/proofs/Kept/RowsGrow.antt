@@ -24,7 +24,7 @@ use Rattle.cw_core.specs.State.{CoreState, waits_for_left}
 use Rattle.cw_core.specs.Laws.{IsCore}
 use Rattle.cw_core.specs.Kept.{IsMade, IsTail, IsNow, IsRow, IsVictim, leaf_row}
 use Rattle.cw_core.proofs.Events.Going.{well, at_place}
-use Rattle.cw_core.proofs.Row.Tails.{suffix_same, suffix_more, child_low, children_other, children_here, elders_more}
+use Rattle.cw_core.proofs.Kept.Tails.{suffix_same, suffix_more, child_low, children_other, children_here, elders_more}
 use Rattle.cw_core.proofs.Events.Places.{waits_grown}
 
 -- the cell of a node that was there

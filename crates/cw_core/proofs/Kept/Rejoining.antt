@@ -30,7 +30,7 @@ use Rattle.cw_core.specs.Kept.{IsMade, IsRow, AreRows, IsAtStake, IsVictim, is_c
 use Rattle.cw_core.proofs.Events.Going.{well}
 use Rattle.cw_core.proofs.Events.Ordering.{open_fork, closed_strand, strand_under}
 use Rattle.cw_core.proofs.Events.Forks.{child_in, in_child}
-use Rattle.cw_core.proofs.Row.Changed.{length_changed, was_changed}
+use Rattle.cw_core.proofs.Kept.Changed.{length_changed, was_changed}
 use Rattle.cw_core.proofs.Events.OneFork.{one_fork, none_within}
 use Rattle.cw_core.proofs.Kept.SameTree.{with_same_tree, made_same}
 

@@ -38,7 +38,7 @@ use Rattle.cw_core.proofs.Events.Going.{well, at_place}
 use Rattle.cw_core.proofs.Events.Ordering.{strand_under}
 use Rattle.cw_core.proofs.Events.Forks.{in_child}
 use Rattle.cw_core.proofs.Events.Closing.{pending}
-use Rattle.cw_core.proofs.Row.Tails.{suffix_same}
+use Rattle.cw_core.proofs.Kept.Tails.{suffix_same}
 use Rattle.cw_core.proofs.Events.Places.{last_same, place_is}
 use Rattle.cw_core.proofs.Events.OneFork.{not_parallel}
 use Rattle.cw_core.proofs.Kept.PartsGrow.{all_at}

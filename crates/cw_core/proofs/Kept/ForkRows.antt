@@ -37,14 +37,14 @@ use Rattle.cw_core.specs.State.{CoreState, has_columns, is_split, waits_for_left
 use Rattle.cw_core.specs.Laws.{IsCore}
 use Rattle.cw_core.specs.Kept.{IsMade, IsTail, IsNow, IsRow, AreRows, IsVictim, is_counted, elder_list, plain_tail, fork_row, strand_row, changed, with_tail, with_wait}
 use Rattle.cw_core.proofs.Events.Going.{well, at_place}
-use Rattle.cw_core.proofs.Row.Tails.{suffix_same, suffix_more, child_low}
+use Rattle.cw_core.proofs.Kept.Tails.{suffix_same, suffix_more, child_low}
 use Rattle.cw_core.proofs.Events.Places.{last_pass, place_grown, waits_grown, waits_for}
-use Rattle.cw_core.proofs.Row.Changed.{length_changed, was_changed, was_there}
-use Rattle.cw_core.proofs.Row.Stakes.{stake_old, falls_still}
-use Rattle.cw_core.proofs.Row.Grow.{tried_grown, dead_finished}
+use Rattle.cw_core.proofs.Kept.Changed.{length_changed, was_changed, was_there}
+use Rattle.cw_core.proofs.Kept.Stakes.{stake_old, falls_still}
+use Rattle.cw_core.proofs.Kept.RowsGrow.{tried_grown, dead_finished}
 use Rattle.cw_core.proofs.Kept.PartsGrow.{all_at}
 use Rattle.cw_core.proofs.Fits.Dying.{dying_is}
-use Rattle.cw_core.proofs.Row.ForkTails.{elders_apart, place_children, fork_children, other_children, no_children}
+use Rattle.cw_core.proofs.Kept.ForkTails.{elders_apart, place_children, fork_children, other_children, no_children}
 
 module _ (first : List ℤ) (k : CoreState) (core : IsCore first k) (s : ℕ) (free : is_free k.machine s ≡ true) (ready : waits_for_left k s ≡ false) (stamp clock : ℕ) (d : ColumnTable) (room : d.room ≡ k.tier.room)
     (columns : (n : ℕ) → n < length k.machine.tree → column k.machine.tree (used d) n ≡ column k.machine.tree (used k.tier) n) where

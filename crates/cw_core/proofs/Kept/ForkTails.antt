@@ -14,7 +14,7 @@ use Rattle.cw_tree.specs.Series.{children}
 use Rattle.cw_tree.specs.NextNodes.{fork_nodes}
 use Rattle.cw_tree.proofs.NextNodes.Growing.{length_more, node_grown, node_new, all_nodes_more}
 use Rattle.cw_tree.proofs.NextNodes.Trees.{children_none}
-use Rattle.cw_core.proofs.Row.Tails.{children_other, children_here, elders_more}
+use Rattle.cw_core.proofs.Kept.Tails.{children_other, children_here, elders_more}
 
 -- no node that comes is a child of node q
 pub children_apart : (xs t : List Node) (q : ℕ) → 0 < length t → list_any (λ x. nat_eq x.parent q) xs ≡ false → children (t ++ xs) q ≡ children t q

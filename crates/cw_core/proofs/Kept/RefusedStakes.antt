@@ -26,7 +26,7 @@ use Rattle.cw_core.specs.State.{CoreState, waits_for_left}
 use Rattle.cw_core.specs.Laws.{IsCore}
 use Rattle.cw_core.specs.Kept.{IsAtStake, IsVictim, is_counted}
 use Rattle.cw_core.proofs.Events.Going.{well, at_place}
-use Rattle.cw_core.proofs.Row.Stakes.{stake_old, falls_still}
+use Rattle.cw_core.proofs.Kept.Stakes.{stake_old, falls_still}
 use Rattle.cw_core.proofs.Kept.PartsGrow.{all_at}
 use Rattle.cw_core.proofs.Fits.Dying.{dying_is}
 use Rattle.cw_core.proofs.Kept.Entering.{there_or_last}
