@@ -11,8 +11,8 @@ use Rattle.cw_tree.specs.Nodes.{is_strand}
 use Rattle.cw_tree.specs.Walks.{IsNumbered}
 use Rattle.cw_tree.specs.InOrder.{in_order, conflicts_in_order, halt_in_order}
 use Rattle.cw_open.specs.Machine.{OpenMachine}
-use Rattle.cw_serial.specs.Jobs.{Job}
-use Rattle.cw_serial.specs.Room.Strands.{strands_of_job}
+use Rattle.cw_job.specs.Jobs.{Job}
+use Rattle.cw_job.specs.Room.Strands.{strands_of_job}
 use Rattle.cw_record.specs.declared.record_end.RecordEnd.{RecordEnd}
 use Rattle.cw_record.specs.declared.record_end.RecordEnd.TheVariants.{Finished}
 use Rattle.cw_record.specs.Items.{items}

@@ -7,7 +7,7 @@ use Rattle.std.specs.Option.{option_or}
 use Rattle.cw_strand.specs.Names.{first_memory}
 use Rattle.cw_serial.specs.declared.ends.SerialEnd.{SerialEnd}
 use Rattle.cw_serial.specs.declared.ends.SerialEnd.TheVariants as last
-use Rattle.cw_serial.specs.Wants.{value_at}
+use Rattle.cw_job.specs.Memory.{value_at}
 use Rattle.cw_serial.specs.MachineOf.{end_under}
 use Rattle.cw_record.specs.declared.record_end.RecordEnd.{RecordEnd}
 use Rattle.cw_record.specs.declared.record_end.RecordEnd.TheVariants.{Finished, Fault, Budget, Moves}

@@ -8,7 +8,7 @@ use Rattle.cw_tree.specs.declared.access.Entry.{Entry}
 use Rattle.cw_tree.specs.Nodes.{parent_of, closed, fresh_node}
 use Rattle.cw_strand.specs.declared.want.Want.{Want}
 use Rattle.cw_strand.specs.declared.want.Want.TheVariants as want
-use Rattle.cw_serial.specs.Wants.{value_at}
+use Rattle.cw_job.specs.Memory.{value_at}
 use Rattle.cw_record.specs.declared.drawing.Drawing.{Drawing}
 
 -- a run as it is drawn: its tree, the place where the next node goes, the last stamp, and the journal of each element

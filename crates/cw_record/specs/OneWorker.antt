@@ -3,22 +3,22 @@ use Rattle.std.specs.Prelude.{◌≡◌, ℕ, List, [], ◌∷◌, All}
 use Rattle.cw_strand.specs.declared.want.Want.{Want}
 use Rattle.cw_strand.specs.Strands.{Strands}
 use Rattle.cw_serial.specs.Wants.{memory_after, outputs_after}
-use Rattle.cw_serial.specs.Jobs.{Job}
-use Rattle.cw_serial.specs.Room.Strands.{StrandState, IsOf, state_of, strands_of_job}
+use Rattle.cw_job.specs.Jobs.{Job}
+use Rattle.cw_job.specs.Room.Strands.{StrandState, IsOf, state_of, strands_of_job}
 use Rattle.cw_code.specs.declared.program.Program.{Program}
-use Rattle.cw_record.specs.declared.worker.Task.{Task}
+use Rattle.cw_job.specs.declared.task.Task.{Task}
 use Rattle.cw_record.specs.declared.worker.Branch.{Branch}
 use Rattle.cw_record.specs.declared.worker.Branch.TheVariants.{Left, Right}
 use Rattle.cw_record.specs.declared.worker.Worker.{Worker}
 use Rattle.cw_record.specs.Drawn.{drawn, drawn_after}
 
 -- what a task runs
-abbrev pub job_of : Task → Job
-job_of t = record { program = t.program.now; words = t.words.now; limits = t.limits }
+abbrev pub job_of_task : Task → Job
+job_of_task t = record { program = t.program.now; words = t.words.now; limits = t.limits }
 
 -- the law of the strands that it runs
 abbrev pub law_of : Worker → Strands StrandState
-law_of w = strands_of_job (job_of w.task)
+law_of w = strands_of_job (job_of_task w.task)
 
 -- what the strand that it runs wants
 abbrev pub want_of : Worker → Want

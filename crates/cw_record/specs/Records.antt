@@ -8,8 +8,8 @@ use Rattle.cw_tree.specs.declared.access.Entry.{Entry}
 use Rattle.cw_tree.specs.Nodes.{parent_of, is_strand, is_block, is_pending, is_committed}
 use Rattle.cw_tree.specs.Walks.{is_ancestor}
 use Rattle.cw_tree.specs.Names.{name_of}
-use Rattle.cw_serial.specs.Jobs.{Job, TakesWords}
-use Rattle.cw_serial.specs.Room.Strands.{StrandState, strands_of_job}
+use Rattle.cw_job.specs.Jobs.{Job, TakesWords}
+use Rattle.cw_job.specs.Room.Strands.{StrandState, strands_of_job}
 use Rattle.cw_serial.specs.Machine.{Machine, has_ended}
 use Rattle.cw_serial.specs.StrandTree.{at}
 use Rattle.cw_serial.specs.DepthFirst.{leftmost, GoesDepthFirst}

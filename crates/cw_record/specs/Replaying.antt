@@ -4,7 +4,7 @@ use Rattle.cw_strand.specs.declared.want.Want.{Want}
 use Rattle.cw_tree.specs.declared.conflict.Conflict.{Conflict}
 use Rattle.cw_tree.specs.Refusals.{telling}
 use Rattle.cw_serial.specs.Machine.{Machine}
-use Rattle.cw_serial.specs.Room.Strands.{StrandState, strands_of_job}
+use Rattle.cw_job.specs.Room.Strands.{StrandState, strands_of_job}
 use Rattle.cw_serial.specs.MachineOf.{machine_of}
 use Rattle.cw_record.specs.Records.{job_of_record}
 use Rattle.cw_record.specs.declared.record_end.RecordEnd.{RecordEnd}

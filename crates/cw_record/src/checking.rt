@@ -1,7 +1,7 @@
 ghost use Rattle.std.specs.Prelude.{◌≡◌, ◌↔◌, pos, length, IfOk, IsTrue};
-ghost use Rattle.cw_serial.specs.Jobs.{TakesWords};
+ghost use Rattle.cw_job.specs.Jobs.{TakesWords};
 ghost use Rattle.cw_tree.specs.Nodes.{is_strand};
-ghost use Rattle.cw_serial.specs.Wants.{value_at};
+ghost use Rattle.cw_job.specs.Memory.{value_at};
 ghost use Rattle.cw_serial.specs.MachineOf.{end_under};
 ghost use Rattle.cw_record.specs.Order.{ending_strand};
 ghost use Rattle.cw_record.specs.Replay.{SameEnd};
@@ -13,7 +13,8 @@ use crate::order::ending_strand;
 use crate::replaying::does_all;
 use crate::{Record, RecordEnd, order_of};
 use cw_base::OutOfMemory;
-use cw_serial::{SerialEnd, first_memory, serial, value_at};
+use cw_job::{first_memory, value_at};
+use cw_serial::{SerialEnd, serial};
 use cw_tree::{Name, Picks, Tree};
 use std::alloc::Global;
 

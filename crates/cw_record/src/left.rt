@@ -5,7 +5,8 @@ ghost use Rattle.cw_record.specs.Built.{HasRecord, end_left, memory_left, output
 use crate::RecordEnd;
 use crate::items::items;
 use cw_base::{OutOfMemory, Seq};
-use cw_serial::{Program, first_memory};
+use cw_code::Program;
+use cw_job::first_memory;
 use cw_tree::{Closed, Conflict, Entry, Halt, Kind, Tree};
 use std::alloc::Global;
 

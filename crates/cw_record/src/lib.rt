@@ -9,7 +9,7 @@
 //! `specs/Drawn.antt` (what each step makes of the tree and the journals) and `specs/Worked.antt` (what one worker holds).
 #![tactic(auto)]
 
-ghost use Rattle.cw_serial.specs.Room.Strands.{StrandState};
+ghost use Rattle.cw_job.specs.Room.Strands.{StrandState};
 ghost use Rattle.cw_record.specs.ClosedRun.{ClosedAreCoherent};
 ghost use Rattle.cw_record.specs.WorkedEnds.{Ends};
 ghost use Rattle.cw_record.specs.WorkedRecord.{Coherent};

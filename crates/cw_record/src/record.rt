@@ -6,7 +6,7 @@ ghost use Rattle.cw_tree.specs.declared.closed.Halt.{Halt};
 ghost use Rattle.cw_tree.specs.InOrder.{in_order};
 ghost use Rattle.cw_tree.specs.Walks.{IsNumbered};
 ghost use Rattle.cw_open.specs.Machine.{OpenMachine};
-ghost use Rattle.cw_serial.specs.Jobs.{TakesWords};
+ghost use Rattle.cw_job.specs.Jobs.{TakesWords};
 ghost use Rattle.cw_record.specs.Built.{HasRecord, IsLeftBy, end_left};
 ghost use Rattle.cw_record.specs.Order.{order_of};
 ghost use Rattle.cw_record.specs.Records.{BlocksEnded, HasEnded, HasItsOutputs, IsCoherentRun, IsReplayed, IsDepthFirst, IsNumberedDepthFirst};
@@ -15,8 +15,7 @@ use crate::left::end_left;
 use crate::worker::Worker;
 use crate::{RecordEnd, order_of};
 use cw_base::{OutOfMemory, Seq};
-use cw_code::Limits;
-use cw_serial::Program;
+use cw_code::{Limits, Program};
 use cw_tree::{Closed, Conflict, Entry, Picks, Tree};
 use std::alloc::Global;
 

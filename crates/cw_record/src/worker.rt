@@ -6,20 +6,20 @@ ghost use Rattle.cw_tree.specs.Nodes.{fresh_node, is_block};
 ghost use Rattle.cw_tree.specs.Series.{strand_of};
 ghost use Rattle.cw_tree.specs.declared.node.Kind.TheVariants.{Strand as AStrand};
 ghost use Rattle.cw_strand.specs.Programs.{IsCompiled};
-ghost use Rattle.cw_serial.specs.Jobs.{TakesWords};
-ghost use Rattle.cw_serial.specs.Room.Strands.{IsOf, state_of};
+ghost use Rattle.cw_job.specs.Jobs.{TakesWords, job_of_task};
+ghost use Rattle.cw_job.specs.Room.Strands.{IsOf, state_of};
 ghost use Rattle.cw_serial.specs.Wants.{answer_to};
 ghost use Rattle.cw_record.specs.Drawn.{after_fork, after_join, after_start, blank, drawn};
 ghost use Rattle.cw_record.specs.Records.{IsWorkerRun};
-ghost use Rattle.cw_record.specs.OneWorker.{Acts, AllBranchesStand, AllStand, SwitchesStrand, WaitsOnLeft, job_of, law_of, unstarted, want_of};
+ghost use Rattle.cw_record.specs.OneWorker.{Acts, AllBranchesStand, AllStand, SwitchesStrand, WaitsOnLeft, law_of, unstarted, want_of};
 ghost use Rattle.cw_record.specs.declared.worker.Branch.TheVariants.{Right as OnRight};
 ghost use Rattle.cw_record.specs.declared.record_end.RecordEnd.TheVariants as ending;
 
 use crate::RecordEnd;
 use crate::drawing::Drawing;
 use cw_base::{OutOfMemory, Seq, Stack};
-use cw_code::{FaultKind, Limits};
-use cw_serial::{Program, Standing, first_memory, value_at};
+use cw_code::{FaultKind, Limits, Program};
+use cw_job::{Standing, first_memory, value_at};
 use cw_strand::{Given, Want};
 use cw_tree::Tree;
 use std::alloc::Global;
@@ -68,7 +68,7 @@ impl<'a> Worker<'a> {
         limits: Limits,
     ) -> Result<Worker<'a>, OutOfMemory>
         requires { TakesWords program.now (length words.now) }
-        ensures job { IfOk result (λ w. job_of w.task ≡ record { program = program.now; words = words.now; limits = limits }) }
+        ensures job { IfOk result (λ w. job_of_task w.task ≡ record { program = program.now; words = words.now; limits = limits }) }
         ensures memory { IfOk result (λ w. w.memory.items ≡ first_memory program.now.cells) }
         ensures outputs { IfOk result (λ w. w.outputs.items ≡ []) }
         ensures drawing { IfOk result (λ w. drawn w.drawing ≡ blank (length w.memory.items)) }

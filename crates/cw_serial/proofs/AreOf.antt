@@ -9,9 +9,9 @@ use Rattle.cw_serial.specs.declared.table.Place.TheVariants.{Stands}
 use Rattle.cw_serial.specs.declared.table.Sides.{Sides}
 use Rattle.cw_serial.specs.declared.table.Row.{Row}
 use Rattle.cw_serial.specs.declared.table.Table.{Table}
-use Rattle.cw_serial.specs.declared.standing.Standing.{Standing}
+use Rattle.cw_job.specs.declared.standing.Standing.{Standing}
 use Rattle.cw_serial.specs.TableInMemory.{strand_in, strand_in_row, Starts, Puts, Notes}
-use Rattle.cw_serial.specs.Room.Strands.{IsOf}
+use Rattle.cw_job.specs.Room.Strands.{IsOf}
 use Rattle.cw_serial.specs.AreOf.{AreOf}
 use Rattle.cw_serial.proofs.Numbered.{set_cases}
 

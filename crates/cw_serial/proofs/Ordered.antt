@@ -6,12 +6,12 @@ use Rattle.cw_tree.specs.declared.picks.Name.{Name}
 use Rattle.cw_tree.specs.declared.picks.Turn.{Turn}
 use Rattle.cw_serial.specs.declared.machine.Machine.{Machine as Code}
 use Rattle.cw_serial.specs.declared.orders.Known.{Known}
-use Rattle.cw_serial.specs.declared.standing.Standing.{Standing}
+use Rattle.cw_job.specs.declared.standing.Standing.{Standing}
 use Rattle.cw_serial.specs.declared.table.Sides.{Sides}
 use Rattle.cw_serial.specs.declared.table.Row.{Row}
 use Rattle.cw_serial.specs.StrandTree.{at}
 use Rattle.cw_serial.specs.Machine.{steps_down, root_turns, is_root}
-use Rattle.cw_serial.specs.Room.Strands.{StrandState, state_of, strands_of_job}
+use Rattle.cw_job.specs.Room.Strands.{StrandState, state_of, strands_of_job}
 use Rattle.cw_serial.specs.Spots.{turn_to, Spot, spot}
 use Rattle.cw_serial.specs.TableInMemory.{StrandsAreNumbered, number_of, side_of, started_of, started_at}
 use Rattle.cw_serial.specs.Orders.{SameStrand, AreKnown, root_number, known_at, parent_number, LeadDown, StandsNowhere}

@@ -7,14 +7,14 @@ use Rattle.cw_strand.specs.Strands.{Strands}
 use Rattle.cw_tree.specs.declared.picks.Name.{Name}
 use Rattle.cw_tree.specs.declared.picks.Turn.{Turn}
 use Rattle.cw_tree.specs.declared.picks.Picks.{Picks as Order}
-use Rattle.cw_serial.specs.Jobs.{Job}
+use Rattle.cw_job.specs.Jobs.{Job}
 use Rattle.cw_serial.specs.declared.ends.SerialEnd.{SerialEnd}
 use Rattle.cw_serial.specs.declared.ends.SerialEnd.TheVariants as last
 use Rattle.cw_serial.specs.declared.machine.Machine.{Machine as Code}
 use Rattle.cw_serial.specs.declared.orders.Known.{Known}
 use Rattle.cw_serial.specs.declared.play.Play.{Play}
 use Rattle.cw_serial.specs.Machine.{Machine, steps_down, pick, pick_at, pick_named, machine_shows, play}
-use Rattle.cw_serial.specs.Room.Strands.{StrandState, strands_of_job}
+use Rattle.cw_job.specs.Room.Strands.{StrandState, strands_of_job}
 use Rattle.cw_serial.specs.MachineOf.{end_under}
 use Rattle.cw_serial.specs.TableInMemory.{StrandsAreNumbered, IsFront}
 use Rattle.cw_serial.specs.InMemory.{IsMachine, Picks}

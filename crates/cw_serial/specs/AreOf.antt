@@ -1,10 +1,10 @@
 -- Strands in memory that are those of one program.
 use Rattle.std.specs.Prelude.{◌≡◌, ℕ, List, Some}
 use Rattle.cw_code.specs.declared.program.Program.{Program}
-use Rattle.cw_serial.specs.declared.standing.Standing.{Standing}
+use Rattle.cw_job.specs.declared.standing.Standing.{Standing}
 use Rattle.cw_serial.specs.declared.table.Row.{Row}
 use Rattle.cw_serial.specs.TableInMemory.{strand_at}
-use Rattle.cw_serial.specs.Room.Strands.{IsOf}
+use Rattle.cw_job.specs.Room.Strands.{IsOf}
 
 -- each strand that stands there is one of this program
 abbrev pub AreOf : Program → List (Row Standing) → Type 0

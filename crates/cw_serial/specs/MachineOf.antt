@@ -2,8 +2,8 @@
 use Rattle.cw_strand.specs.Names.{first_memory}
 use Rattle.cw_tree.specs.declared.picks.Picks.{Picks}
 use Rattle.cw_serial.specs.declared.ends.SerialEnd.{SerialEnd}
-use Rattle.cw_serial.specs.Jobs.{Job}
-use Rattle.cw_serial.specs.Room.Strands.{StrandState, strands_of_job}
+use Rattle.cw_job.specs.Jobs.{Job}
+use Rattle.cw_job.specs.Room.Strands.{StrandState, strands_of_job}
 use Rattle.cw_serial.specs.Machine.{Machine, initial, serial_end}
 
 -- before the first pick

@@ -7,9 +7,9 @@
 #![tactic(auto)]
 
 ghost use Rattle.cw_serial.specs.Forks.{ForksAreMade};
-ghost use Rattle.cw_serial.specs.Jobs.{Job};
-ghost use Rattle.cw_serial.specs.Room.Strands.{strands_of_job};
-ghost use Rattle.cw_serial.specs.Room.Worked.{Ends, StrandEnds};
+ghost use Rattle.cw_job.specs.Jobs.{Job};
+ghost use Rattle.cw_job.specs.Room.Strands.{strands_of_job};
+ghost use Rattle.cw_serial.specs.WorkedPrograms.{Ends, StrandEnds};
 ghost use Rattle.cw_serial.specs.Worked.{CrossingEnds};
 
 mod ends;

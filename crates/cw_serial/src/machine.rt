@@ -30,8 +30,8 @@ pub struct Machine {
 impl Machine {
     ghost use Rattle.std.specs.Prelude.{List, Option, MatchOption, unwrap_or, if◌then◌else◌};
     ghost use Rattle.cw_serial.specs.declared.ends.SerialEnd.TheVariants as last;
-    ghost use Rattle.cw_serial.specs.Jobs.{Job, TakesWords};
-    ghost use Rattle.cw_serial.specs.Room.Strands.{StrandState, strands_of_job};
+    ghost use Rattle.cw_job.specs.Jobs.{Job, TakesWords};
+    ghost use Rattle.cw_job.specs.Room.Strands.{StrandState, strands_of_job};
     ghost use Rattle.cw_serial.specs.StrandTree.{at};
     ghost use Rattle.cw_serial.specs.Machine.{Machine as State_of, steps_down, pick, may_pick, has_ended, end_of_named};
     ghost use Rattle.cw_serial.specs.MachineOf.{machine_of};

@@ -1,6 +1,6 @@
 ghost use Rattle.std.specs.Prelude.{◌≡◌, length, IfOk, OnOk};
 ghost use Rattle.cw_serial.specs.InMemory.{Runs};
-ghost use Rattle.cw_serial.specs.Jobs.{Job, TakesWords};
+ghost use Rattle.cw_job.specs.Jobs.{Job, TakesWords};
 ghost use Rattle.cw_serial.specs.MachineOf.{end_under, machine_of};
 ghost use Rattle.cw_serial.specs.Orders.{IsPlay};
 
@@ -25,7 +25,7 @@ impl<'n> Play<'n> {
     ghost use Rattle.cw_serial.specs.Machine.{Machine as State_of, pick_named, machine_shows, steps_down};
     ghost use Rattle.cw_serial.specs.InMemory.{want_before_end};
     ghost use Rattle.cw_serial.specs.Orders.{at_named, Plays};
-    ghost use Rattle.cw_serial.specs.Room.Strands.{StrandState, strands_of_job};
+    ghost use Rattle.cw_job.specs.Room.Strands.{StrandState, strands_of_job};
 
     /// The machine before the first pick.
     pub fn new(

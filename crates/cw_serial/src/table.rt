@@ -138,8 +138,8 @@ impl<S: Drop> Table<S> {
 }
 
 impl Table<Standing> {
-    ghost use Rattle.cw_serial.specs.Jobs.{Job, TakesWords, bare};
-    ghost use Rattle.cw_serial.specs.Room.Strands.{StrandState, state_of, strands_of_job};
+    ghost use Rattle.cw_job.specs.Jobs.{Job, TakesWords, bare};
+    ghost use Rattle.cw_job.specs.Room.Strands.{StrandState, state_of, strands_of_job};
     ghost use Rattle.cw_serial.specs.StrandTree.{StrandTree, goes_on};
     ghost use Rattle.cw_serial.specs.Spots.{IsSettled};
     ghost use Rattle.cw_serial.specs.TableInMemory.{Answers, answers_by, Moves, SettlesTo, Holds, IsFront, want_at, over_at};

@@ -14,10 +14,10 @@ use Rattle.cw_core.specs.declared.event.Event.TheVariants as event
 use Rattle.cw_core.specs.Events.{fits}
 use Rattle.cw_core.specs.Laws.{IsCore}
 use Rattle.cw_core.specs.State.{CoreState, is_split, waits_for_left}
-use Rattle.cw_serial.specs.declared.standing.Standing.{Standing}
-use Rattle.cw_serial.specs.Jobs.{Job}
-use Rattle.cw_serial.specs.Room.Strands.{StrandState, strands_of_job, state_of, IsOf}
-use Rattle.cw_serial.specs.Room.Saves.{IsSavedOf, StandsAs}
+use Rattle.cw_job.specs.declared.standing.Standing.{Standing}
+use Rattle.cw_job.specs.Jobs.{Job}
+use Rattle.cw_job.specs.Room.Strands.{StrandState, strands_of_job, state_of, IsOf}
+use Rattle.cw_job.specs.Room.Saves.{IsSavedOf, StandsAs}
 use Rattle.cw_sim.specs.Workers.{Simulation, left_node, right_node, tree, worker, changed, first_simulation}
 use Rattle.cw_sim.specs.Moves.{answers}
 use Rattle.cw_sim.specs.Runs.{simulation_of}
@@ -26,14 +26,14 @@ use Rattle.cw_sim.specs.HasWants.{HasWants}
 use Rattle.cw_sim.specs.Inside.{HasInside, goes_back}
 use Rattle.cw_sim.specs.ThingsInMemory.{thing_at}
 use Rattle.cw_sim.specs.WorkersInMemory.{workers_of, IsLast}
-use Rattle.cw_sim.specs.declared.moves.Task.{Task}
+use Rattle.cw_job.specs.declared.task.Task.{Task}
 use Rattle.cw_sim.specs.declared.moves.Driver.{Driver}
 
 -- ## What it stands for
 
 -- what a task runs
-abbrev pub job_of : Task → Job
-job_of t = record { program = t.program.now; words = t.words.now; limits = t.limits }
+abbrev pub job_of_task : Task → Job
+job_of_task t = record { program = t.program.now; words = t.words.now; limits = t.limits }
 
 -- A simulation of the strands of a job. A strand on its way back goes on nowhere: its body stands where it was refused.
 pub record Seen : Type 0 where
@@ -56,7 +56,7 @@ pub record IsBody (z : Seen) (x : ℕ) (body : Standing) : Type 0 where
   pub like : StandsAs (state_of body) (z.there x)
 
 pub record StandsFor (c : Driver) (z : Seen) : Type 0 where
-  pub job : job_of c.task ≡ z.job
+  pub job : job_of_task c.task ≡ z.job
   pub core : c.core ≡ z.m.core
   pub is_core : IsCore z.m.core.machine.first z.m.core
   pub workers : workers_of c.workers.items ≡ z.m.workers

@@ -7,8 +7,8 @@ use Rattle.cw_strand.specs.Strands.{Strands}
 use Rattle.cw_tree.specs.declared.closed.Closed.{Closed}
 use Rattle.cw_tree.specs.InOrder.{in_order, conflicts_in_order, halt_in_order}
 use Rattle.cw_core.specs.Closing.{journals_of}
-use Rattle.cw_serial.specs.Jobs.{Job, TakesWords}
-use Rattle.cw_serial.specs.Room.Strands.{StrandState, strands_of_job}
+use Rattle.cw_job.specs.Jobs.{Job, TakesWords}
+use Rattle.cw_job.specs.Room.Strands.{StrandState, strands_of_job}
 use Rattle.cw_record.specs.declared.record.Record.{Record}
 use Rattle.cw_record.specs.Order.{order_of}
 use Rattle.cw_record.specs.Records.{job_of_record, IsCoherentRun, HasItsOutputs, IsNumberedDepthFirst}

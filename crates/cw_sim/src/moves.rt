@@ -2,7 +2,7 @@ ghost use Rattle.std.specs.Prelude.{◌≡◌, ◌<◌, ◌^◌, ◌∷◌, ℕ,
 ghost use Rattle.cw_strand.specs.declared.want.Want.TheVariants as Want;
 ghost use Rattle.cw_strand.specs.declared.want.Given.TheVariants as given;
 ghost use Rattle.cw_strand.specs.Programs.{IsCompiled};
-ghost use Rattle.cw_serial.specs.Jobs.{TakesWords};
+ghost use Rattle.cw_job.specs.Jobs.{TakesWords, job_of_task};
 ghost use Rattle.cw_sim.specs.Workers.{left_node, right_node, tree, with_strand, worker};
 ghost use Rattle.cw_sim.specs.Moves.{accesses, acts, answers, begins, dies, does, finishes, follows, forks, given_for, is_over, joins, meets, move, others, steals, stops_if_spent, takes, goes_to_right};
 ghost use Rattle.cw_sim.specs.Runs.{closed_of, simulation_of};
@@ -18,8 +18,9 @@ use crate::worker::{Worker, opening, robbed, take_newest, take_oldest, with_fork
 use cw_base::OutOfMemory;
 use cw_core::{Core, Event, Reply};
 use cw_io::Schedule;
-use cw_serial::{Limits, Program, Saved, Standing, first_memory};
-use cw_strand::{Given, Want};
+use cw_code::{Limits, Program};
+use cw_job::{Standing, first_memory};
+use cw_strand::{Given, Saved, Want};
 use cw_tree::{Closed, Halt};
 use std::alloc::Global;
 
@@ -57,14 +58,15 @@ fn given_for(write: Option<i64>, value: i64) -> Given
 // Each rule is the definition of its name.
 impl<'a> Driver<'a> {
     ghost use Rattle.cw_sim.specs.TurnsInMemory.{AreAt};
-    ghost use Rattle.cw_sim.specs.InMemory.{Comes, Ends, HasFinished, MayAct, MayAnswer, MayDie, MayDo, MayFinish, MayFork, MayJoin, MayMeet, MayMove, MayRoll, MayTake, MayTurn, Seen, StandsFor, access_of, answered, job_of, law_of, opened};
+    ghost use Rattle.cw_job.specs.Jobs.{job_of_task};
+    ghost use Rattle.cw_sim.specs.InMemory.{Comes, Ends, HasFinished, MayAct, MayAnswer, MayDie, MayDo, MayFinish, MayFork, MayJoin, MayMeet, MayMove, MayRoll, MayTake, MayTurn, Seen, StandsFor, access_of, answered, law_of, opened};
 
     /// Before the first move: worker 0 runs main, and the others are idle.
     fn opening(alloc: Global, task: Task<'a>, workers: u32) -> Result<Driver<'a>, OutOfMemory>
         requires words { TakesWords task.program.now (length task.words.now) }
         requires strands { 0 < task.limits.strands }
         requires workers { 0 < workers }
-        ensures { IfOk result (λ z. StandsFor z (opened (job_of task.entry) workers)) }
+        ensures { IfOk result (λ z. StandsFor z (opened (job_of_task task.entry) workers)) }
     {
         let memory = first_memory(alloc, task.program.cells.as_slice())?;
         let core = Core::new(alloc, memory.as_slice(), task.limits)?;
@@ -363,9 +365,9 @@ impl<'a> Driver<'a> {
         requires compiled { IsCompiled self.old.task.program.now }
         requires words { TakesWords self.old.task.program.now (length self.old.task.words.now) }
         requires strands { 0 < self.old.task.limits.strands }
-        requires stands { StandsFor self.old (opened (job_of self.old.task) turns.old.workers) }
+        requires stands { StandsFor self.old (opened (job_of_task self.old.task) turns.old.workers) }
         requires turns { AreAt turns.old 0 }
-        ensures { OnOk result (Ends self.new (job_of self.old.task) turns.old.workers turns.old.schedule.now) }
+        ensures { OnOk result (Ends self.new (job_of_task self.old.task) turns.old.workers turns.old.schedule.now) }
     {
         for n in 0..self.task.limits.moves {
             if self.is_over() {
@@ -378,7 +380,6 @@ impl<'a> Driver<'a> {
     }
 }
 
-ghost use Rattle.cw_sim.specs.InMemory.{job_of};
 
 /// What the moves of so many workers leave, in the turns of a schedule, and whether they were used up.
 pub(crate) fn moved(
@@ -392,9 +393,9 @@ pub(crate) fn moved(
     requires strands { 0 < task.limits.strands }
     requires workers { 0 < workers }
     requires listed { ListsWorkers schedule.now workers }
-    ensures closed { IfOk result (λ r. r.0 ≡ closed_of (simulation_of (job_of task.entry) workers schedule.now)) }
-    ensures spent { IfOk result (λ r. r.1 ≡ not (is_over (simulation_of (job_of task.entry) workers schedule.now))) }
-    ensures few { OnOk result (length (tree (simulation_of (job_of task.entry) workers schedule.now)) < 2 ^ 32) }
+    ensures closed { IfOk result (λ r. r.0 ≡ closed_of (simulation_of (job_of_task task.entry) workers schedule.now)) }
+    ensures spent { IfOk result (λ r. r.1 ≡ not (is_over (simulation_of (job_of_task task.entry) workers schedule.now))) }
+    ensures few { OnOk result (length (tree (simulation_of (job_of_task task.entry) workers schedule.now)) < 2 ^ 32) }
 {
     let mut simulation = Driver::opening(alloc, task, workers)?;
     let mut turns = Turns::new(schedule, workers);

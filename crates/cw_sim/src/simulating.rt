@@ -1,6 +1,6 @@
 ghost use Rattle.std.specs.Prelude.{◌≡◌, ◌<◌, ◌↔◌, false, IfOk, length};
 ghost use Rattle.cw_strand.specs.Programs.{IsCompiled};
-ghost use Rattle.cw_serial.specs.Jobs.{TakesWords};
+ghost use Rattle.cw_job.specs.Jobs.{TakesWords};
 ghost use Rattle.cw_record.specs.Records.{HasItsOutputs, IsCoherentRun, IsNumberedDepthFirst, IsReplayed, job_of_record};
 ghost use Rattle.cw_sim.specs.Turns.{ListsWorkers};
 ghost use Rattle.cw_record.specs.declared.record_end.RecordEnd.TheVariants.{Moves};
@@ -11,7 +11,7 @@ use crate::moves::{Task, moved};
 use cw_base::{OutOfMemory, Seq};
 use cw_io::Schedule;
 use cw_record::{Record, build};
-use cw_serial::{Limits, Program};
+use cw_code::{Limits, Program};
 use std::alloc::Global;
 
 /// The run of so many virtual workers over one core, each of which makes a move when its turn comes, by a schedule. It ends by itself, at the

@@ -6,7 +6,7 @@ use Rattle.cw_tree.specs.declared.conflict.Conflict.{Conflict}
 use Rattle.cw_tree.specs.Nodes.{is_fork}
 use Rattle.cw_tree.specs.Refusals.{MaySpend, Spent, may_be_last, telling, tells}
 use Rattle.cw_tree.proofs.InOrder.Visits.{all_come}
-use Rattle.cw_serial.specs.Room.Strands.{strands_of_job}
+use Rattle.cw_job.specs.Room.Strands.{strands_of_job}
 use Rattle.cw_record.specs.declared.record.Record.{Record}
 use Rattle.cw_record.specs.declared.record_end.RecordEnd.{RecordEnd}
 use Rattle.cw_record.specs.declared.record_end.RecordEnd.TheVariants.{Finished, Fault, Budget, Moves}

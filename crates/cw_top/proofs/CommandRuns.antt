@@ -3,7 +3,7 @@ use Rattle.std.proofs.Common.{◌≡◌, ℕ, ℤ, List, length, Option, subst, 
 use Rattle.std.specs.Prelude.{IfSome}
 use Rattle.cw_code.specs.declared.program.Program.{Program}
 use Rattle.cw_strand.specs.Programs.{IsCompiled}
-use Rattle.cw_serial.specs.Jobs.{TakesWords}
+use Rattle.cw_job.specs.Jobs.{TakesWords}
 use Rattle.cw_record.specs.declared.record.Record.{Record}
 use Rattle.cw_record.specs.Records.{HasItsOutputs, IsCoherentRun, IsNumberedDepthFirst, IsReplayed}
 use Rattle.cw_top.specs.declared.command.Command.{Command}

@@ -4,7 +4,7 @@ use Rattle.std.specs.Prelude.{IfSome}
 use Rattle.cw_code.specs.declared.Limits.{Limits}
 use Rattle.cw_strand.specs.Names.{cells_of, first_memory}
 use Rattle.cw_strand.specs.Meaning.{MainTakes, strands_of_syntax}
-use Rattle.cw_serial.proofs.Room.Lawful.{source_takes}
+use Rattle.cw_job.proofs.Room.Lawful.{source_takes}
 use Rattle.cw_record.specs.declared.record.Record.{Record}
 use Rattle.cw_record.specs.Replay.{Replays}
 use Rattle.cw_replay.proofs.OverSource.OverSource.{over_source}

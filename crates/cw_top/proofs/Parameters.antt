@@ -10,8 +10,8 @@ use Rattle.cw_strand.specs.Compilation.{code_of}
 use Rattle.cw_strand.specs.Meaning.{MainTakes, params_in}
 use Rattle.cw_strand.specs.Programs.{IsProgramOf}
 use Rattle.cw_strand.proofs.MainCode.{main_code}
-use Rattle.cw_serial.specs.Jobs.{TakesWords}
-use Rattle.cw_serial.proofs.Room.Lawful.{source_takes}
+use Rattle.cw_job.specs.Jobs.{TakesWords}
+use Rattle.cw_job.proofs.Room.Lawful.{source_takes}
 use Rattle.cw_top.specs.Refusals.{AsksFor, IsMisfit, Spells, named, of_reading}
 
 module _ (ds : List Declaration) (p : Program) (is : IsProgramOf ds p) (n : ℕ) where

@@ -12,7 +12,7 @@ use Rattle.cw_code.specs.declared.CellInfo.{CellInfo}
 use Rattle.cw_record.specs.declared.record_end.RecordEnd.{RecordEnd}
 use Rattle.cw_record.specs.declared.record_end.RecordEnd.TheVariants.{Finished, Fault, Budget, Moves}
 use Rattle.cw_record.specs.declared.record.Record.{Record}
-use Rattle.cw_serial.specs.Wants.{value_at}
+use Rattle.cw_job.specs.Memory.{value_at}
 use Rattle.cw_tree.specs.declared.node.Node.{Node}
 use Rattle.cw_tree.specs.Names.{name_of, name_text}
 use Rattle.cw_top.specs.declared.outcome.Note.{Note}

@@ -8,7 +8,7 @@ use crate::Note;
 use cw_base::OutOfMemory;
 use cw_code::{CellInfo, FaultKind};
 use cw_record::{Record, RecordEnd};
-use cw_serial::value_at;
+use cw_job::value_at;
 use cw_strand::NameKind;
 use cw_text::TextKind;
 use cw_tree::Tree;

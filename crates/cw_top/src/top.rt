@@ -2,7 +2,7 @@ ghost use Rattle.std.specs.Prelude.{◌≡◌, ◌≤◌, ◌↔◌, None, Some,
 ghost use Rattle.cw_io.specs.Outside.{Appends, AppendsFront, TakesNothing, Rose, RunsDry, TellsOn};
 ghost use Rattle.cw_tree.specs.Nodes.{is_strand};
 ghost use Rattle.cw_strand.specs.Programs.{IsCompiled};
-ghost use Rattle.cw_serial.specs.Jobs.{TakesWords};
+ghost use Rattle.cw_job.specs.Jobs.{TakesWords};
 ghost use Rattle.cw_record.specs.Order.{ending_strand};
 ghost use Rattle.cw_record.specs.Records.{HasItsOutputs, IsCoherentRun, IsNumberedDepthFirst, IsReplayed};
 ghost use Rattle.cw_top.specs.declared.outcome.Note.TheVariants.{Nothing};
@@ -23,7 +23,7 @@ use crate::{Note, Reply, result_text};
 use cw_code::Program;
 use cw_io::{Gate, Sink, Source, write_all};
 use cw_record::{Record, RecordEnd, depth_first};
-use cw_serial::takes_words;
+use cw_job::takes_words;
 use cw_sim::simulate;
 use std::alloc::Global;
 use std::sync::Wait;

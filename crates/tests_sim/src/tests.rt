@@ -1,5 +1,5 @@
 ghost use Rattle.std.specs.Prelude.{IfOk};
-ghost use Rattle.cw_serial.specs.Jobs.{TakesWords};
+ghost use Rattle.cw_job.specs.Jobs.{TakesWords};
 ghost use Rattle.cw_strand.specs.Programs.{IsCompiled};
 
 use cw_base::Seq;

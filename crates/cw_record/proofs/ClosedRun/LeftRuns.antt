@@ -12,8 +12,8 @@ use Rattle.cw_tree.specs.Accesses.{is_live}
 use Rattle.cw_tree.specs.InOrder.{in_order, conflicts_in_order, halt_in_order}
 use Rattle.cw_open.specs.Machine.{OpenMachine}
 use Rattle.cw_open.proofs.Reordered.Leaving.{histories_left}
-use Rattle.cw_serial.specs.Jobs.{Job}
-use Rattle.cw_serial.specs.Room.Strands.{strands_of_job}
+use Rattle.cw_job.specs.Jobs.{Job}
+use Rattle.cw_job.specs.Room.Strands.{strands_of_job}
 use Rattle.cw_record.specs.Coherent.{IsCoherent}
 use Rattle.cw_record.specs.ClosedRun.{IsClosedRun, end_after}
 use Rattle.cw_record.specs.Built.{HasRecord, IsLeftBy, memory_left, outputs_left, end_left}

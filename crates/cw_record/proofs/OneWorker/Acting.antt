@@ -13,19 +13,20 @@ use Rattle.std.proofs.lemmas.Bool.{lt-ltb}
 use Rattle.cw_tree.specs.Journals.{fits_cells}
 use Rattle.cw_tree.specs.Nodes.{closed, first_state, is_fork_kind, is_strand_kind, is_tried_kind, parent_of}
 use Rattle.cw_tree.proofs.ChainLaws.CellJournals.{HasJournals}
-use Rattle.cw_serial.specs.Jobs.{Job}
-use Rattle.cw_serial.specs.Room.Strands.{StrandState, state_of, strands_of_job}
+use Rattle.cw_job.specs.Jobs.{Job, job_of_task}
+use Rattle.cw_job.specs.Room.Strands.{StrandState, state_of, strands_of_job}
 use Rattle.cw_serial.specs.MachineOf.{machine_of}
-use Rattle.cw_serial.specs.Wants.{value_at, answer_to, memory_after, outputs_after}
+use Rattle.cw_job.specs.Memory.{value_at}
+use Rattle.cw_serial.specs.Wants.{answer_to, memory_after, outputs_after}
 use Rattle.cw_serial.proofs.Branches.{Branch, on_left, on_right}
-use Rattle.cw_serial.proofs.Room.Elements.{NamesThere, WantsThere}
+use Rattle.cw_job.proofs.Room.Elements.{NamesThere, WantsThere}
 use Rattle.cw_serial.proofs.Working.{Worker as Working, machine_at, after_act, IsAtWork, reached, acts, own_in, blocks_in}
 use Rattle.cw_serial.proofs.Weights.{weight, weight_falls}
 use Rattle.cw_record.specs.declared.worker.Worker.{Worker}
 use Rattle.cw_record.specs.Drawn.{added, drawn_after, drawn, entry, noted}
 use Rattle.cw_record.specs.Items.{is_act_kind}
 use Rattle.cw_record.specs.Replay.{IsAct}
-use Rattle.cw_record.specs.OneWorker.{Acts, law_of, unstarted, want_of, job_of}
+use Rattle.cw_record.specs.OneWorker.{Acts, law_of, unstarted, want_of}
 use Rattle.cw_record.proofs.OneWorker.Building.{open_items}
 use Rattle.cw_record.proofs.OneWorker.Descending.{Descends}
 use Rattle.cw_record.proofs.OneWorker.GrowingItems.{leaf_built, begin_built, end_built}
@@ -180,7 +181,7 @@ module _ (job : Job) (closes : Closes (strands_of_job job)) (there : WantsThere 
       acted.strand ∙ (ap (λ l. l.answer (state_of code.strand) (answer_to x code.memory.items)) (law_same job code w r) ∙ ap (λ a. (strands_of_job job).answer a (answer_to x code.memory.items)) r.strand) in
       subst R (sym e)
       (record {
-        job_is = ap job_of acted.done.task ∙ r.job_is;
+        job_is = ap job_of_task acted.done.task ∙ r.job_is;
         memory = acted.done.memory ∙ ap (memory_after x) r.memory;
         outputs = acted.done.outputs ∙ ap (outputs_after x) r.outputs;
         strand = goes_on ∙ ap (λ m. (strands_of_job job).answer w.strand (answer_to x m)) r.memory;
@@ -191,7 +192,7 @@ module _ (job : Job) (closes : Closes (strands_of_job job)) (there : WantsThere 
   pub act_leaves_less : IsDeep (strands_of_job job) → (code new : Worker) (w : Working StrandState) → Runs job code w → takes_answer (want_of code) ≡ true → Acted code new → left_to_do new < left_to_do code
   act_leaves_less deep code new w r d acted =
       let l = law_of code in
-      let same : law_of new ≡ l = ap (λ i. strands_of_job (job_of i)) acted.done.task in
+      let same : law_of new ≡ l = ap (λ i. strands_of_job (job_of_task i)) acted.done.task in
       let given = answer_to (want_of code) code.memory.items in
       let D : Strands StrandState → Type 0 = λ s. IsDeep s in
       let falls : l.depth (l.answer (state_of code.strand) given) < l.depth (state_of code.strand) = (subst D (sym (law_same job code w r)) deep).answer (state_of code.strand) given d in

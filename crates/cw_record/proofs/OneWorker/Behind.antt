@@ -8,7 +8,7 @@ use Rattle.cw_tree.specs.Walks.{IsRooted, is_ancestor}
 use Rattle.cw_tree.proofs.Lists.{at_or_before}
 use Rattle.cw_tree.proofs.Walks.Ancestors.{ancestor_self, ancestor_up, ancestor_le, ancestor_trans}
 use Rattle.cw_tree.proofs.NextNodes.Growing.{length_more, number_grown, number_new, rooted_more, ancestor_grown, ancestor_new}
-use Rattle.cw_serial.specs.Room.Strands.{StrandState}
+use Rattle.cw_job.specs.Room.Strands.{StrandState}
 use Rattle.cw_serial.proofs.Branches.{Branch, on_left, on_right}
 use Rattle.cw_record.specs.declared.worker.Branch.{Branch as Held}
 use Rattle.cw_record.specs.declared.worker.Branch.TheVariants.{Left, Right}

@@ -4,14 +4,14 @@ use Rattle.std.specs.Prelude.{◌⊎◌}
 use Rattle.cw_strand.specs.declared.want.Want.{Want}
 use Rattle.cw_strand.specs.declared.want.Want.TheVariants.{Load, Store, Out, Begin, End, Sync, Done}
 use Rattle.cw_strand.specs.Strands.{is_over, takes_answer}
-use Rattle.cw_serial.specs.Jobs.{Job}
-use Rattle.cw_serial.specs.Room.Strands.{state_of, strands_of_job}
+use Rattle.cw_job.specs.Jobs.{Job, job_of_task}
+use Rattle.cw_job.specs.Room.Strands.{state_of, strands_of_job}
 use Rattle.cw_record.specs.declared.worker.Worker.{Worker}
-use Rattle.cw_record.specs.OneWorker.{want_of, job_of}
+use Rattle.cw_record.specs.OneWorker.{want_of}
 
 module _ (code : Worker) {w : Want} (says : (job : Job) → w ≡ (strands_of_job job).want (state_of code.strand)) where
   pub wanted_by : {x : Want} → w ≡ x → want_of code ≡ x
-  wanted_by e = sym (says (job_of code.task)) ∙ e
+  wanted_by e = sym (says (job_of_task code.task)) ∙ e
 
   pub over_by : (w ≡ Sync) ⊎ (w ≡ Done) → is_over (want_of code) ≡ true
   over_by (inl e) = ap is_over (wanted_by e)

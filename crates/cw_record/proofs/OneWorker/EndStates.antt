@@ -16,8 +16,8 @@ use Rattle.cw_tree.proofs.NextNodes.Growing.{length_more}
 use Rattle.cw_tree.proofs.Lists.{In}
 use Rattle.cw_tree.proofs.Walks.Children.{last_passes}
 use Rattle.cw_tree.proofs.InOrder.Visits.{child_in}
-use Rattle.cw_serial.specs.Room.Strands.{StrandState, state_of}
-use Rattle.cw_serial.specs.declared.standing.Standing.{Standing as Written}
+use Rattle.cw_job.specs.Room.Strands.{StrandState, state_of}
+use Rattle.cw_job.specs.declared.standing.Standing.{Standing as Written}
 use Rattle.cw_record.specs.declared.worker.Branch.{Branch}
 use Rattle.cw_record.specs.declared.worker.Branch.TheVariants.{Left, Right}
 use Rattle.cw_record.specs.Drawn.{added}

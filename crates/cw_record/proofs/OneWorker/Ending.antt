@@ -8,13 +8,13 @@ use Rattle.cw_tree.specs.declared.access.Entry.{Entry}
 use Rattle.cw_tree.specs.declared.picks.Turn.{Turn}
 use Rattle.cw_tree.specs.declared.picks.Picks.{Picks}
 use Rattle.cw_tree.specs.Names.{name_of}
-use Rattle.cw_serial.specs.Jobs.{Job}
+use Rattle.cw_job.specs.Jobs.{Job}
 use Rattle.cw_serial.specs.declared.ends.SerialEnd.{SerialEnd}
 use Rattle.cw_serial.specs.declared.ends.SerialEnd.TheVariants as last
 use Rattle.cw_serial.specs.StrandTree.{StrandTree, stands, waits, ended}
 use Rattle.cw_serial.specs.Machine.{Machine, steps_down, machine_shows, has_ended}
 use Rattle.cw_serial.specs.DepthFirst.{leftmost}
-use Rattle.cw_serial.specs.Room.Strands.{StrandState, strands_of_job}
+use Rattle.cw_job.specs.Room.Strands.{StrandState, strands_of_job}
 use Rattle.cw_record.specs.declared.record_end.RecordEnd.{RecordEnd}
 use Rattle.cw_record.specs.declared.record_end.RecordEnd.TheVariants.{Finished, Fault, Budget, Moves}
 use Rattle.cw_record.specs.Listed.{listed_names, strand_number}

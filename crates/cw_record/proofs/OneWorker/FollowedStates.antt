@@ -19,7 +19,7 @@ use Rattle.cw_tree.proofs.Members.{in_below, in_filter}
 use Rattle.cw_tree.proofs.Walks.There.{node_there}
 use Rattle.cw_tree.proofs.Walks.Children.{last_passes}
 use Rattle.cw_tree.proofs.NextNodes.Trees.{no_fork}
-use Rattle.cw_serial.specs.Room.Strands.{StrandState}
+use Rattle.cw_job.specs.Room.Strands.{StrandState}
 use Rattle.cw_record.specs.declared.worker.Branch.{Branch}
 use Rattle.cw_record.specs.Drawn.{added}
 use Rattle.cw_record.specs.Coherent.{Follows, StrandEnded, HasNoOpenFork}

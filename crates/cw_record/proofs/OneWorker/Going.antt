@@ -7,10 +7,10 @@ use Rattle.cw_tree.specs.declared.node.Node.{Node}
 use Rattle.cw_tree.specs.declared.node.Kind.TheVariants.{Strand, Fork}
 use Rattle.cw_tree.specs.Nodes.{parent_of, is_fork, fresh_node}
 use Rattle.cw_tree.proofs.NextNodes.Growing.{rooted_more}
-use Rattle.cw_serial.specs.Jobs.{Job}
-use Rattle.cw_serial.specs.declared.standing.Standing.{Standing as Written}
+use Rattle.cw_job.specs.Jobs.{Job, job_of_task}
+use Rattle.cw_job.specs.declared.standing.Standing.{Standing as Written}
 use Rattle.cw_serial.specs.Machine.{Machine}
-use Rattle.cw_serial.specs.Room.Strands.{StrandState, state_of, strands_of_job}
+use Rattle.cw_job.specs.Room.Strands.{StrandState, state_of, strands_of_job}
 use Rattle.cw_serial.specs.MachineOf.{machine_of}
 use Rattle.cw_serial.proofs.Branches.{Branch, on_left, on_right}
 use Rattle.cw_serial.proofs.Weights.{weight, weight_falls, weight_le}
@@ -20,7 +20,7 @@ use Rattle.cw_record.specs.declared.worker.Branch.{Branch as Held}
 use Rattle.cw_record.specs.declared.worker.Branch.TheVariants.{Left, Right}
 use Rattle.cw_record.specs.declared.worker.Worker.{Worker}
 use Rattle.cw_record.specs.Drawn.{added, after_fork, after_join, after_start, drawn, forked}
-use Rattle.cw_record.specs.OneWorker.{SwitchesStrand, WaitsOnLeft, law_of, unstarted, want_of, job_of}
+use Rattle.cw_record.specs.OneWorker.{SwitchesStrand, WaitsOnLeft, law_of, unstarted, want_of}
 use Rattle.cw_record.proofs.OneWorker.Building.{IsBuilt, open_items}
 use Rattle.cw_record.proofs.OneWorker.Descending.{Descends, Crossing}
 use Rattle.cw_record.proofs.OneWorker.Doers.{doers_beside, doers_forked}
@@ -43,7 +43,7 @@ module _ (job : Job) where
   runs_from : (code new : Worker) (w u : Working StrandState) → Runs job code w → SwitchesStrand code new → u.memory ≡ w.memory → u.outputs ≡ w.outputs → IsAtWork (strands_of_job job) u → state_of new.strand ≡ u.strand
       → Draws job (drawn new.drawing) new.branches u → Runs job new u
   runs_from code new w u r stays memory outputs work strand draws = record {
-    job_is = ap job_of stays.task ∙ r.job_is;
+    job_is = ap job_of_task stays.task ∙ r.job_is;
     memory = ap (λ v. v.items) stays.memory ∙ (r.memory ∙ sym memory);
     outputs = ap (λ v. v.items) stays.outputs ∙ (r.outputs ∙ sym outputs);
     strand = strand;
@@ -91,7 +91,7 @@ module _ (job : Job) where
     fork_leaves_less code new w r stays f right n is left goes =
         let s = strands_of_job job in
         let same : law_of code ≡ s = law_same job code w r in
-        let now : law_of new ≡ s = ap (λ i. strands_of_job (job_of i)) stays.task ∙ same in
+        let now : law_of new ≡ s = ap (λ i. strands_of_job (job_of_task i)) stays.task ∙ same in
         let falls = weight_falls (s.depth (s.left w.strand)) (s.depth (s.right w.strand)) (s.depth w.strand) (deep.left w.strand f) (deep.right w.strand f) in
         let todo : left_to_do new ≡ weight (s.depth (s.left w.strand)) + (weight (s.depth (s.right w.strand)) + 2 + weights s code.branches) = (rw (now, is, left, goes) refl) in
         let was : left_to_do code ≡ weight (s.depth w.strand) + weights s code.branches = ap (λ l. weight (l.depth (state_of code.strand)) + weights l code.branches) same ∙ ap (λ a. weight (s.depth a) + weights s code.branches) r.strand in
@@ -118,7 +118,7 @@ module _ (job : Job) where
       is_at_end w r = ap is_over (sym (wants_same job code w r)) ∙ over
 
       now_law : (w : Working StrandState) → Runs job code w → law_of new ≡ strands_of_job job
-      now_law w r = ap (λ i. strands_of_job (job_of i)) stays.task ∙ law_same job code w r
+      now_law w r = ap (λ i. strands_of_job (job_of_task i)) stays.task ∙ law_same job code w r
 
       pub turns_on : (right : Written) (r : StrandState) → code.branches ≡ Left f right ∷ rest
           → Runs job code (let w : Working StrandState = record { memory = memory; outputs = outputs; branches = on_left k n r ∷ c; forks = m; blocks = b; strand = a } in w)

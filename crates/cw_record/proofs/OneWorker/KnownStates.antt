@@ -10,7 +10,7 @@ use Rattle.cw_tree.specs.Links.{is_child, child_before}
 use Rattle.cw_tree.proofs.Walks.Ancestors.{ancestor_self, ancestor_up, ancestor_trans}
 use Rattle.cw_tree.proofs.Walks.Children.{last_passes}
 use Rattle.cw_tree.proofs.InOrder.DepthFirst.{IsChild}
-use Rattle.cw_serial.specs.Room.Strands.{StrandState, state_of}
+use Rattle.cw_job.specs.Room.Strands.{StrandState, state_of}
 use Rattle.cw_record.specs.declared.worker.Branch.{Branch}
 use Rattle.cw_record.specs.declared.worker.Branch.TheVariants.{Left, Right}
 use Rattle.cw_record.proofs.Coherent.States.{States, reached, AreStates, IsOver, JoinsAt}

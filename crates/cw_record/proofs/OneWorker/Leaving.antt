@@ -16,9 +16,9 @@ use Rattle.cw_tree.specs.Series.{strand_of, place as place_in}
 use Rattle.cw_tree.specs.Names.{name_of}
 use Rattle.cw_tree.proofs.ChainLaws.CellJournals.{HasJournals, journals_begin}
 use Rattle.cw_tree.proofs.Walks.Strands.{strand_of_le}
-use Rattle.cw_serial.specs.Jobs.{Job}
+use Rattle.cw_job.specs.Jobs.{Job, job_of_task}
 use Rattle.cw_serial.specs.StrandTree.{at, ended, goes_on}
-use Rattle.cw_serial.specs.Room.Strands.{StrandState, state_of, strands_of_job}
+use Rattle.cw_job.specs.Room.Strands.{StrandState, state_of, strands_of_job}
 use Rattle.cw_serial.specs.MachineOf.{machine_of}
 use Rattle.cw_serial.proofs.Branches.{Branch, way, plugged}
 use Rattle.cw_serial.proofs.Deep.{goes_over, ended_stands}
@@ -32,7 +32,7 @@ use Rattle.cw_record.specs.Items.{items}
 use Rattle.cw_record.specs.Order.{node_of}
 use Rattle.cw_record.specs.Coherent.{IsMemory, HasNoOpenFork}
 use Rattle.cw_record.specs.Records.{IsWorkerRun}
-use Rattle.cw_record.specs.OneWorker.{law_of, unstarted, want_of, job_of}
+use Rattle.cw_record.specs.OneWorker.{law_of, unstarted, want_of}
 use Rattle.cw_record.proofs.Coherent.AddedStates.{known_root}
 use Rattle.cw_record.proofs.OneWorker.Building.{IsBuilt, open_items}
 use Rattle.cw_record.proofs.OneWorker.Behind.{waiting_over, numbered_at_fault}
@@ -68,7 +68,7 @@ all_empty (suc n) (suc c) es h = all_empty n c es h
 
 module _ (job : Job) where
   -- the worker at the first want of main
-  pub runs_first : (code : Worker) → job_of code.task ≡ job → code.memory.items ≡ first_memory job.program.cells → code.outputs.items ≡ [] → drawn code.drawing ≡ blank (length code.memory.items)
+  pub runs_first : (code : Worker) → job_of_task code.task ≡ job → code.memory.items ≡ first_memory job.program.cells → code.outputs.items ≡ [] → drawn code.drawing ≡ blank (length code.memory.items)
       → state_of code.strand ≡ (law_of code).start → code.branches ≡ [] → (w : Working StrandState) × Runs job code w
   runs_first code is memory outputs drawing strand branches =
       let first = first_memory job.program.cells in

@@ -7,7 +7,7 @@ use Rattle.cw_tree.specs.declared.node.Kind.TheVariants.{Read, Write}
 use Rattle.cw_tree.specs.declared.access.Entry.{Entry}
 use Rattle.cw_tree.specs.Nodes.{touches_kind}
 use Rattle.cw_tree.proofs.ChainLaws.CellJournals.{HasJournals, journals_outside}
-use Rattle.cw_serial.specs.Wants.{value_at}
+use Rattle.cw_job.specs.Memory.{value_at}
 use Rattle.cw_record.specs.Drawn.{added, noted, with_entry, entry}
 use Rattle.cw_record.proofs.OneWorker.Building.{IsBuilt}
 use Rattle.cw_record.proofs.OneWorker.GrowingJournals.{same_added, live_elsewhere, has_read, has_written}

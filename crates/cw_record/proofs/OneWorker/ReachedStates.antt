@@ -9,7 +9,7 @@ use Rattle.cw_tree.specs.Walks.{IsRooted, is_ancestor}
 use Rattle.cw_tree.specs.Links.{is_child, last_child}
 use Rattle.cw_tree.proofs.Walks.Ancestors.{ancestor_self, ancestor_step, ancestor_le}
 use Rattle.cw_tree.proofs.Walks.Children.{last_passes}
-use Rattle.cw_serial.specs.Room.Strands.{StrandState}
+use Rattle.cw_job.specs.Room.Strands.{StrandState}
 use Rattle.cw_record.specs.declared.worker.Branch.{Branch}
 use Rattle.cw_record.proofs.Coherent.AddedStates.{with_state, state_same, state_other}
 use Rattle.cw_record.proofs.OneWorker.Faults.{last_is}

@@ -7,8 +7,8 @@ use Rattle.cw_tree.specs.Names.{name_of}
 use Rattle.cw_tree.specs.Shape.{AreStamps}
 use Rattle.cw_tree.specs.Journals.{FitsCells}
 use Rattle.cw_tree.proofs.ChainLaws.CellJournals.{HasJournals}
-use Rattle.cw_serial.specs.Jobs.{Job}
-use Rattle.cw_serial.specs.Room.Strands.{StrandState, state_of, strands_of_job}
+use Rattle.cw_job.specs.Jobs.{Job, job_of_task}
+use Rattle.cw_job.specs.Room.Strands.{StrandState, state_of, strands_of_job}
 use Rattle.cw_serial.specs.MachineOf.{machine_of}
 use Rattle.cw_serial.proofs.Branches.{Branch, on_left, on_right, turn_at, blocks_at, way}
 use Rattle.cw_serial.proofs.Working.{Worker as Working, machine_at, IsAtWork}
@@ -16,7 +16,7 @@ use Rattle.cw_record.specs.declared.worker.Branch.{Branch as Held}
 use Rattle.cw_record.specs.declared.worker.Branch.TheVariants.{Left, Right}
 use Rattle.cw_record.specs.declared.worker.Worker.{Worker}
 use Rattle.cw_record.specs.Drawn.{Drawn, drawn}
-use Rattle.cw_record.specs.OneWorker.{law_of, unstarted, want_of, job_of}
+use Rattle.cw_record.specs.OneWorker.{law_of, unstarted, want_of}
 use Rattle.cw_record.proofs.OneWorker.Building.{IsBuilt, open_items}
 use Rattle.cw_record.proofs.OneWorker.Descending.{Crossing, way_of, Descends}
 use Rattle.cw_record.proofs.OneWorker.GrowingWays.{strand_down}
@@ -79,7 +79,7 @@ draws_by {job} {d} {e} {xs} {ys} {w} drawing branches h =
 
 -- The worker in memory is this one, and what it drew is the run so far.
 pub record Runs (job : Job) (code : Worker) (w : Working StrandState) : Type 0 where
-  pub job_is : job_of code.task ≡ job
+  pub job_is : job_of_task code.task ≡ job
   pub memory : code.memory.items ≡ w.memory
   pub outputs : code.outputs.items ≡ w.outputs
   pub strand : state_of code.strand ≡ w.strand

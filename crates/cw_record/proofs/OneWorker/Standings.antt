@@ -2,11 +2,11 @@
 use Rattle.std.proofs.Common.{◌≡◌, ℕ, List, ◌∷◌, sym, subst}
 use Rattle.std.proofs.lemmas.List.Elements.{All-cons, All-head, All-tail}
 use Rattle.cw_code.specs.declared.program.Program.{Program}
-use Rattle.cw_serial.specs.declared.standing.Standing.{Standing}
-use Rattle.cw_serial.specs.Room.Strands.{IsOf}
+use Rattle.cw_job.specs.declared.standing.Standing.{Standing}
+use Rattle.cw_job.specs.Room.Strands.{IsOf}
 use Rattle.cw_record.specs.declared.worker.Branch.{Branch}
 use Rattle.cw_record.specs.declared.worker.Branch.TheVariants.{Left, Right}
-use Rattle.cw_record.specs.declared.worker.Task.{Task}
+use Rattle.cw_job.specs.declared.task.Task.{Task}
 use Rattle.cw_record.specs.declared.worker.Worker.{Worker}
 use Rattle.cw_record.specs.OneWorker.{Acts, SwitchesStrand, AllStand, AllBranchesStand, BranchStands}
 

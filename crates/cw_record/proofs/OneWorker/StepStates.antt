@@ -17,8 +17,8 @@ use Rattle.cw_tree.proofs.Walks.Ancestors.{ancestor_self, ancestor_step, ancesto
 use Rattle.cw_tree.proofs.NextNodes.Closing.{shut, length_closed, node_closed, number_closed, closed_here, closed_other, rooted_closed, ancestor_closed}
 use Rattle.cw_tree.proofs.NextNodes.Growing.{length_more, node_new, rooted_more}
 use Rattle.cw_tree.proofs.NextNodes.Trees.{no_fork}
-use Rattle.cw_serial.specs.Room.Strands.{StrandState, state_of}
-use Rattle.cw_serial.specs.declared.standing.Standing.{Standing as Written}
+use Rattle.cw_job.specs.Room.Strands.{StrandState, state_of}
+use Rattle.cw_job.specs.declared.standing.Standing.{Standing as Written}
 use Rattle.cw_record.specs.declared.worker.Branch.{Branch}
 use Rattle.cw_record.specs.declared.worker.Branch.TheVariants.{Left}
 use Rattle.cw_record.specs.Drawn.{added, forked}

@@ -10,12 +10,12 @@ use Rattle.cw_code.specs.declared.FaultKind.{FaultKind}
 use Rattle.cw_tree.specs.declared.access.Entry.{Entry}
 use Rattle.cw_tree.specs.Series.{strand_of}
 use Rattle.std.proofs.lemmas.List.Elements.{All-head}
-use Rattle.cw_serial.specs.Jobs.{Job}
-use Rattle.cw_serial.specs.declared.standing.Standing.{Standing as Written}
-use Rattle.cw_serial.specs.Room.Strands.{StrandState, state_of, strands_of_job}
+use Rattle.cw_job.specs.Jobs.{Job}
+use Rattle.cw_job.specs.declared.standing.Standing.{Standing as Written}
+use Rattle.cw_job.specs.Room.Strands.{StrandState, state_of, strands_of_job}
 use Rattle.cw_serial.proofs.Branches.{Branch, on_left, on_right}
-use Rattle.cw_serial.proofs.Room.Lawful.{deep_of}
-use Rattle.cw_serial.proofs.Room.Elements.{WantsThere}
+use Rattle.cw_job.proofs.Room.Lawful.{deep_of}
+use Rattle.cw_job.proofs.Room.Elements.{WantsThere}
 use Rattle.cw_serial.proofs.Working.{Worker as Working, own_in, reached, after_act, after_fork as worker_after_fork}
 use Rattle.cw_record.specs.declared.worker.Branch.{Branch as Held}
 use Rattle.cw_record.specs.declared.worker.Branch.TheVariants.{Left, Right}

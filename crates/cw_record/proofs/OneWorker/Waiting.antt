@@ -5,7 +5,7 @@ use Rattle.std.proofs.lemmas.List.Elements.{All-head, All-tail, All-weaker}
 use Rattle.cw_tree.specs.declared.node.Node.{Node}
 use Rattle.cw_tree.specs.declared.node.Kind.TheVariants.{Strand}
 use Rattle.cw_tree.specs.Nodes.{fresh_node}
-use Rattle.cw_serial.specs.declared.standing.Standing.{Standing as Running}
+use Rattle.cw_job.specs.declared.standing.Standing.{Standing as Running}
 use Rattle.cw_record.specs.declared.worker.Branch.{Branch}
 use Rattle.cw_record.specs.declared.worker.Branch.TheVariants.{Left, Right}
 use Rattle.cw_record.specs.OneWorker.{unstarted}

@@ -14,7 +14,7 @@ use Rattle.cw_tree.specs.Nodes.{is_strand}
 use Rattle.cw_tree.specs.Walks.{IsRooted}
 use Rattle.cw_serial.specs.Machine.{Machine, pick, steps_down, machine_shows, play, initial, serial_end}
 use Rattle.cw_serial.specs.MachineOf.{end_under}
-use Rattle.cw_serial.specs.Room.Strands.{strands_of_job}
+use Rattle.cw_job.specs.Room.Strands.{strands_of_job}
 use Rattle.cw_record.specs.declared.items.OrderItem.{OrderItem}
 use Rattle.cw_record.specs.declared.record.Record.{Record}
 use Rattle.cw_record.specs.declared.record_end.RecordEnd.{RecordEnd}

@@ -15,10 +15,10 @@ use Rattle.cw_tree.specs.Walks.{IsNumbered}
 use Rattle.cw_tree.specs.Names.{name_of}
 use Rattle.cw_tree.specs.Refusals.{victim_of, telling}
 use Rattle.cw_serial.specs.declared.play.Play.{Play}
-use Rattle.cw_serial.specs.Jobs.{Job}
+use Rattle.cw_job.specs.Jobs.{Job}
 use Rattle.cw_serial.specs.StrandTree.{at}
 use Rattle.cw_serial.specs.Machine.{Machine, pick, pick_named, steps_down}
-use Rattle.cw_serial.specs.Room.Strands.{StrandState, strands_of_job}
+use Rattle.cw_job.specs.Room.Strands.{StrandState, strands_of_job}
 use Rattle.cw_serial.specs.MachineOf.{machine_of}
 use Rattle.cw_serial.specs.InMemory.{want_before_end}
 use Rattle.cw_serial.specs.Orders.{at_named, IsPlay, Plays}

@@ -9,7 +9,7 @@ use Rattle.cw_strand.specs.Compilation.{code_of, main_function}
 use Rattle.cw_strand.specs.Laws.{IsFaultless, compiled}
 use Rattle.cw_strand.proofs.Lawful.{lawful}
 use Rattle.cw_strand.proofs.CodeLaws.{code_is_lawful, wants_of_the_source}
-use Rattle.cw_serial.specs.Room.Strands.{strands_of_job}
+use Rattle.cw_job.specs.Room.Strands.{strands_of_job}
 use Rattle.cw_record.specs.declared.record.Record.{Record}
 use Rattle.cw_record.specs.Replay.{Replays}
 use Rattle.cw_replay.specs.OverSource.{RecordsReplayOverSource}

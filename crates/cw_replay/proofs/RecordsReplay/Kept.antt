@@ -2,8 +2,8 @@
 use Rattle.std.proofs.Common.{sym, subst}
 use Rattle.cw_strand.specs.Names.{first_memory}
 use Rattle.cw_tree.specs.declared.picks.Picks.{Picks}
-use Rattle.cw_serial.specs.Room.Strands.{strands_of_job}
-use Rattle.cw_serial.proofs.Room.Lawful.{deep_of}
+use Rattle.cw_job.specs.Room.Strands.{strands_of_job}
+use Rattle.cw_job.proofs.Room.Lawful.{deep_of}
 use Rattle.cw_record.specs.Records.{job_of_record}
 use Rattle.cw_record.specs.Replay.{Replays}
 use Rattle.cw_replay.specs.RecordsReplay.{KeptRecordsReplay}

@@ -15,7 +15,7 @@ use Rattle.cw_tree.specs.Nodes.{parent_of, passes, is_strand, is_fork, is_block,
 use Rattle.cw_tree.specs.Series.{children}
 use Rattle.cw_tree.specs.Shape.{IsTree}
 use Rattle.cw_tree.proofs.Walks.There.{node_there}
-use Rattle.cw_serial.specs.Room.Strands.{strands_of_job}
+use Rattle.cw_job.specs.Room.Strands.{strands_of_job}
 use Rattle.cw_serial.proofs.Numbers.{get_some}
 use Rattle.cw_record.specs.Coherent.{InSeries, IsWanted, Follows, entered}
 use Rattle.cw_record.specs.Records.{job_of_record}

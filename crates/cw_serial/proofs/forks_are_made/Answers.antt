@@ -1,6 +1,6 @@
-use Rattle.cw_serial.specs.Room.Strands.{strands_of_job}
+use Rattle.cw_job.specs.Room.Strands.{strands_of_job}
 use Rattle.cw_serial.proofs.Deep.{goes_nowhere, goes_forking}
-use Rattle.cw_serial.proofs.Room.Lawful.{deep_of}
+use Rattle.cw_job.proofs.Room.Lawful.{deep_of}
 use Rattle.cw_serial.proofs.forks_are_made.Goals as goal
 
 pub returns : goal.returns

@@ -15,8 +15,8 @@ use Rattle.cw_core.specs.declared.event.Event.TheVariants as event
 use Rattle.cw_core.specs.State.{CoreState}
 use Rattle.cw_core.specs.Events.{fits, after_event, next}
 use Rattle.cw_core.specs.Laws.{IsCore}
-use Rattle.cw_serial.specs.Room.Strands.{StrandState}
-use Rattle.cw_serial.specs.Room.Saves.{IsSavedOf}
+use Rattle.cw_job.specs.Room.Strands.{StrandState}
+use Rattle.cw_job.specs.Room.Saves.{IsSavedOf}
 use Rattle.cw_sim.specs.Kept.{CoreGoesOn}
 use Rattle.cw_sim.specs.Moves.{does, answers}
 use Rattle.cw_sim.specs.Workers.{tree, changed}

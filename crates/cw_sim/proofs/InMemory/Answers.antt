@@ -2,11 +2,11 @@
 use Rattle.std.proofs.Common.{◌≡◌, ◌≢◌, ℕ, List, subst, refl, ap, sym, ◌∙◌, true, false, cond, Option, Some, None, inl, inr}
 use Rattle.std.proofs.lemmas.Bool.{cases_eq, eq-eqb, ne_eqb}
 use Rattle.cw_strand.specs.declared.want.Given.{Given}
-use Rattle.cw_serial.specs.declared.standing.Standing.{Standing}
-use Rattle.cw_serial.specs.Jobs.{Job}
+use Rattle.cw_job.specs.declared.standing.Standing.{Standing}
+use Rattle.cw_job.specs.Jobs.{Job}
 use Rattle.cw_code.specs.declared.program.Program.{Program}
-use Rattle.cw_serial.specs.Room.Strands.{StrandState, IsOf, state_of, strands_of_job}
-use Rattle.cw_serial.specs.Room.Saves.{IsSavedOf, StandsAs}
+use Rattle.cw_job.specs.Room.Strands.{StrandState, IsOf, state_of, strands_of_job}
+use Rattle.cw_job.specs.Room.Saves.{IsSavedOf, StandsAs}
 use Rattle.cw_strand.specs.Saving.{Kept}
 use Rattle.cw_tree.specs.Nodes.{is_pending}
 use Rattle.cw_core.specs.Laws.{IsCore}

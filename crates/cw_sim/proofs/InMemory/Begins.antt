@@ -13,11 +13,11 @@ use Rattle.cw_core.specs.declared.event.Event.TheVariants as event
 use Rattle.cw_core.specs.State.{CoreState}
 use Rattle.cw_core.specs.Events.{fits, after_event, next}
 use Rattle.cw_core.specs.Laws.{IsCore}
-use Rattle.cw_serial.specs.declared.standing.Standing.{Standing}
-use Rattle.cw_serial.specs.Jobs.{bare}
-use Rattle.cw_serial.specs.Room.Strands.{StrandState, IsOf, state_of, strands_of_job}
-use Rattle.cw_serial.specs.Room.Saves.{IsSavedOf}
-use Rattle.cw_serial.proofs.Room.Wants.{same_want}
+use Rattle.cw_job.specs.declared.standing.Standing.{Standing}
+use Rattle.cw_job.specs.Jobs.{bare}
+use Rattle.cw_job.specs.Room.Strands.{StrandState, IsOf, state_of, strands_of_job}
+use Rattle.cw_job.specs.Room.Saves.{IsSavedOf}
+use Rattle.cw_job.proofs.Room.Wants.{same_want}
 use Rattle.cw_sim.specs.Moves.{does, begins}
 use Rattle.cw_sim.specs.Workers.{tree, changed}
 use Rattle.cw_sim.specs.ThingsInMemory.{thing_at, Puts}

@@ -7,7 +7,7 @@ use Rattle.cw_trace.proofs.Stands.InRange.{strand_low}
 use Rattle.cw_strand.specs.Strands.{Strands}
 use Rattle.cw_open.specs.Machine.{has_finished}
 use Rattle.cw_core.specs.State.{CoreState, is_split}
-use Rattle.cw_serial.specs.Room.Strands.{StrandState}
+use Rattle.cw_job.specs.Room.Strands.{StrandState}
 use Rattle.cw_sim.specs.Workers.{Simulation, left_node, right_node, tree, worker_in}
 use Rattle.cw_sim.specs.Moves.{goes_to_right, meets, follows}
 use Rattle.cw_sim.specs.InMemory.{Seen, law_of, StandsFor, Comes, MayMeet, MayTurn, HasFinished}

@@ -16,17 +16,17 @@ use Rattle.cw_core.specs.Laws.{IsCore}
 use Rattle.cw_core.proofs.Events.Going.{well}
 use Rattle.cw_core.proofs.Events.Kept.{events}
 use Rattle.cw_code.specs.declared.program.Program.{Program}
-use Rattle.cw_serial.specs.declared.standing.Standing.{Standing}
-use Rattle.cw_serial.specs.Jobs.{Job, bare}
-use Rattle.cw_serial.specs.Room.Strands.{StrandState, IsOf, state_of, strands_of_job}
-use Rattle.cw_serial.specs.Room.Saves.{StandsAs}
-use Rattle.cw_serial.proofs.Room.Backs.{stands_as_it}
-use Rattle.cw_serial.proofs.Room.Wants.{same_want}
+use Rattle.cw_job.specs.declared.standing.Standing.{Standing}
+use Rattle.cw_job.specs.Jobs.{Job, bare, job_of_task}
+use Rattle.cw_job.specs.Room.Strands.{StrandState, IsOf, state_of, strands_of_job}
+use Rattle.cw_job.specs.Room.Saves.{StandsAs}
+use Rattle.cw_job.proofs.Room.Backs.{stands_as_it}
+use Rattle.cw_job.proofs.Room.Wants.{same_want}
 use Rattle.cw_sim.specs.Workers.{Worker, left_node, right_node, changed, with_fork, worker_in}
 use Rattle.cw_sim.specs.Moves.{forks}
 use Rattle.cw_sim.specs.Kept.{CoreGoesOn}
 use Rattle.cw_sim.specs.Inside.{goes_back, HasInside}
-use Rattle.cw_sim.specs.InMemory.{Seen, law_of, job_of, has_body, IsBody, StandsFor, Comes, MayStep, MayFork}
+use Rattle.cw_sim.specs.InMemory.{Seen, law_of, has_body, IsBody, StandsFor, Comes, MayStep, MayFork}
 use Rattle.cw_sim.specs.ThingsInMemory.{thing_at, Puts}
 use Rattle.cw_sim.specs.WorkersInMemory.{worker_of, workers_of}
 use Rattle.cw_sim.specs.declared.worker.Worker.{Worker as WorkerInMemory}
@@ -216,7 +216,7 @@ module _ (c : Driver) (w x : ℕ) (z : Seen) (may : MayFork c w x z) where
 
       stands_after : StandsFor new after_it
       stands_after = record {
-        job = ap job_of task ∙ held.job;
+        job = ap job_of_task task ∙ held.job;
         core = forked ∙ ap (λ k. after_event k (event.Fork x)) held.core;
         is_core = core;
         workers = workers_after;

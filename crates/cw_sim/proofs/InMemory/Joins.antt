@@ -12,16 +12,16 @@ use Rattle.cw_core.specs.State.{CoreState}
 use Rattle.cw_core.specs.Events.{fits, after_event}
 use Rattle.cw_core.proofs.Events.Forks.{IsChild}
 use Rattle.cw_core.proofs.Events.Going.{well}
-use Rattle.cw_serial.specs.declared.standing.Standing.{Standing}
-use Rattle.cw_serial.specs.Jobs.{Job}
-use Rattle.cw_serial.specs.Room.Strands.{StrandState, IsOf, state_of, strands_of_job}
-use Rattle.cw_serial.specs.Room.Saves.{StandsAs}
-use Rattle.cw_serial.proofs.Room.Backs.{stands_as_it}
+use Rattle.cw_job.specs.declared.standing.Standing.{Standing}
+use Rattle.cw_job.specs.Jobs.{Job, job_of_task}
+use Rattle.cw_job.specs.Room.Strands.{StrandState, IsOf, state_of, strands_of_job}
+use Rattle.cw_job.specs.Room.Saves.{StandsAs}
+use Rattle.cw_job.proofs.Room.Backs.{stands_as_it}
 use Rattle.cw_sim.specs.Workers.{left_node, right_node, changed, worker_in}
 use Rattle.cw_sim.specs.Moves.{joins}
 use Rattle.cw_sim.specs.Kept.{CoreGoesOn}
 use Rattle.cw_sim.specs.Inside.{HasInside}
-use Rattle.cw_sim.specs.InMemory.{Seen, job_of, law_of, has_body, IsBody, StandsFor, Comes, MayJoin}
+use Rattle.cw_sim.specs.InMemory.{Seen, law_of, has_body, IsBody, StandsFor, Comes, MayJoin}
 use Rattle.cw_sim.specs.ThingsInMemory.{thing_at, Puts}
 use Rattle.cw_sim.specs.WorkersInMemory.{workers_of}
 use Rattle.cw_sim.specs.declared.moves.Driver.{Driver}
@@ -213,7 +213,7 @@ module _ (c : Driver) (w f : ℕ) (z : Seen) (may : MayJoin c w f z) where
 
     stands_after : StandsFor new after_it
     stands_after = record {
-      job = ap job_of task ∙ held.job;
+      job = ap job_of_task task ∙ held.job;
       core = core_is new.core core;
       is_core = (goes k.machine.first k on f may.meet.fork may.meet.joined fit).core;
       workers = workers ∙ ap (λ ws. slice_set ws w (record (worker_in ws w) { runs = Some parent })) held.workers

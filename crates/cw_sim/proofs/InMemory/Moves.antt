@@ -16,9 +16,9 @@ use Rattle.cw_core.specs.declared.event.Event.TheVariants as event
 use Rattle.cw_core.specs.State.{CoreState}
 use Rattle.cw_core.specs.Events.{fits}
 use Rattle.cw_core.proofs.Events.Going.{well}
-use Rattle.cw_serial.specs.declared.standing.Standing.{Standing}
-use Rattle.cw_serial.specs.Jobs.{Job}
-use Rattle.cw_serial.specs.Room.Strands.{StrandState, state_of, strands_of_job}
+use Rattle.cw_job.specs.declared.standing.Standing.{Standing}
+use Rattle.cw_job.specs.Jobs.{Job}
+use Rattle.cw_job.specs.Room.Strands.{StrandState, state_of, strands_of_job}
 use Rattle.cw_sim.specs.Workers.{tree, worker, worker_in, with_strand}
 use Rattle.cw_sim.specs.Moves.{does, others, steals, finishes, dies, acts, move}
 use Rattle.cw_sim.specs.Kept.{Runs}

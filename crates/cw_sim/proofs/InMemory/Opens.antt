@@ -5,14 +5,15 @@ use Rattle.cw_tree.specs.Nodes.{is_pending}
 use Rattle.cw_strand.specs.Names.{first_memory}
 use Rattle.cw_open.specs.Steps.{first_machine as opening_machine}
 use Rattle.cw_core.specs.State.{start}
-use Rattle.cw_serial.specs.declared.standing.Standing.{Standing}
-use Rattle.cw_serial.specs.Room.Strands.{StrandState, strands_of_job, state_of, IsOf}
-use Rattle.cw_serial.specs.Room.Saves.{StandsAs}
-use Rattle.cw_serial.proofs.Room.Backs.{stands_as_it}
+use Rattle.cw_job.specs.declared.standing.Standing.{Standing}
+use Rattle.cw_job.specs.Room.Strands.{StrandState, strands_of_job, state_of, IsOf}
+use Rattle.cw_job.specs.Room.Saves.{StandsAs}
+use Rattle.cw_job.proofs.Room.Backs.{stands_as_it}
 use Rattle.cw_sim.specs.ThingsInMemory.{thing_at, Puts}
 use Rattle.cw_sim.specs.WorkersInMemory.{workers_of}
-use Rattle.cw_sim.specs.InMemory.{Seen, StandsFor, IsBody, has_body, job_of, opened}
-use Rattle.cw_sim.specs.declared.moves.Task.{Task}
+use Rattle.cw_job.specs.Jobs.{job_of_task}
+use Rattle.cw_sim.specs.InMemory.{Seen, StandsFor, IsBody, has_body, opened}
+use Rattle.cw_job.specs.declared.task.Task.{Task}
 use Rattle.cw_sim.specs.declared.moves.Driver.{Driver}
 use Rattle.cw_sim.proofs.Laws.Opens.{opens}
 
@@ -22,10 +23,10 @@ none_pending first (suc n) = refl
 
 module _ (t : Task) (workers : ℕ) where
   abbrev z : Seen
-  z = opened (job_of t) workers
+  z = opened (job_of_task t) workers
 
   -- main alone has a body, and stands at its start
-  body : (bodies : List (Option Standing)) (main : Standing) → state_of main ≡ (strands_of_job (job_of t)).start → IsOf t.program.now main → thing_at bodies 0 ≡ Some main
+  body : (bodies : List (Option Standing)) (main : Standing) → state_of main ≡ (strands_of_job (job_of_task t)).start → IsOf t.program.now main → thing_at bodies 0 ≡ Some main
       → (x : ℕ) → has_body z.m.core x ≡ true → (b : Standing) × (thing_at bodies x ≡ Some b) × IsBody z x b
   body bodies main at of there zero has =
       let P : StrandState → Type 0 = λ a. StandsAs (state_of main) a in
@@ -38,15 +39,15 @@ module _ (t : Task) (workers : ℕ) where
       → c.task ≡ t
       → c.core ≡ start (first_memory t.program.now.cells) t.limits.strands t.limits.aborts
       → workers_of c.workers.items ≡ z.m.workers
-      → state_of main ≡ (strands_of_job (job_of t)).start
+      → state_of main ≡ (strands_of_job (job_of_task t)).start
       → IsOf t.program.now main
       → Puts none 0 (Some main) bodies
       → c.bodies ≡ bodies
       → StandsFor c z
   opens_stands c main none bodies some task core ws at of put held = record {
-    job = ap job_of task;
+    job = ap job_of_task task;
     core = core;
-    is_core = (opens (strands_of_job (job_of t)) (first_memory t.program.now.cells) t.limits.strands t.limits.aborts workers some).core.core;
+    is_core = (opens (strands_of_job (job_of_task t)) (first_memory t.program.now.cells) t.limits.strands t.limits.aborts workers some).core.core;
     workers = ws;
     bodies = body c.bodies main at of (let P : List (Option Standing) → Type 0 = λ bs. thing_at bs 0 ≡ Some main in subst P (sym held) (put 0));
     saved = λ b pending. absurd (let none = none_pending (first_memory t.program.now.cells) b in cc (pending, none));

@@ -12,8 +12,8 @@ use Rattle.cw_tree.specs.declared.closed.Halt.{Halt}
 use Rattle.cw_tree.specs.InOrder.{in_order}
 use Rattle.cw_tree.specs.Walks.{IsNumbered}
 use Rattle.cw_open.specs.Machine.{OpenMachine}
-use Rattle.cw_serial.specs.Jobs.{Job, TakesWords}
-use Rattle.cw_serial.specs.Room.Strands.{StrandState}
+use Rattle.cw_job.specs.Jobs.{Job, TakesWords}
+use Rattle.cw_job.specs.Room.Strands.{StrandState}
 use Rattle.cw_record.specs.declared.record.Record.{Record}
 use Rattle.cw_record.specs.Built.{HasRecord, IsLeftBy}
 use Rattle.cw_record.specs.Order.{order_of}

@@ -10,9 +10,9 @@ use Rattle.cw_core.specs.declared.event.Event.TheVariants as event
 use Rattle.cw_core.specs.State.{CoreState}
 use Rattle.cw_core.specs.Events.{fits, after_event, next}
 use Rattle.cw_core.specs.Laws.{IsCore}
-use Rattle.cw_serial.specs.declared.standing.Standing.{Standing}
-use Rattle.cw_serial.specs.Room.Strands.{IsOf, state_of}
-use Rattle.cw_serial.specs.Room.Saves.{IsSavedOf, MayRollBack}
+use Rattle.cw_job.specs.declared.standing.Standing.{Standing}
+use Rattle.cw_job.specs.Room.Strands.{IsOf, state_of}
+use Rattle.cw_job.specs.Room.Saves.{IsSavedOf, MayRollBack}
 use Rattle.cw_sim.specs.Moves.{does}
 use Rattle.cw_sim.specs.Workers.{changed, with_strand}
 use Rattle.cw_sim.specs.ThingsInMemory.{thing_at, Puts}
@@ -75,7 +75,7 @@ module _ (c : Driver) (x : ℕ) (z : Seen) (may : MayRoll c x z) where
     pub roll_back : MayRollBack kept (state_of was)
     roll_back =
         let g = may_go_back (law_of z) k.machine.first z.m on z.there may.step.steady.inside x may.step.running may.step.ready may.dying may.within in
-        let P : Standing → Type 0 = λ s. Rattle.cw_serial.specs.Room.Saves.StandsAs (state_of s) (z.there x) in
+        let P : Standing → Type 0 = λ s. Rattle.cw_job.specs.Room.Saves.StandsAs (state_of s) (z.there x) in
         record {
           job = z.job;
           begin = z.m.saved p;

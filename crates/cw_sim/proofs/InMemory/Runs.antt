@@ -7,8 +7,8 @@ use Rattle.cw_strand.specs.Names.{first_memory}
 use Rattle.cw_strand.specs.Programs.{IsCompiled}
 use Rattle.cw_strand.specs.Strands.{Strands}
 use Rattle.cw_core.proofs.Events.Going.{state}
-use Rattle.cw_serial.specs.Jobs.{Job, TakesWords}
-use Rattle.cw_serial.specs.Room.Strands.{StrandState, strands_of_job}
+use Rattle.cw_job.specs.Jobs.{Job, TakesWords}
+use Rattle.cw_job.specs.Room.Strands.{StrandState, strands_of_job}
 use Rattle.cw_sim.specs.Workers.{Simulation, idle}
 use Rattle.cw_sim.specs.Turns.{worker_at}
 use Rattle.cw_sim.specs.Moves.{is_over, move, after_moves}

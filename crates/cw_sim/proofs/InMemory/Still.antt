@@ -11,8 +11,8 @@ use Rattle.cw_core.specs.State.{CoreState, spent}
 use Rattle.cw_core.specs.Events.{after_event}
 use Rattle.cw_core.specs.Laws.{IsCore}
 use Rattle.cw_core.specs.declared.event.Event.TheVariants as event
-use Rattle.cw_serial.specs.Room.Strands.{StrandState}
-use Rattle.cw_serial.specs.Room.Saves.{IsSavedOf}
+use Rattle.cw_job.specs.Room.Strands.{StrandState}
+use Rattle.cw_job.specs.Room.Saves.{IsSavedOf}
 use Rattle.cw_sim.specs.Workers.{Simulation, tree}
 use Rattle.cw_sim.specs.Moves.{does, stops_if_spent}
 use Rattle.cw_sim.specs.Inside as inside

@@ -8,7 +8,7 @@ use Rattle.cw_core.specs.State.{CoreState}
 use Rattle.cw_core.specs.Events.{fits, after_event}
 use Rattle.cw_core.specs.Laws.{IsCore}
 use Rattle.cw_core.proofs.Events.Going.{well}
-use Rattle.cw_serial.specs.Room.Strands.{StrandState}
+use Rattle.cw_job.specs.Room.Strands.{StrandState}
 use Rattle.cw_sim.specs.Workers.{Worker, Simulation, right_node, worker, worker_in}
 use Rattle.cw_sim.specs.Moves.{others, takes, steals}
 use Rattle.cw_sim.specs.WorkersInMemory.{worker_of, workers_of, first_with_forks, workers_next as workers_after}

@@ -14,8 +14,8 @@ use Rattle.cw_tree.specs.declared.closed.Halt.TheVariants.{Fault, Budget, Memory
 use Rattle.cw_core.specs.Closing.{journals_of}
 use Rattle.cw_core.specs.Laws.{IsCore}
 use Rattle.cw_core.proofs.Events.Going.{well}
-use Rattle.cw_serial.specs.Jobs.{Job, TakesWords}
-use Rattle.cw_serial.specs.Room.Strands.{StrandState, strands_of_job}
+use Rattle.cw_job.specs.Jobs.{Job, TakesWords}
+use Rattle.cw_job.specs.Room.Strands.{StrandState, strands_of_job}
 use Rattle.cw_record.specs.declared.record_end.RecordEnd.{RecordEnd}
 use Rattle.cw_record.specs.ClosedRun.{IsClosedRun}
 use Rattle.cw_record.specs.Built.{IsLeftBy, end_left}

@@ -4,10 +4,10 @@ use Rattle.cw_strand.specs.declared.want.Want.{Want}
 use Rattle.cw_strand.specs.declared.want.Want.TheVariants.{Load, Store}
 use Rattle.cw_strand.specs.Names.{first_memory}
 use Rattle.cw_strand.specs.Programs.{IsCompiled}
-use Rattle.cw_serial.specs.Jobs.{Job, TakesWords}
-use Rattle.cw_serial.specs.Room.Strands.{strands_of_job}
-use Rattle.cw_serial.proofs.Room.Elements.{NamesThere, wants_there}
-use Rattle.cw_serial.proofs.Room.Lawful.{deep_of, closes_of}
+use Rattle.cw_job.specs.Jobs.{Job, TakesWords}
+use Rattle.cw_job.specs.Room.Strands.{strands_of_job}
+use Rattle.cw_job.proofs.Room.Elements.{NamesThere, wants_there}
+use Rattle.cw_job.proofs.Room.Lawful.{deep_of, closes_of}
 use Rattle.cw_sim.specs.Laws.{NamesCell, AreStrands}
 
 names_cell : (k : ℕ) (w : Want) → NamesThere k w → NamesCell k w

@@ -2,8 +2,8 @@ use Rattle.std.proofs.Common.{List, ℤ, [], ap, sym, ◌∙◌, subst}
 use Rattle.cw_strand.specs.Names.{first_memory}
 use Rattle.cw_tree.specs.declared.conflict.Conflict.{Conflict}
 use Rattle.cw_tree.specs.declared.picks.Picks.{Picks}
-use Rattle.cw_serial.specs.Jobs.{Job}
-use Rattle.cw_serial.specs.Room.Strands.{strands_of_job}
+use Rattle.cw_job.specs.Jobs.{Job}
+use Rattle.cw_job.specs.Room.Strands.{strands_of_job}
 use Rattle.cw_tree.specs.declared.access.Entry.{Entry}
 use Rattle.cw_record.specs.Coherent.{IsCoherent, HasOutputs}
 use Rattle.cw_record.specs.Order.{order_of}

@@ -13,7 +13,8 @@ use Rattle.cw_tree.specs.declared.picks.Turn.{Turn}
 use Rattle.cw_tree.specs.Names.{name_of}
 use Rattle.cw_tree.specs.Series.{strand_of}
 use Rattle.cw_serial.specs.StrandTree.{at, put}
-use Rattle.cw_serial.specs.Wants.{value_at, answer_to, memory_after, outputs_after, blocks_after}
+use Rattle.cw_job.specs.Memory.{value_at}
+use Rattle.cw_serial.specs.Wants.{answer_to, memory_after, outputs_after, blocks_after}
 use Rattle.cw_serial.specs.Machine.{Machine, Begun, same_name, may_pick, does, pick, pick_at}
 use Rattle.cw_record.specs.declared.items.OrderItem.{OrderItem}
 use Rattle.cw_record.specs.declared.items.OrderItem.TheVariants.{Begins, Does, Ends}

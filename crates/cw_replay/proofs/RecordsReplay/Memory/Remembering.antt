@@ -10,7 +10,8 @@ use Rattle.cw_tree.specs.declared.access.Entry.{Entry}
 use Rattle.cw_tree.specs.Nodes.{touches, touches_kind, passes, all_nodes, stamp_of}
 use Rattle.cw_tree.specs.Accesses.{is_live, live_accesses, cell_value, written, read, value_in, written_kind, read_kind}
 use Rattle.cw_tree.specs.Journals.{AreEntries, FitsCells, fits_cells}
-use Rattle.cw_serial.specs.Wants.{value_at, memory_after}
+use Rattle.cw_job.specs.Memory.{value_at}
+use Rattle.cw_serial.specs.Wants.{memory_after}
 use Rattle.cw_serial.proofs.Numbers.{get_some}
 use Rattle.cw_serial.proofs.Numbered.{set_here, set_elsewhere}
 use Rattle.cw_record.specs.declared.items.OrderItem.{OrderItem}

@@ -1,7 +1,7 @@
 use Rattle.std.proofs.Common.{◌≡◌, ◌≤◌, ◌∙◌, ap, length, arith}
 use Rattle.std.proofs.lemmas.Result.{IfOk-weaker}
-use Rattle.cw_serial.specs.Jobs.{Job}
-use Rattle.cw_serial.specs.Room.Strands.{strands_of_job}
+use Rattle.cw_job.specs.Jobs.{Job}
+use Rattle.cw_job.specs.Room.Strands.{strands_of_job}
 use Rattle.cw_serial.specs.Machine.{machine_shows}
 use Rattle.cw_serial.proofs.Played.{plays_on, stuck_at, shown_at}
 use Rattle.cw_serial.proofs.play.serial.Goals as goal

@@ -2,7 +2,7 @@
 use Rattle.std.proofs.Common.{IfOk, rules}
 use Rattle.cw_record.specs.Records.{job_of_record}
 use Rattle.cw_sim.specs.Runs.{IsRecordOf, simulation_of}
-use Rattle.cw_serial.specs.Jobs.{Job}
+use Rattle.cw_job.specs.Jobs.{Job}
 use Rattle.cw_sim.proofs.InMemory.Records.{moved_same, closed_has_record, built_coherent, built_numbered, built_replays, built_spent}
 use Rattle.cw_sim.proofs.simulating.simulate.Goals as goal
 

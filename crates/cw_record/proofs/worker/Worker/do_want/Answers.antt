@@ -3,7 +3,7 @@ use Rattle.std.specs.Option.{IsSome}
 use Rattle.std.proofs.lemmas.Bool.{cases_lt}
 use Rattle.std.proofs.lemmas.List.{set_past}
 use Rattle.cw_serial.specs.Wants.{memory_after}
-use Rattle.cw_record.specs.OneWorker.{job_of}
+use Rattle.cw_job.specs.Jobs.{job_of_task}
 use Rattle.cw_record.proofs.worker.Worker.do_want.Goals as goal
 use Rattle.cw_record.proofs.worker.Worker.do_want.Goals.{in-Some, in_default}
 
@@ -11,7 +11,7 @@ pub returns-in_ok-writes-in-Store-clause-acts : goal.returns-in_ok-writes-in-Sto
 returns-in_ok-writes-in-Store-clause-acts c =
     let self = c.args.self.now in
     let memory = self.memory.items in
-    let wanted = sym (c.want.ensures (job_of self.task)) ∙ c.in-Store.is in
+    let wanted = sym (c.want.ensures (job_of_task self.task)) ∙ c.in-Store.is in
     elim c.match-get_mut.branch [
       | in-Some w ↦ record { task = search rules; branches = search rules; memory = search rules; outputs = search rules; drawing = search rules }
       | in_default w ↦ (

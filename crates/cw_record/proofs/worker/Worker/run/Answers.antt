@@ -1,5 +1,5 @@
-use Rattle.cw_serial.proofs.Room.Lawful.{closes_of}
-use Rattle.cw_serial.proofs.Room.Elements.{wants_there}
+use Rattle.cw_job.proofs.Room.Lawful.{closes_of}
+use Rattle.cw_job.proofs.Room.Elements.{wants_there}
 use Rattle.cw_record.specs.OneWorker.{unstarted}
 use Rattle.cw_record.proofs.OneWorker.Conditions.{wanted_by, over_by, answered_by}
 use Rattle.cw_record.proofs.OneWorker.Leaving.{runs_first}

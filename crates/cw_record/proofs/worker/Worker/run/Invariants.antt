@@ -1,5 +1,5 @@
-use Rattle.cw_serial.specs.Jobs.{Job}
-use Rattle.cw_serial.specs.Room.Strands.{StrandState}
+use Rattle.cw_job.specs.Jobs.{Job}
+use Rattle.cw_job.specs.Room.Strands.{StrandState}
 use Rattle.cw_serial.proofs.Working.{Worker as Working}
 use Rattle.cw_record.specs.OneWorker.{AllStand}
 use Rattle.cw_record.proofs.OneWorker.Running.{Runs, left_to_do}

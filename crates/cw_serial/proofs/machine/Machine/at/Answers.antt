@@ -1,5 +1,5 @@
 use Rattle.std.proofs.Common.{◌∙◌, ap}
-use Rattle.cw_serial.specs.Room.Strands.{state_of, strands_of_job}
+use Rattle.cw_job.specs.Room.Strands.{state_of, strands_of_job}
 use Rattle.cw_serial.specs.InMemory.{before_end}
 use Rattle.cw_serial.proofs.Answered.{wants_same}
 use Rattle.cw_serial.proofs.Picked.{unknown_wants}

@@ -1,5 +1,5 @@
 use Rattle.std.proofs.Common.{◌∙◌}
-use Rattle.cw_serial.specs.Room.Strands.{state_of, strands_of_job}
+use Rattle.cw_job.specs.Room.Strands.{state_of, strands_of_job}
 use Rattle.cw_serial.proofs.EndAndNames.{root_ended}
 use Rattle.cw_serial.proofs.machine.Machine.ended.Goals as goal
 

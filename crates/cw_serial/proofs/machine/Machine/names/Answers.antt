@@ -1,5 +1,5 @@
 use Rattle.std.proofs.Common.{sym, subst}
-use Rattle.cw_serial.specs.Room.Strands.{state_of, strands_of_job}
+use Rattle.cw_job.specs.Room.Strands.{state_of, strands_of_job}
 use Rattle.cw_serial.specs.InMemory.{AreNames}
 use Rattle.cw_serial.proofs.EndAndNames.{are_names}
 use Rattle.cw_serial.proofs.machine.Machine.names.Goals as goal

@@ -1,5 +1,5 @@
 use Rattle.std.proofs.Common.{◌∙◌, ◌++◌, refl, sym, ap}
-use Rattle.cw_serial.specs.Jobs.{bare}
+use Rattle.cw_job.specs.Jobs.{bare}
 use Rattle.cw_serial.proofs.Picked.{picked, not_inside, not_done, none_stands, unknown_wants}
 use Rattle.cw_serial.proofs.machine.Machine.pick.Goals as goal
 

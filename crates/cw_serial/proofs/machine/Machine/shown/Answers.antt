@@ -1,7 +1,7 @@
 use Rattle.std.proofs.Common.{◌≡◌, ◌∙◌, sym, ap, false}
 use Rattle.std.proofs.lemmas.Bool.{cond-false}
 use Rattle.cw_serial.specs.Machine.{has_ended}
-use Rattle.cw_serial.specs.Room.Strands.{strands_of_job}
+use Rattle.cw_job.specs.Room.Strands.{strands_of_job}
 use Rattle.cw_serial.specs.Orders.{end_from}
 use Rattle.cw_serial.proofs.Shown.{end_named}
 use Rattle.cw_serial.proofs.machine.Machine.shown.Goals as goal

@@ -2,10 +2,10 @@ use Rattle.std.proofs.Common.{◌∙◌, ◌++◌, ◌∷◌, [], refl, sym, ap,
 use Rattle.cw_serial.specs.declared.table.Place.TheVariants.{Waits}
 use Rattle.std.proofs.lemmas.Option.{same_Some}
 use Rattle.cw_strand.specs.declared.want.Want.TheVariants.{Fork}
-use Rattle.cw_serial.specs.Jobs.{bare}
-use Rattle.cw_serial.specs.Room.Strands.{state_of, strands_of_job}
+use Rattle.cw_job.specs.Jobs.{bare}
+use Rattle.cw_job.specs.Room.Strands.{state_of, strands_of_job}
 use Rattle.cw_serial.specs.TableInMemory.{forks}
-use Rattle.cw_serial.proofs.Room.Wants.{same_want_at}
+use Rattle.cw_serial.proofs.SameWants.{same_want_at}
 use Rattle.cw_serial.proofs.AreOf.{stood_is_of, put_are_of, nobody_is_of, noted_are_of, started_are_of}
 use Rattle.cw_serial.proofs.Waiting.{want_here}
 use Rattle.cw_serial.proofs.table.Table+Standing.fork.Goals as goal

@@ -1,14 +1,14 @@
 use Rattle.std.proofs.Common.{◌≡◌, ◌∙◌, Some, None, ap, subst, refl, sym, arith, rules, length, vec_len, true, false}
 use Rattle.std.specs.List.{slice_get}
 use Rattle.std.proofs.lemmas.Option.{slice_get_within}
-use Rattle.cw_serial.specs.Jobs.{bare}
-use Rattle.cw_serial.specs.Room.Strands.{state_of, strands_of_job}
+use Rattle.cw_job.specs.Jobs.{bare}
+use Rattle.cw_job.specs.Room.Strands.{state_of, strands_of_job}
 use Rattle.cw_serial.specs.declared.table.Sides.{Sides}
 use Rattle.cw_serial.specs.declared.table.Place.TheVariants.{Stands, Gone}
 use Rattle.cw_serial.specs.TableInMemory.{joins, rests, awaited_at, over_at}
 use Rattle.std.proofs.lemmas.Option.{same_Some}
 use Rattle.cw_tree.specs.declared.picks.Name.{Name}
-use Rattle.cw_serial.proofs.Room.Wants.{same_over_at, rests_over}
+use Rattle.cw_serial.proofs.SameWants.{same_over_at, rests_over}
 use Rattle.cw_serial.proofs.AreOf.{stood_is_of, put_are_of, nobody_is_of, stands_is_of}
 use Rattle.cw_serial.proofs.Waiting.{awaited_there, over_within, over_stood, over_still, waits_still, join_made}
 use Rattle.cw_serial.proofs.table.Table+Standing.join.Goals.{then-not-is_over-via-then-not-is_over, then-not-is_over-via-else-not-is_over+then-not-is_over-2}

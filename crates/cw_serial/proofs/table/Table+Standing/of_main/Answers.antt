@@ -1,7 +1,7 @@
 use Rattle.std.proofs.Common.{refl}
-use Rattle.cw_serial.specs.Jobs.{Job}
+use Rattle.cw_job.specs.Jobs.{Job}
 use Rattle.cw_serial.specs.StrandTree.{goes_on}
-use Rattle.cw_serial.specs.Room.Strands.{state_of, strands_of_job}
+use Rattle.cw_job.specs.Room.Strands.{state_of, strands_of_job}
 use Rattle.cw_serial.proofs.RootAlone.{root_comes}
 use Rattle.cw_serial.proofs.table.Table+Standing.of_main.Goals as goal
 

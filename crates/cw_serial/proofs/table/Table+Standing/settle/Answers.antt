@@ -1,7 +1,7 @@
 use Rattle.std.proofs.Common.{◌≡◌, ◌∙◌, ◌<◌, ◌++◌, ◌∷◌, [], refl, sym, ap, subst, rules}
-use Rattle.cw_serial.specs.Room.Strands.{state_of, strands_of_job}
-use Rattle.cw_serial.proofs.Room.Lawful.{deep_of}
-use Rattle.cw_serial.specs.Jobs.{bare}
+use Rattle.cw_job.specs.Room.Strands.{state_of, strands_of_job}
+use Rattle.cw_job.proofs.Room.Lawful.{deep_of}
+use Rattle.cw_job.specs.Jobs.{bare}
 use Rattle.cw_serial.proofs.Weights.{load, load_falls}
 use Rattle.cw_serial.proofs.AllMoved.{settling_first, settling_more, settling_all}
 use Rattle.cw_serial.proofs.table.Table+Standing.settle.Goals as goal

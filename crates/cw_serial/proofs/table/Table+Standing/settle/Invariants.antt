@@ -1,6 +1,6 @@
 use Rattle.std.proofs.Common.{◌≡◌}
-use Rattle.cw_serial.specs.Jobs.{Job, bare}
-use Rattle.cw_serial.specs.Room.Strands.{state_of, strands_of_job}
+use Rattle.cw_job.specs.Jobs.{Job, bare}
+use Rattle.cw_job.specs.Room.Strands.{state_of, strands_of_job}
 use Rattle.cw_serial.specs.AreOf.{AreOf}
 use Rattle.cw_serial.proofs.Weights.{load}
 use Rattle.cw_serial.proofs.AllMoved.{Settling}

@@ -1,12 +1,12 @@
 -- From move to move.
 use Rattle.std.proofs.Common.{refl}
-use Rattle.cw_sim.specs.InMemory.{job_of}
+use Rattle.cw_job.specs.Jobs.{job_of_task}
 use Rattle.cw_sim.proofs.InMemory.Runs.{z, is_opened, along_next, may_move, comes_next, ends_over}
 use Rattle.cw_sim.proofs.moves.Driver.runs.Goals as goal
 
 pub loop-n-init : goal.loop-n-init
 loop-n-init c =
-    let job = job_of c.args.self.now.task in
+    let job = job_of_task c.args.self.now.task in
     let turns = c.args.turns.now in
     let r = c.requires in
     (is_opened job turns.workers turns.schedule.now c.args.self.now r.strands r.turns.workers r.stands, record { at = r.turns; schedule_same = refl; workers_same = refl })
@@ -15,11 +15,11 @@ pub is_over-requires : goal.is_over-requires
 is_over-requires c =
     let turns = c.args.turns.now in
     let is = c.loop-n.invariant.0 in
-    (z (job_of c.args.self.now.task) turns.workers turns.schedule.now c.loop-n.self c.loop-n.n is, is.stands)
+    (z (job_of_task c.args.self.now.task) turns.workers turns.schedule.now c.loop-n.self c.loop-n.n is, is.stands)
 
 pub moves-requires : goal.moves-requires
 moves-requires c =
-    let job = job_of c.args.self.now.task in
+    let job = job_of_task c.args.self.now.task in
     let turns = c.args.turns.now in
     let now = c.loop-n in
     let is = now.invariant.0 in
@@ -31,7 +31,7 @@ moves-requires c =
 
 pub loop-n-preserved : goal.loop-n-preserved
 loop-n-preserved c =
-    let job = job_of c.args.self.now.task in
+    let job = job_of_task c.args.self.now.task in
     let turns = c.args.turns.now in
     let now = c.loop-n in
     let is = now.invariant.0 in
@@ -47,4 +47,4 @@ loop-n-preserved c =
 pub returns-then-is_over : goal.returns-then-is_over
 returns-then-is_over c =
     let turns = c.args.turns.now in
-    ends_over (job_of c.args.self.now.task) turns.workers turns.schedule.now c.loop-n.self c.loop-n.n c.loop-n.invariant.0 c.is_over.result c.is_over.ensures c.if-is_over.true
+    ends_over (job_of_task c.args.self.now.task) turns.workers turns.schedule.now c.loop-n.self c.loop-n.n c.loop-n.invariant.0 c.is_over.result c.is_over.ensures c.if-is_over.true

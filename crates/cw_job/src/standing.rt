@@ -1,0 +1,116 @@
+//! The strands of a run, at their wants, over the code of its program. This file, with `specs/Room` and `proofs/Room`, is the one room that
+//! knows what a strand is made of: all else knows the law of strands alone.
+ghost use Rattle.std.specs.Prelude.{◌≡◌, length, IfOk, OnOk};
+ghost use Rattle.cw_strand.specs.declared.want.Want.TheVariants as Want;
+
+use cw_base::OutOfMemory;
+use cw_code::{Limits, Program};
+use cw_strand::{Given, Saved, Strand, Want};
+use std::alloc::Global;
+
+/// A strand at its want.
+#[derive(Drop)]
+pub struct Standing {
+    pub(crate) strand: Strand,
+    pub(crate) want: Want,
+}
+
+#[tactic(auto, unfolding(crate::specs::Room::Strands::strands_of_job, crate::specs::Room::Strands::state_of, crate::specs::Room::Strands::IsOf))]
+impl Standing {
+    ghost use Rattle.cw_code.specs.declared.program.Program.{Program};
+    ghost use Rattle.cw_job.specs.Jobs.{Job, TakesWords, bare};
+    ghost use Rattle.cw_job.specs.Room.Saves.{IsSavedOf, MayRollBack, StandsAs};
+    ghost use Rattle.cw_job.specs.Room.Strands.{StrandState, IsOf, state_of, strands_of_job};
+
+    /// The strand of main, at its first want.
+    pub fn start(
+        alloc: Global,
+        program: &Program,
+        words: &[i64],
+        limits: Limits,
+    ) -> Result<Standing, OutOfMemory>
+        requires { TakesWords program.now (length words.now) }
+        ensures start { IfOk result (λ x. let job : Job = record { program = program.now; words = words.now; limits = limits } in
+            state_of x ≡ (strands_of_job job).start) }
+        ensures stands { IfOk result (λ x. IsOf program.now x) }
+    {
+        let mut strand = Strand::main(alloc, program, words, limits)?;
+        let want = strand.next(program, Given::Nothing)?;
+        Ok(Standing { strand, want })
+    }
+
+    /// What it stands at.
+    pub fn want(&self) -> Want
+        ensures { (job : Job) → result ≡ (strands_of_job job).want (state_of self.now) }
+    {
+        self.want
+    }
+
+    /// Goes on to the next want, once this one is answered.
+    pub fn answer(&mut self, given: Given, program: &Program) -> Result<(), OutOfMemory>
+        requires { IsOf program.now self.old }
+        ensures answer { OnOk result ((job : Job) → job.program ≡ program.now →
+            state_of self.new ≡ (strands_of_job job).answer (state_of self.old) given) }
+        ensures stands { OnOk result (IsOf program.now self.new) }
+    {
+        self.want = self.strand.next(program, given)?;
+        Ok(())
+    }
+
+    /// The left strand of the fork that this one wants. This one goes on as the right strand.
+    pub fn fork(&mut self, program: &Program) -> Result<Standing, OutOfMemory>
+        requires stands { IsOf program.now self.old }
+        requires fork { (strands_of_job (bare program.now)).want (state_of self.old) ≡ Want.Fork }
+        ensures left { IfOk result (λ left. (job : Job) → job.program ≡ program.now →
+            state_of left ≡ (strands_of_job job).left (state_of self.old)) }
+        ensures right { OnOk result ((job : Job) → job.program ≡ program.now →
+            state_of self.new ≡ (strands_of_job job).right (state_of self.old)) }
+        ensures left_stands { IfOk result (λ left. IsOf program.now left) }
+        ensures right_stands { OnOk result (IsOf program.now self.new) }
+    {
+        let mut strand = self.strand.fork()?;
+        let want = strand.next(program, Given::Nothing)?;
+        self.want = self.strand.next(program, Given::Nothing)?;
+        Ok(Standing { strand, want })
+    }
+
+    /// As the right strand of a fork, at its end, becomes the strand that forked and goes on to the next want. The left strand is at its
+    /// end, too.
+    pub fn join(&mut self, left: Standing, program: &Program) -> Result<(), OutOfMemory>
+        requires { IsOf program.now self.old }
+        ensures joined { OnOk result ((job : Job) → job.program ≡ program.now →
+            state_of self.new ≡ (strands_of_job job).joined (state_of self.old) (state_of left)) }
+        ensures stands { OnOk result (IsOf program.now self.new) }
+    {
+        self.strand.joined(left.strand);
+        self.want = self.strand.next(program, Given::Nothing)?;
+        Ok(())
+    }
+
+    /// As the right strand of a fork of which a strand was given up: it stands where it stood, as the strand that forked. Takes no memory.
+    pub fn join_given_up(&mut self, left: Standing)
+        ensures like { (there : StrandState) → StandsAs (state_of self.old) there → StandsAs (state_of self.new) there }
+        ensures stands { (program : Program) → IsOf program self.old → IsOf program self.new }
+    {
+        self.strand.joined(left.strand);
+    }
+
+    /// Keeps what it needs to stand here again, at the begin of a block that it wants.
+    pub fn save(&self) -> Result<Saved, OutOfMemory>
+        ensures { IfOk result (λ saved. (program : Program) → IsOf program self.now → (strands_of_job (bare program)).want (state_of self.now) ≡ Want.Begin →
+            IsSavedOf program saved (state_of self.now)) }
+    {
+        let saved = self.strand.save()?;
+        Ok(saved)
+    }
+
+    /// Goes back to the begin of a block inside which it stands, at its want: that is the begin of the block again. Takes no memory.
+    pub fn back(&mut self, saved: &Saved)
+        requires { MayRollBack saved.now (state_of self.old) }
+        ensures back { (m : MayRollBack saved.now (state_of self.old)) → state_of self.new ≡ m.begin }
+        ensures stands { (m : MayRollBack saved.now (state_of self.old)) → IsOf m.job.program self.new }
+    {
+        self.strand.back(saved);
+        self.want = Want::Begin;
+    }
+}
