@@ -3,18 +3,13 @@ use Rattle.std.specs.Prelude.{◌≡◌, ℕ, List, [], ◌∷◌, All}
 use Rattle.cw_strand.specs.declared.want.Want.{Want}
 use Rattle.cw_strand.specs.Strands.{Strands}
 use Rattle.cw_serial.specs.Wants.{memory_after, outputs_after}
-use Rattle.cw_job.specs.Jobs.{Job}
+use Rattle.cw_job.specs.Jobs.{job_of_task}
 use Rattle.cw_job.specs.Room.Strands.{StrandState, IsOf, state_of, strands_of_job}
 use Rattle.cw_code.specs.declared.program.Program.{Program}
-use Rattle.cw_job.specs.declared.task.Task.{Task}
 use Rattle.cw_record.specs.declared.worker.Branch.{Branch}
 use Rattle.cw_record.specs.declared.worker.Branch.TheVariants.{Left, Right}
 use Rattle.cw_record.specs.declared.worker.Worker.{Worker}
 use Rattle.cw_record.specs.Drawn.{drawn, drawn_after}
-
--- what a task runs
-abbrev pub job_of_task : Task → Job
-job_of_task t = record { program = t.program.now; words = t.words.now; limits = t.limits }
 
 -- the law of the strands that it runs
 abbrev pub law_of : Worker → Strands StrandState

@@ -1,12 +1,12 @@
 //! What a run keeps: its tree, its journals, its order and its end; the run of one worker; and the record of a run that was closed.
-//! Stands on `cw_base`, `cw_code`, `cw_strand`, `cw_tree`, `cw_open` and `cw_serial`, with `cw_text` in proofs alone.
+//! Stands on `cw_base`, `cw_code`, `cw_strand`, `cw_job`, `cw_tree`, `cw_open` and `cw_serial`.
 //! Contracts cite `specs/Order.antt` (the order of a record, from `specs/Items.antt` and `specs/Listed.antt`), `specs/Replay.antt` (that
 //! one memory does what a record says), `specs/Checking.antt` (what a check says), `specs/Records.antt` (the run of one worker),
 //! `specs/ClosedRun.antt` and `specs/Built.antt` (closed runs and their records), and `specs/Coherent.antt` (what a coherent record is),
 //! `specs/WorkedRecord.antt` and `specs/WorkedEnds.antt` (small records that are, the latter of strands of `specs/Scripts.antt`).
 //! Private ones cite `specs/Levels.antt` (how items are
 //! found), `specs/Walked.antt` (what the passes over a tree find), `specs/Replaying.antt` (what a check finds, step by step),
-//! `specs/Drawn.antt` (what each step makes of the tree and the journals) and `specs/Worked.antt` (what one worker holds).
+//! `specs/Drawn.antt` (what each step makes of the tree and the journals) and `specs/OneWorker.antt` (what one worker holds).
 #![tactic(auto)]
 
 ghost use Rattle.cw_job.specs.Room.Strands.{StrandState};

@@ -19,18 +19,10 @@ use crate::RecordEnd;
 use crate::drawing::Drawing;
 use cw_base::{OutOfMemory, Seq, Stack};
 use cw_code::{FaultKind, Limits, Program};
-use cw_job::{Standing, first_memory, value_at};
+use cw_job::{Standing, Task, first_memory, value_at};
 use cw_strand::{Given, Want};
 use cw_tree::Tree;
 use std::alloc::Global;
-
-/// What is run: a program, with the words of its command and its limits.
-#[derive(Drop)]
-pub(crate) struct Task<'a> {
-    pub(crate) program: &'a Program,
-    pub(crate) words: &'a [i64],
-    pub(crate) limits: Limits,
-}
 
 /// A fork on the way down to the strand that is run, with its node.
 #[derive(Drop)]

@@ -1,6 +1,6 @@
 //! Laws on records: every coherent record replays, over code and over the syntax of its source, and what a record tells of refusals. There
-//! is no code here that runs. Stands on `cw_text`, `cw_strand`, `cw_tree`, `cw_serial` and `cw_record`.
-//! Contracts cite `specs/Replays.antt` (the law behind every run that is not one worker's), `specs/WorkedReplays.antt` (small records to
+//! is no code here that runs. Stands on `cw_text`, `cw_strand`, `cw_job`, `cw_tree`, `cw_serial` and `cw_record`.
+//! Contracts cite `specs/RecordsReplay.antt` (the law behind every run that is not one worker's), `specs/WorkedReplays.antt` (small records to
 //! which it applies), `specs/SameMachines.antt` (two laws of strands that want the same, and the machine over each), `specs/OverSource.antt`
 //! (records of compiled programs over their sources), `specs/Spawning.antt` (sources that spawn) and `specs/Attempts.antt` (attempts that are
 //! recorded one by one).

@@ -1,5 +1,3 @@
-pub mod Room
-pub mod FirstMemory
 pub mod Deep
 pub mod Sides
 pub mod Turns
@@ -10,6 +8,7 @@ pub mod Replaced
 pub mod Numbers
 pub mod Numbered
 pub mod AreOf
+pub mod SameWants
 pub mod Waiting
 pub mod Holding
 pub mod Joining

@@ -1,4 +1,4 @@
--- What strands want is the same in each job.
+-- What the strands of a table want is the same in each job.
 use Rattle.std.proofs.Common.{◌≡◌, ◌∙◌, ℕ, List, Option, Some, None, true, refl, sym, ap}
 use Rattle.std.specs.List.{slice_get}
 use Rattle.cw_code.specs.declared.program.Program.{Program}
@@ -10,11 +10,8 @@ use Rattle.cw_serial.specs.declared.table.Sides.{Sides}
 use Rattle.cw_serial.specs.declared.table.Table.{Table}
 use Rattle.cw_job.specs.Jobs.{Job, bare}
 use Rattle.cw_job.specs.Room.Strands.{StrandState, state_of, strands_of_job}
+use Rattle.cw_job.proofs.Room.Wants.{same_want}
 use Rattle.cw_serial.specs.TableInMemory.{want_of, want_at, strand_at, over_by, over_at, awaited_at, Rests}
-
-pub same_want : (job other : Job) (a : StrandState) → (strands_of_job job).want a ≡ (strands_of_job other).want a
-unfolding strands_of_job
-same_want job other a = refl
 
 wanted_by : (job other : Job) (o : Option Standing) → want_of (strands_of_job job) state_of o ≡ want_of (strands_of_job other) state_of o
 wanted_by job other None = refl

@@ -1,5 +1,3 @@
-pub mod Room
-pub mod Jobs
 pub mod StrandTree
 pub mod Forks
 pub mod Spots
@@ -12,3 +10,4 @@ pub mod DepthFirst
 pub mod InMemory
 pub mod Orders
 pub mod Worked
+pub mod WorkedPrograms

@@ -1,14 +1,11 @@
 -- What a machine with one memory does where a strand wants something: to the memory, to the outputs, to the begun blocks, and what it
 -- answers.
-use Rattle.std.specs.Prelude.{ℕ, ℤ, Bool, pos, List, [], ◌∷◌, ◌++◌, slice_get, slice_set, Option, Some, None, unwrap_or, if◌then◌else◌}
+use Rattle.std.specs.Prelude.{ℤ, Bool, List, [], ◌∷◌, ◌++◌, slice_set, Option, Some, None, if◌then◌else◌}
 use Rattle.cw_strand.specs.declared.want.Want.{Want}
 use Rattle.cw_strand.specs.declared.want.Want.TheVariants.{Load, Store, Out, Begin, End, Fork, Sync, Done, Fault}
 use Rattle.cw_strand.specs.declared.want.Given.{Given}
 use Rattle.cw_strand.specs.declared.want.Given.TheVariants.{Nothing, Value}
-
--- what the memory holds at an element, and 0 where there is none
-abbrev pub value_at : List ℤ → ℕ → ℤ
-value_at memory c = unwrap_or (slice_get memory c) (pos 0)
+use Rattle.cw_job.specs.Memory.{value_at}
 
 -- what a want is answered with from this memory
 abbrev pub answer_to : Want → List ℤ → Given

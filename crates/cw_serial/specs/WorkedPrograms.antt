@@ -1,5 +1,5 @@
 -- Worked runs of the machine, over the code of small programs.
-use Rattle.std.specs.Prelude.{ℕ, ◌≡◌, List, [], ◌∷◌, codes, pos, true, false}
+use Rattle.std.specs.Prelude.{ℕ, ◌≡◌, List, [], ◌∷◌, codes, pos}
 use Rattle.cw_code.specs.declared.FaultKind.TheVariants.{Overflow}
 use Rattle.cw_strand.specs.Names.{cells_of, first_memory}
 use Rattle.cw_strand.specs.Worked.{tree, within}
@@ -8,9 +8,7 @@ use Rattle.cw_tree.specs.declared.picks.Name.{Name}
 use Rattle.cw_serial.specs.declared.ends.SerialEnd.{SerialEnd}
 use Rattle.cw_serial.specs.declared.ends.SerialEnd.TheVariants as last
 use Rattle.cw_serial.specs.Machine.{serial_end}
-
-abbrev pub root : Name
-root = record { parent = 0; fork = 0; right = false }
+use Rattle.cw_serial.specs.TableInMemory.{root, left_name, right_name}
 
 -- ## The strand of main alone
 
@@ -39,7 +37,7 @@ Ends =
 -- one block, in which each of two strands adds one to a cell
 abbrev pub both : List ℕ → ℕ → SerialEnd
 both list name =
-    let names = root ∷ record { parent = 0; fork = 1; right = false } ∷ record { parent = 0; fork = 1; right = true } ∷ [] in
+    let names = root ∷ left_name 0 1 ∷ right_name 0 1 ∷ [] in
     ending (codes "cell c; fn main() { atomic { spawn { c = c + 1; } c = c + 1; } }") names list name
 
 -- an update that is lost, none that is lost, the block's end before its strands', and the right strand where it stands

@@ -3,10 +3,8 @@ ghost use Rattle.cw_tree.specs.declared.picks.Turn.{Turn};
 ghost use Rattle.cw_serial.specs.InMemory.{before_end};
 ghost use Rattle.cw_serial.specs.Orders.{end_from};
 
-use crate::memory::{first_memory, value_at};
-use crate::standing::Standing;
 use crate::table::Table;
-use crate::{Limits, Name, Program, SerialEnd};
+use crate::{Limits, Name, Program, SerialEnd, Standing, first_memory, value_at};
 use cw_base::{OutOfMemory, Seq, Stack};
 use cw_strand::{Given, Want};
 use std::alloc::Global;

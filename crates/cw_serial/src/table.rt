@@ -1,7 +1,6 @@
 ghost use Rattle.std.specs.Prelude.{◌≡◌, ◌+◌, ◌<◌, ◌∷◌, List, [], true, Some, IfOk, OnOk, slice_get, vec_len, length};
 
-use crate::Name;
-use crate::standing::Standing;
+use crate::{Name, Standing};
 use cw_base::OutOfMemory;
 use cw_code::{Limits, Program};
 use cw_strand::{Given, Want};

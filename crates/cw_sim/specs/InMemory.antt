@@ -15,7 +15,7 @@ use Rattle.cw_core.specs.Events.{fits}
 use Rattle.cw_core.specs.Laws.{IsCore}
 use Rattle.cw_core.specs.State.{CoreState, is_split, waits_for_left}
 use Rattle.cw_job.specs.declared.standing.Standing.{Standing}
-use Rattle.cw_job.specs.Jobs.{Job}
+use Rattle.cw_job.specs.Jobs.{Job, job_of_task}
 use Rattle.cw_job.specs.Room.Strands.{StrandState, strands_of_job, state_of, IsOf}
 use Rattle.cw_job.specs.Room.Saves.{IsSavedOf, StandsAs}
 use Rattle.cw_sim.specs.Workers.{Simulation, left_node, right_node, tree, worker, changed, first_simulation}
@@ -26,14 +26,9 @@ use Rattle.cw_sim.specs.HasWants.{HasWants}
 use Rattle.cw_sim.specs.Inside.{HasInside, goes_back}
 use Rattle.cw_sim.specs.ThingsInMemory.{thing_at}
 use Rattle.cw_sim.specs.WorkersInMemory.{workers_of, IsLast}
-use Rattle.cw_job.specs.declared.task.Task.{Task}
 use Rattle.cw_sim.specs.declared.moves.Driver.{Driver}
 
 -- ## What it stands for
-
--- what a task runs
-abbrev pub job_of_task : Task → Job
-job_of_task t = record { program = t.program.now; words = t.words.now; limits = t.limits }
 
 -- A simulation of the strands of a job. A strand on its way back goes on nowhere: its body stands where it was refused.
 pub record Seen : Type 0 where

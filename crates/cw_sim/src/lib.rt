@@ -1,8 +1,8 @@
 //! The simulation: several virtual workers run the strands of a program over one core, each when its turn comes.
-//! Stands on `cw_io`, `cw_strand`, `cw_core`, `cw_serial` and `cw_record`, with the kit's `slab`.
+//! Stands on `cw_io`, `cw_strand`, `cw_job`, `cw_core` and `cw_record`, with the kit's `slab`.
 //! Contracts cite `specs/Workers.antt` (the state of a simulation), `specs/Turns.antt` (who makes which move), `specs/Moves.antt` (what
 //! each move does, and runs), `specs/Kept.antt` (what is true between moves), `specs/Laws.antt` (what holds of them) and `specs/Runs.antt` (the
-//! whole run, and its record); `specs/Rows.antt` tries them on small sources.
+//! whole run, and its record); `specs/Worked.antt` tries them on small sources.
 #![tactic(auto)]
 
 ghost use Rattle.cw_sim.specs.Laws.{ForksAreThere, MovesFit, NoneIsEarly, OpensWell};

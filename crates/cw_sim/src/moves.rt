@@ -19,18 +19,10 @@ use cw_base::OutOfMemory;
 use cw_core::{Core, Event, Reply};
 use cw_io::Schedule;
 use cw_code::{Limits, Program};
-use cw_job::{Standing, first_memory};
+use cw_job::{Standing, Task, first_memory};
 use cw_strand::{Given, Saved, Want};
 use cw_tree::{Closed, Halt};
 use std::alloc::Global;
-
-/// What is run: a program, with the words of its command and its limits.
-#[derive(Drop)]
-pub(crate) struct Task<'a> {
-    pub(crate) program: &'a Program,
-    pub(crate) words: &'a [i64],
-    pub(crate) limits: Limits,
-}
 
 /// The workers, the core that they share, and the strands of a program where they stand.
 #[derive(Drop)]
@@ -58,7 +50,6 @@ fn given_for(write: Option<i64>, value: i64) -> Given
 // Each rule is the definition of its name.
 impl<'a> Driver<'a> {
     ghost use Rattle.cw_sim.specs.TurnsInMemory.{AreAt};
-    ghost use Rattle.cw_job.specs.Jobs.{job_of_task};
     ghost use Rattle.cw_sim.specs.InMemory.{Comes, Ends, HasFinished, MayAct, MayAnswer, MayDie, MayDo, MayFinish, MayFork, MayJoin, MayMeet, MayMove, MayRoll, MayTake, MayTurn, Seen, StandsFor, access_of, answered, law_of, opened};
 
     /// Before the first move: worker 0 runs main, and the others are idle.

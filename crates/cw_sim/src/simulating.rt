@@ -7,9 +7,10 @@ ghost use Rattle.cw_record.specs.declared.record_end.RecordEnd.TheVariants.{Move
 ghost use Rattle.cw_sim.specs.Moves.{is_over};
 ghost use Rattle.cw_sim.specs.Runs.{IsRecordOf, simulation_of};
 
-use crate::moves::{Task, moved};
+use crate::moves::moved;
 use cw_base::{OutOfMemory, Seq};
 use cw_io::Schedule;
+use cw_job::Task;
 use cw_record::{Record, build};
 use cw_code::{Limits, Program};
 use std::alloc::Global;

@@ -3,9 +3,8 @@ use Rattle.std.proofs.Common.{◌≡◌, ℕ, zero, suc, ◌+◌, ◌-◌, ◌%�
 use Rattle.std.specs.Prelude.{◌==◌, ◌||◌, not, filter, Option, is_some, replicate}
 use Rattle.std.specs.Option.{option_to_list}
 use Rattle.std.proofs.lemmas.Bool.{eq-eqb, eqb-true, eqb-false}
-use Rattle.std.proofs.lemmas.List.{length-map, map-append, replicate-append-replicate, map-set, drop_more, drop_all}
+use Rattle.std.proofs.lemmas.List.{same_from_push, length-map, map-append, replicate-append-replicate, map-set, drop_more, drop_all}
 use Rattle.std.proofs.lemmas.List.Folds.{list_any-append}
-use Rattle.cw_serial.proofs.Numbers.{snoc_same}
 use Rattle.cw_tree.specs.Nodes.{below}
 use Rattle.cw_tree.specs.Walks.{has}
 use Rattle.cw_tree.proofs.Lists.{get_map_below}
@@ -39,7 +38,7 @@ has_none xs ys f e = let both = sym (list_any-append (λ m. m == f) xs ys) ∙ e
 pub last_inline : (w : Worker) (f g : ℕ) (rest : List ℕ) → IsLast w f → w.inline ≡ rest ++ g ∷ [] → without f w ≡ record w { inline = rest }
 last_inline w f g rest last e =
     let split : (w.deque ++ rest) ++ g ∷ [] ≡ last.before ++ f ∷ [] = append_assoc w.deque rest (g ∷ []) ∙ ap (λ ys. w.deque ++ ys) (sym e) ∙ last.all in
-    let two = snoc_same (w.deque ++ rest) last.before g f split in
+    let two = same_from_push (w.deque ++ rest) last.before g f split in
     let none : has (w.deque ++ rest) f ≡ false = ap (λ ys. has ys f) two.0 ∙ last.once in
     let apart = has_none w.deque rest f none in
     ap (λ ds. record w { deque = ds; inline = filter (λ h. not (h == f)) w.inline }) (without_none f w.deque apart.0)
@@ -48,7 +47,7 @@ last_inline w f g rest last e =
 pub last_deque : (w : Worker) (f g : ℕ) (rest : List ℕ) → IsLast w f → w.inline ≡ [] → w.deque ≡ rest ++ g ∷ [] → without f w ≡ record w { deque = rest }
 last_deque w f g rest last none e =
     let split : rest ++ g ∷ [] ≡ last.before ++ f ∷ [] = sym e ∙ sym (append-nil w.deque) ∙ ap (λ is. w.deque ++ is) (sym none) ∙ last.all in
-    let two = snoc_same rest last.before g f split in
+    let two = same_from_push rest last.before g f split in
     let gone : has rest f ≡ false = ap (λ ys. has ys f) two.0 ∙ last.once in
     ap (λ is. record w { deque = filter (λ h. not (h == f)) w.deque; inline = filter (λ h. not (h == f)) is }) none
     ∙ ap (λ is. record w { deque = filter (λ h. not (h == f)) w.deque; inline = is }) (sym none)

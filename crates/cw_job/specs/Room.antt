@@ -1,3 +1,2 @@
 pub mod Strands
 pub mod Saves
-pub mod Worked
