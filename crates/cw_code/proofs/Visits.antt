@@ -1,5 +1,5 @@
 -- Visits keep the number of places.
-use Rattle.std.proofs.Common.{◌≡◌, ℕ, zero, suc, ◌+◌, ◌-◌, Bool, true, false, List, [], ◌∷◌, ◌++◌, length, replicate, arith, take, drop, ◌≤◌, ◌<◌, get_or, ⊎_elim, Option, Some, None, refl, sym, ap, ◌∙◌}
+use Rattle.std.proofs.Common.{◌≡◌, ℕ, zero, suc, ◌+◌, ◌-◌, Bool, true, false, List, [], ◌∷◌, ◌++◌, length, replicate, arith, add-one, take, drop, ◌≤◌, ◌<◌, get_or, ⊎_elim, Option, Some, None, refl, sym, ap, ◌∙◌}
 use Rattle.std.specs.Prelude.{slice_set, slice_index_or, nat_le, ◌==◌, if◌then◌else◌}
 use Rattle.std.proofs.lemmas.List.{length-set, length-replicate}
 use Rattle.std.proofs.lemmas.Bool.Decides.{eqb_tells}
@@ -64,3 +64,9 @@ ends_here c f size n len all t u items b le p bi ub up l =
     let len_u : length u ≡ len = ap length ui ∙ l in
     let settled_u : pass c f size u ≡ u = ap (pass c f size) ub ∙ sym up in
     ap (λ k. take k (u ++ drop (length u) items)) (sym len_u) ∙ take-append_seam u _ ∙ sym (settles_at c f size n all t u le (sym p ∙ sym ui) settled_u)
+
+pub goes_on : (c : Code) (f : Func) (size n len : ℕ) (t u items b : Places) → items ≡ passes c f size n t → length items ≡ size → b ≡ items → u ≡ pass c f size b → length u ≡ length b → length items ≡ len
+    → (take len (u ++ drop (length u) items) ≡ passes c f size (n + 1) t) × (length (take len (u ++ drop (length u) items)) ≡ size)
+goes_on c f size n len t u items b p s bi up lu l =
+    let e : take len (u ++ drop (length u) items) ≡ u = ap (λ k. take k (u ++ drop (length u) items)) (sym (lu ∙ ap length bi ∙ l)) ∙ take-append_seam u _ in
+    (e ∙ up ∙ ap (pass c f size) (bi ∙ p) ∙ ap (λ k. passes c f size k t) (sym (add-one n)), ap length e ∙ lu ∙ ap length bi ∙ s)

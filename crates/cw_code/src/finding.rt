@@ -246,7 +246,8 @@ fn pass_places(code: &Code, func: &Func, places: &mut [Option<Known>]) -> Result
 
 /// Whether two places are the same, in what stands there and in who gave it.
 fn is_like(a: Option<Known>, b: Option<Known>) -> bool
-    ensures { result ≡ true → a ≡ b }
+    ensures same { result ≡ true → a ≡ b }
+    ensures told { a ≡ b → result ≡ true }
 {
     match a {
         None => b.is_none(),
@@ -263,7 +264,8 @@ fn is_like(a: Option<Known>, b: Option<Known>) -> bool
 /// Whether all places of two are the same.
 #[tactic(auto, using(crate::proofs::Visits::same_elements))]
 fn are_equal(a: &[Option<Known>], b: &[Option<Known>]) -> bool
-    ensures { result ≡ true → a.now ≡ b.now }
+    ensures same { result ≡ true → a.now ≡ b.now }
+    ensures told { a.now ≡ b.now → result ≡ true }
 {
     if a.len() != b.len() {
         return false;
@@ -311,6 +313,7 @@ fn turn(
     ensures length { length places.new ≡ length places.old }
     ensures passed { IfOk result (λ _. places.new ≡ pass code.now func.now (size_of func.now) places.old) }
     ensures same { IfOk result (λ b. b ≡ true → places.new ≡ places.old) }
+    ensures told { IfOk result (λ b. places.new ≡ places.old → b ≡ true) }
 {
     let before = places.to_vec(alloc)?;
     pass_places(code, func, places)?;
