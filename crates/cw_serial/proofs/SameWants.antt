@@ -9,7 +9,7 @@ use Rattle.cw_serial.specs.declared.table.Row.{Row}
 use Rattle.cw_serial.specs.declared.table.Sides.{Sides}
 use Rattle.cw_serial.specs.declared.table.Table.{Table}
 use Rattle.cw_job.specs.Jobs.{Job, bare}
-use Rattle.cw_job.specs.Room.Strands.{StrandState, state_of, strands_of_job}
+use Rattle.cw_job.specs.Room.Strands.{state_of, strands_of_job}
 use Rattle.cw_job.proofs.Room.Wants.{same_want}
 use Rattle.cw_serial.specs.TableInMemory.{want_of, want_at, strand_at, over_by, over_at, awaited_at, Rests}
 
