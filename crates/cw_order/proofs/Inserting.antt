@@ -10,7 +10,7 @@ use Rattle.cw_order.specs.declared.ring.Ring.{Ring}
 use Rattle.cw_order.specs.declared.ring.TheConstants.{END}
 use Rattle.cw_order.specs.declared.list.OrderList.TheInside.{Inside}
 use Rattle.cw_order.specs.Order.{put_after, placed_after}
-use Rattle.cw_order.specs.OrderList.{IsListInMemory, free_of}
+use Rattle.cw_order.specs.OrderList.{IsListInMemory, free_from}
 use Rattle.cw_order.specs.Links.{walk, first_or, AreLinked, AreApart, Lacks, Rise}
 use Rattle.cw_order.specs.Ring.{IsRing, path, label_of, above_of, elements_of}
 use Rattle.cw_order.proofs.Apart.{lacks-contains, CutAt, cut_at, apart_parts, apart_across, disjoint_there, apart_out, apart_in, lacks_parts}
@@ -137,21 +137,22 @@ pub record HasInserted (a b : Inside) (at : Option ℕ) : Type 0 where
   pub kept : IsListInMemory b
   pub elements : elements_of b.ring b.count ≡ placed_after at a.free (elements_of a.ring a.count)
 
-pub inserted : (a b : Inside) (r : Ring) (at : Option ℕ) (place label : ℕ) → place ≡ unwrap_or at 0 → IsListInMemory a → (a.count ≡ a.room → ⊥) → ForSome at (Contains (elements_of a.ring a.count))
+pub inserted : (a b : Inside) (r : Ring) (at : Option ℕ) (place label : ℕ) → place ≡ unwrap_or at 0 → IsListInMemory a → (a.count ≡ a.made → ⊥) → ForSome at (Contains (elements_of a.ring a.count))
     → r.next.items ≡ a.ring.next.items → IsRing r (elements_of a.ring a.count)
     → label_of r place < label → label < above_of r place
     → b.ring.next.items ≡ set (set r.next.items a.free (get_or r.next.items place 0)) place a.free
     → b.ring.previous.items ≡ set (set r.previous.items a.free place) (get_or r.next.items place 0) a.free
     → b.ring.labels.items ≡ set r.labels.items a.free label
-    → b.room ≡ a.room → b.count ≡ a.count + 1 → b.free ≡ get_or r.next.items a.free 0
+    → b.made ≡ a.made → b.ring.room ≡ a.ring.room → b.count ≡ a.count + 1 → b.free ≡ get_or r.next.items a.free 0
     → HasInserted a b at
-inserted a b r at place label place_is kept room has links ring above below next previous labels b_room b_count b_free = record {
+inserted a b r at place label place_is kept room has links ring above below next previous labels b_made b_room b_count b_free = record {
   kept = record {
-    places = omega (arith, sizes, same, kept.places, b_room);
-    few = omega (arith, kept.few, room, b_room, b_count);
+    places = omega (arith, sizes, same, kept.places, b_made);
+    within = omega (arith, kept.within, b_made, b_room);
+    few = omega (arith, kept.few, room, b_made, b_count);
     ring = subst (IsRing b.ring) (sym elements) ring2;
     there = omega (arith, b_free, next_there, sizes, kept.there);
-    apart = subst (λ zs. AreApart (path zs ++ free_of b)) (sym elements) (subst (λ zs. AreApart (path ys ++ zs)) (sym free_is) all);
+    apart = subst (λ zs. AreApart (path zs ++ free_from b.ring b.made b.count b.free)) (sym elements) (subst (λ zs. AreApart (path ys ++ zs)) (sym free_is) all);
   };
   elements = elements;
 } where
@@ -162,16 +163,16 @@ inserted a b r at place label place_is kept room has links ring above below next
   ys = placed_after at a.free (elements_of a.ring a.count)
 
   k : ℕ
-  k = a.room - (a.count + 1)
+  k = a.made - (a.count + 1)
 
   fs : List ℕ
-  fs = walk r.next.items (get_or r.next.items a.free 0) (a.room - (a.count + 1))
+  fs = walk r.next.items (get_or r.next.items a.free 0) (a.made - (a.count + 1))
 
-  left : a.room - a.count ≡ suc (a.room - (a.count + 1))
+  left : a.made - a.count ≡ suc (a.made - (a.count + 1))
   left = omega (arith, kept.few, room)
 
-  old_free : free_of a ≡ a.free ∷ fs
-  old_free = ap (walk a.ring.next.items a.free) left ∙ ap (λ ns. walk ns a.free (suc (a.room - (a.count + 1)))) (sym links)
+  old_free : free_from a.ring a.made a.count a.free ≡ a.free ∷ fs
+  old_free = ap (walk a.ring.next.items a.free) left ∙ ap (λ ns. walk ns a.free (suc (a.made - (a.count + 1)))) (sym links)
 
   apart : AreApart (path xs ++ a.free ∷ fs)
   apart = subst (λ zs. AreApart (path xs ++ zs)) old_free kept.apart
@@ -208,12 +209,12 @@ inserted a b r at place label place_is kept room has links ring above below next
       let more = length-after r b.ring xs ys fs place a.free label ring at_has apart at_there e_there above below is next previous labels in
       elements_are b.ring ys b.count ring2.linked (omega (arith, more, length-walk a.ring.next.items (get_or a.ring.next.items 0 0) a.count, b_count))
 
-  free_is : free_of b ≡ fs
+  free_is : free_from b.ring b.made b.count b.free ≡ fs
   free_is =
-      let rest : b.room - b.count ≡ a.room - (a.count + 1) = omega (arith, b_room, b_count) in
+      let rest : b.made - b.count ≡ a.made - (a.count + 1) = omega (arith, b_made, b_count) in
       ap (λ n. walk b.ring.next.items b.free n) rest ∙ (
-      ap (λ x. walk b.ring.next.items x (a.room - (a.count + 1))) b_free
-      ∙ walk-after r b.ring xs ys fs place a.free label ring at_has apart at_there e_there above below is next previous labels (get_or r.next.items a.free 0) (a.room - (a.count + 1)) refl
+      ap (λ x. walk b.ring.next.items x (a.made - (a.count + 1))) b_free
+      ∙ walk-after r b.ring xs ys fs place a.free label ring at_has apart at_there e_there above below is next previous labels (get_or r.next.items a.free 0) (a.made - (a.count + 1)) refl
       )
 
   all : AreApart (path ys ++ fs)

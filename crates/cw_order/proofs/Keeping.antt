@@ -42,16 +42,16 @@ pub kept_length : (a : Inside) → length (elements_of a.ring a.count) ≡ a.cou
 kept_length a = length-walk a.ring.next.items (get_or a.ring.next.items 0 0) a.count
 
 -- the first free place is in no use
-pub kept_new : (a : Inside) → IsListInMemory a → (a.count ≡ a.room → ⊥) → Contains (elements_of a.ring a.count) a.free → ⊥
+pub kept_new : (a : Inside) → IsListInMemory a → (a.count ≡ a.made → ⊥) → Contains (elements_of a.ring a.count) a.free → ⊥
 kept_new a kept room has =
-    let left : a.room - a.count ≡ suc (a.room - (a.count + 1)) = omega (arith, kept.few, room) in
-    let fs = walk a.ring.next.items (get_or a.ring.next.items a.free 0) (a.room - (a.count + 1)) in
+    let left : a.made - a.count ≡ suc (a.made - (a.count + 1)) = omega (arith, kept.few, room) in
+    let fs = walk a.ring.next.items (get_or a.ring.next.items a.free 0) (a.made - (a.count + 1)) in
     let apart : AreApart (path (elements_of a.ring a.count) ++ a.free ∷ fs) = subst (λ zs. AreApart (path (elements_of a.ring a.count) ++ zs)) (ap (walk a.ring.next.items a.free) left) kept.apart in
     let out = lacks_parts (path (elements_of a.ring a.count)) fs a.free (apart_out (path (elements_of a.ring a.count)) fs a.free apart).0 in
     lacks-contains (elements_of a.ring a.count) a.free out.0.1 has
 
 -- a list that is not full has fewer elements than it can hold
-pub kept_below : (a : Inside) (o : Order) → order_of_list a ≡ o → IsListInMemory a → (length o.elements ≡ o.room → false ≡ true) → a.count < a.room
+pub kept_below : (a : Inside) (o : Order) → order_of_list a ≡ o → IsListInMemory a → (length o.elements ≡ o.room → false ≡ true) → a.count < a.ring.room
 kept_below a o view_is kept full =
-    let there : a.count ≡ a.room → false ≡ true = λ e. full (subst (λ p. length p.elements ≡ p.room) view_is (kept_length a ∙ e)) in
-    elim (cases_eq a.count a.room) [ inl e ↦ absurd (false≢true (there e)) | inr ne ↦ omega (arith, ne, kept.few) ]
+    let there : a.count ≡ a.ring.room → false ≡ true = λ e. full (subst (λ p. length p.elements ≡ p.room) view_is (kept_length a ∙ e)) in
+    elim (cases_eq a.count a.ring.room) [ inl e ↦ absurd (false≢true (there e)) | inr ne ↦ omega (arith, ne, kept.few, kept.within) ]

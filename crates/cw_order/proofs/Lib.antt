@@ -1,8 +1,8 @@
 pub mod Apart
+pub mod Growing
 pub mod Inserting
 pub mod Keeping
 pub mod Linking
-pub mod Making
 pub mod Members
 pub mod Placing
 pub mod Ranges

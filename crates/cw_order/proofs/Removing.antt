@@ -8,7 +8,7 @@ use Rattle.cw_order.specs.declared.ring.Ring.{Ring}
 use Rattle.cw_order.specs.declared.ring.TheConstants.{END}
 use Rattle.cw_order.specs.declared.list.OrderList.TheInside.{Inside}
 use Rattle.cw_order.specs.Order.{without}
-use Rattle.cw_order.specs.OrderList.{IsListInMemory, free_of}
+use Rattle.cw_order.specs.OrderList.{IsListInMemory, free_from}
 use Rattle.cw_order.specs.Links.{walk, first_or, AreLinked, AreApart, Lacks, Rise}
 use Rattle.cw_order.specs.Ring.{IsRing, path, elements_of}
 use Rattle.cw_order.proofs.Apart.{AreDisjoint, CutAt, cut_at, apart_parts, apart_across, apart_out, apart_in, disjoint_there, contains_there}
@@ -149,15 +149,16 @@ pub removed : (a b : Inside) (e : ℕ) → IsListInMemory a → Contains (elemen
     → b.ring.next.items ≡ set (set a.ring.next.items (get_or a.ring.previous.items e 0) (get_or a.ring.next.items e 0)) e a.free
     → b.ring.previous.items ≡ set a.ring.previous.items (get_or a.ring.next.items e 0) (get_or a.ring.previous.items e 0)
     → b.ring.labels.items ≡ a.ring.labels.items
-    → b.room ≡ a.room → b.count ≡ a.count - 1 → b.free ≡ e
+    → b.made ≡ a.made → b.ring.room ≡ a.ring.room → b.count ≡ a.count - 1 → b.free ≡ e
     → HasRemoved a b e
-removed a b e kept has next previous labels b_room b_count b_free = record {
+removed a b e kept has next previous labels b_made b_room b_count b_free = record {
   kept = record {
-    places = omega (arith, sizes, kept.places, b_room);
-    few = omega (arith, kept.few, b_room, b_count);
+    places = omega (arith, sizes, kept.places, b_made);
+    within = omega (arith, kept.within, b_made, b_room);
+    few = omega (arith, kept.few, b_made, b_count);
     ring = subst (IsRing b.ring) (sym elements) ring2;
     there = omega (arith, b_free, sizes, path_within a.ring xs e kept.ring some (after_head xs e has));
-    apart = subst (λ zs. AreApart (path zs ++ free_of b)) (sym elements) (subst (λ zs. AreApart (path (without e xs) ++ zs)) (sym free_is) (apart_after a.ring b.ring xs (free_of a) e a.free kept.ring has kept.apart some next previous labels));
+    apart = subst (λ zs. AreApart (path zs ++ free_from b.ring b.made b.count b.free)) (sym elements) (subst (λ zs. AreApart (path (without e xs) ++ zs)) (sym free_is) (apart_after a.ring b.ring xs (free_from a.ring a.made a.count a.free) e a.free kept.ring has kept.apart some next previous labels));
   };
   elements = elements;
 } where
@@ -171,7 +172,7 @@ removed a b e kept has next previous labels b_room b_count b_free = record {
   one = omega (arith, has.1, length-walk a.ring.next.items (get_or a.ring.next.items 0 0) a.count)
 
   ring2 : IsRing b.ring (without e xs)
-  ring2 = ring_without a.ring b.ring xs (free_of a) e a.free kept.ring has kept.apart some next previous labels
+  ring2 = ring_without a.ring b.ring xs (free_from a.ring a.made a.count a.free) e a.free kept.ring has kept.apart some next previous labels
 
   sizes : vec_len b.ring.next ≡ vec_len a.ring.next
   sizes =
@@ -181,13 +182,13 @@ removed a b e kept has next previous labels b_room b_count b_free = record {
 
   elements : elements_of b.ring b.count ≡ without e xs
   elements =
-      let less = length-without a.ring b.ring xs (free_of a) e a.free kept.ring has kept.apart some next previous labels in
+      let less = length-without a.ring b.ring xs (free_from a.ring a.made a.count a.free) e a.free kept.ring has kept.apart some next previous labels in
       elements_are b.ring (without e xs) b.count ring2.linked (omega (arith, less, length-walk a.ring.next.items (get_or a.ring.next.items 0 0) a.count, b_count))
 
-  free_is : free_of b ≡ e ∷ free_of a
+  free_is : free_from b.ring b.made b.count b.free ≡ e ∷ free_from a.ring a.made a.count a.free
   free_is =
-      let more : b.room - b.count ≡ suc (a.room - a.count) = omega (arith, b_room, b_count, one, kept.few) in
+      let more : b.made - b.count ≡ suc (a.made - a.count) = omega (arith, b_made, b_count, one, kept.few) in
       ap (λ n. walk b.ring.next.items b.free n) more ∙ (
-      ap (λ x. walk b.ring.next.items x (suc (a.room - a.count))) b_free
-      ∙ walk-without a.ring b.ring xs (free_of a) e a.free kept.ring has kept.apart some next previous labels (a.room - a.count) refl
+      ap (λ x. walk b.ring.next.items x (suc (a.made - a.count))) b_free
+      ∙ walk-without a.ring b.ring xs (free_from a.ring a.made a.count a.free) e a.free kept.ring has kept.apart some next previous labels (a.made - a.count) refl
       )

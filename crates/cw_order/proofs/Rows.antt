@@ -1,7 +1,8 @@
 -- Places of a list in a row, and how a row grows along the links.
 use Rattle.std.proofs.Common.{ℕ, zero, suc, ◌+◌, ◌-◌, ◌*◌, ◌/◌, ◌<◌, ◌≤◌, ◌≡◌, ◌≢◌, List, [], ◌∷◌, length, get_or, refl, sym, ap, ◌∙◌, subst, arith, inl, inr}
 use Rattle.std.specs.Prelude.{◌⊎◌}
-use Rattle.std.proofs.lemmas.List.{get_or_past}
+use Rattle.std.specs.List.{Contains}
+use Rattle.std.proofs.lemmas.List.{get_or_default, get_or_past}
 use Rattle.std.proofs.lemmas.Bool.{cases_lt}
 use Rattle.cw_order.specs.declared.ring.Ring.{Ring}
 use Rattle.cw_order.specs.declared.ring.Run.{Run}
@@ -29,6 +30,11 @@ pub record IsRow (xs : List ℕ) (at : ℕ) (run : Run) (last : ℕ) : Type 0 wh
 pub record IsRowFrom (r : Ring) (xs : List ℕ) (at size : ℕ) (run : Run) (last : ℕ) : Type 0 where
   pub row : IsRow xs at run last
   pub below : 0 < row.start → label_of r (get_or (path xs) (row.start - 1) 0) < label_of r at / size * size
+
+pub row_alone : (xs : List ℕ) (at : ℕ) → Contains (path xs) at → IsRow xs at (record { first = at; count = 1 }) at
+row_alone xs at has =
+    let there : get_or (path xs) has.0 0 ≡ at = sym (get_or_default (path xs) has.0 at 0 has.1) ∙ has.2 in
+    record { start = has.0; end = has.0; span = refl; within = has.1; first = there; last_is = there; place = has.0; from = omega arith; to = omega arith; there = there }
 
 pub row_back : (r : Ring) (xs : List ℕ) (at last first2 count2 : ℕ) (run : Run) → IsRing r xs → IsRow xs at run last → run.first ≢ 0 → first2 ≡ get_or r.previous.items run.first 0 → count2 ≡ run.count + 1
     → IsRow xs at (record { first = first2; count = count2 }) last

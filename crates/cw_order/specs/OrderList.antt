@@ -1,20 +1,26 @@
 -- How the parts of an order list keep its elements.
 use Rattle.std.specs.Prelude.{ℕ, ◌+◌, ◌-◌, ◌≤◌, ◌<◌, ◌≡◌, List, ◌++◌, vec_len}
+use Rattle.cw_order.specs.declared.ring.Ring.{Ring}
 use Rattle.cw_order.specs.declared.list.OrderList.TheInside.{Inside}
 use Rattle.cw_order.specs.Order.{Order}
 use Rattle.cw_order.specs.Links.{AreApart, walk}
 use Rattle.cw_order.specs.Ring.{IsRing, elements_of, path}
 
 abbrev pub order_of_list : Inside → Order
-order_of_list a = record { elements = elements_of a.ring a.count; room = a.room }
+order_of_list a = record { elements = elements_of a.ring a.count; room = a.ring.room }
 
--- the places that are in no use
-abbrev pub free_of : Inside → List ℕ
-free_of a = walk a.ring.next.items a.free (a.room - a.count)
+-- the places that are in no use, of so many that were made
+abbrev pub free_from : Ring → (made count free : ℕ) → List ℕ
+free_from r made count free = walk r.next.items free (made - count)
 
-pub record IsListInMemory (a : Inside) : Type 0 where
-  pub places : vec_len a.ring.next ≡ a.room + 1
-  pub few : a.count ≤ a.room
-  pub ring : IsRing a.ring (elements_of a.ring a.count)
-  pub there : a.free < vec_len a.ring.next
-  pub apart : AreApart (path (elements_of a.ring a.count) ++ free_of a)
+-- so many places were made, of which the ring has so many, and the others are linked from `free` on
+pub record ArePlaces (r : Ring) (made count free : ℕ) : Type 0 where
+  pub places : vec_len r.next ≡ made + 1
+  pub within : made ≤ r.room
+  pub few : count ≤ made
+  pub ring : IsRing r (elements_of r count)
+  pub there : free < vec_len r.next
+  pub apart : AreApart (path (elements_of r count) ++ free_from r made count free)
+
+abbrev pub IsListInMemory : Inside → Type 0
+IsListInMemory a = ArePlaces a.ring a.made a.count a.free

@@ -2,6 +2,8 @@ ghost use Rattle.std.specs.Prelude.{◌≡◌, ◌+◌, ◌<◌, ◌≤◌, ◌�
 ghost use Rattle.std.specs.List.{IsDistinct};
 ghost use Rattle.std.specs.Option.{ForSome};
 ghost use Rattle.cw_order.specs.Order.{placed_after, without, position};
+ghost use Rattle.cw_order.specs.OrderList.{ArePlaces};
+ghost use Rattle.cw_order.specs.Ring.{elements_of};
 
 use crate::Steps;
 use crate::ring::{HEAD, Ring};
@@ -14,13 +16,37 @@ use std::sync::ledger::Ledger;
 #[derive(Clone, Copy, PartialEq, Eq, Debug)]
 pub struct Full;
 
-/// A list of distinct elements in which `before` takes one step.
+/// A list of distinct elements in which `before` takes one step. Of the places that were made, those in no use are linked from
+/// `free` on.
 #[derive(Drop)]
 pub struct OrderList {
     ring: Ring,
-    room: u32,
+    made: u32,
     count: u32,
     free: u32,
+}
+
+/// A place for the next element, and how many were made.
+#[derive(Clone, Copy)]
+struct Free {
+    made: u32,
+    place: u32,
+}
+
+/// The first place in no use. Where each is in use, one more is made.
+fn free_place(ring: &mut Ring, made: u32, count: u32, free: u32) -> Free
+    requires kept { ArePlaces ring.old made count free }
+    requires few { count < ring.old.room }
+    ensures kept { ArePlaces ring.new result.made count result.place }
+    ensures some { count < result.made }
+    ensures elements { elements_of ring.new count ≡ elements_of ring.old count }
+    ensures room { ring.new.room ≡ ring.old.room }
+{
+    if count < made {
+        return Free { made, place: free };
+    }
+    let place = ring.grow();
+    Free { made: place, place }
 }
 
 impl Model for OrderList {
@@ -43,16 +69,16 @@ impl OrderList {
     {
         Ok(OrderList {
             ring: Ring::with_room(alloc, n)?,
-            room: n,
+            made: 0,
             count: 0,
-            free: n,
+            free: HEAD,
         })
     }
 
     fn is_full(&self) -> bool
         ensures { IsTrue result ↔ (length self.now.elements ≡ self.now.room) }
     {
-        self.count == self.room
+        self.count == self.ring.room()
     }
 
     /// Adds a new element right after the given one, or first where none is given.
@@ -71,12 +97,13 @@ impl OrderList {
         if self.is_full() {
             return Err(Full);
         }
+        let next = free_place(&mut self.ring, self.made, self.count, self.free);
+        self.made = next.made;
         let at = at.unwrap_or(HEAD);
         let label = self.ring.label_after(at, self.count);
-        let element = self.free;
-        self.free = self.ring.link_after(at, element, label);
+        self.free = self.ring.link_after(at, next.place, label);
         self.count += 1;
-        Ok(element)
+        Ok(next.place)
     }
 
     pub fn remove(&mut self, e: u32)

@@ -1,4 +1,4 @@
-ghost use Rattle.std.specs.Prelude.{◌≡◌, ℕ, ◌<◌, All, vec_len};
+ghost use Rattle.std.specs.Prelude.{◌≡◌, ◌≤◌, ◌++◌, ◌∷◌, [], ℕ, ◌<◌, All, vec_len, vec_capacity};
 
 use crate::Steps;
 use cw_base::OutOfMemory;
@@ -19,9 +19,10 @@ struct Run {
 }
 
 /// The head and the elements of a list as a ring of links, with labels that rise from the head on. Numbers that are not
-/// in the ring are linked by `next` alone.
+/// in the ring are linked by `next` alone. Places are made as they are needed, so memory that no element uses is not touched.
 #[derive(Drop)]
 pub(crate) struct Ring {
+    room: u32,
     next: Vec<u32>,
     previous: Vec<u32>,
     labels: Vec<u64>,
@@ -29,6 +30,20 @@ pub(crate) struct Ring {
     ghost labelled: { vec_len labels ≡ vec_len next },
     ghost leads_on: { All (λ at. at < vec_len next) next.items },
     ghost leads_back: { All (λ at. at < vec_len next) previous.items },
+    ghost next_room: { room < vec_capacity next },
+    ghost previous_room: { room < vec_capacity previous },
+    ghost labels_room: { room < vec_capacity labels },
+}
+
+/// One more in a list that has room for it.
+fn put<T: Drop>(list: &mut Vec<T>, item: T)
+    requires { vec_len list.old < vec_capacity list.old }
+    ensures items { list.new.items ≡ list.old.items ++ item ∷ [] }
+    ensures capacity { vec_capacity list.old ≤ vec_capacity list.new }
+{
+    if list.push(item).is_err() {
+        unreachable!()
+    }
 }
 
 impl Ring {
@@ -37,23 +52,45 @@ impl Ring {
     ghost use Rattle.cw_order.specs.Links.{walk, spread_over, next_with, previous_with, next_without, previous_without};
     ghost use Rattle.cw_order.specs.Ring.{IsRing, IsRun, label_of, above_of, path, elements_of};
 
-    /// The head alone. From `room` on down to 1, each other number is linked to the one below it.
+    /// The head alone, with room for so many places beside it.
     pub(crate) fn with_room(alloc: Global, room: u32) -> Result<Ring, OutOfMemory>
-        ensures places { IfOk result (λ r. vec_len r.next ≡ room + 1) }
+        ensures places { IfOk result (λ r. vec_len r.next ≡ 1) }
+        ensures room { IfOk result (λ r. r.room ≡ room) }
         ensures empty { IfOk result (λ r. IsRing r []) }
-        ensures free { IfOk result (λ r. (k : ℕ) → k < room → slice_index r.next.items (k + 1) ≡ k) }
     {
         let places = room as usize + 1;
-        let mut next = Vec::with_capacity(alloc, places)?;
-        next.push(HEAD)?;
-        for below in 0..room {
-            next.push(below)?;
-        }
-        Ok(Ring {
-            next,
-            previous: vec![in alloc; HEAD; places]?,
-            labels: vec![in alloc; 0; places]?,
-        })
+        let mut ring = Ring {
+            room,
+            next: Vec::with_capacity(alloc, places)?,
+            previous: Vec::with_capacity(alloc, places)?,
+            labels: Vec::with_capacity(alloc, places)?,
+        };
+        ring.grow();
+        Ok(ring)
+    }
+
+    /// How many places there may be beside the head.
+    pub(crate) fn room(&self) -> u32
+        ensures { result ≡ self.now.room }
+    {
+        self.room
+    }
+
+    /// One more place, in no use and linked to the head.
+    pub(crate) fn grow(&mut self) -> u32
+        requires { vec_len self.old.next ≤ self.old.room }
+        ensures place { result ≡ vec_len self.old.next }
+        ensures next { self.new.next.items ≡ self.old.next.items ++ 0 ∷ [] }
+        ensures previous { self.new.previous.items ≡ self.old.previous.items ++ 0 ∷ [] }
+        ensures labels { self.new.labels.items ≡ self.old.labels.items ++ 0 ∷ [] }
+        ensures room { self.new.room ≡ self.old.room }
+    {
+        let _room = self.room;
+        let place = self.next.len() as u32;
+        put(&mut self.next, HEAD);
+        put(&mut self.previous, HEAD);
+        put(&mut self.labels, 0);
+        place
     }
 
     /// Whether the label of `a` is below that of `b`. Beside the making of a ring, it is the one call that other files have without
@@ -114,6 +151,7 @@ impl Ring {
         ensures ring { IsRing self.new (elements_of self.old count) }
         ensures above { label_of self.new at < result }
         ensures below { result < above_of self.new at }
+        ensures room { self.new.room ≡ self.old.room }
     {
         if self.gap_after(at) < 2 {
             self.make_room(at, count);
@@ -131,6 +169,7 @@ impl Ring {
         ensures previous { self.new.previous.items
             ≡ previous_with self.old.next.items self.old.previous.items at element }
         ensures labels { self.new.labels.items ≡ slice_set self.old.labels.items element label }
+        ensures room { self.new.room ≡ self.old.room }
     {
         let was = self.next(element);
         let next = self.next(at);
@@ -151,6 +190,7 @@ impl Ring {
         ensures previous { self.new.previous.items
             ≡ previous_without self.old.next.items self.old.previous.items element }
         ensures labels { self.new.labels.items ≡ self.old.labels.items }
+        ensures room { self.new.room ≡ self.old.room }
     {
         let before = self.previous(element);
         let after = self.next(element);
@@ -175,6 +215,7 @@ impl Ring {
         ensures previous { self.new.previous.items ≡ self.old.previous.items }
         ensures ring { IsRing self.new (elements_of self.old count) }
         ensures room { label_of self.new at + 2 ≤ above_of self.new at }
+        ensures places { self.new.room ≡ self.old.room }
     {
         for level in 2..32u32 {
             let most = 1u32 << level;
@@ -231,6 +272,7 @@ impl Ring {
         ensures previous { self.new.previous.items ≡ self.old.previous.items }
         ensures labels { self.new.labels.items
             ≡ spread_over (walk self.old.next.items first count) base gap self.old.labels.items }
+        ensures room { self.new.room ≡ self.old.room }
     {
         let mut at = first;
         let mut label = base;

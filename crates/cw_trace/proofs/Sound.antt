@@ -1,3 +1,4 @@
+pub mod First
 pub mod Fork
 pub mod Made
 pub mod Merge

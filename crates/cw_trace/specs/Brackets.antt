@@ -1,5 +1,5 @@
 -- The brackets of traces in an order list: each element of the list has a mark, and each mark its element.
-use Rattle.std.specs.Prelude.{◌≡◌, ℕ, ◌+◌, ◌≤◌, ◌<◌, true, length, map, slice_index, nat_eq}
+use Rattle.std.specs.Prelude.{◌≡◌, ℕ, ◌≤◌, ◌<◌, true, length, map, slice_index, nat_eq, vec_capacity}
 use Rattle.std.specs.List.{IsDistinct}
 use Rattle.cw_tree.specs.Walks.{has}
 use Rattle.cw_trace.specs.Marks.{Marks}
@@ -12,9 +12,9 @@ abbrev pub marks_of : Inside → Marks
 marks_of a = record { marks = map (λ e. slice_index a.marks.items e) a.order.elements; room = a.order.room }
 
 pub record AreBracketsInMemory (a : Inside) : Type 0 where
-  pub all_marks : length a.elements.items ≡ a.order.room
-  pub all_elements : length a.marks.items ≡ a.order.room + 1
+  pub elements_room : a.order.room ≤ vec_capacity a.elements
+  pub marks_room : a.order.room < vec_capacity a.marks
   pub distinct : IsDistinct nat_eq a.order.elements
-  pub low : (e : ℕ) → has a.order.elements e ≡ true → e ≤ a.order.room
-  pub mark_low : (e : ℕ) → has a.order.elements e ≡ true → bracket_of a e < a.order.room
+  pub low : (e : ℕ) → has a.order.elements e ≡ true → e < length a.marks.items
+  pub mark_low : (e : ℕ) → has a.order.elements e ≡ true → bracket_of a e < length a.elements.items
   pub back : (e : ℕ) → has a.order.elements e ≡ true → slice_index a.elements.items (bracket_of a e) ≡ e

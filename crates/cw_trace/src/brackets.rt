@@ -1,16 +1,30 @@
-ghost use Rattle.std.specs.Prelude.{◌≡◌, ◌+◌, ◌<◌, ◌≤◌, ◌==◌, ◌||◌, ◌^◌, [], true, false, IfOk, length, filter, not};
+ghost use Rattle.std.specs.Prelude.{◌≡◌, ℕ, ◌+◌, ◌<◌, ◌≤◌, ◌==◌, ◌||◌, ◌^◌, [], true, false, IfOk, length, filter, not, slice_index, vec_len, vec_capacity};
 ghost use Rattle.std.specs.Option.{ForSome};
 ghost use Rattle.cw_tree.specs.Walks.{has};
 ghost use Rattle.cw_trace.specs.Columns.{stands_before, opening_mark, closing_mark, marks, place_after, is_mark_of};
 ghost use Rattle.cw_trace.specs.Marks.{with_mark};
 
+use crate::tier::put;
 use cw_base::OutOfMemory;
 use cw_order::{OrderList, Steps};
 use std::alloc::Global;
 use std::marker::Model;
 use std::sync::ledger::Ledger;
 
-/// Marks in an order list.
+/// Puts zeros behind a list that has room for them, until it has the place.
+fn reach(list: &mut Vec<u32>, place: u32)
+    requires { place < vec_capacity list.old }
+    ensures there { place < vec_len list.new }
+    ensures same { (k : ℕ) → slice_index list.new.items k ≡ slice_index list.old.items k }
+    ensures longer { vec_len list.old ≤ vec_len list.new }
+    ensures capacity { vec_capacity list.old ≤ vec_capacity list.new }
+{
+    while list.len() <= place as usize {
+        put(list, 0);
+    }
+}
+
+/// Marks in an order list. Of both tables only what was once in use is touched.
 #[derive(Drop)]
 pub(crate) struct Brackets {
     order: OrderList,
@@ -38,8 +52,8 @@ impl Brackets {
     {
         Ok(Brackets {
             order: OrderList::with_room(alloc, room)?,
-            elements: vec![in alloc; 0; room as usize]?,
-            marks: vec![in alloc; 0; room as usize + 1]?,
+            elements: Vec::with_capacity(alloc, room as usize)?,
+            marks: Vec::with_capacity(alloc, room as usize + 1)?,
         })
     }
 
@@ -57,6 +71,8 @@ impl Brackets {
             None => None,
         };
         if let Ok(element) = self.order.insert_after(place) {
+            reach(&mut self.elements, mark);
+            reach(&mut self.marks, element);
             self.elements[mark as usize] = element;
             self.marks[element as usize] = mark;
         } else {

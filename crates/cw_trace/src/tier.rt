@@ -53,7 +53,7 @@ impl Model for Tier {
 }
 
 /// One more in a list that has room for it.
-fn put<T: Drop>(list: &mut Vec<T>, item: T)
+pub(crate) fn put<T: Drop>(list: &mut Vec<T>, item: T)
     requires { vec_len list.old < vec_capacity list.old }
     ensures items { list.new.items ≡ list.old.items ++ item ∷ [] }
     ensures capacity { vec_capacity list.old ≤ vec_capacity list.new }

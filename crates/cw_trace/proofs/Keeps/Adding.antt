@@ -2,7 +2,7 @@
 use Rattle.std.proofs.Common.{◌≡◌, ◌≢◌, ℕ, suc, ◌+◌, ◌<◌, ◌≤◌, List, [], ◌∷◌, ◌++◌, length, refl, ap, sym, ◌∙◌, arith, Bool, true, false, Option, Some, None, nat_eq, inl, inr, subst, length-append, eq-eqb, eqb-true}
 use Rattle.std.specs.Prelude.{◌⊎◌, ◌&&◌, ◌↔◌, IsTrue, nat_le, slice_index, slice_set, if◌then◌else◌}
 use Rattle.std.specs.List.{slice_get}
-use Rattle.std.proofs.lemmas.Bool.{ne_eqb}
+use Rattle.std.proofs.lemmas.Bool.{ne_eqb, and_parts, and_from, cases_eq}
 use Rattle.std.proofs.lemmas.List.{get_or-set_same, get_or-set_other, length-set}
 use Rattle.std.proofs.lemmas.Option.{slice_get_past}
 use Rattle.cw_tree.specs.declared.node.Node.{Node}
@@ -11,16 +11,16 @@ use Rattle.cw_tree.specs.Walks.{is_ancestor, has}
 use Rattle.cw_tree.specs.Shape.{IsTree}
 use Rattle.cw_tree.proofs.Walks.Ancestors.{ancestor_up}
 use Rattle.cw_tree.proofs.NextNodes.Growing.{get_append, ancestor_grown}
+use Rattle.cw_tree.proofs.Walks.There.{pending_there, fork_there}
 use Rattle.cw_trace.specs.Columns.{ColumnTable, used, owner, gap, left_column_of, begun_word}
 use Rattle.cw_trace.specs.Stands.{GoesOn, column, fork_column, outermost_pending, stamp_or_0}
 use Rattle.cw_trace.specs.Segments.{IsOpen, SegmentStart, IsCut, IsTrace, IsLive, Within, Segments, Active, Ups}
 use Rattle.cw_trace.specs.Keeps.{Keeps}
 use Rattle.cw_trace.proofs.Stands.Counting.{none_below, some_below, fork_column_pass}
-use Rattle.cw_trace.proofs.Stands.InRange.{pending_low, fork_low}
 use Rattle.cw_trace.proofs.Keeps.Grow.{column_append, fork_column_append}
 use Rattle.cw_trace.proofs.Keeps.Owners.{column_other}
-use Rattle.cw_trace.proofs.Segments.Lines.{order, same_or, le_or_lt, both_true, and_true, used_some, gap_le, start_after}
-use Rattle.cw_trace.proofs.Segments.Alike.{SamePending, segments_alike, ups_alike}
+use Rattle.cw_trace.proofs.Segments.Lines.{le_or_lt, used_some, gap_le}
+use Rattle.cw_trace.proofs.Segments.Alike.{SamePending, segments_alike, ups_alike, segments_with}
 use Rattle.cw_trace.proofs.Stands.UpsKept.{cut_of}
 use Rattle.cw_trace.proofs.Keeps.Meaning.{column_low, first_of_both, odd_column}
 
@@ -76,7 +76,7 @@ module _ (c : ColumnTable) (cuts joins : List ℕ) (pend : ℕ → Bool) (col : 
     | inl q ↦ (
         let e : x ≡ t = sym w.owned ∙ ap (owner c) (is_col b q) in
         let le : s ≤ a.start = is_last x s e st in
-        elim (same_or (gap c s) (gap c a.start)) [
+        elim (cases_eq (gap c s) (gap c a.start)) [
           | inl y ↦ (n, omega (arith, q), one.pending, ap (gap c) one.column_is ∙ a.same ∙ sym y)
           | inr y ↦ (
               let apart : s ≢ a.start = λ z. y (ap (gap c) z) in
@@ -103,35 +103,13 @@ module _ (c : ColumnTable) (cuts joins : List ℕ) (pend : ℕ → Bool) (col : 
   ]
 
   pub segments_begin : Segments c cuts joins pend2 col2
-  segments_begin = record {
-    odd = g.odd;
-    lengths = g.lengths;
-    rooted = g.rooted;
-    pairs = g.pairs;
-    cut_left = g.cut_left;
-    join_left = g.join_left;
-    unjoined_above = g.unjoined_above;
-    root = g.root;
-    together = g.together;
-    apart = g.apart;
-    gap_root = g.gap_root;
-    gap_step = g.gap_step;
-    right_gap = g.right_gap;
-    right_new = g.right_new;
-    heads = g.heads;
-    lead_live = g.lead_live;
-    lead_lent = g.lead_lent;
-    nested = g.nested;
-    one_cut = g.one_cut;
-    cut_last = g.cut_last;
-    taken_back = g.taken_back;
+  segments_begin = segments_with c cuts joins pend col pend2 col2 g (record {
     there = λ b p. elim (one.back b p) [ inr z ↦ omega (arith, z.2, g.there b z.1) | inl q ↦ omega (arith, is_col b q, a.low) ];
     gap_owned = gap_owned2;
     gap_first = gap_first2;
     shared = shared2;
     parted = λ x s r k st sr lt ne. (let z = g.parted x s r k st sr lt ne in let w = z.2 in let y = one.forth z.0 w.pending in let l : col z.0 < r = z.1 in (z.0, omega (arith, y.2), within_forth x s z.0 w));
-    one_trace = g.one_trace;
-  }
+  })
 
   pub ups_begin : Ups c cuts joins pend col → Ups c cuts joins pend2 col2
   ups_begin u = record {
@@ -178,7 +156,7 @@ module _ (c : ColumnTable) (words : List ℕ) (t : List Node) (cuts joins : List
   which : (q : Node → Bool) (m : ℕ) → is_node q grown m ≡ true → ((m < n) × (is_node q t m ≡ true)) ⊎ ((m ≡ n) × (q x ≡ true))
   which q m e = elim (le_or_lt n m) [
     | inr l ↦ inl (l, sym (ap (passes q) (get_append t (x ∷ []) m l)) ∙ e)
-    | inl l ↦ elim (same_or m n) [
+    | inl l ↦ elim (cases_eq m n) [
       | inl z ↦ inr (z, sym (ap (is_node q grown) z ∙ ap (passes q) here) ∙ e)
       | inr z ↦ absurd (cc (ap (passes q) (slice_get_past grown m (omega (arith, new_length, z))), e))
     ]
@@ -191,13 +169,13 @@ module _ (c : ColumnTable) (words : List ℕ) (t : List Node) (cuts joins : List
   fork_old f e = elim (which (λ y. is_fork_kind y.kind) f e) [ inl z ↦ z | inr z ↦ absurd (cc (z.1, no_fork)) ]
 
   fork_new : (f : ℕ) → is_fork t f ≡ true → is_fork grown f ≡ true
-  fork_new f e = old_is (λ y. is_fork_kind y.kind) f (fork_low t f e) e
+  fork_new f e = old_is (λ y. is_fork_kind y.kind) f (fork_there t f e) e
 
   pending_which : (b : ℕ) → is_pending grown b ≡ true → ((b < n) × (pend b ≡ true)) ⊎ ((b ≡ n) × ((is_block_kind x.kind && is_pending_state x.state) ≡ true))
   pending_which b e = which (λ y. is_block_kind y.kind && is_pending_state y.state) b e
 
   pending_new : (b : ℕ) → pend b ≡ true → is_pending grown b ≡ true
-  pending_new b e = old_is (λ y. is_block_kind y.kind && is_pending_state y.state) b (pending_low t b e) e
+  pending_new b e = old_is (λ y. is_block_kind y.kind && is_pending_state y.state) b (pending_there t b e) e
 
   stamp_old : (m : ℕ) → m < n → stamp_of grown m ≡ stamp_of t m
   stamp_old m l = ap (number_in (λ y. y.stamp)) (get_append t (x ∷ []) m l)
@@ -232,7 +210,7 @@ module _ (c : ColumnTable) (words : List ℕ) (t : List Node) (cuts joins : List
   forks_new f e = (let w = fork_old f e in let P : ℕ → Type 0 = λ k. IsTrue (nat_le (k + 2) c.room) ↔ (k + 1 < used c) in subst P (sym (fc f (le_of f w.0))) (k.forks f w.1))
 
   all_used_new : (j : ℕ) → j < used c → 0 < j → (f : ℕ) × (is_fork grown f ≡ true) × (fork_column grown f ≡ left_column_of j)
-  all_used_new j h q = (let w = k.all_used j h q in (w.0, fork_new w.0 w.1, fc w.0 (le_of w.0 (fork_low t w.0 w.1)) ∙ w.2))
+  all_used_new j h q = (let w = k.all_used j h q in (w.0, fork_new w.0 w.1, fc w.0 (le_of w.0 (fork_there t w.0 w.1)) ∙ w.2))
 
   forked_from_new : (f : ℕ) → is_fork grown f ≡ true → fork_column grown f + 1 < used c → slice_index c.parents (fork_column grown f) ≡ column grown (used c) f
   forked_from_new f e h = (
@@ -264,17 +242,17 @@ module _ (c : ColumnTable) (words : List ℕ) (t : List Node) (cuts joins : List
     pending_old b e = elim (pending_which b e) [ inl z ↦ z | inr z ↦ absurd (cc (z.1, no_pending)) ]
 
     same : SamePending pend col (is_pending grown) (column grown (used c))
-    same = record { back = λ b e. (let z = pending_old b e in (z.1, cols b z.0)); forth = λ b e. (pending_new b e, cols b (pending_low t b e)) }
+    same = record { back = λ b e. (let z = pending_old b e in (z.1, cols b z.0)); forth = λ b e. (pending_new b e, cols b (pending_there t b e)) }
 
     first_old : (y : ℕ) → outermost_pending grown (used c) (λ j. nat_eq (gap c j) y) ≡ outermost_pending t (used c) (λ j. nat_eq (gap c j) y)
     first_old y =
         first_of_both (λ b. is_pending grown b && nat_eq (gap c (column grown (used c) b)) y) (λ b. is_pending t b && nat_eq (gap c (col b)) y) (length grown) n
-        (λ b h e. let z = both_true (is_pending t b) (nat_eq (gap c (col b)) y) e in
-        (omega (arith, new_length), and_true (is_pending grown b) (nat_eq (gap c (column grown (used c) b)) y) (pending_new b z.0) (ap (λ v. nat_eq (gap c v) y) (cols b h) ∙ z.1)))
-        (λ b h e. let z = both_true (is_pending grown b) (nat_eq (gap c (column grown (used c) b)) y) e in
+        (λ b h e. let z = and_parts (is_pending t b) (nat_eq (gap c (col b)) y) e in
+        (omega (arith, new_length), and_from (is_pending grown b) (nat_eq (gap c (column grown (used c) b)) y) (pending_new b z.0) (ap (λ v. nat_eq (gap c v) y) (cols b h) ∙ z.1)))
+        (λ b h e. let z = and_parts (is_pending grown b) (nat_eq (gap c (column grown (used c) b)) y) e in
         let w = pending_old b z.0 in
         let le : b ≤ b = omega arith in
-        (b, le, w.0, and_true (is_pending t b) (nat_eq (gap c (col b)) y) w.1 (sym (ap (λ v. nat_eq (gap c v) y) (cols b w.0)) ∙ z.1)))
+        (b, le, w.0, and_from (is_pending t b) (nat_eq (gap c (col b)) y) w.1 (sym (ap (λ v. nat_eq (gap c v) y) (cols b w.0)) ∙ z.1)))
 
     stamp_first : (o : Option ℕ) (y : ℕ) → outermost_pending t (used c) (λ j. nat_eq (gap c j) y) ≡ o → stamp_or_0 grown o ≡ stamp_or_0 t o
     stamp_first None y e = refl
@@ -311,7 +289,7 @@ module _ (c : ColumnTable) (words : List ℕ) (t : List Node) (cuts joins : List
       pending = pending_here;
       column_is = col_here;
       back = λ b e. elim (pending_which b e) [ inl z ↦ inr (z.0, z.1, cols b z.0) | inr z ↦ inl z.0 ];
-      forth = λ b e. (let l = pending_low t b e in (l, pending_new b e, cols b l));
+      forth = λ b e. (let l = pending_there t b e in (l, pending_new b e, cols b l));
     }
 
     low_gap : gap c i < used c
@@ -325,31 +303,31 @@ module _ (c : ColumnTable) (words : List ℕ) (t : List Node) (cuts joins : List
 
       by_which : (v : ℕ) → (is_pending grown v ≡ true) × (nat_eq (gap c (column grown (used c) v)) y ≡ true) → (u : ℕ) × (u ≤ v) × (u < n) × ((is_pending t u && nat_eq (gap c (col u)) y) ≡ true)
       by_which v z = elim (pending_which v z.0) [
-        | inl w ↦ (let le : v ≤ v = omega arith in (v, le, w.0, and_true (is_pending t v) (nat_eq (gap c (col v)) y) w.1 (sym (ap (λ u. nat_eq (gap c u) y) (cols v w.0)) ∙ z.1)))
+        | inl w ↦ (let le : v ≤ v = omega arith in (v, le, w.0, and_from (is_pending t v) (nat_eq (gap c (col v)) y) w.1 (sym (ap (λ u. nat_eq (gap c u) y) (cols v w.0)) ∙ z.1)))
         | inr w ↦ (let l = found.0 in (b, omega (arith, w.0), found.0, found.1))
       ]
 
       same_first : outermost_pending grown (used c) (λ j. nat_eq (gap c j) y) ≡ outermost_pending t (used c) (λ j. nat_eq (gap c j) y)
       same_first =
           first_of_both (λ b. is_pending grown b && nat_eq (gap c (column grown (used c) b)) y) (λ b. is_pending t b && nat_eq (gap c (col b)) y) (length grown) n
-          (λ v h f. let z = both_true (is_pending t v) (nat_eq (gap c (col v)) y) f in
-          (omega (arith, new_length), and_true (is_pending grown v) (nat_eq (gap c (column grown (used c) v)) y) (pending_new v z.0) (ap (λ u. nat_eq (gap c u) y) (cols v h) ∙ z.1)))
-          (λ v h f. by_which v (both_true (is_pending grown v) (nat_eq (gap c (column grown (used c) v)) y) f))
+          (λ v h f. let z = and_parts (is_pending t v) (nat_eq (gap c (col v)) y) f in
+          (omega (arith, new_length), and_from (is_pending grown v) (nat_eq (gap c (column grown (used c) v)) y) (pending_new v z.0) (ap (λ u. nat_eq (gap c u) y) (cols v h) ∙ z.1)))
+          (λ v h f. by_which v (and_parts (is_pending grown v) (nat_eq (gap c (column grown (used c) v)) y) f))
 
     -- where it has none, the new block is the first, if it is of that gap
     first_here : outermost_pending t (used c) (λ j. nat_eq (gap c j) (gap c i)) ≡ None → outermost_pending grown (used c) (λ j. nat_eq (gap c j) (gap c i)) ≡ Some n
     first_here e = by_found (outermost_pending grown (used c) (λ j. nat_eq (gap c j) (gap c i))) refl where
       here_passes : (is_pending grown n && nat_eq (gap c (column grown (used c) n)) (gap c i)) ≡ true
-      here_passes = and_true (is_pending grown n) (nat_eq (gap c (column grown (used c) n)) (gap c i)) pending_here (eq-eqb _ _ (ap (gap c) col_here))
+      here_passes = and_from (is_pending grown n) (nat_eq (gap c (column grown (used c) n)) (gap c i)) pending_here (eq-eqb _ _ (ap (gap c) col_here))
 
       by_found : (o : Option ℕ) → outermost_pending grown (used c) (λ j. nat_eq (gap c j) (gap c i)) ≡ o → outermost_pending grown (used c) (λ j. nat_eq (gap c j) (gap c i)) ≡ Some n
       by_found None f = absurd (cc (none_below (λ b. is_pending grown b && nat_eq (gap c (column grown (used c) b)) (gap c i)) (length grown) f n (omega (arith, new_length)), here_passes))
       by_found (Some b) f =
           let w = some_below (λ b. is_pending grown b && nat_eq (gap c (column grown (used c) b)) (gap c i)) (length grown) b f in
-          let z = both_true (is_pending grown b) (nat_eq (gap c (column grown (used c) b)) (gap c i)) w.passed in
+          let z = and_parts (is_pending grown b) (nat_eq (gap c (column grown (used c) b)) (gap c i)) w.passed in
           elim (pending_which b z.0) [
             | inr v ↦ f ∙ ap Some v.0
-            | inl v ↦ absurd (cc (none_below (λ b. is_pending t b && nat_eq (gap c (col b)) (gap c i)) n e b v.0, and_true (is_pending t b) (nat_eq (gap c (col b)) (gap c i)) v.1 (sym (ap (λ u. nat_eq (gap c u) (gap c i)) (cols b v.0)) ∙ z.1)))
+            | inl v ↦ absurd (cc (none_below (λ b. is_pending t b && nat_eq (gap c (col b)) (gap c i)) n e b v.0, and_from (is_pending t b) (nat_eq (gap c (col b)) (gap c i)) v.1 (sym (ap (λ u. nat_eq (gap c u) (gap c i)) (cols b v.0)) ∙ z.1)))
           ]
 
     none_stays : (y : ℕ) → y ≢ gap c i → outermost_pending t (used c) (λ j. nat_eq (gap c j) y) ≡ None → outermost_pending grown (used c) (λ j. nat_eq (gap c j) y) ≡ None
@@ -358,10 +336,10 @@ module _ (c : ColumnTable) (words : List ℕ) (t : List Node) (cuts joins : List
       by_found None f = f
       by_found (Some b) f =
           let w = some_below (λ b. is_pending grown b && nat_eq (gap c (column grown (used c) b)) y) (length grown) b f in
-          let z = both_true (is_pending grown b) (nat_eq (gap c (column grown (used c) b)) y) w.passed in
+          let z = and_parts (is_pending grown b) (nat_eq (gap c (column grown (used c) b)) y) w.passed in
           elim (pending_which b z.0) [
             | inr v ↦ absurd (ne (sym (eqb-true _ _ z.1) ∙ ap (λ u. gap c (column grown (used c) u)) v.0 ∙ ap (gap c) col_here))
-            | inl v ↦ absurd (cc (none_below (λ b. is_pending t b && nat_eq (gap c (col b)) y) n e b v.0, and_true (is_pending t b) (nat_eq (gap c (col b)) y) v.1 (sym (ap (λ u. nat_eq (gap c u) y) (cols b v.0)) ∙ z.1)))
+            | inl v ↦ absurd (cc (none_below (λ b. is_pending t b && nat_eq (gap c (col b)) y) n e b v.0, and_from (is_pending t b) (nat_eq (gap c (col b)) y) v.1 (sym (ap (λ u. nat_eq (gap c u) y) (cols b v.0)) ∙ z.1)))
           ]
 
     word_other : (y : ℕ) → y ≢ gap c i → slice_index words2 y ≡ slice_index words y
@@ -371,7 +349,7 @@ module _ (c : ColumnTable) (words : List ℕ) (t : List Node) (cuts joins : List
       by_test false = refl
 
     words_new : (y : ℕ) → y < used c → slice_index words2 y ≡ stamp_or_0 grown (outermost_pending grown (used c) (λ j. nat_eq (gap c j) y))
-    words_new y h = by_first (outermost_pending t (used c) (λ j. nat_eq (gap c j) y)) refl (same_or y (gap c i)) where
+    words_new y h = by_first (outermost_pending t (used c) (λ j. nat_eq (gap c j) y)) refl (cases_eq y (gap c i)) where
       old_word : (o : Option ℕ) → outermost_pending t (used c) (λ j. nat_eq (gap c j) y) ≡ o → slice_index words y ≡ stamp_or_0 t o
       old_word o e = k.words_are y h ∙ ap (stamp_or_0 t) e
 
@@ -389,7 +367,7 @@ module _ (c : ColumnTable) (words : List ℕ) (t : List Node) (cuts joins : List
           ∙ sym (ap (λ u. stamp_or_0 grown (outermost_pending grown (used c) (λ j. nat_eq (gap c j) u))) q ∙ ap (stamp_or_0 grown) (first_here (ap (λ u. outermost_pending t (used c) (λ j. nat_eq (gap c j) u)) (sym q) ∙ e)) ∙ stamp_here)
       by_first (Some b) e (inl q) =
           let w = some_below (λ b. is_pending t b && nat_eq (gap c (col b)) y) n b e in
-          let pb : is_pending t b ≡ true = (both_true (is_pending t b) (nat_eq (gap c (col b)) y) w.passed).0 in
+          let pb : is_pending t b ≡ true = (and_parts (is_pending t b) (nat_eq (gap c (col b)) y) w.passed).0 in
           let some_word : slice_index words (gap c i) ≢ 0 = λ z. omega (arith, z, ap (λ u. slice_index words u) q, old_word (Some b) e, begun b pb) in
           ap (λ b. slice_index (if b then slice_set words (gap c i) x.stamp else words) y) (ne_eqb _ _ some_word) ∙ old_word (Some b) e
           ∙ sym (ap (stamp_or_0 grown) (first_stays y b e) ∙ stamp_old b w.low)

@@ -2,7 +2,7 @@
 use Rattle.std.proofs.Common.{◌≡◌, ◌≢◌, ℕ, zero, suc, ◌+◌, ◌<◌, ◌≤◌, List, [], ◌∷◌, ◌++◌, length, refl, ap, sym, ◌∙◌, arith, Bool, true, false, Option, Some, None, nat_eq, inl, inr, subst, length-append, eq-eqb, eqb-true}
 use Rattle.std.specs.Prelude.{◌⊎◌, ◌&&◌, unwrap_or, slice_index, if◌then◌else◌}
 use Rattle.std.specs.List.{slice_get, find}
-use Rattle.std.proofs.lemmas.Bool.{lt-ltb, le-leb}
+use Rattle.std.proofs.lemmas.Bool.{lt-ltb, le-leb, and_parts, and_from, cases_eq}
 use Rattle.cw_tree.specs.declared.node.Node.{Node}
 use Rattle.cw_tree.specs.declared.node.Kind.TheVariants.{Strand, Fork}
 use Rattle.cw_tree.specs.Nodes.{parent_of, stamp_of, is_fork, is_pending, is_strand, passes, number_in, is_fork_kind, is_strand_kind, is_block_kind, is_pending_state, fresh_node}
@@ -18,16 +18,16 @@ use Rattle.cw_trace.specs.Stands.{GoesOn, column, column_in, fork_column, outerm
 use Rattle.cw_trace.specs.Segments.{Segments, Active}
 use Rattle.cw_trace.specs.Keeps.{KeepsAt, Keeps}
 use Rattle.cw_trace.proofs.Stands.Counting.{none_below, some_below, fork_column_lt, fork_column_suc, fork_column_pass}
-use Rattle.cw_trace.proofs.Stands.InRange.{pending_low, fork_low, strand_low}
 use Rattle.cw_trace.proofs.Keeps.Grow.{column_append, fork_column_append}
 use Rattle.cw_trace.proofs.Keeps.Owners.{column_other}
-use Rattle.cw_trace.proofs.Segments.Lines.{same_or, le_or_lt, both_true, and_true, left_of_odd, left_of_next, used_some, gap_le}
+use Rattle.cw_trace.proofs.Segments.Lines.{le_or_lt, left_of_odd, left_of_next, used_some, gap_le}
 use Rattle.cw_trace.proofs.Segments.Alike.{SamePending, segments_alike, ups_alike}
 use Rattle.cw_trace.proofs.Stands.UpsKept.{ups_fork}
 use Rattle.cw_trace.proofs.Outward.Kept.{forks_fork}
 use Rattle.cw_trace.proofs.Segments.Nested.{nesting_fork}
 use Rattle.cw_trace.proofs.Keeps.Meaning.{column_low, first_of_both}
 use Rattle.cw_trace.proofs.Segments.Fork as fork
+use Rattle.cw_tree.proofs.Walks.There.{pending_there, fork_there, strand_there}
 
 pub get_right : {A : Type 0} → (xs ys : List A) (j : ℕ) → slice_get (xs ++ ys) (length xs + j) ≡ slice_get ys j
 get_right [] ys j = ap (slice_get ys) (zero_plus j) where
@@ -50,7 +50,7 @@ module _ (t : List Node) (tr : IsTree t) (size more : ℕ) (all : (f : ℕ) → 
     by_strand : (s : ℕ) → is_strand t s ≡ true → column_in t size s s ≡ column_in t more s s
     by_strand zero e = refl
     by_strand (suc s) e =
-        let z = all (parent_of t (suc s)) (tr.strands (suc s) (strand_low t (suc s) e) (omega arith) e) in
+        let z = all (parent_of t (suc s)) (tr.strands (suc s) (strand_there t (suc s) e) (omega arith) e) in
         ap (λ b. if b then (if is_right t (suc s) then fork_column t (parent_of t (suc s)) + 1 else fork_column t (parent_of t (suc s))) else column_in t size s (strand_of t (parent_of t (suc s)))) (lt-ltb _ _ z.0)
         ∙ sym (ap (λ b. if b then (if is_right t (suc s) then fork_column t (parent_of t (suc s)) + 1 else fork_column t (parent_of t (suc s))) else column_in t more s (strand_of t (parent_of t (suc s)))) (lt-ltb _ _ z.1))
 
@@ -95,10 +95,10 @@ module _ (c : ColumnTable) (words : List ℕ) (t : List Node) (cuts joins : List
   free : word ≡ 0 → (b : ℕ) → pend b ≡ true → gap c (col b) ≡ gap c i → ⊥
   free e b pb q = by_first (outermost_pending t (used c) (λ j. nat_eq (gap c j) (gap c i))) refl where
     by_first : (o : Option ℕ) → outermost_pending t (used c) (λ j. nat_eq (gap c j) (gap c i)) ≡ o → ⊥
-    by_first None f = cc (none_below (λ b. is_pending t b && nat_eq (gap c (col b)) (gap c i)) (length t) f b (pending_low t b pb), and_true (is_pending t b) (nat_eq (gap c (col b)) (gap c i)) pb (eq-eqb _ _ q))
+    by_first None f = cc (none_below (λ b. is_pending t b && nat_eq (gap c (col b)) (gap c i)) (length t) f b (pending_there t b pb), and_from (is_pending t b) (nat_eq (gap c (col b)) (gap c i)) pb (eq-eqb _ _ q))
     by_first (Some b) f =
         let v = some_below (λ b. is_pending t b && nat_eq (gap c (col b)) (gap c i)) (length t) b f in
-        let y = both_true (is_pending t b) (nat_eq (gap c (col b)) (gap c i)) v.passed in
+        let y = and_parts (is_pending t b) (nat_eq (gap c (col b)) (gap c i)) v.passed in
         let z : stamp_of t b ≡ 0 = sym (ap (stamp_or_0 t) f) ∙ sym word_is ∙ e in
         omega (arith, z, begun b y.0)
 
@@ -108,7 +108,7 @@ module _ (c : ColumnTable) (words : List ℕ) (t : List Node) (cuts joins : List
     by_first None f = absurd (ne (word_is ∙ ap (stamp_or_0 t) f))
     by_first (Some b) f =
         let v = some_below (λ b. is_pending t b && nat_eq (gap c (col b)) (gap c i)) (length t) b f in
-        let y = both_true (is_pending t b) (nat_eq (gap c (col b)) (gap c i)) v.passed in
+        let y = and_parts (is_pending t b) (nat_eq (gap c (col b)) (gap c i)) v.passed in
         (b, y.0, eqb-true _ _ y.1)
 
   -- the nodes of the tree that has grown
@@ -124,11 +124,11 @@ module _ (c : ColumnTable) (words : List ℕ) (t : List Node) (cuts joins : List
   at : (m : ℕ) → At m
   at m = elim (le_or_lt n m) [
     | inr l ↦ old_one l (get_append t added m l)
-    | inl l ↦ elim (same_or m n) [
+    | inl l ↦ elim (cases_eq m n) [
       | inl e ↦ the_fork e (at_right m 0 (omega (arith, e)))
-      | inr q ↦ elim (same_or m (n + 1)) [
+      | inr q ↦ elim (cases_eq m (n + 1)) [
         | inl e ↦ a_strand (omega (arith, e)) (at_right m 1 e)
-        | inr r ↦ elim (same_or m (n + 2)) [
+        | inr r ↦ elim (cases_eq m (n + 2)) [
           | inl e ↦ a_strand (omega (arith, e)) (at_right m 2 e)
           | inr s ↦ past (omega (arith, l, q)) (Rattle.std.proofs.lemmas.Option.slice_get_past grown m (omega (arith, length-append t added, l, q, r, s)))
         ]
@@ -145,7 +145,7 @@ module _ (c : ColumnTable) (words : List ℕ) (t : List Node) (cuts joins : List
   ]
 
   pending_new : (b : ℕ) → pend b ≡ true → is_pending grown b ≡ true
-  pending_new b e = ap (passes (λ y. is_block_kind y.kind && is_pending_state y.state)) (get_append t added b (pending_low t b e)) ∙ e
+  pending_new b e = ap (passes (λ y. is_block_kind y.kind && is_pending_state y.state)) (get_append t added b (pending_there t b e)) ∙ e
 
   fork_old : (f : ℕ) → is_fork grown f ≡ true → ((f < n) × (is_fork t f ≡ true)) ⊎ (f ≡ n)
   fork_old f e = elim (at f) [
@@ -156,7 +156,7 @@ module _ (c : ColumnTable) (words : List ℕ) (t : List Node) (cuts joins : List
   ]
 
   fork_new : (f : ℕ) → is_fork t f ≡ true → is_fork grown f ≡ true
-  fork_new f e = ap (passes (λ y. is_fork_kind y.kind)) (get_append t added f (fork_low t f e)) ∙ e
+  fork_new f e = ap (passes (λ y. is_fork_kind y.kind)) (get_append t added f (fork_there t f e)) ∙ e
 
   stamp_old : (m : ℕ) → m < n → stamp_of grown m ≡ stamp_of t m
   stamp_old m l = ap (number_in (λ y. y.stamp)) (get_append t added m l)
@@ -165,7 +165,7 @@ module _ (c : ColumnTable) (words : List ℕ) (t : List Node) (cuts joins : List
   fc f h = fork_column_append t added tr.rooted size f h
 
   all : (f : ℕ) → is_fork t f ≡ true → (fork_column t f + 1 < size) × (fork_column t f + 1 < used c)
-  all f e = let z : fork_column t f + 2 ≤ fork_column t n = fork_column_lt t f n (fork_low t f e) e in (omega (arith, k.all_forks roomy), omega (arith, k.all_forks roomy))
+  all f e = let z : fork_column t f + 2 ≤ fork_column t n = fork_column_lt t f n (fork_there t f e) e in (omega (arith, k.all_forks roomy), omega (arith, k.all_forks roomy))
 
   cols : (m : ℕ) → m < n → column grown size m ≡ col m
   cols m h = column_append t added tr.rooted size m h ∙ column_more t tr size (used c) all m h
@@ -192,7 +192,7 @@ module _ (c : ColumnTable) (words : List ℕ) (t : List Node) (cuts joins : List
     same : SamePending pend col (is_pending grown) (column grown size)
     same = record {
       back = λ b e. (let z = pending_old b e in (z.1, cols b z.0));
-      forth = λ b e. (pending_new b e, cols b (pending_low t b e));
+      forth = λ b e. (pending_new b e, cols b (pending_there t b e));
     }
 
     owner_old : (j : ℕ) → j < used c → owner d j ≡ owner c j
@@ -211,12 +211,12 @@ module _ (c : ColumnTable) (words : List ℕ) (t : List Node) (cuts joins : List
     first_old : (x : ℕ) → outermost_pending grown size (λ j. nat_eq (gap d j) x) ≡ outermost_pending t (used c) (λ j. nat_eq (gap c j) x)
     first_old x =
         first_of_both (λ b. is_pending grown b && nat_eq (gap d (column grown size b)) x) (λ b. is_pending t b && nat_eq (gap c (col b)) x) (length grown) n
-        (λ b h e. let z = both_true (is_pending t b) (nat_eq (gap c (col b)) x) e in
-        (omega (arith, new_length), and_true (is_pending grown b) (nat_eq (gap d (column grown size b)) x) (pending_new b z.0) (ap (λ y. nat_eq y x) (ap (gap d) (cols b h) ∙ gap_old (col b) (low b)) ∙ z.1)))
-        (λ b h e. let z = both_true (is_pending grown b) (nat_eq (gap d (column grown size b)) x) e in
+        (λ b h e. let z = and_parts (is_pending t b) (nat_eq (gap c (col b)) x) e in
+        (omega (arith, new_length), and_from (is_pending grown b) (nat_eq (gap d (column grown size b)) x) (pending_new b z.0) (ap (λ y. nat_eq y x) (ap (gap d) (cols b h) ∙ gap_old (col b) (low b)) ∙ z.1)))
+        (λ b h e. let z = and_parts (is_pending grown b) (nat_eq (gap d (column grown size b)) x) e in
         let w = pending_old b z.0 in
         let le : b ≤ b = omega arith in
-        (b, le, w.0, and_true (is_pending t b) (nat_eq (gap c (col b)) x) w.1 (sym (ap (λ y. nat_eq y x) (ap (gap d) (cols b w.0) ∙ gap_old (col b) (low b))) ∙ z.1)))
+        (b, le, w.0, and_from (is_pending t b) (nat_eq (gap c (col b)) x) w.1 (sym (ap (λ y. nat_eq y x) (ap (gap d) (cols b w.0) ∙ gap_old (col b) (low b))) ∙ z.1)))
 
     stamp_first : (o : Option ℕ) (x : ℕ) → outermost_pending t (used c) (λ j. nat_eq (gap c j) x) ≡ o → stamp_or_0 grown o ≡ stamp_or_0 t o
     stamp_first None x e = refl
@@ -231,7 +231,7 @@ module _ (c : ColumnTable) (words : List ℕ) (t : List Node) (cuts joins : List
       by_first None e = e
       by_first (Some b) e =
           let v = some_below (λ b. is_pending t b && nat_eq (gap c (col b)) x) n b e in
-          let y = both_true (is_pending t b) (nat_eq (gap c (col b)) x) v.passed in
+          let y = and_parts (is_pending t b) (nat_eq (gap c (col b)) x) v.passed in
           absurd (omega (arith, eqb-true _ _ y.1, gap_le c cuts joins pend col g (col b) (low b), low b))
 
     words_new : (x : ℕ) → x < size → slice_index words x ≡ stamp_or_0 grown (outermost_pending grown size (λ j. nat_eq (gap d j) x))
@@ -275,7 +275,7 @@ module _ (c : ColumnTable) (words : List ℕ) (t : List Node) (cuts joins : List
       ];
       all_forks = λ h. last_column;
       all_used = λ j h q. elim (le_or_lt (used c) j) [
-        | inr l ↦ (let z = k.all_used j l q in (z.0, fork_new z.0 z.1, fc z.0 (let y : z.0 < n = fork_low t z.0 z.1 in omega arith) ∙ z.2))
+        | inr l ↦ (let z = k.all_used j l q in (z.0, fork_new z.0 z.1, fc z.0 (let y : z.0 < n = fork_there t z.0 z.1 in omega arith) ∙ z.2))
         | inl l ↦ (n, ap (passes (λ y. is_fork_kind y.kind)) fork_here, new_column ∙ sym (new_left j l h))
       ];
       forked_from = λ f e h. elim (fork_old f e) [
@@ -291,7 +291,7 @@ module _ (c : ColumnTable) (words : List ℕ) (t : List Node) (cuts joins : List
       lines = lines_new;
     } where
       new_left : (j : ℕ) → used c ≤ j → j < used c + 2 → left_column_of j ≡ used c
-      new_left j l h = elim (same_or j (used c)) [ inl e ↦ ap left_column_of e ∙ left_of_odd (used c) g.odd | inr e ↦ ap left_column_of (next j (used c) l h e) ∙ left_of_next (used c) g.odd ] where
+      new_left j l h = elim (cases_eq j (used c)) [ inl e ↦ ap left_column_of e ∙ left_of_odd (used c) g.odd | inr e ↦ ap left_column_of (next j (used c) l h e) ∙ left_of_next (used c) g.odd ] where
         next : (j u : ℕ) → u ≤ j → j < u + 2 → j ≢ u → j ≡ u + 1
         next j u a b e = omega (arith, e)
 

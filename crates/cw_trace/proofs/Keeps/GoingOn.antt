@@ -1,6 +1,7 @@
 -- A strand that may go on stands beneath everything that is open in its trace.
 use Rattle.std.proofs.Common.{◌≡◌, ◌≢◌, ℕ, ◌+◌, ◌<◌, ◌≤◌, List, length, refl, ap, sym, ◌∙◌, arith, Bool, true, false, inl, inr, subst}
 use Rattle.std.specs.Prelude.{◌⊎◌, ◌%◌, slice_index}
+use Rattle.std.proofs.lemmas.Bool.{cases_Bool, cases_eq}
 use Rattle.cw_tree.specs.declared.node.Node.{Node}
 use Rattle.cw_tree.specs.Nodes.{parent_of, is_fork, is_pending, is_strand}
 use Rattle.cw_tree.specs.Walks.{is_ancestor, has}
@@ -9,15 +10,16 @@ use Rattle.cw_tree.proofs.Walks.Strands.{strand_of_root}
 use Rattle.cw_tree.proofs.Walks.Climbs.{by_parent}
 use Rattle.cw_tree.proofs.Walks.Ancestors.{ancestor_up, ancestor_self, ancestor_root, ancestor_le}
 use Rattle.cw_tree.proofs.Walks.Upward.{ancestor_cases}
+use Rattle.cw_tree.proofs.Walks.There.{fork_there}
+use Rattle.cw_tree.proofs.NodeKinds.{fork_no_strand}
 use Rattle.cw_trace.specs.Columns.{ColumnTable, used, owner, gap, left_column_of}
 use Rattle.cw_trace.specs.Stands.{GoesOn, column, column_in, fork_column, around, Descends, child, further}
 use Rattle.cw_trace.specs.Segments.{IsOpen, SegmentStart, IsCut, Segments, Active}
 use Rattle.cw_trace.specs.Keeps.{Keeps}
 use Rattle.cw_trace.specs.Running.{IsUnsplit, IsOrdered, MayGoOn}
-use Rattle.cw_trace.proofs.Stands.Counting.{fork_column_lt, fork_no_strand, pending_no_strand}
-use Rattle.cw_trace.proofs.Stands.InRange.{fork_low}
+use Rattle.cw_trace.proofs.Stands.Counting.{fork_column_lt, pending_no_strand}
 use Rattle.cw_trace.proofs.Keeps.Owners.{column_other, owners_descend}
-use Rattle.cw_trace.proofs.Segments.Lines.{order, same_or, le_or_lt, bool_or, both_true, and_true, or_right, left_of_odd, left_of_next, used_some, own_le, start_after, is_split, unsplit, right_used}
+use Rattle.cw_trace.proofs.Segments.Lines.{order, le_or_lt, left_of_odd, left_of_next, used_some, own_le, start_after, is_split, unsplit, right_used}
 use Rattle.cw_trace.proofs.Keeps.Sides.{child_to, above_all, right_of, is_left, strand_in, bare, left, right, side}
 use Rattle.cw_trace.proofs.Keeps.Meaning.{column_low, stands_of, odd_column}
 
@@ -62,7 +64,7 @@ module _ (c : ColumnTable) (words : List ℕ) (t : List Node) (cuts joins : List
   meet x hx ox =
       by_parent t tr.rooted (λ n. is_open n ≡ true → (is_ancestor t x n ≡ true) ⊎ ((is_ancestor t n x ≡ true) ⊎ Parted n x))
       (λ e. inr (inl (above_all t tr x hx)))
-      (λ m p h more e. by_parent_case m p h e (more (o.outer m p h e)) (same_or (parent_of t m) x)) where
+      (λ m p h more e. by_parent_case m p h e (more (o.outer m p h e)) (cases_eq (parent_of t m) x)) where
         by_parent_case : (m : ℕ) → 0 < m → m < length t → is_open m ≡ true → (is_ancestor t x (parent_of t m) ≡ true) ⊎ ((is_ancestor t (parent_of t m) x ≡ true) ⊎ Parted (parent_of t m) x) → (parent_of t m ≡ x) ⊎ (parent_of t m ≢ x)
             → (is_ancestor t x m ≡ true) ⊎ ((is_ancestor t m x ≡ true) ⊎ Parted m x)
         by_parent_case m p h e (inl z) s = inl (ancestor_up t tr.rooted x m p h z)
@@ -84,7 +86,7 @@ module _ (c : ColumnTable) (words : List ℕ) (t : List Node) (cuts joins : List
         by_parent_case m p h e (inr (inl z)) (inl s) = inl (ancestor_up t tr.rooted x m p h (let P : ℕ → Type 0 = λ y. is_ancestor t x y ≡ true in subst P (sym s) (ancestor_self t x)))
         by_parent_case m p h e (inr (inl z)) (inr s) =
             let w = child_to t tr (parent_of t m) x hx z s in
-            by_child w.0 w.1 w.2 w.3 w.4 (same_or w.0 m) (bool_or (is_fork t (parent_of t m))) where
+            by_child w.0 w.1 w.2 w.3 w.4 (cases_eq w.0 m) (cases_Bool (is_fork t (parent_of t m))) where
               by_child : (q : ℕ) → 0 < q → q < length t → parent_of t q ≡ parent_of t m → is_ancestor t q x ≡ true → (q ≡ m) ⊎ (q ≢ m) → (is_fork t (parent_of t m) ≡ true) ⊎ (is_fork t (parent_of t m) ≡ false) → (is_ancestor t x m ≡ true) ⊎ ((is_ancestor t m x ≡ true) ⊎ Parted m x)
               by_child q a b d v (inl y) f = inr (inl (ap (λ y. is_ancestor t y x) (sym y) ∙ v))
               by_child q a b d v (inr y) (inl f) = inr (inr (record {
@@ -192,7 +194,7 @@ module _ (c : ColumnTable) (words : List ℕ) (t : List Node) (cuts joins : List
             let w = at_fork z.other z.other_in u in
             cc (o.left_first z.one z.other x z.one_pos l z.other_low (z.one_in ∙ sym z.other_in) w.0 w.1 hx z.other_above (λ q. cc (ap (is_strand t) q, no_strand, other_strand)), one_open)
         by_order (inr (inl q)) = z.differ q
-        by_order (inr (inr l)) = elim (same_or p z.one) [
+        by_order (inr (inr l)) = elim (cases_eq p z.one) [
           | inl q ↦ (
               let w = at_fork p (ap (parent_of t) q ∙ z.one_in) u in
               cc (m.left_done z.other z.other_pos (omega (arith, q)) (z.other_in ∙ sym (ap (parent_of t) q ∙ z.one_in)) w.0 w.1, other_open))
@@ -231,14 +233,14 @@ module _ (c : ColumnTable) (words : List ℕ) (t : List Node) (cuts joins : List
 
       by_columns : (fork_column t z.fork + 2 ≤ used c) ⊎ (used c < fork_column t z.fork + 2) → ⊥
       by_columns (inr l) = when_unsplit (inl l)
-      by_columns (inl l) = elim (bool_or (has cuts (fork_column t z.fork))) [ inl q ↦ when_split (omega arith) q | inr q ↦ when_unsplit (inr q) ]
+      by_columns (inl l) = elim (cases_Bool (has cuts (fork_column t z.fork))) [ inl q ↦ when_split (omega arith) q | inr q ↦ when_unsplit (inr q) ]
 
     -- whatever is open in the trace stands above
     pub above_place : (x : ℕ) → x < length t → is_open x ≡ true → is_strand t x ≡ false → own x ≡ own p → is_ancestor t x p ≡ true
     above_place x hx ox no_strand same = elim (meet x hx ox p m.there m.opened) [
       | inl e ↦ e
       | inr w ↦ elim w [
-        | inl e ↦ elim (same_or p x) [
+        | inl e ↦ elim (cases_eq p x) [
           | inl q ↦ (let P : ℕ → Type 0 = λ y. is_ancestor t x y ≡ true in subst P (sym q) (ancestor_self t x))
           | inr q ↦ (let z = child_to t tr p x hx e q in absurd (m.innermost z.0 z.1 z.2 z.3 (open_above z.0 x hx ox z.4)))
         ]
@@ -259,7 +261,7 @@ module _ (c : ColumnTable) (words : List ℕ) (t : List Node) (cuts joins : List
     pub last : (f : ℕ) → is_fork t f ≡ true → fork_column t f + 1 < used c → is_ancestor t f n ≡ true → f ≢ n → fork_column t f ≤ start
 
   pub segment_of : (n : ℕ) → n < length t → is_open n ≡ true → Segment n
-  segment_of = by_parent t tr.rooted (λ n. is_open n ≡ true → Segment n) (λ e. at_root) (λ m p h more e. by_kind m p h e (more (o.outer m p h e)) (bool_or (is_strand t m))) where
+  segment_of = by_parent t tr.rooted (λ n. is_open n ≡ true → Segment n) (λ e. at_root) (λ m p h more e. by_kind m p h e (more (o.outer m p h e)) (cases_Bool (is_strand t m))) where
     col_root : col 0 ≡ 0
     col_root = ap (λ s. column_in t (used c) s s) (strand_of_root t)
 
@@ -284,7 +286,7 @@ module _ (c : ColumnTable) (words : List ℕ) (t : List Node) (cuts joins : List
     }
 
     with_columns : (m : ℕ) → 0 < m → m < length t → is_open m ≡ true → is_fork t (parent_of t m) ≡ true → fork_column t (parent_of t m) + 1 < used c → (col m ≡ fork_column t (parent_of t m)) ⊎ (col m ≡ fork_column t (parent_of t m) + 1) → Segment m
-    with_columns m p h e ff i q = by_cut (bool_or (has cuts (fork_column t (parent_of t m)))) where
+    with_columns m p h e ff i q = by_cut (cases_Bool (has cuts (fork_column t (parent_of t m)))) where
       f : ℕ
       f = parent_of t m
 
@@ -306,7 +308,7 @@ module _ (c : ColumnTable) (words : List ℕ) (t : List Node) (cuts joins : List
         | inr z ↦ (
             let lo : parent_of t m < m = tr.rooted m p h in
             let le : x ≤ parent_of t m = ancestor_le t tr.rooted x (parent_of t m) (omega arith) z in
-            elim (same_or x (parent_of t m)) [
+            elim (cases_eq x (parent_of t m)) [
               | inl y ↦ omega (arith, ap (fork_column t) y)
               | inr y ↦ (let z2 : fork_column t x + 2 ≤ fork_column t (parent_of t m) = fork_column_lt t x (parent_of t m) (omega (arith, y)) ex in omega arith)
             ])
@@ -356,7 +358,7 @@ module _ (c : ColumnTable) (words : List ℕ) (t : List Node) (cuts joins : List
         let h : fork_column t z.0 + 1 < used c = (let r = right_used c cuts joins (is_pending t) col g s w.low w.left in omega (arith, e)) in
         let un : has joins (fork_column t z.0) ≡ false = ap (has joins) e ∙ w.unjoined in
         let owned : own z.0 ≡ own p = ap (owner c) (sym (k.forked_from z.0 z.1 h)) ∙ ap (around c) e ∙ w.outside in
-        (z.0, z.1, e, h, above_place p m z.0 (fork_low t z.0 z.1) (o.forks z.0 z.1 h un) (fork_no_strand t z.0 z.1) owned, λ q. cc (ap (is_fork t) q, z.1, m.no_fork))
+        (z.0, z.1, e, h, above_place p m z.0 (fork_there t z.0 z.1) (o.forks z.0 z.1 h un) (fork_no_strand t z.0 z.1) owned, λ q. cc (ap (is_fork t) q, z.1, m.no_fork))
 
     not_cut : (s : ℕ) → IsCut c cuts joins (own p) s → ⊥
     not_cut s w =

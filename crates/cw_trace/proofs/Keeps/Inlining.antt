@@ -2,7 +2,7 @@
 use Rattle.std.proofs.Common.{◌≡◌, ℕ, zero, suc, ◌+◌, ◌-◌, ◌<◌, ◌≤◌, List, ◌++◌, length, refl, ap, sym, ◌∙◌, arith, true, Option, Some, None, nat_eq, nat_lt, inl, inr, subst, length-append}
 use Rattle.std.specs.Prelude.{◌⊎◌, ◌%◌, ◌&&◌, ◌↔◌, IsTrue, nat_le, slice_index, if◌then◌else◌}
 use Rattle.std.specs.List.{slice_get}
-use Rattle.std.proofs.lemmas.Bool.{leb-true, le-ltb}
+use Rattle.std.proofs.lemmas.Bool.{leb-true, le-ltb, and_parts, and_from, cases_eq}
 use Rattle.cw_tree.specs.declared.node.Node.{Node}
 use Rattle.cw_tree.specs.declared.node.Kind.TheVariants.{Strand, Fork}
 use Rattle.cw_tree.specs.Nodes.{parent_of, stamp_of, is_fork, is_pending, passes, number_in, is_fork_kind, is_strand_kind, is_block_kind, is_pending_state, fresh_node}
@@ -15,12 +15,12 @@ use Rattle.cw_trace.specs.Stands.{GoesOn, column, fork_column, outermost_pending
 use Rattle.cw_trace.specs.Segments.{Segments}
 use Rattle.cw_trace.specs.Keeps.{Keeps}
 use Rattle.cw_tree.specs.NextNodes.{fork_nodes}
+use Rattle.cw_tree.proofs.Walks.There.{pending_there, fork_there}
 use Rattle.cw_trace.proofs.Segments.Alike.{SamePending, segments_alike, ups_alike}
 use Rattle.cw_trace.proofs.Stands.Counting.{some_below, fork_column_lt}
 use Rattle.cw_trace.proofs.Keeps.Forking.{get_right}
 use Rattle.cw_trace.proofs.Keeps.Grow.{column_append, fork_column_append}
-use Rattle.cw_trace.proofs.Stands.InRange.{pending_low, fork_low}
-use Rattle.cw_trace.proofs.Segments.Lines.{same_or, le_or_lt, both_true, and_true}
+use Rattle.cw_trace.proofs.Segments.Lines.{le_or_lt}
 use Rattle.cw_trace.proofs.Keeps.Meaning.{first_of_both, odd_column}
 use Rattle.cw_trace.proofs.Keeps.Owners.{column_other, column_strand}
 
@@ -51,7 +51,7 @@ module _ (c : ColumnTable) (words : List ℕ) (t : List Node) (cuts joins : List
       odd_pos m e = omega arith
     by_used (suc (suc u)) e all =
         let z = all (suc u) (omega arith) (omega arith) in
-        let l = fork_column_lt t z.0 n (fork_low t z.0 z.1) z.1 in
+        let l = fork_column_lt t z.0 n (fork_there t z.0 z.1) z.1 in
         let at : left_column_of (suc u) ≡ u = even_left u e in
         omega (arith, l, z.2, at) where
           even_left : (u : ℕ) → suc (suc u) % 2 ≡ 1 → left_column_of (suc u) ≡ u
@@ -78,7 +78,7 @@ module _ (c : ColumnTable) (words : List ℕ) (t : List Node) (cuts joins : List
   which : (m : ℕ) → m < length grown → Which m
   which m h = elim (le_or_lt n m) [
     | inr l ↦ old l
-    | inl l ↦ elim (same_or m n) [ inl e ↦ fork e | inr ne ↦ strand (m - n) (omega (arith, ne)) (omega (arith, new_length)) (omega arith) ]
+    | inl l ↦ elim (cases_eq m n) [ inl e ↦ fork e | inr ne ↦ strand (m - n) (omega (arith, ne)) (omega (arith, new_length)) (omega arith) ]
   ]
 
   fc : (f : ℕ) → f ≤ n → fork_column grown f ≡ fork_column t f
@@ -117,18 +117,18 @@ module _ (c : ColumnTable) (words : List ℕ) (t : List Node) (cuts joins : List
   ]
 
   pending_old : (b : ℕ) → is_pending grown b ≡ true → (b < n) × (is_pending t b ≡ true)
-  pending_old b e = elim (which b (pending_low grown b e)) [
+  pending_old b e = elim (which b (pending_there grown b e)) [
     | old l ↦ (l, sym (node_grown t more (λ y. is_block_kind y.kind && is_pending_state y.state) b l) ∙ e)
     | fork q ↦ absurd (cc (sym (ap (is_pending grown) q) ∙ e, ap (passes (λ y. is_block_kind y.kind && is_pending_state y.state)) here))
     | strand j a z q ↦ absurd (cc (sym (ap (is_pending grown) q) ∙ e, ap (passes (λ y. is_block_kind y.kind && is_pending_state y.state)) (strand_at j a z)))
   ]
 
   pending_new : (b : ℕ) → is_pending t b ≡ true → is_pending grown b ≡ true
-  pending_new b e = node_grown t more (λ y. is_block_kind y.kind && is_pending_state y.state) b (pending_low t b e) ∙ e
+  pending_new b e = node_grown t more (λ y. is_block_kind y.kind && is_pending_state y.state) b (pending_there t b e) ∙ e
 
   -- a fork with columns is an old one, and so is one for whose columns there is room
   fork_which : (f : ℕ) → is_fork grown f ≡ true → ((f < n) × (is_fork t f ≡ true)) ⊎ (f ≡ n)
-  fork_which f e = elim (which f (fork_low grown f e)) [
+  fork_which f e = elim (which f (fork_there grown f e)) [
     | old l ↦ inl (l, sym (node_grown t more (λ y. is_fork_kind y.kind) f l) ∙ e)
     | fork q ↦ inr q
     | strand j a z q ↦ absurd (cc (sym (ap (is_fork grown) q) ∙ e, ap (passes (λ y. is_fork_kind y.kind)) (strand_at j a z)))
@@ -148,12 +148,12 @@ module _ (c : ColumnTable) (words : List ℕ) (t : List Node) (cuts joins : List
   first_same : (y : ℕ) → outermost_pending grown (used c) (λ j. nat_eq (gap c j) y) ≡ outermost_pending t (used c) (λ j. nat_eq (gap c j) y)
   first_same y =
       first_of_both (λ b. is_pending grown b && nat_eq (gap c (column grown (used c) b)) y) (λ b. is_pending t b && nat_eq (gap c (column t (used c) b)) y) (length grown) n
-      (λ b h e. let z = both_true (is_pending t b) (nat_eq (gap c (column t (used c) b)) y) e in
-      (omega (arith, new_length), and_true (is_pending grown b) (nat_eq (gap c (column grown (used c) b)) y) (pending_new b z.0) (ap (λ v. nat_eq (gap c v) y) (cols b h) ∙ z.1)))
-      (λ b h e. let z = both_true (is_pending grown b) (nat_eq (gap c (column grown (used c) b)) y) e in
+      (λ b h e. let z = and_parts (is_pending t b) (nat_eq (gap c (column t (used c) b)) y) e in
+      (omega (arith, new_length), and_from (is_pending grown b) (nat_eq (gap c (column grown (used c) b)) y) (pending_new b z.0) (ap (λ v. nat_eq (gap c v) y) (cols b h) ∙ z.1)))
+      (λ b h e. let z = and_parts (is_pending grown b) (nat_eq (gap c (column grown (used c) b)) y) e in
       let w = pending_old b z.0 in
       let le : b ≤ b = omega arith in
-      (b, le, w.0, and_true (is_pending t b) (nat_eq (gap c (column t (used c) b)) y) w.1 (sym (ap (λ v. nat_eq (gap c v) y) (cols b w.0)) ∙ z.1)))
+      (b, le, w.0, and_from (is_pending t b) (nat_eq (gap c (column t (used c) b)) y) w.1 (sym (ap (λ v. nat_eq (gap c v) y) (cols b w.0)) ∙ z.1)))
 
   stamp_old : (m : ℕ) → m < n → stamp_of grown m ≡ stamp_of t m
   stamp_old m l = number_grown t more (λ y. y.stamp) m l
@@ -163,7 +163,7 @@ module _ (c : ColumnTable) (words : List ℕ) (t : List Node) (cuts joins : List
   stamp_first (Some b) y e = stamp_old b (some_below (λ b. is_pending t b && nat_eq (gap c (column t (used c) b)) y) n b e).low
 
   same : SamePending (is_pending t) (column t (used c)) (is_pending grown) (column grown (used c))
-  same = record { back = λ b e. (let z = pending_old b e in (z.1, cols b z.0)); forth = λ b e. (pending_new b e, cols b (pending_low t b e)) }
+  same = record { back = λ b e. (let z = pending_old b e in (z.1, cols b z.0)); forth = λ b e. (pending_new b e, cols b (pending_there t b e)) }
 
   pub keeps_inline : Keeps c words grown cuts joins
   keeps_inline = record {
@@ -176,7 +176,7 @@ module _ (c : ColumnTable) (words : List ℕ) (t : List Node) (cuts joins : List
     all_forks = λ h. absurd (omega arith);
     all_used = λ j h q.
         (let w = k.all_used j h q in
-        let l = fork_low t w.0 w.1 in
+        let l = fork_there t w.0 w.1 in
         (w.0, node_grown t more (λ y. is_fork_kind y.kind) w.0 l ∙ w.1, fc w.0 (omega arith) ∙ w.2));
     forked_from = λ f e h.
         (let w = fork_old f e h in

@@ -1,6 +1,7 @@
 -- What is kept by the join of a fork that was not split, and what stands at the start.
 use Rattle.std.proofs.Common.{◌≡◌, ◌≢◌, ℕ, ◌<◌, List, ◌∷◌, ap, sym, ◌∙◌, arith, Bool, true, false, nat_eq, inl, inr, eqb-true}
 use Rattle.std.specs.Prelude.{◌⊎◌, ◌%◌, ◌&&◌, ◌||◌, not, slice_index}
+use Rattle.std.proofs.lemmas.Bool.{or_cases, cases_Bool}
 use Rattle.cw_tree.specs.declared.node.Node.{Node}
 use Rattle.cw_tree.specs.Nodes.{is_pending}
 use Rattle.cw_trace.specs.Columns.{ColumnTable, used, left_column_of}
@@ -8,7 +9,6 @@ use Rattle.cw_tree.specs.Walks.{has}
 use Rattle.cw_trace.specs.Stands.{column, fork_column, is_apart}
 use Rattle.cw_trace.specs.Segments.{IsOpen, SegmentStart, IsCut, IsTrace, IsLive, Segments}
 use Rattle.cw_trace.specs.Keeps.{Keeps}
-use Rattle.cw_trace.proofs.Segments.Lines.{or_cases, bool_or}
 use Rattle.cw_trace.proofs.Marks.Edits.{has_cons_same, has_cons_other}
 
 -- a fork that was not split is joined: both its strands have finished, and no fork in them is unjoined
@@ -48,7 +48,7 @@ module _ (c : ColumnTable) (cuts joins : List ℕ) (f : ℕ) (m : MayJoin c cuts
 
   -- the join of a fork that was not split takes no trace away
   pub apart_same : (i : ℕ) → is_apart cuts joins2 i ≡ is_apart cuts joins i
-  apart_same i = by_cut (bool_or (has cuts (left_column_of i))) where
+  apart_same i = by_cut (cases_Bool (has cuts (left_column_of i))) where
     by_cut : (has cuts (left_column_of i) ≡ true) ⊎ (has cuts (left_column_of i) ≡ false) → is_apart cuts joins2 i ≡ is_apart cuts joins i
     by_cut (inl e) = ap (λ b. has cuts (left_column_of i) && not b) (has_cons_other joins f (left_column_of i) (λ q. cc (sym (ap (has cuts) q) ∙ e, m.uncut)))
     by_cut (inr e) = ap (λ b. b && not (has joins2 (left_column_of i))) e ∙ sym (ap (λ b. b && not (has joins (left_column_of i))) e)

@@ -2,7 +2,7 @@
 use Rattle.std.proofs.Common.{◌≡◌, ℕ, zero, suc, ◌+◌, ◌<◌, ◌≤◌, List, length, refl, ap, sym, ◌∙◌, arith, Bool, true, false, Option, Some, None, nat_eq, nat_lt, inl, inr, eq-eqb, eqb-true}
 use Rattle.std.specs.Prelude.{◌⊎◌, ◌*◌, ◌%◌, ◌&&◌, not, is_some, if◌then◌else◌}
 use Rattle.std.specs.List.{find}
-use Rattle.std.proofs.lemmas.Bool.{ltb-true, lt-ltb}
+use Rattle.std.proofs.lemmas.Bool.{ltb-true, lt-ltb, and_parts, and_from, not-true}
 use Rattle.cw_tree.specs.declared.node.Node.{Node}
 use Rattle.cw_tree.specs.Nodes.{parent_of, is_fork, is_pending, below}
 use Rattle.cw_tree.specs.Series.{strand_of}
@@ -13,7 +13,7 @@ use Rattle.cw_trace.specs.Stands.{word_of, Stands, column, column_in, fork_colum
 use Rattle.cw_trace.specs.Segments.{IsCut, IsTrace, IsLive, Within, Segments}
 use Rattle.cw_trace.specs.Keeps.{Keeps}
 use Rattle.cw_trace.proofs.Stands.Counting.{none_below, some_below}
-use Rattle.cw_trace.proofs.Segments.Lines.{order, same_or, both_true, and_true, not_false, bool_or, unsplit, used_some, right_used, own_trace, own_le, own_self, start_after}
+use Rattle.cw_trace.proofs.Segments.Lines.{order, used_some, right_used, own_le}
 
 -- each column is in use
 pub column_in_low : (t : List Node) (size k s : ℕ) → 0 < size → column_in t size k s < size
@@ -62,8 +62,8 @@ first_same p q n from to = first_of_both p q n n (λ b h e. (h, from b h e)) (λ
 pub outermost_agrees : (t : List Node) (size : ℕ) (q r : ℕ → Bool) → ((b : ℕ) → is_pending t b ≡ true → q (column t size b) ≡ r (column t size b)) → outermost_pending t size q ≡ outermost_pending t size r
 outermost_agrees t size q r e =
     first_same (λ b. is_pending t b && q (column t size b)) (λ b. is_pending t b && r (column t size b)) (length t)
-    (λ b l h. let z = both_true (is_pending t b) (r (column t size b)) h in and_true (is_pending t b) (q (column t size b)) z.0 (e b z.0 ∙ z.1))
-    (λ b l h. let z = both_true (is_pending t b) (q (column t size b)) h in let y : b ≤ b = omega arith in (b, y, and_true (is_pending t b) (r (column t size b)) z.0 (sym (e b z.0) ∙ z.1)))
+    (λ b l h. let z = and_parts (is_pending t b) (r (column t size b)) h in and_from (is_pending t b) (q (column t size b)) z.0 (e b z.0 ∙ z.1))
+    (λ b l h. let z = and_parts (is_pending t b) (q (column t size b)) h in let y : b ≤ b = omega arith in (b, y, and_from (is_pending t b) (r (column t size b)) z.0 (sym (e b z.0) ∙ z.1)))
 
 -- a fork's column is odd
 pub odd_column : (t : List Node) (f : ℕ) → fork_column t f % 2 ≡ 1
@@ -118,27 +118,27 @@ module _ (c : ColumnTable) (words : List ℕ) (t : List Node) (cuts joins : List
 
     by_lead : ((f : ℕ) × (has_cut x f ≡ true)) ⊎ ((f : ℕ) → f < used c → has_cut x f ≡ false) → word_of words (lead c x) ≡ stamp_or_0 t (outermost_pending t (used c) (λ i. nat_eq (owner c i) x))
     by_lead (inl z) =
-        let y = both_true (is_cut_at c cuts joins x z.0) (nat_eq (gap c x) (gap c z.0)) z.1 in
+        let y = and_parts (is_cut_at c cuts joins x z.0) (nat_eq (gap c x) (gap c z.0)) z.1 in
         let w = as_cut x z.0 y.0 in
         ap (word_of words) (g.lead_lent x z.0 n w (eqb-true _ _ y.1)) ∙ by_first z.0 w (eqb-true _ _ y.1) (outermost_pending t (used c) (λ i. nat_eq (owner c i) x)) refl where
           by_first : (f : ℕ) → IsCut c cuts joins x f → gap c x ≡ gap c f → (o : Option ℕ) → outermost_pending t (used c) (λ i. nat_eq (owner c i) x) ≡ o → 0 ≡ stamp_or_0 t (outermost_pending t (used c) (λ i. nat_eq (owner c i) x))
           by_first f w e None q = sym (ap (stamp_or_0 t) q)
           by_first f w e (Some b) q =
               let v = some_below (λ b. is_pending t b && nat_eq (owner c (column t (used c) b)) x) (length t) b q in
-              let y = both_true (is_pending t b) (nat_eq (owner c (column t (used c) b)) x) v.passed in
+              let y = and_parts (is_pending t b) (nat_eq (owner c (column t (used c) b)) x) v.passed in
               let o : owner c (column t (used c) b) ≡ x = eqb-true _ _ y.1 in
               let lo : x < f = Rattle.cw_trace.proofs.Segments.Lines.open_after c cuts joins (is_pending t) (column t (used c)) g x f w.fork in
               absurd (g.shared x x f b n (inl refl) (inr w.fork) lo e (head_after b y.0 o) (g.cut_last x f (column t (used c) b) w (col_low b) o))
     by_lead (inr none) =
-        let live : IsLive c cuts joins x x = λ f w e. cc (none f w.fork.low, and_true (is_cut_at c cuts joins x f) (nat_eq (gap c x) (gap c f)) (cut_as x f w) (eq-eqb _ _ e)) in
+        let live : IsLive c cuts joins x x = λ f w e. cc (none f w.fork.low, and_from (is_cut_at c cuts joins x f) (nat_eq (gap c x) (gap c f)) (cut_as x f w) (eq-eqb _ _ e)) in
         let low : gap c x < used c = omega (arith, Rattle.cw_trace.proofs.Segments.Lines.gap_le c cuts joins (is_pending t) (column t (used c)) g x n.low, n.low) in
         ap (word_of words) (g.lead_live x n live) ∙ k.words_are (gap c x) low
         ∙ sym (ap (stamp_or_0 t) (first_same (λ b. is_pending t b && nat_eq (owner c (column t (used c) b)) x) (λ b. is_pending t b && nat_eq (gap c (column t (used c) b)) (gap c x)) (length t)
-        (λ b l h. let z = both_true (is_pending t b) (nat_eq (gap c (column t (used c) b)) (gap c x)) h in and_true (is_pending t b) (nat_eq (owner c (column t (used c) b)) x) z.0 (eq-eqb _ _ (g.gap_owned x x b n (inl refl) live z.0 (eqb-true _ _ z.1)).0))
+        (λ b l h. let z = and_parts (is_pending t b) (nat_eq (gap c (column t (used c) b)) (gap c x)) h in and_from (is_pending t b) (nat_eq (owner c (column t (used c) b)) x) z.0 (eq-eqb _ _ (g.gap_owned x x b n (inl refl) live z.0 (eqb-true _ _ z.1)).0))
         (λ b l h.
-        let z = both_true (is_pending t b) (nat_eq (owner c (column t (used c) b)) x) h in
+        let z = and_parts (is_pending t b) (nat_eq (owner c (column t (used c) b)) x) h in
         let y = g.gap_first x x b n (inl refl) live (head_after b z.0 (eqb-true _ _ z.1)) in
-        (y.0, y.1, and_true (is_pending t y.0) (nat_eq (gap c (column t (used c) y.0)) (gap c x)) y.2 (eq-eqb _ _ y.3)))))
+        (y.0, y.1, and_from (is_pending t y.0) (nat_eq (gap c (column t (used c) y.0)) (gap c x)) y.2 (eq-eqb _ _ y.3)))))
 
   -- the relation
   pub stands_of : Stands c words t cuts joins
@@ -152,12 +152,12 @@ module _ (c : ColumnTable) (words : List ℕ) (t : List Node) (cuts joins : List
         let z = k.forked_from f e h in
         (z, g.pairs (fork_column t f) (odd_fork f) (omega arith) ∙ z));
     root = g.root;
-    together = λ i p h e. g.together i p h (not_false _ e);
+    together = λ i p h e. g.together i p h (not-true _ e);
     apart = g.apart;
     words_are = k.words_are;
     leads = λ x h n. leads x (record { low = h; named = n });
     heads = λ x h n. g.heads x (record { low = h; named = n });
-    active = λ x h n none. (let tr : IsTrace c cuts joins x = record { low = h; named = n } in g.lead_live x tr (λ f w e. cc (cut_as x f w, not_false _ (none f))) ∙ ap Some (sym (g.heads x tr)));
+    active = λ x h n none. (let tr : IsTrace c cuts joins x = record { low = h; named = n } in g.lead_live x tr (λ f w e. cc (cut_as x f w, not-true _ (none f))) ∙ ap Some (sym (g.heads x tr)));
     no_up = k.ups.no_up;
     ups = λ x p h n. by_first x p (record { low = h; named = n }) (outermost_pending t (used c) (λ i. nat_eq (owner c i) (around c x))) refl;
     brackets = λ x y h i n m. (k.nesting.descends x y (record { low = h; named = n }) (record { low = i; named = m }), k.nesting.within x y (record { low = h; named = n }) (record { low = i; named = m }));
@@ -176,10 +176,10 @@ module _ (c : ColumnTable) (words : List ℕ) (t : List Node) (cuts joins : List
 
     by_first : (x : ℕ) → 0 < x → IsTrace c cuts joins x → (o : Option ℕ) → outermost_pending t (used c) (λ i. nat_eq (owner c i) (around c x)) ≡ o → up c x ≡ (if is_some (outermost_pending t (used c) (λ i. nat_eq (owner c i) (around c x))) then Some (around c x) else up c (around c x))
     by_first x p n None e =
-        k.ups.up_none x p n (λ b q o. let h : b < length t = Rattle.cw_trace.proofs.Stands.InRange.pending_low t b q in
-        cc (none_below (λ b. is_pending t b && nat_eq (owner c (column t (used c) b)) (around c x)) (length t) e b h, and_true (is_pending t b) (nat_eq (owner c (column t (used c) b)) (around c x)) q (eq-eqb _ _ o)))
+        k.ups.up_none x p n (λ b q o. let h : b < length t = Rattle.cw_tree.proofs.Walks.There.pending_there t b q in
+        cc (none_below (λ b. is_pending t b && nat_eq (owner c (column t (used c) b)) (around c x)) (length t) e b h, and_from (is_pending t b) (nat_eq (owner c (column t (used c) b)) (around c x)) q (eq-eqb _ _ o)))
         ∙ sym (ap (λ o. if is_some o then Some (around c x) else up c (around c x)) e)
     by_first x p n (Some b) e =
         let v = some_below (λ b. is_pending t b && nat_eq (owner c (column t (used c) b)) (around c x)) (length t) b e in
-        let y = both_true (is_pending t b) (nat_eq (owner c (column t (used c) b)) (around c x)) v.passed in
+        let y = and_parts (is_pending t b) (nat_eq (owner c (column t (used c) b)) (around c x)) v.passed in
         k.ups.up_some x b p n y.0 (eqb-true _ _ y.1) ∙ sym (ap (λ o. if is_some o then Some (around c x) else up c (around c x)) e)

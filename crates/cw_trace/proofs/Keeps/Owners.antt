@@ -207,10 +207,6 @@ module _ (c : ColumnTable) (words : List ℕ) (t : List Node) (cuts merges : Lis
     pub cut : is_cut_at c cuts merges x (fork_column t f) ≡ true
     pub above : is_ancestor t f n ≡ true
 
-  and_true : (a b : Bool) → a ≡ true → b ≡ true → (a && b) ≡ true
-  and_true true b e f = f
-  and_true false b e f = absurd (cc e)
-
   pub cut_of : (x n f : ℕ) → n < length t → HeadOf n f → own f ≡ x → CutAt x f n
   cut_of x n f h w e = record {
     there = w.there;

@@ -2,7 +2,7 @@
 use Rattle.std.proofs.Common.{◌≡◌, ◌≢◌, ℕ, zero, suc, ◌+◌, ◌<◌, ◌≤◌, List, [], ◌∷◌, length, refl, ap, sym, ◌∙◌, arith, Bool, true, false, cond, Some, nat_eq, nat_lt, inl, inr, subst, eq-eqb, eqb-true}
 use Rattle.std.specs.Prelude.{◌⊎◌, ◌%◌, ◌&&◌, ◌||◌, if◌then◌else◌}
 use Rattle.std.specs.List.{list_any, find}
-use Rattle.std.proofs.lemmas.Bool.{lt-ltb, ltb-true, ltb-false}
+use Rattle.std.proofs.lemmas.Bool.{lt-ltb, ltb-true, ltb-false, and_parts, and_from, or_right, cases_Bool, cases_eq}
 use Rattle.cw_tree.specs.declared.node.Node.{Node}
 use Rattle.cw_tree.specs.Nodes.{parent_of, is_fork, is_strand, below, all_nodes}
 use Rattle.cw_tree.specs.Walks.{is_ancestor, has}
@@ -13,17 +13,17 @@ use Rattle.cw_tree.proofs.Walks.Strands.{strand_of_root}
 use Rattle.cw_tree.proofs.Walks.Climbs.{by_parent}
 use Rattle.cw_tree.proofs.Walks.Ancestors.{ancestor_up, ancestor_self, ancestor_root}
 use Rattle.cw_tree.proofs.Walks.Upward.{ancestor_cases}
+use Rattle.cw_tree.proofs.Walks.There.{fork_there}
 use Rattle.cw_trace.specs.Stands.{column, column_in, fork_column}
 use Rattle.cw_trace.proofs.Stands.Counting.{fork_column_one, some_below}
-use Rattle.cw_trace.proofs.Stands.InRange.{fork_low}
 use Rattle.cw_trace.proofs.Keeps.Owners.{column_strand, column_other}
-use Rattle.cw_trace.proofs.Segments.Lines.{order, same_or, le_or_lt, bool_or, both_true, and_true, or_right, left_of_odd, left_of_next, used_some, own_le, start_after, is_split, unsplit, right_used}
+use Rattle.cw_trace.proofs.Segments.Lines.{order}
 use Rattle.cw_trace.proofs.Marks.Marking.{has_filter, has_append}
 use Rattle.cw_trace.proofs.Keeps.Meaning.{odd_column}
 
 has_below : (n b : ℕ) → b < n → has (below n) b ≡ true
 has_below zero b h = absurd (omega arith)
-has_below (suc n) b h = has_append (below n) (n ∷ []) b ∙ by_last (same_or b n) (λ l. has_below n b l) where
+has_below (suc n) b h = has_append (below n) (n ∷ []) b ∙ by_last (cases_eq b n) (λ l. has_below n b l) where
   by_last : (b ≡ n) ⊎ (b ≢ n) → (b < n → has (below n) b ≡ true) → (has (below n) b || has (n ∷ []) b) ≡ true
   by_last (inl e) more = or_right (has (below n) b) (has (n ∷ []) b) (ap (λ q. q || false) (eq-eqb n b (sym e)))
   by_last (inr e) more = ap (λ q. q || has (n ∷ []) b) (more (omega (arith, e)))
@@ -42,7 +42,7 @@ module _ (t : List Node) (tr : IsTree t) where
   child_to q x hx =
       by_parent t tr.rooted (λ x. is_ancestor t q x ≡ true → q ≢ x → (m : ℕ) × (0 < m) × (m < length t) × (parent_of t m ≡ q) × (is_ancestor t m x ≡ true))
       (λ e n. absurd (n (ancestor_root t q e)))
-      (λ m p h more e n. elim (same_or (parent_of t m) q) [
+      (λ m p h more e n. elim (cases_eq (parent_of t m) q) [
         | inl z ↦ (m, p, h, z, ancestor_self t m)
         | inr z ↦ elim (ancestor_cases t tr.rooted q m p h e) [
           | inl y ↦ absurd (n (sym y))
@@ -57,15 +57,15 @@ module _ (t : List Node) (tr : IsTree t) where
   -- a fork has no third child
   pub no_third : (f a b d : ℕ) → is_fork t f ≡ true → 0 < a → a < b → b < d → d < length t → parent_of t a ≡ f → parent_of t b ≡ f → parent_of t d ≡ f → ⊥
   no_third f a b d e p l k h pa pb pd =
-      let w = tr.forks f (fork_low t f e) e in
+      let w = tr.forks f (fork_there t f e) e in
       by_members w.0 w.1 w.2 (member a w.0 w.1 w.2 p (omega arith) pa) (member b w.0 w.1 w.2 (omega arith) (omega arith) pb) (member d w.0 w.1 w.2 (omega arith) h pd) where
         member : (m x y : ℕ) → children t f ≡ x ∷ y ∷ [] → 0 < m → m < length t → parent_of t m ≡ f → (x ≡ m) ⊎ (y ≡ m)
         member m x y q p h e =
-            let test : (nat_lt 0 m && nat_eq (parent_of t m) f) ≡ true = and_true (nat_lt 0 m) (nat_eq (parent_of t m) f) (lt-ltb _ _ p) (eq-eqb _ _ e) in
+            let test : (nat_lt 0 m && nat_eq (parent_of t m) f) ≡ true = and_from (nat_lt 0 m) (nat_eq (parent_of t m) f) (lt-ltb _ _ p) (eq-eqb _ _ e) in
             let inside : has (x ∷ y ∷ []) m ≡ true = ap (λ xs. has xs m) (sym q) ∙ has_filter (λ m. nat_lt 0 m && nat_eq (parent_of t m) f) (all_nodes t) m test ∙ has_below (length t) m h in
-            elim (Rattle.cw_trace.proofs.Segments.Lines.or_cases (nat_eq x m) (has (y ∷ []) m) inside) [
+            elim (Rattle.std.proofs.lemmas.Bool.or_cases (nat_eq x m) (has (y ∷ []) m) inside) [
               | inl z ↦ inl (eqb-true _ _ z)
-              | inr z ↦ elim (Rattle.cw_trace.proofs.Segments.Lines.or_cases (nat_eq y m) false z) [ inl v ↦ inr (eqb-true _ _ v) | inr v ↦ absurd (cc v) ]
+              | inr z ↦ elim (Rattle.std.proofs.lemmas.Bool.or_cases (nat_eq y m) false z) [ inl v ↦ inr (eqb-true _ _ v) | inr v ↦ absurd (cc v) ]
             ]
 
         by_members : (x y : ℕ) → children t f ≡ x ∷ y ∷ [] → (x ≡ a) ⊎ (y ≡ a) → (x ≡ b) ⊎ (y ≡ b) → (x ≡ d) ⊎ (y ≡ d) → ⊥
@@ -83,23 +83,23 @@ module _ (t : List Node) (tr : IsTree t) where
     found n h = by_list (below n) h where
       by_list : (xs : List ℕ) → has xs a ≡ true → list_any (λ m. nat_lt 0 m && is_strand t m && nat_eq (parent_of t m) (parent_of t b)) xs ≡ true
       by_list [] h = absurd (cc h)
-      by_list (x ∷ xs) h = elim (Rattle.cw_trace.proofs.Segments.Lines.or_cases (nat_eq x a) (has xs a) h) [
+      by_list (x ∷ xs) h = elim (Rattle.std.proofs.lemmas.Bool.or_cases (nat_eq x a) (has xs a) h) [
         | inl z ↦ (
             let q : x ≡ a = eqb-true _ _ z in
-            Rattle.cw_trace.proofs.Segments.Lines.or_left (nat_lt 0 x && is_strand t x && nat_eq (parent_of t x) (parent_of t b)) _ (and_true (nat_lt 0 x && is_strand t x) (nat_eq (parent_of t x) (parent_of t b)) (and_true (nat_lt 0 x) (is_strand t x) (lt-ltb _ _ (omega (arith, q))) (ap (is_strand t) q ∙ sa)) (eq-eqb _ _ (ap (parent_of t) q ∙ e))))
+            Rattle.std.proofs.lemmas.Bool.or_left (nat_lt 0 x && is_strand t x && nat_eq (parent_of t x) (parent_of t b)) _ (and_from (nat_lt 0 x && is_strand t x) (nat_eq (parent_of t x) (parent_of t b)) (and_from (nat_lt 0 x) (is_strand t x) (lt-ltb _ _ (omega (arith, q))) (ap (is_strand t) q ∙ sa)) (eq-eqb _ _ (ap (parent_of t) q ∙ e))))
         | inr z ↦ or_right (nat_lt 0 x && is_strand t x && nat_eq (parent_of t x) (parent_of t b)) _ (by_list xs z)
       ]
 
   -- the column of a fork's strand
   pub strand_in : (n f : ℕ) → 0 < n → n < length t → parent_of t n ≡ f → is_fork t f ≡ true → is_strand t n ≡ true
   strand_in n f p h e ff =
-      let w = tr.forks f (fork_low t f ff) ff in
-      let test : (nat_lt 0 n && nat_eq (parent_of t n) f) ≡ true = and_true (nat_lt 0 n) (nat_eq (parent_of t n) f) (lt-ltb _ _ p) (eq-eqb _ _ e) in
+      let w = tr.forks f (fork_there t f ff) ff in
+      let test : (nat_lt 0 n && nat_eq (parent_of t n) f) ≡ true = and_from (nat_lt 0 n) (nat_eq (parent_of t n) f) (lt-ltb _ _ p) (eq-eqb _ _ e) in
       let inside : has (w.0 ∷ w.1 ∷ []) n ≡ true = ap (λ xs. has xs n) (sym w.2) ∙ has_filter (λ m. nat_lt 0 m && nat_eq (parent_of t m) f) (all_nodes t) n test ∙ has_below (length t) n h in
-      let both = both_true (is_strand t w.0) (is_strand t w.1) w.3 in
-      elim (Rattle.cw_trace.proofs.Segments.Lines.or_cases (nat_eq w.0 n) (has (w.1 ∷ []) n) inside) [
+      let both = and_parts (is_strand t w.0) (is_strand t w.1) w.3 in
+      elim (Rattle.std.proofs.lemmas.Bool.or_cases (nat_eq w.0 n) (has (w.1 ∷ []) n) inside) [
         | inl z ↦ ap (is_strand t) (sym (eqb-true _ _ z)) ∙ both.0
-        | inr z ↦ elim (Rattle.cw_trace.proofs.Segments.Lines.or_cases (nat_eq w.1 n) false z) [ inl v ↦ ap (is_strand t) (sym (eqb-true _ _ v)) ∙ both.1 | inr v ↦ absurd (cc v) ]
+        | inr z ↦ elim (Rattle.std.proofs.lemmas.Bool.or_cases (nat_eq w.1 n) false z) [ inl v ↦ ap (is_strand t) (sym (eqb-true _ _ v)) ∙ both.1 | inr v ↦ absurd (cc v) ]
       ]
 
   -- of two strands of a fork the earlier is no right one
@@ -107,8 +107,8 @@ module _ (t : List Node) (tr : IsTree t) where
   is_left a b f e l h pa pb r =
       let z = any_found (λ m. nat_lt 0 m && is_strand t m && nat_eq (parent_of t m) (parent_of t a)) (below a) r in
       let w = some_below (λ m. nat_lt 0 m && is_strand t m && nat_eq (parent_of t m) (parent_of t a)) a z.0 z.1 in
-      let y = both_true (nat_lt 0 z.0 && is_strand t z.0) (nat_eq (parent_of t z.0) (parent_of t a)) w.passed in
-      no_third f z.0 a b e (ltb-true _ _ (both_true (nat_lt 0 z.0) (is_strand t z.0) y.0).0) w.low l h (eqb-true _ _ y.1 ∙ pa) pa pb
+      let y = and_parts (nat_lt 0 z.0 && is_strand t z.0) (nat_eq (parent_of t z.0) (parent_of t a)) w.passed in
+      no_third f z.0 a b e (ltb-true _ _ (and_parts (nat_lt 0 z.0) (is_strand t z.0) y.0).0) w.low l h (eqb-true _ _ y.1 ∙ pa) pa pb
 
   module _ (size : ℕ) where
     pub data Side (n f : ℕ) : Type 0 where
@@ -135,7 +135,7 @@ module _ (t : List Node) (tr : IsTree t) where
     pub in_right : (f r : ℕ) → is_fork t f ≡ true → 0 < r → r < length t → parent_of t r ≡ f → is_right t r ≡ true → (x : ℕ) → x < length t → column t size x ≡ fork_column t f + 1 → is_ancestor t r x ≡ true
     in_right f r ff pr hr er rr =
         by_parent t tr.rooted (λ x. column t size x ≡ fork_column t f + 1 → is_ancestor t r x ≡ true) (λ e. absurd (omega (arith, column_root)))
-        (λ x p h more e. elim (bool_or (is_strand t x)) [
+        (λ x p h more e. elim (cases_Bool (is_strand t x)) [
           | inr ns ↦ ancestor_up t tr.rooted r x p h (more (sym (column_other t tr size x p h ns) ∙ e))
           | inl st ↦ elim (side x (parent_of t x) p h refl st) [
             | bare u q ↦ ancestor_up t tr.rooted r x p h (more (sym q ∙ e))
@@ -165,7 +165,7 @@ module _ (t : List Node) (tr : IsTree t) where
     pub on_side : (b : Bool) (f : ℕ) → is_fork t f ≡ true → (x : ℕ) → x < length t → column t size x ≡ side_column f b → InFork f x b
     on_side b f ff =
         by_parent t tr.rooted (λ x. column t size x ≡ side_column f b → InFork f x b) (λ e. absurd (no_zero b (sym column_root ∙ e)))
-        (λ x p h more e. elim (bool_or (is_strand t x)) [
+        (λ x p h more e. elim (cases_Bool (is_strand t x)) [
           | inr ns ↦ up x p h (more (sym (column_other t tr size x p h ns) ∙ e))
           | inl st ↦ elim (side x (parent_of t x) p h refl st) [
             | bare u q ↦ up x p h (more (sym q ∙ e))

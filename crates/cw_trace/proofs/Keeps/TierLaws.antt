@@ -1,12 +1,12 @@
 -- The laws of a tier that stands for a tree.
-use Rattle.std.proofs.Common.{◌≡◌, ◌≢◌, ℕ, List, refl, ap, sym, ◌∙◌, false, inl, inr}
-use Rattle.std.specs.Prelude.{◌&&◌}
+use Rattle.std.proofs.Common.{◌≡◌, ℕ, List, refl, ap, sym, ◌∙◌, false, inl, inr}
 use Rattle.std.proofs.lemmas.Bool.{cases_eq, and_right}
 use Rattle.cw_tree.specs.declared.node.Node.{Node}
 use Rattle.cw_tree.specs.declared.node.BlockState.{BlockState}
-use Rattle.cw_tree.specs.Nodes.{is_pending, is_block, is_fork_kind, is_strand_kind, is_block_kind, is_pending_state, fresh_node, closed}
+use Rattle.cw_tree.specs.Nodes.{is_pending, is_block, is_fork_kind, is_strand_kind, is_pending_state, fresh_node, closed}
 use Rattle.cw_tree.specs.declared.node.Kind.TheVariants.{Block}
-use Rattle.cw_tree.proofs.NextNodes.Closing.{length_closed, number_closed, node_closed, node_closed_other, state_closed}
+use Rattle.cw_tree.proofs.NextNodes.Closing.{length_closed, number_closed, node_closed, state_closed}
+use Rattle.cw_tree.proofs.NextNodes.Pending.{pending_stays}
 use Rattle.cw_trace.specs.Laws.{Reading, GoesOnBeneath, RootStands, Leaf, Begin, Close, Join}
 use Rattle.cw_trace.proofs.Keeps.Adding.{keeps_leaf, keeps_begin}
 use Rattle.cw_trace.proofs.Keeps.Ending.{SameShape, keeps_close}
@@ -46,14 +46,11 @@ closed_shape t q state end = record {
 closed_here : (t : List Node) (q : ℕ) (state : BlockState) (end : ℕ) → is_pending_state state ≡ false → is_pending (closed t q state end) q ≡ false
 closed_here t q state end e = state_closed t q state end is_pending_state ∙ and_right (is_block t q) (is_pending_state state) e
 
-closed_other : (t : List Node) (q : ℕ) (state : BlockState) (end b : ℕ) → b ≢ q → is_pending (closed t q state end) b ≡ is_pending t b
-closed_other t q state end b n = node_closed_other t q state end (λ x. is_block_kind x.kind && is_pending_state x.state) b n
-
 pub close : Close
 close c words t cuts joins is_open q end state k tr o m pq e begun distinct =
     keeps_close c words t (closed t q state end) cuts joins tr k (closed_shape t q state end) q pq (goes_on c words t cuts joins tr k is_open o q m) (active c words t cuts joins tr k is_open o q m)
-    (λ b h. elim (cases_eq b q) [ inl z ↦ absurd (cc (sym (ap (is_pending (closed t q state end)) z) ∙ h, closed_here t q state end e)) | inr n ↦ (sym (closed_other t q state end b n) ∙ h, n) ])
-    (λ b h n. closed_other t q state end b n ∙ h) distinct
+    (λ b h. elim (cases_eq b q) [ inl z ↦ absurd (cc (sym (ap (is_pending (closed t q state end)) z) ∙ h, closed_here t q state end e)) | inr n ↦ (sym (pending_stays t q state end b n) ∙ h, n) ])
+    (λ b h n. pending_stays t q state end b n ∙ h) distinct
 
 pub join : Join
 join c words t cuts joins is_open f k tr o m = keeps_join c words t cuts joins k f (may_join c words t cuts joins k tr is_open o f m)

@@ -1,11 +1,11 @@
 -- A tree with one node more that is no strand and no fork, and a tree with one fork more, is a tree.
-use Rattle.std.proofs.Common.{◌≡◌, ℕ, zero, suc, ◌+◌, ◌-◌, ◌<◌, ◌≤◌, List, [], ◌∷◌, ◌++◌, length, refl, ap, sym, ◌∙◌, arith, Bool, true, false, Option, Some, None, nat_eq, nat_lt, inl, inr, subst, length-append}
+use Rattle.std.proofs.Common.{◌≡◌, ℕ, zero, suc, ◌+◌, ◌-◌, ◌<◌, ◌≤◌, List, [], ◌∷◌, ◌++◌, length, refl, ap, sym, ◌∙◌, arith, Bool, true, false, Some, nat_eq, nat_lt, inl, inr, subst, length-append}
 use Rattle.std.specs.Prelude.{◌⊎◌, ◌&&◌, ◌||◌, IsTrue}
 use Rattle.std.specs.List.{slice_get}
-use Rattle.std.proofs.lemmas.Bool.{ne_eqb, eq-eqb, lt-ltb, and_right, and_parts, and_from}
+use Rattle.std.proofs.lemmas.Bool.{ne_eqb, eq-eqb, lt-ltb, and_right, and_parts, and_from, or_left, or_right, cases_eq}
 use Rattle.cw_tree.specs.declared.node.Node.{Node}
 use Rattle.cw_tree.specs.declared.node.Kind.TheVariants.{Strand, Fork}
-use Rattle.cw_tree.specs.Nodes.{parent_of, is_fork, is_strand, is_block, is_pending, is_pending_state, is_strand_kind, is_fork_kind, is_block_kind, number_in, passes, fresh_node, below}
+use Rattle.cw_tree.specs.Nodes.{parent_of, is_fork, is_strand, is_block, is_strand_kind, is_fork_kind, is_block_kind, number_in, passes, fresh_node, below}
 use Rattle.cw_tree.specs.Walks.{IsRooted}
 use Rattle.cw_tree.specs.Series.{children}
 use Rattle.cw_tree.specs.Shape.{IsTree}
@@ -14,19 +14,14 @@ use Rattle.cw_tree.proofs.Members.{in_below, filter_same, below_none, below_last
 use Rattle.cw_trace.specs.Columns.{ColumnTable}
 use Rattle.cw_trace.specs.Running.{IsOrdered, MayGoOn}
 use Rattle.cw_tree.specs.NextNodes.{fork_nodes}
+use Rattle.cw_tree.proofs.Walks.There.{fork_there, strand_there}
+use Rattle.cw_tree.proofs.NodeKinds.{pending_block}
 use Rattle.cw_trace.proofs.Keeps.Forking.{get_right}
-use Rattle.cw_trace.proofs.Stands.InRange.{strand_low, fork_low}
-use Rattle.cw_trace.proofs.Segments.Lines.{same_or, le_or_lt, or_left, or_right}
+use Rattle.cw_trace.proofs.Segments.Lines.{le_or_lt}
 
 -- a node that may have children in series
 abbrev pub MayHaveChildren : List Node → ℕ → Type 0
 MayHaveChildren t p = (is_fork t p ≡ false) × ((is_strand t p || is_block t p) ≡ true)
-
-pending_is_block : (t : List Node) (n : ℕ) → is_pending t n ≡ true → is_block t n ≡ true
-pending_is_block t n e = by_node (slice_get t n) e where
-  by_node : (o : Option Node) → passes (λ x. is_block_kind x.kind && is_pending_state x.state) o ≡ true → passes (λ x. is_block_kind x.kind) o ≡ true
-  by_node None h = absurd (cc h)
-  by_node (Some x) h = (and_parts (is_block_kind x.kind) (is_pending_state x.state) h).0
 
 -- where a strand may go on is a strand or a block
 pub may_have : (c : ColumnTable) (t : List Node) (cuts joins : List ℕ) (is_open : ℕ → Bool) → IsOrdered c t cuts joins is_open → (p : ℕ) → MayGoOn c t cuts is_open p → MayHaveChildren t p
@@ -34,7 +29,7 @@ may_have c t cuts joins is_open o p m = (
   m.no_fork,
   elim (o.kinds p m.there m.opened) [
     | inl e ↦ or_left (is_strand t p) (is_block t p) e
-    | inr w ↦ elim w [ inl e ↦ absurd (cc (e, m.no_fork)) | inr e ↦ or_right (is_strand t p) (is_block t p) (pending_is_block t p e) ]
+    | inr w ↦ elim w [ inl e ↦ absurd (cc (e, m.no_fork)) | inr e ↦ or_right (is_strand t p) (is_block t p) (pending_block t p e) ]
   ],
 )
 
@@ -72,7 +67,7 @@ module _ (t s : List Node) (tr : IsTree t) where
         let both = and_parts (is_strand t w.0) (is_strand t w.1) w.3 in
         (w.0, w.1, children_grown f h e ∙ w.2, and_from (is_strand grown w.0) (is_strand grown w.1) (stays w.0 both.0) (stays w.1 both.1)) where
           stays : (x : ℕ) → is_strand t x ≡ true → is_strand grown x ≡ true
-          stays x q = node_grown t s (λ y. is_strand_kind y.kind) x (strand_low t x q) ∙ q
+          stays x q = node_grown t s (λ y. is_strand_kind y.kind) x (strand_there t x q) ∙ q
 
     -- an old node goes on to be a node that may have children
     pub parents_grown : (x : ℕ) → x < length t → (is_strand t x || is_fork t x || is_block t x) ≡ true → (is_strand grown x || is_fork grown x || is_block grown x) ≡ true
@@ -85,7 +80,7 @@ module _ (t s : List Node) (tr : IsTree t) where
     pub strand_grown : (x : ℕ) → x < length t → 0 < x → is_strand grown x ≡ true → is_fork grown (parent_of grown x) ≡ true
     strand_grown x h q e =
         let up = tr.strands x h q (sym (node_grown t s (λ y. is_strand_kind y.kind) x h) ∙ e) in
-        ap (is_fork grown) (number_grown t s (λ y. y.parent) x h) ∙ node_grown t s (λ y. is_fork_kind y.kind) (parent_of t x) (fork_low t (parent_of t x) up) ∙ up
+        ap (is_fork grown) (number_grown t s (λ y. y.parent) x h) ∙ node_grown t s (λ y. is_fork_kind y.kind) (parent_of t x) (fork_there t (parent_of t x) up) ∙ up
 
     pub parent_grown : (x : ℕ) → x < length t → 0 < x → (is_strand grown (parent_of grown x) || is_fork grown (parent_of grown x) || is_block grown (parent_of grown x)) ≡ true
     parent_grown x h q =
@@ -168,7 +163,7 @@ module _ (t : List Node) (tr : IsTree t) (p : ℕ) (hp : p < length t) (may : Ma
     which : (m : ℕ) → m < length u → (m < length t) ⊎ ((m ≡ length t) ⊎ ((j : ℕ) × (0 < j) × (j < 3) × (m ≡ length t + j)))
     which m h = elim (le_or_lt (length t) m) [
       | inr l ↦ inl l
-      | inl l ↦ elim (same_or m (length t)) [ inl e ↦ inr (inl e) | inr n ↦ inr (inr (m - length t, omega (arith, n), omega (arith, new_length), omega arith)) ]
+      | inl l ↦ elim (cases_eq m (length t)) [ inl e ↦ inr (inl e) | inr n ↦ inr (inr (m - length t, omega (arith, n), omega (arith, new_length), omega arith)) ]
     ]
 
     new : NewParents t more tr p

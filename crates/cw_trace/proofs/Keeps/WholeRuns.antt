@@ -6,12 +6,12 @@ use Rattle.cw_trace.specs.Columns.{ColumnTable, used, owner}
 use Rattle.cw_trace.specs.Stands.{column}
 use Rattle.cw_trace.specs.Keeps.{Keeps}
 use Rattle.cw_trace.specs.Runs.{ReachedTier, start, fork, inline, split, merge, join, leaf, begin, close, EachRunStands, EachRunGoesOn, Suspended}
-use Rattle.cw_trace.proofs.Stands.InRange.{pending_low}
 use Rattle.cw_trace.proofs.Keeps.Kept.{fork_keeps, inline_keeps}
 use Rattle.cw_trace.proofs.Outward.FromTree.{split_keeps, merge_keeps}
 use Rattle.cw_trace.proofs.Keeps.Meaning.{stands_of}
 use Rattle.cw_trace.proofs.Keeps.Owners.{beneath_cut}
 use Rattle.cw_trace.proofs.Keeps.TierLaws as law
+use Rattle.cw_tree.proofs.Walks.There.{pending_there}
 
 kept : (c : ColumnTable) (words : List ℕ) (t : List Node) (cuts joins : List ℕ) → ReachedTier c words t cuts joins → Keeps c words t cuts joins
 kept _ _ _ _ _ (start room words some fits zeros) = law.start room words some fits zeros
@@ -34,4 +34,4 @@ pub suspended : Suspended
 suspended c words t cuts joins k tr b n h pb d =
     let st = stands_of c words t cuts joins k in
     let f = beneath_cut c words t cuts joins tr st (owner c (column t (used c) b)) (owner c (column t (used c) n)) d n h refl in
-    ancestor_trans t tr.rooted b f.0 n h (st.contains_cut b f.0 (pending_low t b pb) pb f.1.fork f.1.cut) f.1.above
+    ancestor_trans t tr.rooted b f.0 n h (st.contains_cut b f.0 (pending_there t b pb) pb f.1.fork f.1.cut) f.1.above

@@ -3,6 +3,7 @@ use Rattle.std.proofs.Common.{◌≡◌, ◌≢◌, ℕ, ◌+◌, ◌<◌, ◌�
 use Rattle.std.specs.Prelude.{◌⊎◌, ◌↔◌, IsTrue, slice_index, slice_index_or, slice_set}
 use Rattle.std.specs.List.{filter, Contains, IsDistinct}
 use Rattle.std.specs.Option.{option_map}
+use Rattle.std.specs.Vec.{vec_capacity}
 use Rattle.std.proofs.lemmas.List.{get_or_read, get_or-set_same, get_or-set_other, length-set}
 use Rattle.cw_order.specs.Order.{placed_after, without, position}
 use Rattle.cw_tree.specs.Walks.{has}
@@ -19,13 +20,13 @@ kept_differ a k = λ x y hx hy e. sym (k.back x hx) ∙ ap (slice_index a.elemen
 pub record Marked (a : Inside) (m e : ℕ) : Type 0 where
   pub there : has a.order.elements e ≡ true
   pub marks : bracket_of a e ≡ m
-  pub low : m < a.order.room
+  pub low : m < length a.elements.items
 
 pub mark_low : (a : Inside) (s : Marks) → AreBracketsInMemory a → marks_of a ≡ s → (m : ℕ) → has s.marks m ≡ true → m < length a.elements.items
 mark_low a s k v m h =
     let z = has_map (bracket_of a) a.order.elements m (ap (λ x. has x.marks m) v ∙ h) in
     let low = k.mark_low z.0 z.1 in
-    omega (arith, z.2, k.all_marks)
+    omega (arith, z.2)
 
 pub marked : (a : Inside) (s : Marks) → AreBracketsInMemory a → marks_of a ≡ s → (m e : ℕ) → has s.marks m ≡ true → e ≡ slice_index_or a.elements.items m e → Marked a m e
 marked a s k v m e h q =
@@ -49,23 +50,52 @@ place_some a at place m e p q w = record {
 pub place_none : (a : Inside) (at place : Option ℕ) → at ≡ None → place ≡ None → Place a at place
 place_none a at place p q = record { there = λ x h. absurd (cc (q, h)); marks = p ∙ sym (ap (option_map (bracket_of a)) q) }
 
+-- longer tables, of which each read is as before
+pub record HasReached (a d : Inside) : Type 0 where
+  pub kept : AreBracketsInMemory d
+  pub marks : marks_of d ≡ marks_of a
+  pub place : (at place : Option ℕ) → Place a at place → Place d at place
+
+pub reached : (a d : Inside) → AreBracketsInMemory a → d.order ≡ a.order → ((k : ℕ) → slice_index d.elements.items k ≡ slice_index a.elements.items k) → ((k : ℕ) → slice_index d.marks.items k ≡ slice_index a.marks.items k)
+    → length a.elements.items ≤ length d.elements.items → length a.marks.items ≤ length d.marks.items → vec_capacity a.elements ≤ vec_capacity d.elements → vec_capacity a.marks ≤ vec_capacity d.marks → HasReached a d
+reached a d k order elements marks more_elements more_marks elements_as marks_as = record {
+  kept = record {
+    elements_room = omega (arith, k.elements_room, ap (λ o. o.room) order);
+    marks_room = omega (arith, k.marks_room, ap (λ o. o.room) order);
+    distinct = subst (λ o. IsDistinct nat_eq o.elements) (sym order) k.distinct;
+    low = λ e h. (let l = k.low e (old e h) in omega (arith, more_marks));
+    mark_low = λ e h. (let l = k.mark_low e (old e h) in omega (arith, marks e, more_elements));
+    back = λ e h. ap (slice_index d.elements.items) (marks e) ∙ elements (bracket_of a e) ∙ k.back e (old e h);
+  };
+  marks =
+      ap (λ o. let s : Marks = record { marks = map (λ e. slice_index d.marks.items e) o.elements; room = o.room } in s) order
+      ∙ ap (λ ms. let s : Marks = record { marks = ms; room = a.order.room } in s) (map_alike (bracket_of d) (bracket_of a) a.order.elements (λ x h. marks x));
+  place = λ at place p. record { there = λ x h. ap (λ o. has o.elements x) order ∙ p.there x h; marks = p.marks ∙ same place };
+} where
+  old : (e : ℕ) → has d.order.elements e ≡ true → has a.order.elements e ≡ true
+  old e h = ap (λ o. has o.elements e) (sym order) ∙ h
+
+  same : (place : Option ℕ) → option_map (bracket_of a) place ≡ option_map (bracket_of d) place
+  same None = refl
+  same (Some x) = ap Some (sym (marks x))
+
 -- one mark more
 pub record HasInserted (a d : Inside) (at : Option ℕ) (m : ℕ) : Type 0 where
   pub kept : AreBracketsInMemory d
   pub marks : (marks_of d).marks ≡ with_mark at m (marks_of a).marks
 
 pub inserted : (a d : Inside) (at place : Option ℕ) (e m : ℕ) → AreBracketsInMemory a → at ≡ option_map (bracket_of a) place → ((x : ℕ) → place ≡ Some x → has a.order.elements x ≡ true)
-    → (Contains a.order.elements e → ⊥) → e ≤ a.order.room → d.order.elements ≡ placed_after place e a.order.elements → IsDistinct nat_eq d.order.elements → d.order.room ≡ a.order.room
-    → d.elements.items ≡ slice_set a.elements.items m e → d.marks.items ≡ slice_set a.marks.items e m → m < a.order.room → has (marks_of a).marks m ≡ false → HasInserted a d at m
-inserted a d at place e m k same_at there fresh high placed distinct room elements marks low lacks = record {
+    → (Contains a.order.elements e → ⊥) → e < length a.marks.items → d.order.elements ≡ placed_after place e a.order.elements → IsDistinct nat_eq d.order.elements → d.order.room ≡ a.order.room
+    → d.elements.items ≡ slice_set a.elements.items m e → d.marks.items ≡ slice_set a.marks.items e m → vec_capacity d.elements ≡ vec_capacity a.elements → vec_capacity d.marks ≡ vec_capacity a.marks → m < length a.elements.items → has (marks_of a).marks m ≡ false → HasInserted a d at m
+inserted a d at place e m k same_at there fresh high placed distinct room elements marks elements_as marks_as low lacks = record {
   kept = record {
-    all_marks = ap length elements ∙ length-set a.elements.items m e ∙ k.all_marks ∙ sym room;
-    all_elements = ap length marks ∙ length-set a.marks.items e m ∙ k.all_elements ∙ ap (λ n. n + 1) (sym room);
+    elements_room = omega (arith, k.elements_room, room, elements_as);
+    marks_room = omega (arith, k.marks_room, room, marks_as);
     distinct = distinct;
-    low = λ x h. elim (cases x h) [ inl q ↦ omega (arith, q, room) | inr g ↦ (let l = k.low x g in omega (arith, room)) ];
-    mark_low = λ x h. elim (cases x h) [ inl q ↦ omega (arith, ap (bracket_of d) (sym q), mark_new, room) | inr g ↦ (let l = k.mark_low x g in omega (arith, mark_old x g, room)) ];
+    low = λ x h. elim (cases x h) [ inl q ↦ omega (arith, q, marks_long) | inr g ↦ (let l = k.low x g in omega (arith, marks_long)) ];
+    mark_low = λ x h. elim (cases x h) [ inl q ↦ omega (arith, ap (bracket_of d) (sym q), mark_new, elements_long) | inr g ↦ (let l = k.mark_low x g in omega (arith, mark_old x g, elements_long)) ];
     back = λ x h. elim (cases x h) [
-      | inl q ↦ ap (slice_index d.elements.items) (ap (bracket_of d) (sym q) ∙ mark_new) ∙ ap (λ xs. slice_index xs m) elements ∙ get_or-set_same a.elements.items m e 0 (omega (arith, k.all_marks)) ∙ q
+      | inl q ↦ ap (slice_index d.elements.items) (ap (bracket_of d) (sym q) ∙ mark_new) ∙ ap (λ xs. slice_index xs m) elements ∙ get_or-set_same a.elements.items m e 0 low ∙ q
       | inr g ↦ ap (slice_index d.elements.items) (mark_old x g) ∙ ap (λ xs. slice_index xs (bracket_of a x)) elements ∙ get_or-set_other a.elements.items m (bracket_of a x) e 0 (other x g) ∙ k.back x g
     ];
   };
@@ -75,11 +105,17 @@ inserted a d at place e m k same_at there fresh high placed distinct room elemen
       ∙ ap (λ n. with_mark at n (map (bracket_of d) a.order.elements)) mark_new
       ∙ ap (with_mark at m) (map_alike (bracket_of d) (bracket_of a) a.order.elements mark_old);
 } where
+  elements_long : length d.elements.items ≡ length a.elements.items
+  elements_long = ap length elements ∙ length-set a.elements.items m e
+
+  marks_long : length d.marks.items ≡ length a.marks.items
+  marks_long = ap length marks ∙ length-set a.marks.items e m
+
   cases : (x : ℕ) → has d.order.elements x ≡ true → (e ≡ x) ⊎ (has a.order.elements x ≡ true)
   cases x h = placed_has place e a.order.elements x (ap (λ xs. has xs x) (sym placed) ∙ h)
 
   mark_new : bracket_of d e ≡ m
-  mark_new = ap (λ xs. slice_index xs e) marks ∙ get_or-set_same a.marks.items e m 0 (omega (arith, k.all_elements))
+  mark_new = ap (λ xs. slice_index xs e) marks ∙ get_or-set_same a.marks.items e m 0 high
 
   differs : (x : ℕ) → has a.order.elements x ≡ true → x ≢ e
   differs x g q = fresh (has_contains a.order.elements e (ap (has a.order.elements) (sym q) ∙ g))
@@ -102,14 +138,14 @@ pub record HasRemoved (a d : Inside) (m : ℕ) : Type 0 where
   pub kept : AreBracketsInMemory d
   pub marks : (marks_of d).marks ≡ filter (λ b. not (nat_eq b m)) (marks_of a).marks
 
-pub removed : (a d : Inside) (e m : ℕ) → AreBracketsInMemory a → Marked a m e → d.order.elements ≡ without e a.order.elements → IsDistinct nat_eq d.order.elements → d.order.room ≡ a.order.room → d.elements.items ≡ a.elements.items → d.marks.items ≡ a.marks.items → HasRemoved a d m
-removed a d e m k w out distinct room elements marks = record {
+pub removed : (a d : Inside) (e m : ℕ) → AreBracketsInMemory a → Marked a m e → d.order.elements ≡ without e a.order.elements → IsDistinct nat_eq d.order.elements → d.order.room ≡ a.order.room → d.elements.items ≡ a.elements.items → d.marks.items ≡ a.marks.items → vec_capacity d.elements ≡ vec_capacity a.elements → vec_capacity d.marks ≡ vec_capacity a.marks → HasRemoved a d m
+removed a d e m k w out distinct room elements marks elements_as marks_as = record {
   kept = record {
-    all_marks = ap length elements ∙ k.all_marks ∙ sym room;
-    all_elements = ap length marks ∙ k.all_elements ∙ ap (λ n. n + 1) (sym room);
+    elements_room = omega (arith, k.elements_room, room, elements_as);
+    marks_room = omega (arith, k.marks_room, room, marks_as);
     distinct = distinct;
-    low = λ x h. (let l = k.low x (old x h) in omega (arith, room));
-    mark_low = λ x h. (let l = k.mark_low x (old x h) in omega (arith, same x, room));
+    low = λ x h. (let l = k.low x (old x h) in omega (arith, ap length marks));
+    mark_low = λ x h. (let l = k.mark_low x (old x h) in omega (arith, same x, ap length elements));
     back = λ x h. ap (slice_index d.elements.items) (same x) ∙ ap (λ xs. slice_index xs (bracket_of a x)) elements ∙ k.back x (old x h);
   };
   marks =

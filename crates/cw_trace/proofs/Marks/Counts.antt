@@ -4,10 +4,11 @@ use Rattle.std.specs.Prelude.{◌⊎◌, ◌/◌, ◌%◌, is_some, slice_set}
 use Rattle.std.specs.List.{slice_get}
 use Rattle.std.proofs.lemmas.Option.{slice_get_past}
 use Rattle.cw_tree.specs.Walks.{has}
+use Rattle.cw_tree.proofs.NextNodes.Closing.{get_set_other}
 use Rattle.cw_trace.specs.declared.tier.Trace.{Trace}
 use Rattle.cw_trace.specs.Columns.{ColumnTable, used, trace_in, is_trace, opening_mark, closing_mark, marks}
 use Rattle.cw_trace.specs.Tier.{trace_count, AreSound}
-use Rattle.cw_trace.proofs.Marks.Edits.{set_get_same, set_get_other}
+use Rattle.cw_trace.proofs.Marks.Edits.{set_get_same}
 use Rattle.cw_trace.proofs.Segments.Lines.{le_or_lt}
 use Rattle.cw_trace.proofs.Marks.Numbering.{has_here, has_later}
 use Rattle.cw_trace.proofs.Segments.Nested.{whose}
@@ -49,7 +50,7 @@ count_none (None ∷ ts) = count_none ts
 count_none (Some y ∷ ts) = ap suc (count_none ts)
 
 pub named_same : (ts : List (Option Trace)) (i j : ℕ) (v : Option Trace) → j ≢ i → named_at (slice_set ts i v) j ≡ named_at ts j
-named_same ts i j v n = ap (λ o. is_some (trace_in o)) (set_get_other ts i j v n)
+named_same ts i j v n = ap (λ o. is_some (trace_in o)) (get_set_other ts i j v n)
 
 pub named_set : (ts : List (Option Trace)) (i : ℕ) (v : Option Trace) → i < length ts → named_at (slice_set ts i v) i ≡ is_some v
 named_set ts i v h = ap (λ o. is_some (trace_in o)) (set_get_same ts i v h)
@@ -65,11 +66,6 @@ pub record SameLengths (c : ColumnTable) : Type 0 where
 
 pub odd_next : (f n : ℕ) → f % 2 ≡ 1 → f < n → n % 2 ≡ 1 → f + 1 < n
 odd_next f n a b e = omega arith
-
-pub odd_apart : (s f : ℕ) → s % 2 ≡ 1 → f % 2 ≡ 1 → s ≢ f + 1
-odd_apart s f a b e = by_eq s f a b e where
-  by_eq : (s f : ℕ) → s % 2 ≡ 1 → f % 2 ≡ 1 → s ≡ f + 1 → ⊥
-  by_eq s f a b e = omega arith
 
 pub half_opening : (x : ℕ) → opening_mark x / 2 ≡ x
 half_opening x = omega arith

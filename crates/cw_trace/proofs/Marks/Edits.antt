@@ -2,24 +2,16 @@
 use Rattle.std.proofs.Common.{◌≡◌, ◌≢◌, ℕ, zero, suc, ◌+◌, ◌<◌, ◌≤◌, List, [], ◌∷◌, ◌++◌, length, refl, ap, sym, ◌∙◌, arith, Bool, true, false, Some, take, drop, map, eq-eqb, length-take, take-append-drop, inl, inr}
 use Rattle.std.specs.Prelude.{◌==◌, ◌&&◌, ◌||◌, nat_le, slice_index, slice_set, if◌then◌else◌}
 use Rattle.std.specs.List.{slice_get}
-use Rattle.std.proofs.lemmas.Bool.{ne_eqb, leb-true}
+use Rattle.std.proofs.lemmas.Bool.{ne_eqb, leb-true, cases_Bool}
 use Rattle.std.proofs.lemmas.List.Edits.{map_over_more}
 use Rattle.std.proofs.lemmas.Grind.{get_or_default_zero}
 use Rattle.cw_trace.specs.Columns.{parts, part_of, back_to}
-use Rattle.cw_trace.proofs.Segments.Lines.{bool_or}
 use Rattle.cw_tree.specs.Walks.{has}
 
 pub set_get_same : {A : Type 0} → (xs : List A) (i : ℕ) (a : A) → i < length xs → slice_get (slice_set xs i a) i ≡ Some a
 set_get_same [] i a h = absurd (omega arith)
 set_get_same (x ∷ xs) zero a h = refl
 set_get_same (x ∷ xs) (suc i) a h = set_get_same xs i a (omega arith)
-
-pub set_get_other : {A : Type 0} → (xs : List A) (i j : ℕ) (a : A) → j ≢ i → slice_get (slice_set xs i a) j ≡ slice_get xs j
-set_get_other [] i j a h = refl
-set_get_other (x ∷ xs) zero zero a h = absurd (h refl)
-set_get_other (x ∷ xs) zero (suc j) a h = refl
-set_get_other (x ∷ xs) (suc i) zero a h = refl
-set_get_other (x ∷ xs) (suc i) (suc j) a h = set_get_other xs i j a (λ e. h (ap suc e))
 
 pub length_parts : (t f k : ℕ) (os : List ℕ) → length (parts t f k os) ≡ length os
 length_parts t f k [] = refl
@@ -92,7 +84,7 @@ parts_before t f xs h = sym (ap (λ ys. ys ++ drop f xs) (small (take f xs) 0 (o
   stays : (k o : ℕ) → k < f → part_of t f k o ≡ o
   stays k o l = ap (λ b. if b then f + 1 else if (o == t) && nat_le f k then f else o) (ne_eqb k (f + 1) (omega arith)) ∙ ap (λ b. if (o == t) && b then f else o) (nat_le_no f k l) ∙ no_and (o == t) where
     nat_le_no : (f k : ℕ) → k < f → nat_le f k ≡ false
-    nat_le_no f k l = elim (bool_or (nat_le f k)) [ inl e ↦ (let z : f ≤ k = leb-true f k e in absurd (omega arith)) | inr e ↦ e ]
+    nat_le_no f k l = elim (cases_Bool (nat_le f k)) [ inl e ↦ (let z : f ≤ k = leb-true f k e in absurd (omega arith)) | inr e ↦ e ]
 
     no_and : (b : Bool) → (if b && false then f else o) ≡ o
     no_and true = refl

@@ -2,23 +2,14 @@
 use Rattle.std.proofs.Common.{◌≡◌, ◌≢◌, ℕ, List, [], ◌∷◌, ◌++◌, refl, ap, sym, ◌∙◌, Bool, true, false, cond, nat_eq, inl, inr, eq-eqb, eqb-true}
 use Rattle.std.specs.Prelude.{◌⊎◌, ◌||◌, if◌then◌else◌}
 use Rattle.std.specs.List.{filter}
-use Rattle.std.proofs.lemmas.Bool.{ne_eqb}
+use Rattle.std.proofs.lemmas.Bool.{ne_eqb, or_parts, or_from, or_left, or_right, or_cases, cases_Bool}
 use Rattle.std.proofs.lemmas.List.Folds.{list_any-append}
 use Rattle.cw_trace.specs.Columns.{stands_before, place_after}
 use Rattle.cw_tree.specs.Walks.{has}
 use Rattle.cw_trace.specs.Keeps.{Distinct}
-use Rattle.cw_trace.proofs.Segments.Lines.{bool_or, or_cases, or_left, or_right}
 
 pub has_append : (xs ys : List ℕ) (b : ℕ) → has (xs ++ ys) b ≡ (has xs b || has ys b)
 has_append xs ys b = list_any-append (λ m. nat_eq m b) xs ys
-
-or_none : (a b : Bool) → (a || b) ≡ false → (a ≡ false) × (b ≡ false)
-or_none true b e = absurd (cc e)
-or_none false b e = (refl, e)
-
-or_both : (a b : Bool) → a ≡ false → b ≡ false → (a || b) ≡ false
-or_both true b e f = absurd (cc e)
-or_both false b e f = f
 
 has_skip : (ns xs : List ℕ) (b : ℕ) → has ns b ≡ false → has (ns ++ xs) b ≡ has xs b
 has_skip ns xs b e = has_append ns xs b ∙ ap (λ z. z || has xs b) e
@@ -26,12 +17,12 @@ has_skip ns xs b e = has_append ns xs b ∙ ap (λ z. z || has xs b) e
 -- past numbers that are not asked about
 before_skip : (ns xs : List ℕ) (a b : ℕ) → has ns a ≡ false → stands_before (ns ++ xs) a b ≡ stands_before xs a b
 before_skip [] xs a b e = refl
-before_skip (n ∷ ns) xs a b e = let z = or_none (nat_eq n a) (has ns a) e in ap (λ q. if q then has (ns ++ xs) b else stands_before (ns ++ xs) a b) z.0 ∙ before_skip ns xs a b z.1
+before_skip (n ∷ ns) xs a b e = let z = or_parts (nat_eq n a) (has ns a) e in ap (λ q. if q then has (ns ++ xs) b else stands_before (ns ++ xs) a b) z.0 ∙ before_skip ns xs a b z.1
 
 -- the first number is among the new ones, the second behind them
 before_across : (ns xs : List ℕ) (a b : ℕ) → has ns a ≡ true → has ns b ≡ false → stands_before (ns ++ xs) a b ≡ has xs b
 before_across [] xs a b e f = absurd (cc e)
-before_across (n ∷ ns) xs a b e f = by_test (nat_eq n a) refl (or_none (nat_eq n b) (has ns b) f).1 (λ y. before_across ns xs a b y (or_none (nat_eq n b) (has ns b) f).1) where
+before_across (n ∷ ns) xs a b e f = by_test (nat_eq n a) refl (or_parts (nat_eq n b) (has ns b) f).1 (λ y. before_across ns xs a b y (or_parts (nat_eq n b) (has ns b) f).1) where
   by_test : (q : Bool) → nat_eq n a ≡ q → has ns b ≡ false → (has ns a ≡ true → stands_before (ns ++ xs) a b ≡ has xs b) → (if nat_eq n a then has (ns ++ xs) b else stands_before (ns ++ xs) a b) ≡ has xs b
   by_test true q g more = ap (λ z. if z then has (ns ++ xs) b else stands_before (ns ++ xs) a b) q ∙ has_skip ns xs b g
   by_test false q g more = ap (λ z. if z then has (ns ++ xs) b else stands_before (ns ++ xs) a b) q ∙ more (sym (ap (λ z. z || has ns a) q) ∙ e)
@@ -104,7 +95,7 @@ module _ (at : ℕ) (ns : List ℕ) where
     by_test false q more = ap (λ z. if nat_eq x a then z else stands_before (place_after at ns xs) a b) (has_place_old xs b f) ∙ ap (λ z. if nat_eq x a then has xs b else z) more
 
   no_more : (xs : List ℕ) (a : ℕ) → has xs a ≡ false → (b : ℕ) → (stands_before xs b a ≡ false) × (stands_before xs a b ≡ false)
-  no_more xs a e b = (by_bool (bool_or (stands_before xs b a)) (λ q. before_second xs b a q), by_bool (bool_or (stands_before xs a b)) (λ q. before_first xs a b q)) where
+  no_more xs a e b = (by_bool (cases_Bool (stands_before xs b a)) (λ q. before_second xs b a q), by_bool (cases_Bool (stands_before xs a b)) (λ q. before_first xs a b q)) where
     by_bool : {p : Bool} → (p ≡ true) ⊎ (p ≡ false) → (p ≡ true → has xs a ≡ true) → p ≡ false
     by_bool (inl q) f = absurd (cc (f q, e))
     by_bool (inr q) f = q
@@ -112,12 +103,12 @@ module _ (at : ℕ) (ns : List ℕ) where
   -- a new number comes after what its neighbour comes after, and after that neighbour
   pub before_new : (xs : List ℕ) → Distinct xs → (a b : ℕ) → has ns a ≡ false → has ns b ≡ true → has xs b ≡ false → has xs at ≡ true → stands_before (place_after at ns xs) a b ≡ (nat_eq at a || stands_before xs a at)
   before_new [] d a b e f g h = absurd (cc h)
-  before_new (x ∷ xs) d a b e f g h = by_test (nat_eq x at) refl (λ y. before_new xs d.1 a b e f (or_none (nat_eq x b) (has xs b) g).1 y) where
+  before_new (x ∷ xs) d a b e f g h = by_test (nat_eq x at) refl (λ y. before_new xs d.1 a b e f (or_parts (nat_eq x b) (has xs b) g).1 y) where
     by_same : x ≡ at → (q : Bool) → nat_eq x a ≡ q → (if q then has (ns ++ xs) b else stands_before (ns ++ xs) a b) ≡ (nat_eq at a || (if q then has xs at else stands_before xs a at))
     by_same s true q = has_append ns xs b ∙ ap (λ z. z || has xs b) f ∙ sym (ap (λ z. z || has xs at) (sym (ap (λ y. nat_eq y a) s) ∙ q))
     by_same s false q =
-        before_skip ns xs a b e ∙ (no_more xs b (or_none (nat_eq x b) (has xs b) g).1 a).0
-        ∙ sym (or_both (nat_eq at a) (stands_before xs a at) (sym (ap (λ y. nat_eq y a) s) ∙ q) (no_more xs at (sym (ap (has xs) s) ∙ d.0) a).0)
+        before_skip ns xs a b e ∙ (no_more xs b (or_parts (nat_eq x b) (has xs b) g).1 a).0
+        ∙ sym (or_from (nat_eq at a) (stands_before xs a at) (sym (ap (λ y. nat_eq y a) s) ∙ q) (no_more xs at (sym (ap (has xs) s) ∙ d.0) a).0)
 
     by_other : x ≢ at → has xs at ≡ true → stands_before (place_after at ns xs) a b ≡ (nat_eq at a || stands_before xs a at) → (q : Bool) → nat_eq x a ≡ q → (if q then has (place_after at ns xs) b else stands_before (place_after at ns xs) a b) ≡ (nat_eq at a || (if q then has xs at else stands_before xs a at))
     by_other s i more true q = has_place xs b i ∙ ap (λ z. z || has xs b) f ∙ sym (or_right (nat_eq at a) (has xs at) i)
@@ -132,29 +123,29 @@ module _ (at : ℕ) (ns : List ℕ) where
   -- and before what its neighbour comes before
   pub new_before : (xs : List ℕ) (a b : ℕ) → has ns a ≡ true → has xs a ≡ false → has ns b ≡ false → stands_before (place_after at ns xs) a b ≡ stands_before xs at b
   new_before [] a b e f g = refl
-  new_before (x ∷ xs) a b e f g = by_test (nat_eq x at) refl (new_before xs a b e (or_none (nat_eq x a) (has xs a) f).1 g) where
+  new_before (x ∷ xs) a b e f g = by_test (nat_eq x at) refl (new_before xs a b e (or_parts (nat_eq x a) (has xs a) f).1 g) where
     by_test : (q : Bool) → nat_eq x at ≡ q → stands_before (place_after at ns xs) a b ≡ stands_before xs at b → stands_before (if nat_eq x at then x ∷ (ns ++ xs) else x ∷ place_after at ns xs) a b ≡ (if nat_eq x at then has xs b else stands_before xs at b)
     by_test true q more =
-        ap (λ z. stands_before (if z then x ∷ (ns ++ xs) else x ∷ place_after at ns xs) a b) q ∙ ap (λ z. if z then has (ns ++ xs) b else stands_before (ns ++ xs) a b) (or_none (nat_eq x a) (has xs a) f).0
+        ap (λ z. stands_before (if z then x ∷ (ns ++ xs) else x ∷ place_after at ns xs) a b) q ∙ ap (λ z. if z then has (ns ++ xs) b else stands_before (ns ++ xs) a b) (or_parts (nat_eq x a) (has xs a) f).0
         ∙ before_across ns xs a b e g ∙ sym (ap (λ z. if z then has xs b else stands_before xs at b) q)
     by_test false q more =
-        ap (λ z. stands_before (if z then x ∷ (ns ++ xs) else x ∷ place_after at ns xs) a b) q ∙ ap (λ z. if z then has (place_after at ns xs) b else stands_before (place_after at ns xs) a b) (or_none (nat_eq x a) (has xs a) f).0
+        ap (λ z. stands_before (if z then x ∷ (ns ++ xs) else x ∷ place_after at ns xs) a b) q ∙ ap (λ z. if z then has (place_after at ns xs) b else stands_before (place_after at ns xs) a b) (or_parts (nat_eq x a) (has xs a) f).0
         ∙ more ∙ sym (ap (λ z. if z then has xs b else stands_before xs at b) q)
 
   pub new_new : (xs : List ℕ) (a b : ℕ) → has ns a ≡ true → has xs a ≡ false → has xs b ≡ false → has xs at ≡ true → stands_before (place_after at ns xs) a b ≡ stands_before ns a b
   new_new [] a b e f g h = absurd (cc h)
-  new_new (x ∷ xs) a b e f g h = by_test (nat_eq x at) refl (λ y. new_new xs a b e (or_none (nat_eq x a) (has xs a) f).1 (or_none (nat_eq x b) (has xs b) g).1 y) where
+  new_new (x ∷ xs) a b e f g h = by_test (nat_eq x at) refl (λ y. new_new xs a b e (or_parts (nat_eq x a) (has xs a) f).1 (or_parts (nat_eq x b) (has xs b) g).1 y) where
     by_test : (q : Bool) → nat_eq x at ≡ q → (has xs at ≡ true → stands_before (place_after at ns xs) a b ≡ stands_before ns a b) → stands_before (if nat_eq x at then x ∷ (ns ++ xs) else x ∷ place_after at ns xs) a b ≡ stands_before ns a b
     by_test true q more =
-        ap (λ z. stands_before (if z then x ∷ (ns ++ xs) else x ∷ place_after at ns xs) a b) q ∙ ap (λ z. if z then has (ns ++ xs) b else stands_before (ns ++ xs) a b) (or_none (nat_eq x a) (has xs a) f).0
-        ∙ before_among ns xs a b e (or_none (nat_eq x b) (has xs b) g).1
+        ap (λ z. stands_before (if z then x ∷ (ns ++ xs) else x ∷ place_after at ns xs) a b) q ∙ ap (λ z. if z then has (ns ++ xs) b else stands_before (ns ++ xs) a b) (or_parts (nat_eq x a) (has xs a) f).0
+        ∙ before_among ns xs a b e (or_parts (nat_eq x b) (has xs b) g).1
     by_test false q more =
-        ap (λ z. stands_before (if z then x ∷ (ns ++ xs) else x ∷ place_after at ns xs) a b) q ∙ ap (λ z. if z then has (place_after at ns xs) b else stands_before (place_after at ns xs) a b) (or_none (nat_eq x a) (has xs a) f).0
+        ap (λ z. stands_before (if z then x ∷ (ns ++ xs) else x ∷ place_after at ns xs) a b) q ∙ ap (λ z. if z then has (place_after at ns xs) b else stands_before (place_after at ns xs) a b) (or_parts (nat_eq x a) (has xs a) f).0
         ∙ more (sym (ap (λ z. z || has xs at) q) ∙ h)
 
   distinct_append : (ns xs : List ℕ) → Distinct ns → Distinct xs → ((b : ℕ) → has ns b ≡ true → has xs b ≡ false) → Distinct (ns ++ xs)
   distinct_append [] xs d e f = e
-  distinct_append (n ∷ ns) xs d e f = (has_append ns xs n ∙ or_both (has ns n) (has xs n) d.0 (f n (or_left (nat_eq n n) (has ns n) (eq-eqb n n refl))), distinct_append ns xs d.1 e (λ b h. f b (or_right (nat_eq n b) (has ns b) h)))
+  distinct_append (n ∷ ns) xs d e f = (has_append ns xs n ∙ or_from (has ns n) (has xs n) d.0 (f n (or_left (nat_eq n n) (has ns n) (eq-eqb n n refl))), distinct_append ns xs d.1 e (λ b h. f b (or_right (nat_eq n b) (has ns b) h)))
 
   pub distinct_place : (xs : List ℕ) → Distinct ns → Distinct xs → ((b : ℕ) → has xs b ≡ true → has ns b ≡ false) → Distinct (place_after at ns xs)
   distinct_place [] d e f = e

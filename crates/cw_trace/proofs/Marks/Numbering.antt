@@ -2,12 +2,11 @@
 use Rattle.std.proofs.Common.{◌≡◌, ◌≢◌, ℕ, zero, suc, ◌+◌, ◌<◌, List, [], ◌∷◌, map, refl, ap, sym, ◌∙◌, arith, Bool, true, false, cond, Option, Some, None, nat_eq, not, inl, inr, eq-eqb, eqb-true}
 use Rattle.std.specs.Prelude.{◌⊎◌, ◌||◌, ◌↔◌, if◌then◌else◌}
 use Rattle.std.specs.List.{filter, Contains, IsDistinct, AllByRecursion}
-use Rattle.std.proofs.lemmas.Bool.{ne_eqb, cases_eq}
+use Rattle.std.proofs.lemmas.Bool.{ne_eqb, cases_eq, or_left, or_right, or_cases}
 use Rattle.cw_order.specs.Order.{put_after, placed_after, without, position}
 use Rattle.cw_tree.specs.Walks.{has}
 use Rattle.cw_trace.specs.Columns.{stands_before, place_after}
 use Rattle.cw_trace.specs.Marks.{with_mark}
-use Rattle.cw_trace.proofs.Segments.Lines.{or_cases, or_left, or_right}
 use Rattle.cw_trace.proofs.Marks.Marking.{before_second}
 
 pub has_here : (x : ℕ) (xs : List ℕ) (y : ℕ) → x ≡ y → has (x ∷ xs) y ≡ true

@@ -8,14 +8,15 @@ use Rattle.cw_tree.specs.Names.{is_right}
 use Rattle.cw_tree.specs.Shape.{IsTree}
 use Rattle.cw_tree.proofs.Walks.Ancestors.{ancestor_self, ancestor_up, ancestor_trans, ancestor_le}
 use Rattle.cw_tree.proofs.Walks.Kin.{ancestor_linear, children_apart}
+use Rattle.cw_tree.proofs.Walks.There.{fork_there}
+use Rattle.cw_tree.proofs.NodeKinds.{fork_no_strand}
 use Rattle.cw_trace.specs.Columns.{ColumnTable, used, owner, is_trace, left_column_of, before_split}
 use Rattle.cw_trace.specs.Stands.{column, fork_column, around}
 use Rattle.cw_trace.specs.Segments.{Segments, IsOpen, outward, next_outward}
 use Rattle.cw_trace.specs.Keeps.{Keeps}
 use Rattle.cw_trace.specs.Running.{IsOrdered, IsUnsplit}
 use Rattle.cw_trace.specs.Outward.{IsOutward, IsBarring, NoneBars, IsNext, NextBars}
-use Rattle.cw_trace.proofs.Stands.Counting.{fork_no_strand, fork_column_lt}
-use Rattle.cw_trace.proofs.Stands.InRange.{fork_low}
+use Rattle.cw_trace.proofs.Stands.Counting.{fork_column_lt}
 use Rattle.cw_trace.proofs.Segments.Lines.{order, le_or_lt, unsplit, left_of_odd, own_trace}
 use Rattle.cw_trace.proofs.Keeps.Meaning.{odd_column}
 use Rattle.cw_trace.proofs.Outward.Outward.{Past, all_past, Next, early_is_next}
@@ -48,7 +49,7 @@ module _ (c : ColumnTable) (words : List ℕ) (t : List Node) (cuts joins : List
             let y = on_side t tr (used c) true z.node z.is x hx right in
             let from : slice_index c.parents p ≡ column t (used c) z.node = same_parent c words t cuts joins k tr p (omega arith) low ∙ z.from in
             let less : slice_index c.parents p < p = g.rooted p (omega arith) low in
-            let w = more (slice_index c.parents p) z.node (fork_low t z.node z.is) (sym from) (omega arith) v in
+            let w = more (slice_index c.parents p) z.node (fork_there t z.node z.is) (sym from) (omega arith) v in
             let under : is_ancestor t z.node x ≡ true = ancestor_trans t tr.rooted z.node y.strand x hx (let P : ℕ → Type 0 = λ i. is_ancestor t i y.strand ≡ true in subst P y.child (ancestor_up t tr.rooted (parent_of t y.strand) y.strand y.some y.low (ancestor_self t (parent_of t y.strand)))) y.over in
             record { strand = w.strand; some = w.some; low = w.low; child = w.child; side = w.side; over = ancestor_trans t tr.rooted w.strand z.node x hx w.over under }
 
@@ -60,7 +61,7 @@ module _ (c : ColumnTable) (words : List ℕ) (t : List Node) (cuts joins : List
 
   module _ (is_open : ℕ → Bool) (o : IsOrdered c t cuts joins is_open) (f n : ℕ) (fn : is_fork t n ≡ true) (at : fork_column t n ≡ f) (un : has joins f ≡ false) (low : f < used c) (left : f % 2 ≡ 1) (whole : is_trace c f ≡ false) where
     hn : n < length t
-    hn = fork_low t n fn
+    hn = fork_there t n fn
 
     pair : fork_column t n + 1 < used c
     pair = let l = left_pair c words t cuts joins k tr f (odd_pos f left) low in omega (arith, at, left_of_odd f left)
@@ -107,7 +108,7 @@ module _ (c : ColumnTable) (words : List ℕ) (t : List Node) (cuts joins : List
         let z = fork_at c words t cuts joins k tr i past.1 past.2 in
         let from : column t (used c) z.node ≡ fork_column t m + 1 = sym z.from ∙ sym (same_parent c words t cuts joins k tr i past.1 past.2) ∙ past.3 in
         let w = b.outward in
-        let y = on_side t tr (used c) true m w.fork z.node (fork_low t z.node z.is) from in
+        let y = on_side t tr (used c) true m w.fork z.node (fork_there t z.node z.is) from in
         let P : ℕ → Type 0 = λ x. is_fork t x ≡ true in
         let Q : ℕ → Type 0 = λ x. IsUnsplit c t cuts x in
         let less : w.left < y.strand = elim (order w.left y.strand) [
@@ -118,7 +119,7 @@ module _ (c : ColumnTable) (words : List ℕ) (t : List Node) (cuts joins : List
           ])
         ] in
         let differs : z.node ≢ y.strand = λ q. cc (fork_no_strand t z.node z.is, ap (is_strand t) q, strand_in t tr y.strand m y.some y.low y.child w.fork) in
-        cc (o.left_first w.left y.strand z.node w.some less y.low (w.child ∙ sym y.child) (subst P (sym y.child) w.fork) (subst Q (sym y.child) (inr b.uncut)) (fork_low t z.node z.is) y.over differs, open_above c words t cuts joins tr k is_open o w.left n hn opened w.over)
+        cc (o.left_first w.left y.strand z.node w.some less y.low (w.child ∙ sym y.child) (subst P (sym y.child) w.fork) (subst Q (sym y.child) (inr b.uncut)) (fork_there t z.node z.is) y.over differs, open_above c words t cuts joins tr k is_open o w.left n hn opened w.over)
 
     pub none_bars : before_split c f ≡ None → (m : ℕ) → IsBarring c t cuts joins n m → ⊥
     none_bars e m b = no_past m b (all_past c cuts joins (is_pending t) (column t (used c)) g f (fork_column t m) not_split open_f (open_m m b) (less_m m b) (sym (k.outside.next f low left un) ∙ e))

@@ -1,19 +1,20 @@
 -- When a fork may be split and its traces merged, in words of the tree.
 use Rattle.std.proofs.Common.{◌≡◌, ◌≢◌, ℕ, ◌+◌, ◌<◌, ◌≤◌, List, ◌∷◌, length, refl, ap, sym, ◌∙◌, arith, Bool, true, false, None, inl, inr}
 use Rattle.std.specs.Prelude.{◌⊎◌, ◌%◌, ◌&&◌, ◌||◌, not, slice_index}
-use Rattle.std.proofs.lemmas.Bool.{ne_eqb}
+use Rattle.std.proofs.lemmas.Bool.{ne_eqb, cases_eq}
 use Rattle.cw_tree.specs.declared.node.Node.{Node}
 use Rattle.cw_tree.specs.Nodes.{is_fork, is_pending, is_strand}
 use Rattle.cw_tree.specs.Walks.{has}
 use Rattle.cw_tree.specs.Shape.{IsTree}
+use Rattle.cw_tree.proofs.Walks.There.{pending_there, fork_there}
+use Rattle.cw_tree.proofs.NodeKinds.{fork_no_strand}
 use Rattle.cw_trace.specs.Columns.{ColumnTable, used, owner, is_trace, left_column_of, before_split, split_at, merged}
 use Rattle.cw_trace.specs.Stands.{column, fork_column, is_apart, around}
 use Rattle.cw_trace.specs.Segments.{Segments, IsOpen, MaySplit, MayMerge}
 use Rattle.cw_trace.specs.Keeps.{Keeps}
 use Rattle.cw_trace.specs.Running.{IsOrdered, IsUnstarted, IsDone, MayJoinAt}
-use Rattle.cw_trace.proofs.Stands.Counting.{fork_no_strand, pending_no_strand, fork_column_one}
-use Rattle.cw_trace.proofs.Stands.InRange.{pending_low, fork_low}
-use Rattle.cw_trace.proofs.Segments.Lines.{same_or, left_of_odd, left_of_next, left_of_cases, apart_parts, own_le}
+use Rattle.cw_trace.proofs.Stands.Counting.{pending_no_strand, fork_column_one}
+use Rattle.cw_trace.proofs.Segments.Lines.{left_of_odd, left_of_next, left_of_cases, apart_parts, own_le}
 use Rattle.cw_trace.proofs.Keeps.Meaning.{odd_column, stands_of}
 use Rattle.cw_trace.proofs.Keeps.Owners.{head_of}
 use Rattle.cw_trace.proofs.Keeps.Sides.{child_to, strand_in, in_right, InFork, on_side}
@@ -81,10 +82,10 @@ module _ (c : ColumnTable) (words : List ℕ) (t : List Node) (cuts joins : List
       left = left;
       unjoined = u.unjoined;
       uncut = uncut f low left whole u.unjoined;
-      no_block = λ b p e. nothing_there b (pending_low t b p) (pending_no_strand t b p) e;
+      no_block = λ b p e. nothing_there b (pending_there t b p) (pending_no_strand t b p) e;
       no_fork = λ i p h e.
           (let z = fork_at i p h in
-          nothing_there z.node (fork_low t z.node z.is) (fork_no_strand t z.node z.is) (sym z.from ∙ sym (same_parent i p h) ∙ e));
+          nothing_there z.node (fork_there t z.node z.is) (fork_no_strand t z.node z.is) (sym z.from ∙ sym (same_parent i p h) ∙ e));
     }
 
     pub split_keeps : before_split c f ≡ None → Keeps (split_at f c) words t (f ∷ cuts) joins
@@ -117,7 +118,7 @@ module _ (c : ColumnTable) (words : List ℕ) (t : List Node) (cuts joins : List
         let w = head_of c words t cuts joins tr st x h some in
         let y = w.1 in
         let same : w.0 ≡ done.fork = fork_column_one t w.0 done.fork y.fork done.is (y.column_is ∙ is_left ∙ sym done.at) in
-        elim (same_or w.0 x) [
+        elim (cases_eq w.0 x) [
           | inr ne ↦
               (let z = child_to t tr w.0 x h y.above ne in
               cc (open_above c words t cuts joins tr k is_open o z.0 x h ox z.4, done.done z.0 z.1 z.2 (z.3 ∙ same)))
@@ -134,7 +135,7 @@ module _ (c : ColumnTable) (words : List ℕ) (t : List Node) (cuts joins : List
       left = left;
       unjoined = unjoined;
       cut = is_cut;
-      no_block = λ b p. ((λ e. nothing_open b (pending_low t b p) (o.pending b p) (inl e) (pending_no_strand t b p)), (λ e. nothing_open b (pending_low t b p) (o.pending b p) (inr e) (pending_no_strand t b p)));
+      no_block = λ b p. ((λ e. nothing_open b (pending_there t b p) (o.pending b p) (inl e) (pending_no_strand t b p)), (λ e. nothing_open b (pending_there t b p) (o.pending b p) (inr e) (pending_no_strand t b p)));
       no_fork = λ s. ((λ w. in_fork s w (inl w.outside)), (λ w. in_fork s w (inr w.outside)));
     } where
       in_fork : {x : ℕ} (s : ℕ) → IsOpen c joins x s → (around c s ≡ f) ⊎ (around c s ≡ f + 1) → ⊥
@@ -145,7 +146,7 @@ module _ (c : ColumnTable) (words : List ℕ) (t : List Node) (cuts joins : List
           let pair : fork_column t z.node + 1 < used c = let l = left_pair s p w.low in omega (arith, z.at) in
           let opened = o.forks z.node z.is pair (ap (has joins) (z.at ∙ own_left) ∙ w.unjoined) in
           let same : owner c (column t (used c) z.node) ≡ around c s = ap (owner c) (sym z.from ∙ ap (slice_index c.parents) own_left) in
-          nothing_open z.node (fork_low t z.node z.is) opened (elim e [ inl q ↦ inl (same ∙ q) | inr q ↦ inr (same ∙ q) ]) (fork_no_strand t z.node z.is)
+          nothing_open z.node (fork_there t z.node z.is) opened (elim e [ inl q ↦ inl (same ∙ q) | inr q ↦ inr (same ∙ q) ]) (fork_no_strand t z.node z.is)
 
     pub merge_keeps : Keeps (merged f c) words t cuts (f ∷ joins)
     merge_keeps = keeps_merge c words t cuts joins k tr f may_merge
@@ -165,9 +166,9 @@ module _ (c : ColumnTable) (words : List ℕ) (t : List Node) (cuts joins : List
             let from : slice_index c.parents s ≡ column t (used c) z.node = ap (slice_index c.parents) (sym own_left) ∙ z.from in
             let pair : fork_column t z.node + 1 < used c = let l = left_pair s (odd_pos s odd) h in omega (arith, z.at) in
             let opened = o.forks z.node z.is pair (ap (has joins) (z.at ∙ own_left) ∙ un) in
-            let never : (b : Bool) → InFork t tr (used c) d.fork z.node b → ⊥ = λ b w. cc (open_above c words t cuts joins tr k is_open o w.strand z.node (fork_low t z.node z.is) opened w.over, d.done w.strand w.some w.low w.child) in
+            let never : (b : Bool) → InFork t tr (used c) d.fork z.node b → ⊥ = λ b w. cc (open_above c words t cuts joins tr k is_open o w.strand z.node (fork_there t z.node z.is) opened w.over, d.done w.strand w.some w.low w.child) in
             elim (left_of_cases (slice_index c.parents s) p) [
-              | inl q ↦ never false (on_side t tr (used c) false d.fork d.is z.node (fork_low t z.node z.is) (sym from ∙ q ∙ e ∙ sym d.at))
-              | inr q ↦ never true (on_side t tr (used c) true d.fork d.is z.node (fork_low t z.node z.is) (sym from ∙ q ∙ ap (λ n. n + 1) (e ∙ sym d.at)))
+              | inl q ↦ never false (on_side t tr (used c) false d.fork d.is z.node (fork_there t z.node z.is) (sym from ∙ q ∙ e ∙ sym d.at))
+              | inr q ↦ never true (on_side t tr (used c) true d.fork d.is z.node (fork_there t z.node z.is) (sym from ∙ q ∙ ap (λ n. n + 1) (e ∙ sym d.at)))
             ]);
       }

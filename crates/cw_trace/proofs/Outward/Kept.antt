@@ -1,24 +1,18 @@
 -- What the columns tell of split forks and of the forks outward of a fork, as forks, splits and merges keep it.
 use Rattle.std.proofs.Common.{◌≡◌, ◌≢◌, ℕ, zero, suc, ◌+◌, ◌<◌, ◌≤◌, List, [], ◌∷◌, ◌++◌, length, refl, ap, sym, ◌∙◌, arith, Bool, true, false, Option, Some, None, nat_eq, inl, inr, eq-eqb, eqb-true, length-append}
 use Rattle.std.specs.Prelude.{◌⊎◌, ◌%◌, ◌==◌, ◌&&◌, ◌||◌, not, is_some, slice_index, if◌then◌else◌}
-use Rattle.std.proofs.lemmas.Bool.{ne_eqb}
+use Rattle.std.proofs.lemmas.Bool.{ne_eqb, cases_Bool, cases_eq}
 use Rattle.cw_tree.specs.Walks.{has}
 use Rattle.cw_tree.proofs.NextNodes.Growing.{get_append, get_next}
-use Rattle.cw_trace.specs.Columns.{ColumnTable, used, owner, trace, is_trace, outer, outer_at, fork_in, unless_split, before_split, forked, split_at, merged, first_tier, left_column_of}
+use Rattle.cw_trace.specs.Columns.{ColumnTable, used, owner, is_trace, outer, outer_at, fork_in, unless_split, before_split, forked, split_at, merged, left_column_of}
 use Rattle.cw_trace.specs.Stands.{around, is_apart, names_trace}
 use Rattle.cw_trace.specs.Segments.{Segments, MaySplit, MayMerge, Active, Forks, outward, next_outward}
 use Rattle.cw_trace.proofs.Marks.Edits.{has_cons_same, has_cons_other}
-use Rattle.cw_trace.proofs.Segments.Lines.{same_or, bool_or, left_of_odd, left_of_next, left_of_is_odd, left_of_le, left_of_cases}
+use Rattle.cw_trace.proofs.Segments.Lines.{left_of_odd, left_of_next, left_of_cases, odd_apart}
 use Rattle.cw_trace.proofs.Outward.Outside.{outward_alike, outward_cut, except}
 use Rattle.cw_trace.proofs.Segments.Fork as fork
 use Rattle.cw_trace.proofs.Segments.Split as split
 use Rattle.cw_trace.proofs.Segments.Merge as merge
-
--- an odd number is the left column of a fork, and no right one
-odd_left : (s f : ℕ) → s % 2 ≡ 1 → f % 2 ≡ 1 → s ≢ f + 1
-odd_left s f a b = λ e. by_eq s f a b e where
-  by_eq : (s f : ℕ) → s % 2 ≡ 1 → f % 2 ≡ 1 → s ≡ f + 1 → ⊥
-  by_eq s f a b e = omega arith
 
 odd_some : (s : ℕ) → s % 2 ≡ 1 → 0 < s
 odd_some s e = omega arith
@@ -37,7 +31,7 @@ module _ (c : ColumnTable) (cuts joins : List ℕ) (pend : ℕ → Bool) (col : 
     t = owner c f
 
     same_trace : (x : ℕ) → x ≢ f → x ≢ f + 1 → is_trace d x ≡ is_trace c x
-    same_trace x a b = elim (same_or x t) [
+    same_trace x a b = elim (cases_eq x t) [
       | inl e ↦
           ap (is_trace d) e ∙ ap is_some (split.trace_T c cuts joins pend col g f m early)
           ∙ sym (ap (is_trace c) e ∙ w.named t (split.tr c cuts joins pend col g f m early).low ∙ (split.tr c cuts joins pend col g f m early).named)
@@ -51,11 +45,11 @@ module _ (c : ColumnTable) (cuts joins : List ℕ) (pend : ℕ → Bool) (col : 
         ∙ ap (λ b. b && not (has joins f)) (has_cons_same cuts f) ∙ ap not m.unjoined
 
     names : (i : ℕ) → i < used c → is_trace d i ≡ names_trace (f ∷ cuts) joins i
-    names i h = elim (same_or i f) [
+    names i h = elim (cases_eq i f) [
       | inl e ↦
           ap (is_trace d) e ∙ ap is_some (split.trace_L c cuts joins pend col g f m early)
           ∙ sym (apart_new i (ap left_column_of e ∙ left_of_odd f m.left) (omega (arith, e, odd_some f m.left)))
-      | inr a ↦ elim (same_or i (f + 1)) [
+      | inr a ↦ elim (cases_eq i (f + 1)) [
         | inl e ↦
             ap (is_trace d) e ∙ ap is_some (split.trace_R c cuts joins pend col g f m early)
             ∙ sym (apart_new i (ap left_column_of e ∙ left_of_next f m.left) (omega (arith, e)))
@@ -63,7 +57,7 @@ module _ (c : ColumnTable) (cuts joins : List ℕ) (pend : ℕ → Bool) (col : 
       ]
     ] where
       not_left : (i : ℕ) → i ≢ f → i ≢ f + 1 → left_column_of i ≢ f
-      not_left i a b q = elim (same_or i 0) [
+      not_left i a b q = elim (cases_eq i 0) [
         | inl z ↦ omega (arith, q, odd_some f m.left, ap left_column_of z)
         | inr z ↦ elim (left_of_cases i (omega (arith, z))) [ inl y ↦ a (y ∙ q) | inr y ↦ b (omega (arith, y, q)) ]
       ]
@@ -73,12 +67,12 @@ module _ (c : ColumnTable) (cuts joins : List ℕ) (pend : ℕ → Bool) (col : 
 
     reads : (o : Option ℕ) → ((x : ℕ) → o ≡ Some x → x % 2 ≡ 1) → unless_split d o ≡ except f (unless_split c o)
     reads None odd = refl
-    reads (Some x) odd = elim (same_or x f) [
+    reads (Some x) odd = elim (cases_eq x f) [
       | inl e ↦
           ap (λ b. if b then None else Some x) (ap (is_trace d) e ∙ ap is_some (split.trace_L c cuts joins pend col g f m early))
           ∙ sym (gone (is_trace c x) (eq-eqb x f e))
       | inr n ↦
-          ap (λ b. if b then None else Some x) (same_trace x n (odd_left x f (odd x refl) m.left))
+          ap (λ b. if b then None else Some x) (same_trace x n (odd_apart x f (odd x refl) m.left))
           ∙ stays (is_trace c x) (ne_eqb x f n)
     ] where
       gone : (b : Bool) → nat_eq x f ≡ true → except f (if b then None else Some x) ≡ None
@@ -130,7 +124,7 @@ module _ (c : ColumnTable) (cuts joins : List ℕ) (pend : ℕ → Bool) (col : 
           more q (omega (arith, up)) (omega (arith, up)) z.1 open_q z.3
 
     same_trace2 : (x : ℕ) → x ≢ f → x ≢ f + 1 → is_trace d2 x ≡ is_trace c x
-    same_trace2 x a b = elim (same_or x (around c f)) [
+    same_trace2 x a b = elim (cases_eq x (around c f)) [
       | inl e ↦
           ap (is_trace d2) e ∙ ap is_some (merge.trace_t c cuts joins pend col g f m)
           ∙ sym (ap (is_trace c) e ∙ w.named (around c f) (merge.tr c cuts joins pend col g f m).low ∙ (merge.tr c cuts joins pend col g f m).named)
@@ -147,11 +141,11 @@ module _ (c : ColumnTable) (cuts joins : List ℕ) (pend : ℕ → Bool) (col : 
           none false = refl
 
     names2 : (i : ℕ) → i < used c → is_trace d2 i ≡ names_trace cuts (f ∷ joins) i
-    names2 i h = elim (same_or i f) [
+    names2 i h = elim (cases_eq i f) [
       | inl e ↦
           ap (is_trace d2) e ∙ ap is_some (merge.trace_f_gone c cuts joins pend col g f m)
           ∙ apart_gone i (ap left_column_of e ∙ left_of_odd f m.left) (omega (arith, e, odd_some f m.left))
-      | inr a ↦ elim (same_or i (f + 1)) [
+      | inr a ↦ elim (cases_eq i (f + 1)) [
         | inl e ↦
             ap (is_trace d2) e ∙ ap is_some (merge.trace_r_gone c cuts joins pend col g f m)
             ∙ apart_gone i (ap left_column_of e ∙ left_of_next f m.left) (omega (arith, e))
@@ -159,14 +153,14 @@ module _ (c : ColumnTable) (cuts joins : List ℕ) (pend : ℕ → Bool) (col : 
       ]
     ] where
       not_left : (i : ℕ) → i ≢ f → i ≢ f + 1 → left_column_of i ≢ f
-      not_left i a b q = elim (same_or i 0) [
+      not_left i a b q = elim (cases_eq i 0) [
         | inl z ↦ omega (arith, q, odd_some f m.left, ap left_column_of z)
         | inr z ↦ elim (left_of_cases i (omega (arith, z))) [ inl y ↦ a (y ∙ q) | inr y ↦ b (omega (arith, y, q)) ]
       ]
 
     reads2 : (o : Option ℕ) → ((x : ℕ) → o ≡ Some x → (x % 2 ≡ 1) × (x ≢ f)) → unless_split d2 o ≡ unless_split c o
     reads2 None odd = refl
-    reads2 (Some x) odd = let z = odd x refl in ap (λ b. if b then None else Some x) (same_trace2 x z.1 (odd_left x f z.0 m.left))
+    reads2 (Some x) odd = let z = odd x refl in ap (λ b. if b then None else Some x) (same_trace2 x z.1 (odd_apart x f z.0 m.left))
 
     pub forks_merge : Forks d2 cuts (f ∷ joins)
     forks_merge =
@@ -299,7 +293,7 @@ module _ (c : ColumnTable) (cuts joins : List ℕ) (pend : ℕ → Bool) (col : 
       no_cut (inl e) = absurd (let l : u < u = (g.cut_left u e).1 in omega arith)
 
       unnamed : (i : ℕ) → left_column_of i ≡ u → 0 < i → names_trace cuts joins i ≡ false
-      unnamed i e p = ap (λ b. b || is_apart cuts joins i) (ne_eqb i 0 (λ q. omega (arith, q))) ∙ ap (λ x. has cuts x && not (has joins x)) e ∙ ap (λ b. b && not (has joins u)) (no_cut (bool_or (has cuts u)))
+      unnamed i e p = ap (λ b. b || is_apart cuts joins i) (ne_eqb i 0 (λ q. omega (arith, q))) ∙ ap (λ x. has cuts x && not (has joins x)) e ∙ ap (λ b. b && not (has joins u)) (no_cut (cases_Bool (has cuts u)))
 
     reads3 : (o : Option ℕ) → ((x : ℕ) → o ≡ Some x → x < u) → unless_split d3 o ≡ unless_split c o
     reads3 None h = refl
@@ -326,7 +320,7 @@ module _ (c : ColumnTable) (cuts joins : List ℕ) (pend : ℕ → Bool) (col : 
       outer_right s e = ap (outer d3) (e ∙ ap (λ n. n + 1) (sym w.same_length)) ∙ ap fork_in (get_second c.outers (outer_at c p) (outer_at c p))
 
       even : (s : ℕ) → s % 2 ≡ 1 → s ≡ u + 1 → ⊥
-      even s o e = odd_left s u o g.odd e
+      even s o e = odd_apart s u o g.odd e
 
       left_new : (s o : ℕ) → At s → outer d3 s ≡ Some o → o % 2 ≡ 1
       left_new s o (fork.before l) e = w.left s o l (sym (outer_old s l) ∙ e)

@@ -1,12 +1,12 @@
 -- The walk outward, as columns are added and forks are split.
 use Rattle.std.proofs.Common.{◌≡◌, ◌≢◌, ℕ, zero, suc, ◌+◌, ◌<◌, ◌≤◌, List, ◌∷◌, refl, ap, sym, ◌∙◌, arith, Bool, true, false, Option, Some, None, nat_eq, inl, inr, eq-eqb}
 use Rattle.std.specs.Prelude.{◌⊎◌, ◌%◌, ◌==◌, slice_index, if◌then◌else◌}
-use Rattle.std.proofs.lemmas.Bool.{ne_eqb}
+use Rattle.std.proofs.lemmas.Bool.{ne_eqb, cases_eq}
 use Rattle.cw_tree.specs.Walks.{has}
 use Rattle.cw_trace.specs.Columns.{left_column_of}
 use Rattle.cw_trace.specs.Segments.{outward}
 use Rattle.cw_trace.proofs.Marks.Edits.{has_cons_same, has_cons_other}
-use Rattle.cw_trace.proofs.Segments.Lines.{same_or, left_of_odd, left_of_cases}
+use Rattle.cw_trace.proofs.Segments.Lines.{left_of_odd, left_of_cases}
 
 -- the same but for one fork
 abbrev pub except : ℕ → Option ℕ → Option ℕ
@@ -32,7 +32,7 @@ module _ (cuts ps : List ℕ) (bound : ℕ) (rooted : (i : ℕ) → 0 < i → i 
   outward_cut f odd uncut none zero p h n = refl
   outward_cut f odd uncut none (suc k) zero h n = refl
   outward_cut f odd uncut none (suc k) (suc m) h n =
-      by_fork (same_or (left_column_of (suc m)) f)
+      by_fork (cases_eq (left_column_of (suc m)) f)
       (let low : slice_index ps (suc m) < suc m = rooted (suc m) (omega arith) h in outward_cut f odd uncut none k (slice_index ps (suc m)) (omega arith) (none (suc m) (omega arith) h)) where
         here : (p : ℕ) → p ≡ f → (if p % 2 == 1 then Some p else outward cuts ps k (slice_index ps p)) ≡ Some p
         here p e = ap (λ b. if b then Some p else outward cuts ps k (slice_index ps p)) (eq-eqb (p % 2) 1 (ap (λ x. x % 2) e ∙ odd))

@@ -1,11 +1,12 @@
 -- The walk outward from a fork to the fork that has to be split before it.
 use Rattle.std.proofs.Common.{◌≡◌, ◌≢◌, ℕ, zero, suc, ◌+◌, ◌<◌, ◌≤◌, List, refl, ap, sym, ◌∙◌, arith, Bool, true, false, Some, None, nat_eq, inl, inr, subst, eq-eqb, eqb-true}
 use Rattle.std.specs.Prelude.{◌⊎◌, ◌%◌, ◌&&◌, not, slice_index, if◌then◌else◌}
+use Rattle.std.proofs.lemmas.Bool.{cases_eq}
 use Rattle.cw_trace.specs.Columns.{ColumnTable, used, owner, left_column_of}
 use Rattle.cw_tree.specs.Walks.{has}
 use Rattle.cw_trace.specs.Stands.{is_apart}
 use Rattle.cw_trace.specs.Segments.{IsOpen, IsTrace, Segments, outward, next_outward}
-use Rattle.cw_trace.proofs.Segments.Lines.{same_or, left_of_odd, left_of_is_odd, is_split, apart_parts, made, first, split_off, forked, own_trace, open_after, open_pos, forked_after}
+use Rattle.cw_trace.proofs.Segments.Lines.{left_of_odd, left_of_is_odd, is_split, apart_parts, made, first, split_off, forked, own_trace, open_after, open_pos, forked_after}
 
 module _ (c : ColumnTable) (cuts joins : List ℕ) (pend : ℕ → Bool) (col : ℕ → ℕ) (g : Segments c cuts joins pend col) where
   -- column p's trace goes on past the fork s by its right strand
@@ -13,7 +14,7 @@ module _ (c : ColumnTable) (cuts joins : List ℕ) (pend : ℕ → Bool) (col : 
   Past s = (i : ℕ) × (0 < i) × (i < used c) × (slice_index c.parents i ≡ s + 1)
 
   is_even : (n : ℕ) → nat_eq (n % 2) 1 ≡ false → n % 2 ≡ 0
-  is_even n e = elim (same_or (n % 2) 1) [ inl q ↦ absurd (cc (eq-eqb (n % 2) 1 q, e)) | inr q ↦ omega (arith, q) ]
+  is_even n e = elim (cases_eq (n % 2) 1) [ inl q ↦ absurd (cc (eq-eqb (n % 2) 1 q, e)) | inr q ↦ omega (arith, q) ]
 
   even_left : (n : ℕ) → 0 < n → n % 2 ≡ 0 → n ≡ left_column_of n + 1
   even_left n p e = omega arith
@@ -53,7 +54,7 @@ module _ (c : ColumnTable) (cuts joins : List ℕ) (pend : ℕ → Bool) (col : 
             → (a b : Bool) → has cuts (left_column_of p) ≡ a → nat_eq (p % 2) 1 ≡ b → (if a then None else if b then Some p else outward cuts c.parents k (slice_index c.parents p)) ≡ None → (p ≡ s + 1) ⊎ Past s
         by_cut more true b ea eb v = absurd (unapart (is_split cuts joins p (ea) (u (omega arith))))
         by_cut more false true ea eb v = absurd (cc v)
-        by_cut more false false ea eb v = elim (same_or p (s + 1)) [ inl z ↦ inl z | inr z ↦ on more z (is_even p eb) v ]
+        by_cut more false false ea eb v = elim (cases_eq p (s + 1)) [ inl z ↦ inl z | inr z ↦ on more z (is_even p eb) v ]
 
   -- where nothing has to be split before the fork f, each other open fork of its trace was taken back
   pub all_past : (f s : ℕ) → has cuts f ≡ false → IsOpen c joins (owner c f) f → IsOpen c joins (owner c f) s → s < f → next_outward c cuts f ≡ None → Past s
@@ -106,7 +107,7 @@ module _ (c : ColumnTable) (cuts joins : List ℕ) (pend : ℕ → Bool) (col : 
               })
         ] where
           by_near : (r : ℕ) → IsOpen c joins t r → s < r → r ≤ p → (r ≤ slice_index c.parents p → (slice_index c.parents p ≡ r + 1) ⊎ Past r) → (p ≡ r + 1) ⊎ Past r
-          by_near r o a b more = elim (same_or p (r + 1)) [
+          by_near r o a b more = elim (cases_eq p (r + 1)) [
             | inl y ↦ inl y
             | inr y ↦ (
                 let apart : p ≢ r = λ x. omega (arith, x, o.left) in

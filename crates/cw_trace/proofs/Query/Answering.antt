@@ -3,7 +3,7 @@ use Rattle.std.proofs.Common.{◌≡◌, ◌≢◌, ℕ, ◌<◌, List, [], ◌�
 use Rattle.std.specs.Prelude.{◌&&◌, not, if◌then◌else◌}
 use Rattle.std.specs.Option.{option_or}
 use borrow.Author.Tests.{ltb-true}
-use Rattle.std.proofs.lemmas.Bool.{lt-ltb, eq-eqb}
+use Rattle.std.proofs.lemmas.Bool.{lt-ltb, eq-eqb, and_from}
 use Rattle.cw_tree.specs.declared.node.Node.{Node}
 use Rattle.cw_tree.specs.declared.access.Mark.{Mark}
 use Rattle.cw_tree.specs.Nodes.{is_block, is_pending, stamp_of, touches}
@@ -11,6 +11,7 @@ use Rattle.cw_tree.specs.Walks.{path, is_ancestor, is_above, nua, conflict, oute
 use Rattle.cw_tree.specs.Shape.{IsTree, AreStamps}
 use Rattle.cw_tree.proofs.Walks.Ancestors.{ancestor_trans, above_ancestor, ancestor_above}
 use Rattle.cw_tree.proofs.Names.Forks.{same_truth}
+use Rattle.cw_tree.proofs.Walks.There.{pending_there}
 use Rattle.cw_trace.specs.declared.verdict.Verdict.{Verdict}
 use Rattle.cw_trace.specs.declared.verdict.Verdict.TheVariants.{Free, Within, Against}
 use Rattle.cw_trace.specs.Columns.{ColumnTable, used, owner, inside}
@@ -19,9 +20,7 @@ use Rattle.cw_trace.specs.Stands.{Stands, column}
 use Rattle.cw_trace.specs.Verdicts.{Tells, mark_of, Decides, DecidesByReading, DecidesInRuns, CoversBlocks, FindsVictims}
 use Rattle.cw_trace.proofs.Query.Deciding.{Says, query}
 use Rattle.cw_trace.proofs.Keeps.GoingOn.{goes_on}
-use Rattle.cw_trace.proofs.Stands.InRange.{pending_low}
 use Rattle.cw_trace.proofs.Stands.WithStamps.{access_marked, pending_marked}
-use Rattle.cw_trace.proofs.Segments.Lines.{and_true}
 use Rattle.cw_trace.proofs.Keeps.Meaning.{stands_of}
 use Rattle.cw_trace.proofs.Keeps.Owners.{owners_descend, beneath_cut, own_named}
 use Rattle.cw_trace.proofs.Keeps.WholeRuns.{each_run_stands}
@@ -53,7 +52,7 @@ tells t u p (Against x) z = record {
   against = sym (a_conflict t u p z.0 z.2 ∙ ap not z.3);
   begun = λ w f. (
       let same : x ≡ w = cc f in
-      (z.1, and_true (is_pending t z.1 && is_above t z.1 u) (not (is_ancestor t z.1 p)) (and_true (is_pending t z.1) (is_above t z.1 u) z.4 z.5) (ap not z.6), z.7 ∙ same));
+      (z.1, and_from (is_pending t z.1 && is_above t z.1 u) (not (is_ancestor t z.1 p)) (and_from (is_pending t z.1) (is_above t z.1 u) z.4 z.5) (ap not z.6), z.7 ∙ same));
 }
 
 pub decides_by_reading : DecidesByReading
@@ -86,18 +85,18 @@ module _ (c : ColumnTable) (words : List ℕ) (t : List Node) (cuts joins : List
   in_trace : own u ≡ own b → nat_lt (stamp_of t b) (stamp_of t u) ≡ is_above t b u
   in_trace same =
       same_truth (nat_lt (stamp_of t b) (stamp_of t u)) (is_above t b u)
-      (λ e. over (st.contains b u (pending_low t b pb) there pb (sym same) (ltb-true _ _ e)))
-      (λ e. lt-ltb _ _ (s.begun b u (pending_low t b pb) there (and_true (is_block t b) (is_above t b u) (pending_marked t b s pb).kind e) (access_marked t cell u s access).some))
+      (λ e. over (st.contains b u (pending_there t b pb) there pb (sym same) (ltb-true _ _ e)))
+      (λ e. lt-ltb _ _ (s.begun b u (pending_there t b pb) there (and_from (is_block t b) (is_above t b u) (pending_marked t b s pb).kind e) (access_marked t cell u s access).some))
 
   from_outside : own u ≢ own b → inside c (own u) (own b) ≡ is_above t b u
   from_outside other =
       let n = own_named c words t cuts joins tr st u there in
-      let m = own_named c words t cuts joins tr st b (pending_low t b pb) in
+      let m = own_named c words t cuts joins tr st b (pending_there t b pb) in
       let brackets = st.brackets (own b) (own u) m.low n.low m.named n.named in
       same_truth (inside c (own u) (own b)) (is_above t b u)
       (λ e.
       let f = beneath_cut c words t cuts joins tr st (own b) (own u) (brackets.0 e) u there refl in
-      over (ancestor_trans t tr.rooted b f.0 u there (st.contains_cut b f.0 (pending_low t b pb) pb f.1.fork f.1.cut) f.1.above))
+      over (ancestor_trans t tr.rooted b f.0 u there (st.contains_cut b f.0 (pending_there t b pb) pb f.1.fork f.1.cut) f.1.above))
       (λ e. elim (owners_descend c words t cuts joins tr st b u there (above_ancestor t b u e)) [ inl z ↦ absurd (other z) | inr d ↦ brackets.1 d ])
 
   pub covered : covers c (mark_of c t b) (mark_of c t u) ≡ is_above t b u

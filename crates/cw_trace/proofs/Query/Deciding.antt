@@ -1,9 +1,9 @@
 -- The verdict of a tier that stands for the tree is what the tree says.
 use Rattle.std.proofs.Common.{◌≡◌, ◌≢◌, ℕ, ◌<◌, ◌≤◌, List, length, refl, ap, sym, ◌∙◌, arith, Bool, true, false, cond, Option, Some, None, inl, inr, subst, nat_lt, nat_eq, eq-eqb, eqb-true}
-use Rattle.std.specs.Prelude.{◌⊎◌, ◌&&◌, ◌||◌, if◌then◌else◌}
+use Rattle.std.specs.Prelude.{◌⊎◌, ◌&&◌, if◌then◌else◌}
 use Rattle.std.specs.List.{find}
 use borrow.Author.Tests.{ltb-true}
-use Rattle.std.proofs.lemmas.Bool.{lt-ltb, ltb-false, false_from_ne_true}
+use Rattle.std.proofs.lemmas.Bool.{lt-ltb, ltb-false, false_from_ne_true, or_parts, and_parts, and_from, or_cases}
 use Rattle.cw_tree.specs.declared.node.Node.{Node}
 use Rattle.cw_tree.specs.Nodes.{is_block, is_pending, stamp_of}
 use Rattle.cw_tree.specs.Walks.{path, is_ancestor, is_above, nua}
@@ -11,13 +11,13 @@ use Rattle.cw_tree.specs.Shape.{IsTree, AreStamps}
 use Rattle.cw_tree.proofs.Walks.Climbs.{path_split}
 use Rattle.cw_tree.proofs.Walks.Ancestors.{ancestor_above, ancestor_trans, ancestor_le}
 use Rattle.cw_tree.proofs.Walks.Upward.{Found, find_found, find_none}
+use Rattle.cw_tree.proofs.NodeKinds.{pending_block}
 use Rattle.cw_trace.specs.declared.verdict.Verdict.{Verdict}
 use Rattle.cw_trace.specs.declared.verdict.Verdict.TheVariants.{Free, Within, Against}
 use Rattle.cw_trace.specs.Columns.{ColumnTable, used, owner, up, lead, inside}
 use Rattle.cw_trace.specs.Query.{verdict, verdict_of, stands_in, verdict_around}
 use Rattle.cw_trace.specs.Stands.{Stands, column, fork_column, Descends, names_trace, is_cut_at, stamp_or_0, word_of}
-use Rattle.cw_trace.proofs.Stands.WithStamps.{pending_marked, pending_is_block}
-use Rattle.cw_trace.proofs.Segments.Lines.{and_true, both_true, or_cases}
+use Rattle.cw_trace.proofs.Stands.WithStamps.{pending_marked}
 use Rattle.cw_trace.proofs.Keeps.Owners.{owners_descend, owner_between, beneath_cut, own_named}
 use Rattle.cw_trace.proofs.Stands.UpFrom.{FirstBegun, first_begun, first_some, first_none, UpFrom, ups_of}
 
@@ -26,10 +26,6 @@ abbrev pub Says : List Node → ℕ → ℕ → Verdict → Type 0
 Says t u p Free = nua t u ≡ None
 Says t u p Within = (b : ℕ) × (nua t u ≡ Some b) × (is_ancestor t b p ≡ true)
 Says t u p (Against w) = (b : ℕ) × (a : ℕ) × (nua t u ≡ Some b) × (is_ancestor t b p ≡ false) × (is_pending t a ≡ true) × (is_above t a u ≡ true) × (is_ancestor t a p ≡ false) × (stamp_of t a ≡ w)
-
-or_none : (a b : Bool) → (a || b) ≡ false → (a ≡ false) × (b ≡ false)
-or_none true b e = absurd (cc e)
-or_none false b e = (refl, e)
 
 module _ (c : ColumnTable) (words : List ℕ) (t : List Node) (cuts merges : List ℕ) (tr : IsTree t) (st : Stands c words t cuts merges) where
   abbrev own : ℕ → ℕ
@@ -40,10 +36,10 @@ module _ (c : ColumnTable) (words : List ℕ) (t : List Node) (cuts merges : Lis
       (goes : (b : ℕ) → b < length t → is_pending t b ≡ true → own b ≡ own p → is_ancestor t b p ≡ true) where
     -- a pending block that is an ancestor of the access stands above it
     over : (a : ℕ) → is_pending t a ≡ true → is_ancestor t a u ≡ true → is_above t a u ≡ true
-    over a pa e = sym (ancestor_above t a u (λ q. cc (ap (is_block t) q, leaf, pending_is_block t a pa))) ∙ e
+    over a pa e = sym (ancestor_above t a u (λ q. cc (ap (is_block t) q, leaf, pending_block t a pa))) ∙ e
 
     on_path : find (is_pending t) (path t u) ≡ nua t u
-    on_path = ap (find (is_pending t)) (path_split t u) ∙ ap (λ b. cond b (Some u) (nua t u)) (false_from_ne_true (is_pending t u) (λ e. cc (leaf, pending_is_block t u e)))
+    on_path = ap (find (is_pending t)) (path_split t u) ∙ ap (λ b. cond b (Some u) (nua t u)) (false_from_ne_true (is_pending t u) (λ e. cc (leaf, pending_block t u e)))
 
     within_means : (y b : ℕ) → b < length t → own b ≡ y → stands_in c (column t (used c) p) y ≡ true → (own p ≡ y) ⊎ Descends c y (own p)
     within_means y b hb e w =
@@ -55,12 +51,12 @@ module _ (c : ColumnTable) (words : List ℕ) (t : List Node) (cuts merges : Lis
         ]
 
     within_no : (y b : ℕ) → b < length t → own b ≡ y → stands_in c (column t (used c) p) y ≡ false → (own p ≡ y) ⊎ Descends c y (own p) → ⊥
-    within_no y b hb e w (inl z) = cc ((or_none (nat_eq (own p) y) (inside c (own p) y) w).0, eq-eqb (own p) y z)
+    within_no y b hb e w (inl z) = cc ((or_parts (nat_eq (own p) y) (inside c (own p) y) w).0, eq-eqb (own p) y z)
     within_no y b hb e w (inr z) =
         let n = own_named c words t cuts merges tr st p hp in
         let m = own_named c words t cuts merges tr st b hb in
         let q = (st.brackets y (own p) (omega (arith, m.low, e)) n.low (ap (names_trace cuts merges) (sym e) ∙ m.named) n.named).1 z in
-        cc ((or_none (nat_eq (own p) y) (inside c (own p) y) w).1, q)
+        cc ((or_parts (nat_eq (own p) y) (inside c (own p) y) w).1, q)
 
     -- a is the nearest pending block, of trace y like b, which stands above it
     settle : (y a b w : ℕ) → a < length t → b < length t → nua t u ≡ Some a → is_pending t a ≡ true → own a ≡ y → is_pending t b ≡ true → own b ≡ y → is_ancestor t b a ≡ true → is_ancestor t b u ≡ true → stamp_of t b ≡ w
@@ -98,7 +94,7 @@ module _ (c : ColumnTable) (words : List ℕ) (t : List Node) (cuts merges : Lis
     by_lead_word None e z = absurd (cc z)
     by_lead_word (Some b) e z =
         let f = first_some c words t cuts merges tr st (own u) b e in
-        let lt : stamp_of t b < stamp_of t u = ltb-true _ _ (both_true _ _ z).1 in
+        let lt : stamp_of t b < stamp_of t u = ltb-true _ _ (and_parts _ _ z).1 in
         let bu : is_ancestor t b u ≡ true = st.contains b u f.there hu f.pending f.owner lt in
         by_trace (own u) b (stamp_of t b) f bu refl (λ a ha w. owner_between c words t cuts merges tr st b a u hu ha f.there (w.innermost b bu f.pending) w.above f.pending f.owner)
 
@@ -110,7 +106,7 @@ module _ (c : ColumnTable) (words : List ℕ) (t : List Node) (cuts merges : Lis
         let w = pending_marked t b s f.pending in
         let v = pending_marked t a s pa in
         let ge : stamp_of t u ≤ stamp_of t b = by_test (nat_lt 0 (stamp_of t b)) (nat_lt (stamp_of t b) (stamp_of t u)) (lt-ltb _ _ w.some) refl z in
-        let lt : stamp_of t a < stamp_of t u = s.begun a u ha hu (and_true (is_block t a) (is_above t a u) v.kind (over a pa au)) some in
+        let lt : stamp_of t a < stamp_of t u = s.begun a u ha hu (and_from (is_block t a) (is_above t a u) v.kind (over a pa au)) some in
         let ab : is_ancestor t a b ≡ true = st.contains a b ha f.there pa (oa ∙ sym f.owner) (omega arith) in
         let le : a ≤ b = ancestor_le t tr.rooted a b f.there ab in
         let ne : a ≢ b = λ q. (let h : stamp_of t a ≡ stamp_of t b = ap (stamp_of t) q in omega arith) in

@@ -1,14 +1,14 @@
 -- A fork keeps the division into segments.
 use Rattle.std.proofs.Common.{◌≡◌, ◌≢◌, ℕ, ◌+◌, ◌<◌, ◌≤◌, List, [], ◌∷◌, ◌++◌, length, refl, ap, sym, ◌∙◌, arith, Bool, true, false, Some, None, nat_eq, inl, inr, subst, eq-eqb, eqb-true, length-append}
 use Rattle.std.specs.Prelude.{◌⊎◌, ◌%◌, ◌==◌, slice_index, if◌then◌else◌}
-use Rattle.std.proofs.lemmas.Bool.{ne_eqb}
+use Rattle.std.proofs.lemmas.Bool.{ne_eqb, or_cases, cases_eq}
 use Rattle.std.proofs.lemmas.List.{get_or_append_left, get_or-append-add}
 use Rattle.cw_tree.proofs.NextNodes.Growing.{get_append}
 use Rattle.cw_trace.specs.Columns.{ColumnTable, used, owner, gap, trace, trace_in, head_in, lead_in, left_column_of, forked}
 use Rattle.cw_tree.specs.Walks.{has}
 use Rattle.cw_trace.specs.Stands.{around, is_apart}
 use Rattle.cw_trace.specs.Segments.{IsOpen, SegmentStart, IsCut, IsTrace, IsLive, Within, Segments, Active}
-use Rattle.cw_trace.proofs.Segments.Lines.{same_or, le_or_lt, or_cases, left_of_odd, left_of_next, apart_parts, right_used, gap_le}
+use Rattle.cw_trace.proofs.Segments.Lines.{le_or_lt, left_of_odd, left_of_next, apart_parts, right_used, gap_le}
 
 append_at : (xs ys : List ℕ) (n k i : ℕ) → length xs ≡ n → i ≡ n + k → slice_index (xs ++ ys) i ≡ slice_index ys k
 append_at xs ys n k i e q = ap (λ j. slice_index (xs ++ ys) j) (q ∙ ap (λ m. m + k) (sym e)) ∙ get_or-append-add xs ys k 0
@@ -44,7 +44,7 @@ module _ (c : ColumnTable) (cuts joins : List ℕ) (pend : ℕ → Bool) (col : 
   pub column_of : (j : ℕ) → j < used d → Col j
   column_of j h = elim (le_or_lt u j) [
     | inr l ↦ before l
-    | inl l ↦ elim (same_or j u) [ inl e ↦ on_left e | inr n ↦ on_right (omega (arith, used_new, n)) ]
+    | inl l ↦ elim (cases_eq j u) [ inl e ↦ on_left e | inr n ↦ on_right (omega (arith, used_new, n)) ]
   ]
 
   pub new : (j : ℕ) → j < u → j < used d
@@ -173,7 +173,7 @@ module _ (c : ColumnTable) (cuts joins : List ℕ) (pend : ℕ → Bool) (col : 
   within_new x s b w = record { pending = w.pending; owned = own_col b w.pending ∙ w.owned; after = w.after }
 
   word_or : (word ≡ 0) ⊎ (word ≢ 0)
-  word_or = same_or word 0
+  word_or = cases_eq word 0
 
   gap_owned2 : (x s b : ℕ) → IsTrace d cuts joins x → SegmentStart d joins x s → IsLive d cuts joins x s → pend b ≡ true → gap d (col b) ≡ gap d s → (owner d (col b) ≡ x) × (s ≤ col b)
   gap_owned2 x s b n st l p e = let k = was_trace x n in elim (start_of x s k st) [

@@ -1,6 +1,7 @@
 -- What the division into segments tells: owners and gaps go down, owners are traces, a segment's strands have its gap or newer ones.
 use Rattle.std.proofs.Common.{◌≡◌, ◌≢◌, ℕ, zero, suc, ◌+◌, ◌<◌, ◌≤◌, List, refl, ap, sym, ◌∙◌, arith, Bool, true, false, nat_eq, inl, inr, subst, eqb-true}
-use Rattle.std.specs.Prelude.{◌⊎◌, ◌%◌, ◌&&◌, ◌||◌, not, slice_index}
+use Rattle.std.specs.Prelude.{◌⊎◌, ◌%◌, ◌&&◌, not, slice_index}
+use Rattle.std.proofs.lemmas.Bool.{and_parts, not-true, or_right, or_cases, cases_eq}
 use Rattle.cw_trace.specs.Columns.{ColumnTable, used, owner, gap, left_column_of}
 use Rattle.cw_tree.specs.Walks.{has}
 use Rattle.cw_trace.specs.Stands.{around, is_apart}
@@ -8,13 +9,6 @@ use Rattle.cw_trace.specs.Segments.{IsOpen, SegmentStart, IsCut, IsTrace, Segmen
 
 pub order : (n m : ℕ) → (n < m) ⊎ ((n ≡ m) ⊎ (m < n))
 order n m = grind arith
-
-pub same_or : (n m : ℕ) → (n ≡ m) ⊎ (n ≢ m)
-same_or n m = by_order (order n m) where
-  by_order : (n < m) ⊎ ((n ≡ m) ⊎ (m < n)) → (n ≡ m) ⊎ (n ≢ m)
-  by_order (inl l) = inr (λ e. omega (arith, e))
-  by_order (inr (inl e)) = inl e
-  by_order (inr (inr g)) = inr (λ e. omega (arith, e))
 
 pub le_or_lt : (n m : ℕ) → (n ≤ m) ⊎ (m < n)
 le_or_lt n m = grind arith
@@ -33,35 +27,7 @@ pub left_of_le : (i : ℕ) → 0 < i → (left_column_of i ≤ i) × (i ≤ left
 left_of_le i h = (omega arith, omega arith)
 
 pub left_of_cases : (i : ℕ) → 0 < i → (i ≡ left_column_of i) ⊎ (i ≡ left_column_of i + 1)
-left_of_cases i h = elim (same_or i (left_column_of i)) [ inl e ↦ inl e | inr n ↦ inr (let w = left_of_le i h in omega (arith, n)) ]
-
-pub and_true : (a b : Bool) → a ≡ true → b ≡ true → (a && b) ≡ true
-and_true true b e f = f
-and_true false b e f = absurd (cc e)
-
-pub both_true : (a b : Bool) → (a && b) ≡ true → (a ≡ true) × (b ≡ true)
-both_true true b e = (refl, e)
-both_true false b e = absurd (cc e)
-
-pub not_false : (b : Bool) → not b ≡ true → b ≡ false
-not_false true e = absurd (cc e)
-not_false false e = refl
-
-pub bool_or : (b : Bool) → (b ≡ true) ⊎ (b ≡ false)
-bool_or true = inl refl
-bool_or false = inr refl
-
-pub or_left : (a b : Bool) → a ≡ true → (a || b) ≡ true
-or_left true b e = refl
-or_left false b e = absurd (cc e)
-
-pub or_right : (a b : Bool) → b ≡ true → (a || b) ≡ true
-or_right true b e = refl
-or_right false b e = e
-
-pub or_cases : (a b : Bool) → (a || b) ≡ true → (a ≡ true) ⊎ (b ≡ true)
-or_cases true b e = inl refl
-or_cases false b e = inr e
+left_of_cases i h = elim (cases_eq i (left_column_of i)) [ inl e ↦ inl e | inr n ↦ inr (let w = left_of_le i h in omega (arith, n)) ]
 
 -- a fork that was not split, or was joined, has strands that are not apart
 pub unsplit : (cuts joins : List ℕ) (i : ℕ) → has cuts (left_column_of i) ≡ false → is_apart cuts joins i ≡ false
@@ -71,7 +37,7 @@ pub is_split : (cuts joins : List ℕ) (i : ℕ) → has cuts (left_column_of i)
 is_split cuts joins i e f = ap (λ b. b && not (has joins (left_column_of i))) e ∙ ap not f
 
 pub apart_parts : (cuts joins : List ℕ) (i : ℕ) → is_apart cuts joins i ≡ true → (has cuts (left_column_of i) ≡ true) × (has joins (left_column_of i) ≡ false)
-apart_parts cuts joins i e = let z = both_true (has cuts (left_column_of i)) (not (has joins (left_column_of i))) e in (z.0, not_false _ z.1)
+apart_parts cuts joins i e = let z = and_parts (has cuts (left_column_of i)) (not (has joins (left_column_of i))) e in (z.0, not-true _ z.1)
 
 strong_to : (P : ℕ → Type 0) → ((n : ℕ) → ((m : ℕ) → m < n → P m) → P n) → (k n : ℕ) → n < k → P n
 strong_to P h zero n l = absurd (omega arith)
@@ -89,7 +55,7 @@ module _ (c : ColumnTable) (cuts joins : List ℕ) (pend : ℕ → Bool) (col : 
     forked : 0 < i → is_apart cuts joins i ≡ false → slice_index c.parents i < i → owner c i ≡ around c i → Made i
 
   pub made : (i : ℕ) → i < used c → Made i
-  made i h = elim (same_or i 0) [ inl e ↦ first e | inr n ↦ by_apart (omega (arith, n)) (is_apart cuts joins i) refl ] where
+  made i h = elim (cases_eq i 0) [ inl e ↦ first e | inr n ↦ by_apart (omega (arith, n)) (is_apart cuts joins i) refl ] where
     by_apart : 0 < i → (b : Bool) → is_apart cuts joins i ≡ b → Made i
     by_apart p true e = split_off p e (s.apart i p h e)
     by_apart p false e = forked p e (s.rooted i p h) (s.together i p h e)
@@ -122,11 +88,11 @@ module _ (c : ColumnTable) (cuts joins : List ℕ) (pend : ℕ → Bool) (col : 
   pub own_self : (t : ℕ) → IsTrace c cuts joins t → owner c t ≡ t
   own_self t n = elim (or_cases (nat_eq t 0) (is_apart cuts joins t) n.named) [
     | inl z ↦ (let e : t ≡ 0 = eqb-true _ _ z in ap (owner c) e ∙ s.root ∙ sym e)
-    | inr z ↦ elim (same_or t 0) [ inl e ↦ ap (owner c) e ∙ s.root ∙ sym e | inr e ↦ s.apart t (omega (arith, e)) n.low z ]
+    | inr z ↦ elim (cases_eq t 0) [ inl e ↦ ap (owner c) e ∙ s.root ∙ sym e | inr e ↦ s.apart t (omega (arith, e)) n.low z ]
   ]
 
   pub gap_le : (i : ℕ) → i < used c → gap c i ≤ i
-  gap_le = strong (λ i. i < used c → gap c i ≤ i) (λ i more h. elim (same_or i 0) [
+  gap_le = strong (λ i. i < used c → gap c i ≤ i) (λ i more h. elim (cases_eq i 0) [
     | inl e ↦ omega (arith, s.gap_root, ap (gap c) e)
     | inr n ↦ (
         let l : slice_index c.parents i < i = s.rooted i (omega (arith, n)) h in
@@ -188,9 +154,9 @@ module _ (c : ColumnTable) (cuts joins : List ℕ) (pend : ℕ → Bool) (col : 
   -- the strands of a trace from a start on have the start's gap or a newer one
   pub later_gap : (t r : ℕ) → IsTrace c cuts joins t → SegmentStart c joins t r → (IsCut c cuts joins t r → ⊥) → (i : ℕ) → i < used c → owner c i ≡ t → r ≤ i → (gap c i ≡ gap c r) ⊎ (r ≤ gap c i)
   later_gap t r n w u =
-      strong (λ i. i < used c → owner c i ≡ t → r ≤ i → (gap c i ≡ gap c r) ⊎ (r ≤ gap c i)) (λ i more h e g. elim (same_or i r) [
+      strong (λ i. i < used c → owner c i ≡ t → r ≤ i → (gap c i ≡ gap c r) ⊎ (r ≤ gap c i)) (λ i more h e g. elim (cases_eq i r) [
         | inl q ↦ inl (ap (gap c) q)
-        | inr q ↦ by_right i more h e (omega (arith, g, q)) w (same_or i (r + 1))
+        | inr q ↦ by_right i more h e (omega (arith, g, q)) w (cases_eq i (r + 1))
       ]) where
         step : (i : ℕ) → ((m : ℕ) → m < i → m < used c → owner c m ≡ t → r ≤ m → (gap c m ≡ gap c r) ⊎ (r ≤ gap c m)) → i < used c → owner c i ≡ t → r < i → r ≤ slice_index c.parents i → (gap c i ≡ gap c r) ⊎ (r ≤ gap c i)
         step i more h e l low = elim (made i h) [
@@ -206,3 +172,8 @@ module _ (c : ColumnTable) (cuts joins : List ℕ) (pend : ℕ → Bool) (col : 
         by_right i more h e l (inr o) (inl q) = inl (ap (gap c) q ∙ s.right_gap r o.left o.low (not_cut t r o u))
         by_right i more h e l (inl z) (inl q) = step i more h e l (forked_after t r i n (inl z) h e l (λ o. absurd (omega (arith, open_after t r o, z))))
         by_right i more h e l x (inr q) = step i more h e l (forked_after t r i n x h e l (λ o. q))
+
+pub odd_apart : (s f : ℕ) → s % 2 ≡ 1 → f % 2 ≡ 1 → s ≢ f + 1
+odd_apart s f a b e = by_eq s f a b e where
+  by_eq : (s f : ℕ) → s % 2 ≡ 1 → f % 2 ≡ 1 → s ≡ f + 1 → ⊥
+  by_eq s f a b e = omega arith

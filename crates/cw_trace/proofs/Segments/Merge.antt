@@ -2,13 +2,15 @@
 use Rattle.std.proofs.Common.{◌≡◌, ◌≢◌, ℕ, ◌+◌, ◌<◌, ◌≤◌, List, ◌∷◌, length, refl, ap, sym, ◌∙◌, arith, Bool, true, false, Some, None, nat_eq, inl, inr, subst, eq-eqb, eqb-true}
 use Rattle.std.specs.Prelude.{◌⊎◌, ◌%◌, ◌&&◌, ◌||◌, not, slice_index, slice_set, if◌then◌else◌}
 use Rattle.std.proofs.lemmas.List.{get_or-map, length-map, length-set}
+use Rattle.std.proofs.lemmas.Bool.{or_left, or_right, or_cases, cases_eq}
 use Rattle.cw_trace.specs.declared.tier.Trace.{Trace}
 use Rattle.cw_trace.specs.Columns.{ColumnTable, used, owner, gap, trace, trace_in, head, head_in, lead, lead_in, up, left_column_of, merged}
 use Rattle.cw_tree.specs.Walks.{has}
+use Rattle.cw_tree.proofs.NextNodes.Closing.{get_set_other}
 use Rattle.cw_trace.specs.Stands.{around, is_apart}
 use Rattle.cw_trace.specs.Segments.{IsOpen, SegmentStart, IsCut, IsTrace, IsLive, Within, Segments, MayMerge}
-use Rattle.cw_trace.proofs.Marks.Edits.{has_cons_same, has_cons_other, set_get_same, set_get_other}
-use Rattle.cw_trace.proofs.Segments.Lines.{same_or, or_cases, or_left, or_right, left_of_odd, left_of_next, left_of_cases, is_split, apart_parts, own_le, own_trace, open_after, start_owner, right_used}
+use Rattle.cw_trace.proofs.Marks.Edits.{has_cons_same, has_cons_other, set_get_same}
+use Rattle.cw_trace.proofs.Segments.Lines.{left_of_odd, left_of_next, left_of_cases, is_split, apart_parts, own_le, own_trace, open_after, start_owner, right_used}
 
 module _ (c : ColumnTable) (cuts joins : List ℕ) (pend : ℕ → Bool) (col : ℕ → ℕ) (g : Segments c cuts joins pend col) (f : ℕ) (m : MayMerge c cuts joins pend col f) where
   abbrev t : ℕ
@@ -176,7 +178,7 @@ module _ (c : ColumnTable) (cuts joins : List ℕ) (pend : ℕ → Bool) (col : 
   none_lent b p e = (m.no_block b p).0 (g.gap_owned f f b trace_f (inl refl) live_f p e).0
 
   gap_owned2 : (x s b : ℕ) → IsTrace d cuts joins2 x → SegmentStart d joins2 x s → IsLive d cuts joins2 x s → pend b ≡ true → gap d (col b) ≡ gap d s → (owner d (col b) ≡ x) × (s ≤ col b)
-  gap_owned2 x s b n st l p e = by_t (same_or x t) where
+  gap_owned2 x s b n st l p e = by_t (cases_eq x t) where
     w : Was x
     w = was x n
 
@@ -188,13 +190,13 @@ module _ (c : ColumnTable) (cuts joins : List ℕ) (pend : ℕ → Bool) (col : 
 
     by_t : (x ≡ t) ⊎ (x ≢ t) → (owner d (col b) ≡ x) × (s ≤ col b)
     by_t (inr k) = with_live (live_old x s k l)
-    by_t (inl q) = elim (same_or (gap c s) (gap c f)) [
+    by_t (inl q) = elim (cases_eq (gap c s) (gap c f)) [
       | inl z ↦ absurd (none_lent b p (e ∙ z))
       | inr z ↦ (let P : ℕ → Type 0 = λ x. IsLive c cuts joins x s in with_live (subst P (sym q) (live_t s z)))
     ]
 
   gap_first2 : (x s b : ℕ) → IsTrace d cuts joins2 x → SegmentStart d joins2 x s → IsLive d cuts joins2 x s → Within d pend col x s b → (a : ℕ) × (a ≤ b) × (pend a ≡ true) × (gap d (col a) ≡ gap d s)
-  gap_first2 x s b n st l h = by_t (same_or x t) where
+  gap_first2 x s b n st l h = by_t (cases_eq x t) where
     w : Was x
     w = was x n
 
@@ -206,7 +208,7 @@ module _ (c : ColumnTable) (cuts joins : List ℕ) (pend : ℕ → Bool) (col : 
 
     by_t : (x ≡ t) ⊎ (x ≢ t) → (a : ℕ) × (a ≤ b) × (pend a ≡ true) × (gap c (col a) ≡ gap c s)
     by_t (inr k) = g.gap_first x s b w.trace u.0 (live_old x s k l) v
-    by_t (inl q) = elim (same_or (gap c s) (gap c f)) [
+    by_t (inl q) = elim (cases_eq (gap c s) (gap c f)) [
       | inl z ↦ absurd (
           let P : ℕ → Type 0 = λ x. SegmentStart c joins x f in
           g.shared x s f b w.trace u.0 (subst P (sym q) (inr open_f)) (start_low x s q u.0 u.1) z v (g.cut_last t f (col b) cut_f (g.there b v.pending) (v.owned ∙ q)))
@@ -224,7 +226,7 @@ module _ (c : ColumnTable) (cuts joins : List ℕ) (pend : ℕ → Bool) (col : 
       (z.0, z.1, record { pending = w.pending; owned = owned_new x z.0 w.pending w.owned; after = w.after })
 
   one_trace2 : (x y s r : ℕ) → IsTrace d cuts joins2 x → IsTrace d cuts joins2 y → SegmentStart d joins2 x s → SegmentStart d joins2 y r → IsLive d cuts joins2 x s → IsLive d cuts joins2 y r → gap d s ≡ gap d r → x ≡ y
-  one_trace2 x y s r n k st sr l h e = by_both (same_or x t) (same_or y t) where
+  one_trace2 x y s r n k st sr l h e = by_both (cases_eq x t) (cases_eq y t) where
     w : Was x
     w = was x n
 
@@ -243,11 +245,11 @@ module _ (c : ColumnTable) (cuts joins : List ℕ) (pend : ℕ → Bool) (col : 
     by_both : (x ≡ t) ⊎ (x ≢ t) → (y ≡ t) ⊎ (y ≢ t) → x ≡ y
     by_both (inl p) (inl q) = p ∙ sym q
     by_both (inr p) (inr q) = g.one_trace x y s r w.trace v.trace u z (live_old x s p l) (live_old y r q h) e
-    by_both (inl p) (inr q) = elim (same_or (gap c s) (gap c f)) [
+    by_both (inl p) (inr q) = elim (cases_eq (gap c s) (gap c f)) [
       | inl i ↦ lent x y r v z (live_old y r q h) (sym e ∙ i)
       | inr i ↦ (let P : ℕ → Type 0 = λ x. IsLive c cuts joins x s in g.one_trace x y s r w.trace v.trace u z (subst P (sym p) (live_t s i)) (live_old y r q h) e)
     ]
-    by_both (inr p) (inl q) = elim (same_or (gap c r) (gap c f)) [
+    by_both (inr p) (inl q) = elim (cases_eq (gap c r) (gap c f)) [
       | inl i ↦ sym (lent y x s w u (live_old x s p l) (e ∙ i))
       | inr i ↦ (let P : ℕ → Type 0 = λ x. IsLive c cuts joins x r in g.one_trace x y s r w.trace v.trace u z (live_old x s p l) (subst P (sym q) (live_t r i)) e)
     ]
@@ -270,7 +272,7 @@ module _ (c : ColumnTable) (cuts joins : List ℕ) (pend : ℕ → Bool) (col : 
       elim (part i (old i h)) [ moved q v ↦ absurd (z.1 (sym o ∙ v)) | stays b e v ↦ g.cut_last x k i z.0 (old i h) (sym v ∙ o) ]
 
   together2 : (i : ℕ) → 0 < i → i < used d → is_apart cuts joins2 i ≡ false → owner d i ≡ around d i
-  together2 i p h0 a = by_left (same_or (left_column_of i) f) where
+  together2 i p h0 a = by_left (cases_eq (left_column_of i) f) where
     h : i < used c
     h = old i h0
 
@@ -336,32 +338,32 @@ module _ (c : ColumnTable) (cuts joins : List ℕ) (pend : ℕ → Bool) (col : 
 
   pub trace_t : trace d t ≡ Some whole
   trace_t =
-      ap trace_in (set_get_other (slice_set (slice_set c.traces t (Some whole)) f None) (f + 1) t None (λ q. omega (arith, q, t_low))
-      ∙ set_get_other (slice_set c.traces t (Some whole)) f t None (λ q. omega (arith, q, t_low))
+      ap trace_in (get_set_other (slice_set (slice_set c.traces t (Some whole)) f None) (f + 1) t None (λ q. omega (arith, q, t_low))
+      ∙ get_set_other (slice_set c.traces t (Some whole)) f t None (λ q. omega (arith, q, t_low))
       ∙ set_get_same c.traces t (Some whole) (omega (arith, g.lengths.2, t_low, m.low)))
 
   pub trace_other : (x : ℕ) → x ≢ t → x ≢ f → x ≢ f + 1 → trace d x ≡ trace c x
   trace_other x a b e =
-      ap trace_in (set_get_other (slice_set (slice_set c.traces t (Some whole)) f None) (f + 1) x None e
-      ∙ set_get_other (slice_set c.traces t (Some whole)) f x None b
-      ∙ set_get_other c.traces t x (Some whole) a)
+      ap trace_in (get_set_other (slice_set (slice_set c.traces t (Some whole)) f None) (f + 1) x None e
+      ∙ get_set_other (slice_set c.traces t (Some whole)) f x None b
+      ∙ get_set_other c.traces t x (Some whole) a)
 
   pub trace_f_gone : trace d f ≡ None
   trace_f_gone =
-      ap trace_in (set_get_other (slice_set (slice_set c.traces t (Some whole)) f None) (f + 1) f None (λ q. omega (arith, q))
+      ap trace_in (get_set_other (slice_set (slice_set c.traces t (Some whole)) f None) (f + 1) f None (λ q. omega (arith, q))
       ∙ set_get_same (slice_set c.traces t (Some whole)) f None (omega (arith, length_traces, m.low)))
 
   pub trace_r_gone : trace d (f + 1) ≡ None
   trace_r_gone = ap trace_in (set_get_same (slice_set (slice_set c.traces t (Some whole)) f None) (f + 1) None (omega (arith, length-set (slice_set c.traces t (Some whole)) f None, length_traces, right_low)))
 
   heads2 : (x : ℕ) → IsTrace d cuts joins2 x → head d x ≡ gap d x
-  heads2 x n = let w = was x n in elim (same_or x t) [
+  heads2 x n = let w = was x n in elim (cases_eq x t) [
     | inl q ↦ ap (head d) q ∙ ap head_in trace_t ∙ g.heads t tr ∙ sym (ap (gap c) q)
     | inr q ↦ ap head_in (trace_other x q w.not_f w.not_r) ∙ g.heads x w.trace
   ]
 
   lead_live2 : (x : ℕ) → IsTrace d cuts joins2 x → IsLive d cuts joins2 x x → lead d x ≡ Some (gap d x)
-  lead_live2 x n l = let w = was x n in elim (same_or x t) [
+  lead_live2 x n l = let w = was x n in elim (cases_eq x t) [
     | inl q ↦ ap (lead d) q ∙ ap lead_in trace_t ∙ ap Some (g.heads t tr ∙ sym (ap (gap c) q))
     | inr q ↦ ap lead_in (trace_other x q w.not_f w.not_r) ∙ g.lead_live x w.trace (live_old x x q l)
   ]

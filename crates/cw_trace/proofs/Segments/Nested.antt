@@ -1,13 +1,13 @@
 -- Splits, merges and forks keep the nesting of traces.
 use Rattle.std.proofs.Common.{◌≡◌, ◌≢◌, ℕ, ◌+◌, ◌<◌, List, [], ◌∷◌, refl, ap, sym, ◌∙◌, arith, Bool, true, false, nat_eq, inl, inr, subst, eq-eqb, eqb-true}
 use Rattle.std.specs.Prelude.{◌⊎◌, ◌&&◌, ◌||◌, not, slice_index, None}
-use Rattle.std.proofs.lemmas.Bool.{ne_eqb}
+use Rattle.std.proofs.lemmas.Bool.{ne_eqb, and_parts, and_from, or_left, or_right, or_cases, cases_eq}
 use Rattle.cw_trace.specs.Columns.{ColumnTable, owner, gap, left_column_of, split_at, merged, forked, opening_mark, closing_mark, stands_before, inside, marks, is_mark_of}
 use Rattle.cw_tree.specs.Walks.{has}
 use Rattle.cw_trace.specs.Stands.{around, Descends, child, further}
 use Rattle.cw_trace.specs.Segments.{IsTrace, Segments, MaySplit, MayMerge, Active, Ups, next_outward}
 use Rattle.cw_trace.specs.Keeps.{Nesting, Distinct}
-use Rattle.cw_trace.proofs.Segments.Lines.{same_or, both_true, and_true, or_cases, or_left, or_right, bool_or, own_trace, own_self}
+use Rattle.cw_trace.proofs.Segments.Lines.{own_trace, own_self}
 use Rattle.cw_trace.proofs.Marks.Marking.{has_place, before_old, before_new, new_before, new_new, not_both, before_first, before_second, distinct_place, filter_has, before_filter, distinct_filter}
 use Rattle.cw_trace.proofs.Segments.Split as split
 use Rattle.cw_trace.proofs.Segments.Merge as merge
@@ -92,9 +92,6 @@ module _ (f : ℕ) where
       rw (ne_eqb (opening_mark f) (opening_mark (f + 1)) (λ e. omega (arith, e)), ne_eqb (closing_mark f) (opening_mark (f + 1)) (λ e. omega (arith, e)), eq-eqb (opening_mark (f + 1)) (opening_mark (f + 1)) refl, ne_eqb (closing_mark (f + 1)) (closing_mark f) (λ e. omega (arith, e))) refl
 
 module _ (c : ColumnTable) (cuts joins : List ℕ) (pend : ℕ → Bool) (col : ℕ → ℕ) (g : Segments c cuts joins pend col) (nest : Nesting c cuts joins) where
-  bs : List ℕ
-  bs = c.brackets
-
   trace_has : (x : ℕ) → IsTrace c cuts joins x → (has c.brackets (opening_mark x) ≡ true) × (has c.brackets (closing_mark x) ≡ true)
   trace_has x n = let z = nest.closes x n in (before_first c.brackets (opening_mark x) (closing_mark x) z, before_second c.brackets (opening_mark x) (closing_mark x) z)
 
@@ -176,7 +173,7 @@ module _ (c : ColumnTable) (cuts joins : List ℕ) (pend : ℕ → Bool) (col : 
     -- no old trace stands within a new one
     not_inside : (x y : ℕ) → New x → Was y → inside d y x ≡ true → ⊥
     not_inside x y v w e =
-        let z = both_true (stands_before d.brackets (opening_mark x) (opening_mark y)) (stands_before d.brackets (opening_mark y) (closing_mark x)) e in
+        let z = and_parts (stands_before d.brackets (opening_mark x) (opening_mark y)) (stands_before d.brackets (opening_mark y) (closing_mark x)) e in
         let p = old_marks y w in
         let q = new_opening f x v in
         let r = new_closing f x v in
@@ -195,7 +192,7 @@ module _ (c : ColumnTable) (cuts joins : List ℕ) (pend : ℕ → Bool) (col : 
     never x y v w e = by_both v w where
       z : (stands_before (marks f) (opening_mark x) (opening_mark y) ≡ true) × (stands_before (marks f) (opening_mark y) (closing_mark x) ≡ true)
       z =
-          let y2 = both_true (stands_before d.brackets (opening_mark x) (opening_mark y)) (stands_before d.brackets (opening_mark y) (closing_mark x)) e in
+          let y2 = and_parts (stands_before d.brackets (opening_mark x) (opening_mark y)) (stands_before d.brackets (opening_mark y) (closing_mark x)) e in
           (sym (among (opening_mark x) (opening_mark y) (new_opening f x v) (new_opening f y w)) ∙ y2.0, sym (among (opening_mark y) (closing_mark x) (new_opening f y w) (new_closing f x v)) ∙ y2.1)
 
       self : x ≡ y → ⊥
@@ -254,10 +251,10 @@ module _ (c : ColumnTable) (cuts joins : List ℕ) (pend : ℕ → Bool) (col : 
     descends2 x y (inl v) (inr w) e = absurd (not_inside x y v w e)
     descends2 x y (inr v) (inr w) e = from_old x y w.trace (nest.descends x y v.trace w.trace (sym (inside_old x y v w) ∙ e))
     descends2 x y (inr v) (inl w) e =
-        let z = both_true (nat_eq (opening_mark t) (opening_mark x) || stands_before c.brackets (opening_mark x) (opening_mark t)) (stands_before c.brackets (opening_mark t) (closing_mark x)) (sym (inside_new x y v w) ∙ e) in
+        let z = and_parts (nat_eq (opening_mark t) (opening_mark x) || stands_before c.brackets (opening_mark x) (opening_mark t)) (stands_before c.brackets (opening_mark t) (closing_mark x)) (sym (inside_new x y v w) ∙ e) in
         to_new x y w (elim (or_cases (nat_eq (opening_mark t) (opening_mark x)) (stands_before c.brackets (opening_mark x) (opening_mark t)) z.0) [
           | inl q ↦ inl (sym (opening_one t x (eqb-true _ _ q)))
-          | inr q ↦ inr (nest.descends x t v.trace tr (and_true (stands_before c.brackets (opening_mark x) (opening_mark t)) (stands_before c.brackets (opening_mark t) (closing_mark x)) q z.1))
+          | inr q ↦ inr (nest.descends x t v.trace tr (and_from (stands_before c.brackets (opening_mark x) (opening_mark t)) (stands_before c.brackets (opening_mark t) (closing_mark x)) q z.1))
         ])
 
     within2 : (x y : ℕ) → New x ⊎ Was x → New y ⊎ Was y → Descends d x y → inside d y x ≡ true
@@ -266,11 +263,11 @@ module _ (c : ColumnTable) (cuts joins : List ℕ) (pend : ℕ → Bool) (col : 
     within2 x y (inr v) (inl w) e = inside_new x y v w ∙ by_case (from_new x y w e) where
       by_case : (x ≡ t) ⊎ Descends c x t → ((nat_eq (opening_mark t) (opening_mark x) || stands_before c.brackets (opening_mark x) (opening_mark t)) && stands_before c.brackets (opening_mark t) (closing_mark x)) ≡ true
       by_case (inl q) =
-          and_true (nat_eq (opening_mark t) (opening_mark x) || stands_before c.brackets (opening_mark x) (opening_mark t)) (stands_before c.brackets (opening_mark t) (closing_mark x)) (or_left (nat_eq (opening_mark t) (opening_mark x)) (stands_before c.brackets (opening_mark x) (opening_mark t)) (eq-eqb _ _ (ap opening_mark (sym q))))
+          and_from (nat_eq (opening_mark t) (opening_mark x) || stands_before c.brackets (opening_mark x) (opening_mark t)) (stands_before c.brackets (opening_mark t) (closing_mark x)) (or_left (nat_eq (opening_mark t) (opening_mark x)) (stands_before c.brackets (opening_mark x) (opening_mark t)) (eq-eqb _ _ (ap opening_mark (sym q))))
           (ap (λ n. stands_before c.brackets (opening_mark t) (closing_mark n)) q ∙ nest.closes t tr)
       by_case (inr q) =
-          let z = both_true (stands_before c.brackets (opening_mark x) (opening_mark t)) (stands_before c.brackets (opening_mark t) (closing_mark x)) (nest.within x t v.trace tr q) in
-          and_true (nat_eq (opening_mark t) (opening_mark x) || stands_before c.brackets (opening_mark x) (opening_mark t)) (stands_before c.brackets (opening_mark t) (closing_mark x)) (or_right (nat_eq (opening_mark t) (opening_mark x)) (stands_before c.brackets (opening_mark x) (opening_mark t)) z.0) z.1
+          let z = and_parts (stands_before c.brackets (opening_mark x) (opening_mark t)) (stands_before c.brackets (opening_mark t) (closing_mark x)) (nest.within x t v.trace tr q) in
+          and_from (nat_eq (opening_mark t) (opening_mark x) || stands_before c.brackets (opening_mark x) (opening_mark t)) (stands_before c.brackets (opening_mark t) (closing_mark x)) (or_right (nat_eq (opening_mark t) (opening_mark x)) (stands_before c.brackets (opening_mark x) (opening_mark t)) z.0) z.1
 
     new_trace : (x : ℕ) → IsTrace c cuts joins x → IsTrace d (f ∷ cuts) joins x
     new_trace x n =
@@ -387,7 +384,7 @@ module _ (c : ColumnTable) (cuts joins : List ℕ) (pend : ℕ → Bool) (col : 
       keeps_trace : (x : ℕ) → IsTrace c cuts joins x → x ≢ f → x ≢ f + 1 → IsTrace d2 cuts (f ∷ joins) x
       keeps_trace x n a b = record {
         low = merge.new c cuts joins pend col g f m x n.low;
-        named = elim (same_or x 0) [
+        named = elim (cases_eq x 0) [
           | inl e ↦ or_left (nat_eq x 0) _ (eq-eqb x 0 e)
           | inr e ↦ elim (or_cases (nat_eq x 0) (Rattle.cw_trace.specs.Stands.is_apart cuts joins x) n.named) [
             | inl z ↦ absurd (e (eqb-true _ _ z))

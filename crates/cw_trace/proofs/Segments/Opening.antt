@@ -1,14 +1,14 @@
 -- What stands at the start: the root's column alone, and no word set.
 use Rattle.std.proofs.Common.{◌≡◌, ℕ, zero, suc, ◌<◌, ◌≤◌, List, [], ◌∷◌, length, refl, ap, sym, ◌∙◌, arith, Bool, true, false, Some, nat_eq, inl, inr, subst, eqb-true}
 use Rattle.std.specs.Prelude.{◌⊎◌, ◌%◌, ◌||◌, slice_index}
+use Rattle.std.proofs.lemmas.Bool.{or_cases}
 use Rattle.cw_tree.specs.declared.node.Node.{Node}
 use Rattle.cw_tree.specs.declared.node.Kind.TheVariants.{Strand}
 use Rattle.cw_tree.specs.Nodes.{is_fork, is_pending, fresh_node}
-use Rattle.cw_trace.specs.Columns.{ColumnTable, used, owner, gap, first_tier, opening_mark, closing_mark, stands_before, is_trace, outer, before_split}
+use Rattle.cw_trace.specs.Columns.{ColumnTable, used, gap, first_tier, opening_mark, closing_mark, stands_before, is_trace, outer, before_split}
 use Rattle.cw_trace.specs.Stands.{column, Descends, child, further, names_trace}
 use Rattle.cw_trace.specs.Segments.{IsOpen, IsTrace, Segments, next_outward}
 use Rattle.cw_trace.specs.Keeps.{Keeps, Nesting}
-use Rattle.cw_trace.proofs.Segments.Lines.{or_cases}
 
 abbrev root_alone : List Node
 root_alone = fresh_node 0 Strand 0 ∷ []

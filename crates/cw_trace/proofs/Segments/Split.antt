@@ -1,21 +1,17 @@
 -- A split keeps the division into segments.
 use Rattle.std.proofs.Common.{◌≡◌, ◌≢◌, ℕ, ◌+◌, ◌<◌, ◌≤◌, List, ◌∷◌, length, refl, ap, sym, ◌∙◌, arith, Bool, true, false, Option, Some, None, nat_eq, inl, inr, subst, eq-eqb, eqb-true}
 use Rattle.std.specs.Prelude.{◌⊎◌, ◌%◌, ◌&&◌, not, nat_le, slice_index, slice_set, if◌then◌else◌}
-use Rattle.std.proofs.lemmas.Bool.{leb-true, le-leb, ne_eqb}
+use Rattle.std.proofs.lemmas.Bool.{leb-true, le-leb, ne_eqb, and_parts, and_from, or_left, or_right, or_cases, cases_eq}
 use Rattle.std.proofs.lemmas.List.{get_or-set_same, get_or-set_other, length-set}
 use Rattle.cw_trace.specs.declared.tier.Trace.{Trace}
 use Rattle.cw_trace.specs.Columns.{ColumnTable, used, owner, gap, trace, trace_in, head, head_in, lead, lead_in, up, left_column_of, split_at, part_of, is_lead, or_else}
 use Rattle.cw_tree.specs.Walks.{has}
+use Rattle.cw_tree.proofs.NextNodes.Closing.{get_set_other}
 use Rattle.cw_trace.specs.Stands.{around, is_apart, names_trace}
 use Rattle.cw_trace.specs.Segments.{IsOpen, SegmentStart, IsCut, IsTrace, IsLive, Within, Segments, MaySplit, next_outward}
-use Rattle.cw_trace.proofs.Marks.Edits.{length_parts, parts_at, has_cons_same, has_cons_other, set_get_same, set_get_other}
-use Rattle.cw_trace.proofs.Segments.Lines.{same_or, le_or_lt, both_true, and_true, or_cases, or_left, or_right, left_of_odd, left_of_next, left_of_cases, left_of_le, is_split, unsplit, own_trace, own_self, open_after, gap_le, start_used, later_gap, right_used}
+use Rattle.cw_trace.proofs.Marks.Edits.{length_parts, parts_at, has_cons_same, has_cons_other, set_get_same}
+use Rattle.cw_trace.proofs.Segments.Lines.{le_or_lt, left_of_odd, left_of_next, left_of_cases, left_of_le, is_split, unsplit, own_trace, own_self, open_after, gap_le, start_used, later_gap, right_used, odd_apart}
 use Rattle.cw_trace.proofs.Outward.Outward.{all_past}
-
-odd_apart : (s r : ℕ) → s % 2 ≡ 1 → r % 2 ≡ 1 → s ≢ r + 1
-odd_apart s r a b = λ e. by_eq s r a b e where
-  by_eq : (s r : ℕ) → s % 2 ≡ 1 → r % 2 ≡ 1 → s ≡ r + 1 → ⊥
-  by_eq s r a b e = omega arith
 
 module _ (c : ColumnTable) (cuts joins : List ℕ) (pend : ℕ → Bool) (col : ℕ → ℕ) (g : Segments c cuts joins pend col) (f : ℕ) (m : MaySplit c cuts joins pend col f) (early : next_outward c cuts f ≡ None) where
   abbrev t : ℕ
@@ -39,7 +35,7 @@ module _ (c : ColumnTable) (cuts joins : List ℕ) (pend : ℕ → Bool) (col : 
   tr = own_trace c cuts joins pend col g f m.low
 
   pub uncut : (k : ℕ) → IsCut c cuts joins t k → ⊥
-  uncut k w = elim (same_or f k) [ inl e ↦ absurd (cc (ap (has cuts) e, m.uncut, w.cut)) | inr n ↦ (let z = g.taken_back t k f w open_f n in m.no_fork z.0 z.1 z.2 z.3) ]
+  uncut k w = elim (cases_eq f k) [ inl e ↦ absurd (cc (ap (has cuts) e, m.uncut, w.cut)) | inr n ↦ (let z = g.taken_back t k f w open_f n in m.no_fork z.0 z.1 z.2 z.3) ]
 
   live : (s : ℕ) → IsLive c cuts joins t s
   live s = λ k w e. uncut k w
@@ -71,9 +67,9 @@ module _ (c : ColumnTable) (cuts joins : List ℕ) (pend : ℕ → Bool) (col : 
 
     by_tests : (a b : Bool) → nat_eq i (f + 1) ≡ a → (nat_eq (owner c i) t && nat_le f i) ≡ b → owner d i ≡ (if a then f + 1 else if b then f else owner c i) → Part i
     by_tests true b ea eb e = right (eqb-true _ _ ea) e
-    by_tests false true ea eb e = let z = both_true (nat_eq (owner c i) t) (nat_le f i) eb in left (λ q. cc (eq-eqb i (f + 1) q, ea)) (eqb-true _ _ z.0) (leb-true _ _ z.1) e
+    by_tests false true ea eb e = let z = and_parts (nat_eq (owner c i) t) (nat_le f i) eb in left (λ q. cc (eq-eqb i (f + 1) q, ea)) (eqb-true _ _ z.0) (leb-true _ _ z.1) e
     by_tests false false ea eb e =
-        rest (λ q. cc (eq-eqb i (f + 1) q, ea)) e (λ o. elim (le_or_lt f i) [ inl l ↦ absurd (cc (and_true (nat_eq (owner c i) t) (nat_le f i) (eq-eqb _ _ o) (le-leb _ _ l), eb)) | inr l ↦ l ])
+        rest (λ q. cc (eq-eqb i (f + 1) q, ea)) e (λ o. elim (le_or_lt f i) [ inl l ↦ absurd (cc (and_from (nat_eq (owner c i) t) (nat_le f i) (eq-eqb _ _ o) (le-leb _ _ l), eb)) | inr l ↦ l ])
 
   right_owner : owner c (f + 1) ≡ t
   right_owner = g.together (f + 1) (omega arith) right_low (unsplit cuts joins (f + 1) (ap (has cuts) (left_of_next f m.left) ∙ m.uncut)) ∙ ap (owner c) (g.pairs f m.left m.low) ∙ open_f.outside
@@ -190,11 +186,11 @@ module _ (c : ColumnTable) (cuts joins : List ℕ) (pend : ℕ → Bool) (col : 
   not_left i p a b = λ e. elim (left_of_cases i p) [ inl q ↦ a (q ∙ e) | inr q ↦ b (q ∙ ap (λ z. z + 1) e) ]
 
   pub kind : (x : ℕ) → IsTrace d cuts2 joins x → Kind x
-  kind x n = elim (same_or x (f + 1)) [
+  kind x n = elim (cases_eq x (f + 1)) [
     | inl e ↦ is_R e
-    | inr r ↦ elim (same_or x f) [
+    | inr r ↦ elim (cases_eq x f) [
       | inl e ↦ is_L e
-      | inr l ↦ elim (same_or x t) [ inl e ↦ is_T e | inr k ↦ is_O (record { not_t = k; not_f = l; not_r = r }) (record { low = old x n.low; named = named r l (same_or x 0) }) ]
+      | inr l ↦ elim (cases_eq x t) [ inl e ↦ is_T e | inr k ↦ is_O (record { not_t = k; not_f = l; not_r = r }) (record { low = old x n.low; named = named r l (cases_eq x 0) }) ]
     ]
   ] where
     named : x ≢ f + 1 → x ≢ f → (x ≡ 0) ⊎ (x ≢ 0) → names_trace cuts joins x ≡ true
@@ -271,7 +267,7 @@ module _ (c : ColumnTable) (cuts joins : List ℕ) (pend : ℕ → Bool) (col : 
   cut_L x k e w = let z = open_L x k e w.fork in uncut k (record { fork = z.0; cut = sym (has_cons_other cuts f k (λ q. (let l : f < k = z.1 in omega (arith, q)))) ∙ w.cut })
 
   cut_T : (x k : ℕ) → x ≡ t → IsCut d cuts2 joins x k → k ≡ f
-  cut_T x k e w = elim (same_or k f) [ inl q ↦ q | inr n ↦ (let z = open_T x k e w.fork in absurd (uncut k (record { fork = z.0; cut = sym (has_cons_other cuts f k n) ∙ w.cut }))) ]
+  cut_T x k e w = elim (cases_eq k f) [ inl q ↦ q | inr n ↦ (let z = open_T x k e w.fork in absurd (uncut k (record { fork = z.0; cut = sym (has_cons_other cuts f k n) ∙ w.cut }))) ]
 
   cut_O : (x k : ℕ) → Other x → IsCut d cuts2 joins x k → IsCut c cuts joins x k
   cut_O x k e w =
@@ -317,20 +313,20 @@ module _ (c : ColumnTable) (cuts joins : List ℕ) (pend : ℕ → Bool) (col : 
 
   pub trace_L : trace d f ≡ Some left_trace
   trace_L =
-      ap trace_in (set_get_other (slice_set (slice_set c.traces t (Some old_trace)) f (Some left_trace)) (f + 1) f (Some right_trace) f_apart
+      ap trace_in (get_set_other (slice_set (slice_set c.traces t (Some old_trace)) f (Some left_trace)) (f + 1) f (Some right_trace) f_apart
       ∙ set_get_same (slice_set c.traces t (Some old_trace)) f (Some left_trace) (omega (arith, length_traces, m.low)))
 
   pub trace_T : trace d t ≡ Some old_trace
   trace_T =
-      ap trace_in (set_get_other (slice_set (slice_set c.traces t (Some old_trace)) f (Some left_trace)) (f + 1) t (Some right_trace) (λ q. omega (arith, q, t_low))
-      ∙ set_get_other (slice_set c.traces t (Some old_trace)) f t (Some left_trace) (λ q. omega (arith, q, t_low))
+      ap trace_in (get_set_other (slice_set (slice_set c.traces t (Some old_trace)) f (Some left_trace)) (f + 1) t (Some right_trace) (λ q. omega (arith, q, t_low))
+      ∙ get_set_other (slice_set c.traces t (Some old_trace)) f t (Some left_trace) (λ q. omega (arith, q, t_low))
       ∙ set_get_same c.traces t (Some old_trace) (omega (arith, g.lengths.2, t_low, m.low)))
 
   pub trace_O : (x : ℕ) → Other x → trace d x ≡ trace c x
   trace_O x e =
-      ap trace_in (set_get_other (slice_set (slice_set c.traces t (Some old_trace)) f (Some left_trace)) (f + 1) x (Some right_trace) e.not_r
-      ∙ set_get_other (slice_set c.traces t (Some old_trace)) f x (Some left_trace) e.not_f
-      ∙ set_get_other c.traces t x (Some old_trace) e.not_t)
+      ap trace_in (get_set_other (slice_set (slice_set c.traces t (Some old_trace)) f (Some left_trace)) (f + 1) x (Some right_trace) e.not_r
+      ∙ get_set_other (slice_set c.traces t (Some old_trace)) f x (Some left_trace) e.not_f
+      ∙ get_set_other c.traces t x (Some old_trace) e.not_t)
 
   lead_t : lead c t ≡ Some (gap c t)
   lead_t = g.lead_live t tr (live t)
@@ -401,11 +397,11 @@ module _ (c : ColumnTable) (cuts joins : List ℕ) (pend : ℕ → Bool) (col : 
       let h : i < used c = old i h0 in
       elim (part i h) [
         | right q w ↦ w ∙ sym q
-        | left k q l w ↦ elim (same_or i f) [
+        | left k q l w ↦ elim (cases_eq i f) [
           | inl z ↦ w ∙ sym z
           | inr z ↦ (let o : owner c i ≡ i = g.apart i p h (sym (apart_same i (not_left i p z k)) ∙ a) in absurd (omega (arith, o, q, l, t_low)))
         ]
-        | rest k w l ↦ elim (same_or i f) [
+        | rest k w l ↦ elim (cases_eq i f) [
           | inl z ↦ (let u : i < f = l (ap (owner c) z) in absurd (omega (arith, z)))
           | inr z ↦ w ∙ g.apart i p h (sym (apart_same i (not_left i p z k)) ∙ a)
         ]
@@ -414,7 +410,7 @@ module _ (c : ColumnTable) (cuts joins : List ℕ) (pend : ℕ → Bool) (col : 
   gap_step2 : (i : ℕ) → 0 < i → i < used d → (gap d i ≡ gap d (slice_index d.parents i)) ⊎ ((left_column_of i ≤ gap d i) × (gap d i ≤ i))
   gap_step2 i p h0 =
       let h : i < used c = old i h0 in
-      elim (same_or i (f + 1)) [
+      elim (cases_eq i (f + 1)) [
         | inl e ↦ inr (let y = left_of_le i p in (omega (arith, ap (gap d) e, gap_right, e, left_of_next f m.left, ap left_column_of e), omega (arith, ap (gap d) e, gap_right, e)))
         | inr n ↦ elim (g.gap_step i p h) [
           | inl q ↦ inl (gap_other i n ∙ q ∙ sym (gap_other (slice_index c.parents i) (m.no_fork i p h)))
@@ -435,7 +431,7 @@ module _ (c : ColumnTable) (cuts joins : List ℕ) (pend : ℕ → Bool) (col : 
   right_new2 : (s i : ℕ) → s % 2 ≡ 1 → s < used d → i < used d → has cuts2 s ≡ false → gap d i ≡ s + 1 → ⊥
   right_new2 s i o h k u q =
       let z = not_cut2 s u in
-      elim (same_or i (f + 1)) [ inl e ↦ z.0 (omega (arith, sym (ap (gap d) e ∙ gap_right) ∙ q)) | inr n ↦ g.right_new s i o (old s h) (old i k) z.1 (sym (gap_other i n) ∙ q) ]
+      elim (cases_eq i (f + 1)) [ inl e ↦ z.0 (omega (arith, sym (ap (gap d) e ∙ gap_right) ∙ q)) | inr n ↦ g.right_new s i o (old s h) (old i k) z.1 (sym (gap_other i n) ∙ q) ]
 
   -- one line for each trace
   nested2 : (x s i : ℕ) → IsTrace d cuts2 joins x → SegmentStart d joins x s → i < used d → s + 1 < i → around d i ≡ x → s ≤ slice_index d.parents i
@@ -456,11 +452,11 @@ module _ (c : ColumnTable) (cuts joins : List ℕ) (pend : ℕ → Bool) (col : 
 
   -- each trace that was cut is the old one or another
   cut_kind : (x k : ℕ) → IsCut d cuts2 joins x k → ((x ≡ t) × (k ≡ f)) ⊎ (Other x × IsCut c cuts joins x k)
-  cut_kind x k w = elim (same_or x (f + 1)) [
+  cut_kind x k w = elim (cases_eq x (f + 1)) [
     | inl e ↦ absurd (cut_R x k e w)
-    | inr r ↦ elim (same_or x f) [
+    | inr r ↦ elim (cases_eq x f) [
       | inl e ↦ absurd (cut_L x k e w)
-      | inr l ↦ elim (same_or x t) [ inl e ↦ inl (e, cut_T x k e w) | inr n ↦ (let o : Other x = record { not_t = n; not_f = l; not_r = r } in inr (o, cut_O x k o w)) ]
+      | inr l ↦ elim (cases_eq x t) [ inl e ↦ inl (e, cut_T x k e w) | inr n ↦ (let o : Other x = record { not_t = n; not_f = l; not_r = r } in inr (o, cut_O x k o w)) ]
     ]
   ]
 

@@ -1,16 +1,16 @@
 -- What every call keeps of the columns, kept by a merge.
 use Rattle.std.proofs.Common.{◌≡◌, ◌≢◌, ℕ, suc, ◌+◌, ◌<◌, ◌≤◌, List, length, refl, ap, sym, ◌∙◌, arith, Bool, true, false, Option, Some, None, nat_eq, not, inl, inr, eq-eqb, eqb-true}
 use Rattle.std.specs.Prelude.{◌⊎◌, ◌/◌, ◌%◌, ◌||◌, slice_index, slice_set, if◌then◌else◌}
-use Rattle.std.proofs.lemmas.Bool.{ne_eqb}
+use Rattle.std.proofs.lemmas.Bool.{ne_eqb, or_left, or_right, cases_eq}
 use Rattle.std.proofs.lemmas.List.{get_or-map, length-map, length-set}
 use Rattle.cw_tree.specs.Walks.{has}
 use Rattle.cw_trace.specs.declared.tier.Trace.{Trace}
-use Rattle.cw_trace.specs.Columns.{ColumnTable, used, owner, trace, trace_in, is_trace, outer, outer_at, fork_in, opening_mark, closing_mark, marks, place_after, part_of, parts, back_to, forked, split_at, merged, is_mark_of, around_fork}
+use Rattle.cw_trace.specs.Columns.{ColumnTable, used, owner, is_trace, opening_mark, closing_mark, back_to, merged, is_mark_of, around_fork}
 use Rattle.cw_trace.specs.Tier.{trace_count, AreSound}
-use Rattle.cw_trace.proofs.Segments.Lines.{same_or, or_left, or_right}
 use Rattle.cw_trace.proofs.Marks.Marking.{distinct_filter, filter_has, has_filter}
 use Rattle.cw_trace.proofs.Marks.FourMarks.{length_four}
-use Rattle.cw_trace.proofs.Marks.Counts.{SameLengths, count_clear, count_keep, half_closing, half_opening, named_same, named_set, odd_apart, odd_next}
+use Rattle.cw_trace.proofs.Marks.Counts.{SameLengths, count_clear, count_keep, half_closing, half_opening, named_same, named_set, odd_next}
+use Rattle.cw_trace.proofs.Segments.Lines.{odd_apart}
 
 module _ (c : ColumnTable) (s : AreSound c) (l : SameLengths c) where
   module _ (f : ℕ) (low : f < used c) (left : f % 2 ≡ 1) (split : is_trace c f ≡ true) where
@@ -83,7 +83,7 @@ module _ (c : ColumnTable) (s : AreSound c) (l : SameLengths c) where
     whole_stays = named_same ms2 (f + 1) whole_trace None (omega (arith, around_low)) ∙ named_same ms1 f whole_trace None (omega (arith, around_low)) ∙ named_set c.traces whole_trace (Some whole_row) (omega (arith, l.traces, merge_trace_low))
 
     others : (x : ℕ) → x ≢ f → x ≢ f + 1 → is_trace m x ≡ is_trace c x
-    others x a b = elim (same_or x whole_trace) [
+    others x a b = elim (cases_eq x whole_trace) [
       | inl e ↦ ap (is_trace m) e ∙ whole_stays ∙ sym (ap (is_trace c) e ∙ whole_named)
       | inr n ↦ named_same ms2 (f + 1) x None b ∙ named_same ms1 f x None a ∙ named_same c.traces whole_trace x (Some whole_row) n
     ]
@@ -116,7 +116,7 @@ module _ (c : ColumnTable) (s : AreSound c) (l : SameLengths c) where
         | inl e ↦ ap (is_trace m) e.0 ∙ whole_stays
         | inr e ↦ ap (is_trace m) e.0 ∙ others (owner c i) e.1 e.2 ∙ s.owned i (omega (arith, merged_used))
       ];
-      pairs = λ x o h. elim (same_or x f) [
+      pairs = λ x o h. elim (cases_eq x f) [
         | inl e ↦ ap (λ n. is_trace m (n + 1)) e ∙ gone_r ∙ sym (ap (is_trace m) e ∙ gone_f)
         | inr n ↦ others (x + 1) (λ e. odd_apart f x left o (sym e)) (λ e. n (omega arith)) ∙ s.pairs x o (omega (arith, merged_used)) ∙ sym (others x n (odd_apart x f o left))
       ];

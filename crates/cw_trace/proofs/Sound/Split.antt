@@ -1,18 +1,18 @@
 -- What every call keeps of the columns, kept by a split.
 use Rattle.std.proofs.Common.{◌≡◌, ◌≢◌, ℕ, suc, ◌+◌, ◌<◌, ◌≤◌, List, length, refl, ap, sym, ◌∙◌, arith, Bool, true, false, Option, Some, nat_eq, inl, inr, eqb-true}
 use Rattle.std.specs.Prelude.{◌⊎◌, ◌*◌, ◌/◌, ◌%◌, ◌&&◌, ◌||◌, nat_le, slice_set, if◌then◌else◌}
-use Rattle.std.proofs.lemmas.Bool.{leb-true}
+use Rattle.std.proofs.lemmas.Bool.{leb-true, and_parts, or_left, or_right, or_cases, cases_eq}
 use Rattle.std.proofs.lemmas.List.{length-set}
 use Rattle.cw_tree.specs.Walks.{has}
 use Rattle.cw_trace.specs.declared.tier.Trace.{Trace}
-use Rattle.cw_trace.specs.Columns.{ColumnTable, used, owner, trace, trace_in, is_trace, outer, outer_at, fork_in, opening_mark, closing_mark, marks, place_after, part_of, parts, back_to, forked, split_at, merged, is_mark_of, around_fork}
+use Rattle.cw_trace.specs.Columns.{ColumnTable, used, owner, is_trace, opening_mark, closing_mark, marks, part_of, split_at}
 use Rattle.cw_trace.specs.Tier.{trace_count, AreSound}
 use Rattle.cw_trace.proofs.Marks.Edits.{length_parts, parts_at}
-use Rattle.cw_trace.proofs.Segments.Lines.{same_or, or_cases, or_left, or_right, both_true}
 use Rattle.cw_trace.proofs.Marks.Marking.{has_place, distinct_place}
 use Rattle.cw_trace.proofs.Marks.FourMarks.{length_place}
 use Rattle.cw_trace.proofs.Segments.Nested.{distinct_marks}
-use Rattle.cw_trace.proofs.Marks.Counts.{SameLengths, count_fill, count_keep, count_le, half_closing, half_marks, half_opening, lacks_mark, marks_has, named_same, named_set, odd_apart, odd_next}
+use Rattle.cw_trace.proofs.Marks.Counts.{SameLengths, count_fill, count_keep, count_le, half_closing, half_marks, half_opening, lacks_mark, marks_has, named_same, named_set, odd_next}
+use Rattle.cw_trace.proofs.Segments.Lines.{odd_apart}
 
 module _ (c : ColumnTable) (s : AreSound c) (l : SameLengths c) where
   module _ (f : ℕ) (low : f < used c) (left : f % 2 ≡ 1) (whole : is_trace c f ≡ false) where
@@ -86,20 +86,20 @@ module _ (c : ColumnTable) (s : AreSound c) (l : SameLengths c) where
     names_other x a b e = named_same ts2 (f + 1) x (Some right_row) e ∙ named_same ts1 f x (Some left_row) b ∙ named_same c.traces t x (Some row) a
 
     names_stay : (x : ℕ) → is_trace c x ≡ true → is_trace d x ≡ true
-    names_stay x h = elim (same_or x f) [
+    names_stay x h = elim (cases_eq x f) [
       | inl e ↦ ap (is_trace d) e ∙ names_f
-      | inr a ↦ elim (same_or x (f + 1)) [
+      | inr a ↦ elim (cases_eq x (f + 1)) [
         | inl e ↦ ap (is_trace d) e ∙ names_r
-        | inr b ↦ elim (same_or x t) [ inl e ↦ ap (is_trace d) e ∙ names_t | inr n ↦ names_other x n a b ∙ h ]
+        | inr b ↦ elim (cases_eq x t) [ inl e ↦ ap (is_trace d) e ∙ names_t | inr n ↦ names_other x n a b ∙ h ]
       ]
     ]
 
     names_back : (x : ℕ) → is_trace d x ≡ true → (is_trace c x ≡ true) ⊎ ((x ≡ f) ⊎ (x ≡ f + 1))
-    names_back x h = elim (same_or x f) [
+    names_back x h = elim (cases_eq x f) [
       | inl e ↦ inr (inl e)
-      | inr a ↦ elim (same_or x (f + 1)) [
+      | inr a ↦ elim (cases_eq x (f + 1)) [
         | inl e ↦ inr (inr e)
-        | inr b ↦ inl (elim (same_or x t) [ inl e ↦ ap (is_trace c) e ∙ t_trace | inr n ↦ sym (names_other x n a b) ∙ h ])
+        | inr b ↦ inl (elim (cases_eq x t) [ inl e ↦ ap (is_trace c) e ∙ t_trace | inr n ↦ sym (names_other x n a b) ∙ h ])
       ]
     ]
 
@@ -115,7 +115,7 @@ module _ (c : ColumnTable) (s : AreSound c) (l : SameLengths c) where
       by_tests : (a b : Bool) → nat_eq i (f + 1) ≡ a → (nat_eq (owner c i) t && nat_le f i) ≡ b → owner d i ≡ (if a then f + 1 else if b then f else owner c i)
           → (owner d i ≡ owner c i) ⊎ (((owner d i ≡ f) × (f ≤ i)) ⊎ ((owner d i ≡ f + 1) × (f + 1 ≤ i)))
       by_tests true b ea eb e = inr (inr (e, omega (arith, eqb-true _ _ ea)))
-      by_tests false true ea eb e = inr (inl (e, leb-true _ _ (both_true (nat_eq (owner c i) t) (nat_le f i) eb).1))
+      by_tests false true ea eb e = inr (inl (e, leb-true _ _ (and_parts (nat_eq (owner c i) t) (nat_le f i) eb).1))
       by_tests false false ea eb e = inl e
 
     no_mark : (b : ℕ) → has c.brackets b ≡ true → has (marks f) b ≡ false
@@ -154,7 +154,7 @@ module _ (c : ColumnTable) (s : AreSound c) (l : SameLengths c) where
         | inl e ↦ ap (is_trace d) e ∙ names_stay (owner c i) (s.owned i (omega (arith, same_used)))
         | inr z ↦ elim z [ inl e ↦ ap (is_trace d) e.0 ∙ names_f | inr e ↦ ap (is_trace d) e.0 ∙ names_r ]
       ];
-      pairs = λ x o h. pairs_new x o (omega (arith, same_used)) (same_or x f);
+      pairs = λ x o h. pairs_new x o (omega (arith, same_used)) (cases_eq x f);
       outer_low = λ i o e. (let w = s.outer_low i o e in omega (arith, same_used));
       distinct = distinct_place (opening_mark t) (marks f) c.brackets (distinct_marks f) s.distinct no_mark;
       count = omega (arith, length_place (opening_mark t) (marks f) c.brackets split_around, s.count, two_more);

@@ -7,6 +7,7 @@ use Rattle.cw_tree.specs.declared.node.Node.{Node}
 use Rattle.cw_tree.specs.declared.node.Kind.{Kind}
 use Rattle.cw_tree.specs.declared.node.Kind.TheVariants.{Strand, Fork, Block, Read, Write, Out, Tried}
 use Rattle.cw_tree.specs.Nodes.{below, is_fork, is_strand, is_pending, is_fork_kind, is_block_kind, is_strand_kind, is_pending_state, passes}
+use Rattle.cw_tree.proofs.Lists.{lt_or}
 use Rattle.cw_trace.specs.Stands.{fork_column}
 
 rank : (ℕ → Bool) → ℕ → ℕ
@@ -18,9 +19,6 @@ rank_suc p n = ap length (filter-append p (below n) (n ∷ [])) ∙ length-appen
 
 one_more : (p : ℕ → Bool) (n : ℕ) → p n ≡ true → length (filter p (n ∷ [])) ≡ 1
 one_more p n e = ap (λ b. length (cond b (n ∷ []) [])) e
-
-lt_or : (f g : ℕ) → f < suc g → (f ≡ g) ⊎ (f < g)
-lt_or f g h = grind arith
 
 rank_lt : (p : ℕ → Bool) (f g : ℕ) → f < g → p f ≡ true → rank p f < rank p g
 rank_lt p f zero h e = absurd (omega arith)
@@ -73,22 +71,6 @@ pending_no_fork t n e = by_node (slice_get t n) e where
   by_node : (o : Option Node) → passes (λ x. is_block_kind x.kind && is_pending_state x.state) o ≡ true → passes (λ x. is_fork_kind x.kind) o ≡ false
   by_node None h = refl
   by_node (Some x) h = by_kind x.kind (is_pending_state x.state) h
-
--- a fork is no strand
-pub fork_no_strand : (t : List Node) (n : ℕ) → is_fork t n ≡ true → is_strand t n ≡ false
-fork_no_strand t n e = by_node (slice_get t n) e where
-  by_kind : (k : Kind) → is_fork_kind k ≡ true → is_strand_kind k ≡ false
-  by_kind Strand h = absurd (cc h)
-  by_kind Fork h = refl
-  by_kind Block h = absurd (cc h)
-  by_kind (Read c v) h = absurd (cc h)
-  by_kind (Write c v) h = absurd (cc h)
-  by_kind (Out v) h = absurd (cc h)
-  by_kind (Tried c) h = absurd (cc h)
-
-  by_node : (o : Option Node) → passes (λ x. is_fork_kind x.kind) o ≡ true → passes (λ x. is_strand_kind x.kind) o ≡ false
-  by_node None h = absurd (cc h)
-  by_node (Some x) h = by_kind x.kind h
 
 pub find_append : (p : ℕ → Bool) (xs : List ℕ) (y : ℕ) → ((b : ℕ) × (find p xs ≡ Some b) × (find p (xs ++ y ∷ []) ≡ Some b)) ⊎ ((find p xs ≡ None) × (find p (xs ++ y ∷ []) ≡ cond (p y) (Some y) None))
 find_append p [] y = inr (refl, refl)

@@ -1,6 +1,7 @@
 -- The nearest trace around a trace that has a pending block: what stands pending above a node of the trace is the trace's own, or stands above the fork at which that one was cut.
 use Rattle.std.proofs.Common.{◌≡◌, ℕ, ◌<◌, List, length, refl, ap, sym, ◌∙◌, arith, true, Option, Some, None, inl, inr, subst, nat_eq, eq-eqb, eqb-true}
 use Rattle.std.specs.Prelude.{◌⊎◌, ◌&&◌, is_some, if◌then◌else◌}
+use Rattle.std.proofs.lemmas.Bool.{and_parts, and_from}
 use Rattle.cw_tree.specs.declared.node.Node.{Node}
 use Rattle.cw_tree.specs.Nodes.{parent_of, is_fork, is_pending}
 use Rattle.cw_tree.specs.Walks.{is_ancestor}
@@ -11,7 +12,6 @@ use Rattle.cw_tree.proofs.Walks.Upward.{ancestor_cases}
 use Rattle.cw_trace.specs.Columns.{ColumnTable, used, owner, up}
 use Rattle.cw_trace.specs.Stands.{Stands, column, fork_column, is_cut_at, outermost_pending}
 use Rattle.cw_trace.proofs.Stands.Counting.{none_below, some_below}
-use Rattle.cw_trace.proofs.Segments.Lines.{and_true, both_true}
 use Rattle.cw_trace.proofs.Keeps.Owners.{Heads, HeadOf, OwnStep, own_step, own_root, cut_of, own_named}
 
 module _ (c : ColumnTable) (words : List ℕ) (t : List Node) (cuts merges : List ℕ) (tr : IsTree t) (st : Stands c words t cuts merges) where
@@ -31,17 +31,17 @@ module _ (c : ColumnTable) (words : List ℕ) (t : List Node) (cuts merges : Lis
   pub first_some : (x b : ℕ) → first_begun x ≡ Some b → FirstBegun x b
   first_some x b e =
       let f = some_below (λ b. is_pending t b && nat_eq (own b) x) (length t) b e in
-      let z = both_true (is_pending t b) (nat_eq (own b) x) f.passed in
+      let z = and_parts (is_pending t b) (nat_eq (own b) x) f.passed in
       record {
         there = f.low;
         pending = z.0;
         owner = eqb-true (own b) x z.1;
-        first = λ a l p o. absurd (cc (f.first a l, and_true (is_pending t a) (nat_eq (own a) x) p (eq-eqb (own a) x o)));
+        first = λ a l p o. absurd (cc (f.first a l, and_from (is_pending t a) (nat_eq (own a) x) p (eq-eqb (own a) x o)));
       }
 
   pub first_none : (x : ℕ) → first_begun x ≡ None → (a : ℕ) → a < length t → is_pending t a ≡ true → own a ≡ x → ⊥
   first_none x e a h p o =
-      absurd (cc (none_below (λ b. is_pending t b && nat_eq (own b) x) (length t) e a h, and_true (is_pending t a) (nat_eq (own a) x) p (eq-eqb (own a) x o)))
+      absurd (cc (none_below (λ b. is_pending t b && nat_eq (own b) x) (length t) e a h, and_from (is_pending t a) (nat_eq (own a) x) p (eq-eqb (own a) x o)))
 
   -- what the way up from a trace tells of the pending blocks above a node
   pub record UpTo (n y g b : ℕ) : Type 0 where

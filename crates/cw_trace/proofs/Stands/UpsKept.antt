@@ -4,10 +4,11 @@ use Rattle.std.specs.Prelude.{◌⊎◌, ◌%◌, slice_index}
 use Rattle.cw_trace.specs.Columns.{ColumnTable, used, owner, gap, up, up_in, left_column_of, or_else, split_at, merged, forked}
 use Rattle.cw_trace.specs.Stands.{around, is_apart}
 use Rattle.cw_trace.specs.Segments.{SegmentStart, IsCut, IsTrace, Within, Segments, MaySplit, MayMerge, Active, Ups, next_outward}
-use Rattle.cw_trace.proofs.Segments.Lines.{same_or, or_cases, left_of_cases, left_of_is_odd, left_of_le, apart_parts, own_le}
+use Rattle.cw_trace.proofs.Segments.Lines.{left_of_cases, left_of_is_odd, left_of_le, apart_parts, own_le}
 use Rattle.cw_trace.proofs.Segments.Split as split
 use Rattle.cw_trace.proofs.Segments.Merge as merge
 use Rattle.cw_trace.proofs.Segments.Fork as fork
+use Rattle.std.proofs.lemmas.Bool.{or_cases, cases_eq}
 
 module _ (c : ColumnTable) (cuts joins : List ℕ) (pend : ℕ → Bool) (col : ℕ → ℕ) (g : Segments c cuts joins pend col) where
   trace_apart : (x : ℕ) → 0 < x → IsTrace c cuts joins x → is_apart cuts joins x ≡ true
@@ -99,7 +100,7 @@ module _ (c : ColumnTable) (cuts joins : List ℕ) (pend : ℕ → Bool) (col : 
           new_up x e ∙ above_some (λ q. g.shared t t f b tr (inl refl) start_f t_low q w z.1) ∙ ap Some (sym (new_around x e))
 
       none_new : (x : ℕ) → (x ≡ f) ⊎ (x ≡ f + 1) → ((b : ℕ) → pend b ≡ true → owner d (col b) ≡ around d x → ⊥) → up d x ≡ up d (around d x)
-      none_new x e none = new_up x e ∙ by_gap (same_or (gap c t) (gap c f)) ∙ sym (ap (up d) (new_around x e) ∙ up_t) where
+      none_new x e none = new_up x e ∙ by_gap (cases_eq (gap c t) (gap c f)) ∙ sym (ap (up d) (new_around x e) ∙ up_t) where
         by_gap : (gap c t ≡ gap c f) ⊎ (gap c t ≢ gap c f) → split.above c cuts joins pend col g f m early ≡ up c t
         by_gap (inl q) = above_none q
         by_gap (inr q) =
@@ -118,7 +119,7 @@ module _ (c : ColumnTable) (cuts joins : List ℕ) (pend : ℕ → Bool) (col : 
 
       pub ups_split : Ups d (f ∷ cuts) joins pend col
       ups_split = record {
-        no_up = by_root (same_or t 0);
+        no_up = by_root (cases_eq t 0);
         up_some = λ x b p n pb o. some x b p pb o (split.kind c cuts joins pend col g f m early x n);
         up_none = λ x p n none. absent x p none (split.kind c cuts joins pend col g f m early x n);
       } where
@@ -177,7 +178,7 @@ module _ (c : ColumnTable) (cuts joins : List ℕ) (pend : ℕ → Bool) (col : 
           ]
 
       up_same : (x : ℕ) → x ≢ f → x ≢ f + 1 → up d2 x ≡ up c x
-      up_same x a b = elim (same_or x t2) [
+      up_same x a b = elim (cases_eq x t2) [
         | inl e ↦ ap (up d2) e ∙ ap up_in (merge.trace_t c cuts joins pend col g f m) ∙ sym (ap (up c) e)
         | inr n ↦ ap up_in (merge.trace_other c cuts joins pend col g f m x n a b)
       ]

@@ -13,11 +13,11 @@ unlink-requires-clause-element c =
     let has : Contains xs c.args.e = subst (λ o. Contains o.elements c.args.e) (sym c.self.view_is) c.requires in
     path_within old.ring xs c.args.e c.self.invariant.ring (omega (arith, c.self.invariant.there)) (after_head xs c.args.e has)
 
-is_removed : (c : goal.After-self-2-1) → HasRemoved c.self.inside (record { ring = c.unlink.new.self; room = c.self.inside.room; count = c.self.inside.count - 1; free = c.args.e }) c.args.e
+is_removed : (c : goal.After-self-2-1) → HasRemoved c.self.inside (record { ring = c.unlink.new.self; made = c.self.inside.made; count = c.self.inside.count - 1; free = c.args.e }) c.args.e
 is_removed c =
     let old = c.self.inside in
     let has : Contains (elements_of old.ring old.count) c.args.e = subst (λ o. Contains o.elements c.args.e) (sym c.self.view_is) c.requires in
-    removed old (record { ring = c.unlink.new.self; room = old.room; count = old.count - 1; free = c.args.e }) c.args.e c.self.invariant has c.unlink.ensures.next c.unlink.ensures.previous c.unlink.ensures.labels refl refl refl
+    removed old (record { ring = c.unlink.new.self; made = old.made; count = old.count - 1; free = c.args.e }) c.args.e c.self.invariant has c.unlink.ensures.next c.unlink.ensures.previous c.unlink.ensures.labels refl c.unlink.ensures.room refl refl
 
 pub invariant_of-self : goal.invariant_of-self
 invariant_of-self c = (is_removed c).kept

@@ -1,7 +1,15 @@
 use Rattle.std.proofs.Common.{sym, refl, ◌∙◌, arith, inl, inr}
-use Rattle.cw_order.proofs.Rows.{row_back, row_from, row_from_on, row_whole}
+use Rattle.cw_order.proofs.Rows.{row_alone, row_back, row_from, row_from_on, row_whole}
 use Rattle.cw_order.proofs.ring.Ring.sparse_run.Goals as goal
 use Rattle.cw_order.proofs.ring.Ring.sparse_run.Goals.{then-loop-run-test+else-label-size, else-loop-run-test}
+
+pub loop-run-init : goal.loop-run-init
+loop-run-init c = record {
+  place = c.requires.place;
+  some = omega arith;
+  few = omega (arith, c.requires.most);
+  row = λ xs ring has. row_alone xs c.args.at has;
+}
 
 pub loop-run-preserved : goal.loop-run-preserved
 loop-run-preserved c = record {

@@ -15,4 +15,5 @@ loop-done-preserved c =
       rest = ap (λ at. spread_over (walk next at left) (c.loop-done.label + c.args.gap) c.args.gap (set c.loop-done.self.labels.items c.loop-done.at c.loop-done.label)) c.next-at.ensures.value ∙ (sym step ∙ c.loop-done.invariant.rest);
       next = c.loop-done.invariant.next;
       previous = c.loop-done.invariant.previous;
+      room = c.loop-done.invariant.room;
     }

@@ -10,4 +10,5 @@ invariant-loop-done l = record {
       ≡ spread_over (walk l.self.next.items l.first l.count) l.base l.gap l.fn.self.labels.items;
   next : l.self.next.items ≡ l.fn.self.next.items;
   previous : l.self.previous.items ≡ l.fn.self.previous.items;
+  room : l.self.room ≡ l.fn.self.room;
 }

@@ -1,8 +1,9 @@
 use Rattle.std.proofs.Common.{◌<◌, length, refl, ap, ◌∙◌, arith}
 use Rattle.std.specs.Vec.{with_item}
 use Rattle.cw_tree.specs.Walks.{has}
+use Rattle.cw_trace.specs.declared.brackets.Brackets.TheInside.{Inside}
 use Rattle.cw_trace.specs.Marks.{with_mark}
-use Rattle.cw_trace.proofs.Marks.Bracketing.{mark_low, marked, Place, place_some, place_none, HasInserted, inserted}
+use Rattle.cw_trace.proofs.Marks.Bracketing.{mark_low, marked, Place, place_some, place_none, HasInserted, HasReached, inserted, reached}
 use Rattle.cw_trace.proofs.Marks.Numbering.{has_contains}
 use Rattle.cw_trace.proofs.brackets.Brackets.insert.Goals as goal
 use Rattle.cw_trace.proofs.brackets.Brackets.insert.Goals.{in-Some, in-None}
@@ -22,20 +23,31 @@ insert_after-requires c =
     ] in
     λ x e. has_contains a.order.elements x (p.there x e)
 
+-- the brackets with tables that reach to the new mark and its element
+is_reached : (c : goal.After-self-in-Ok-1) → HasReached c.self.inside (record { order = c.self.inside.order; elements = c.reach.new.list; marks = c.reach-in-Ok.new.list })
+is_reached c =
+    let a = c.self.inside in
+    reached a (record { order = a.order; elements = c.reach.new.list; marks = c.reach-in-Ok.new.list }) c.self.invariant refl c.reach.ensures.same c.reach-in-Ok.ensures.same
+    (omega (arith, c.reach.ensures.longer, a.elements.ok.0, c.reach.new.list.ok.0)) (omega (arith, c.reach-in-Ok.ensures.longer, a.marks.ok.0, c.reach-in-Ok.new.list.ok.0)) c.reach.ensures.capacity c.reach-in-Ok.ensures.capacity
+
 is_inserted : (c : goal.After-self-in-Ok-1)
-    → HasInserted c.self.inside (record { order = c.insert_after.new.self; elements = with_item c.self.inside.elements c.args.mark c.in-Ok.element; marks = with_item c.self.inside.marks c.in-Ok.element c.args.mark }) c.args.at c.args.mark
+    → HasInserted (record { order = c.self.inside.order; elements = c.reach.new.list; marks = c.reach-in-Ok.new.list })
+    (record { order = c.insert_after.new.self; elements = with_item c.reach.new.list c.args.mark c.in-Ok.element; marks = with_item c.reach-in-Ok.new.list c.in-Ok.element c.args.mark }) c.args.at c.args.mark
 is_inserted c =
     let a = c.self.inside in
     let p : Place a c.args.at c.match-at.place = elim c.match-at.branch [
       | in-Some w ↦ place_some a c.args.at c.match-at.place w.in-Some.other w.index.result.now w.in-Some.is w.place-is (marked a c.args.self.now c.self.invariant c.self.view_is w.in-Some.other w.index.result.now (c.requires.at w.in-Some.other w.in-Some.is) w.index.ensures)
       | in-None w ↦ place_none a c.args.at c.match-at.place w.in-None.is w.place-is
     ] in
-    let low : c.args.mark < a.order.room = omega (arith, c.requires.low, ap (λ s. s.room) c.self.view_is) in
-    inserted a (record { order = c.insert_after.new.self; elements = with_item a.elements c.args.mark c.in-Ok.element; marks = with_item a.marks c.in-Ok.element c.args.mark }) c.args.at c.match-at.place c.in-Ok.element c.args.mark
-    c.self.invariant p.marks p.there c.in-Ok.ensures.new c.in-Ok.ensures.low c.in-Ok.ensures.placed c.in-Ok.ensures.distinct c.in-Ok.ensures.room refl refl low (ap (λ s. has s.marks c.args.mark) c.self.view_is ∙ c.requires.new)
+    let b : Inside = record { order = a.order; elements = c.reach.new.list; marks = c.reach-in-Ok.new.list } in
+    let r = is_reached c in
+    let q = r.place c.args.at c.match-at.place p in
+    inserted b (record { order = c.insert_after.new.self; elements = with_item b.elements c.args.mark c.in-Ok.element; marks = with_item b.marks c.in-Ok.element c.args.mark }) c.args.at c.match-at.place c.in-Ok.element c.args.mark
+    r.kept q.marks q.there c.in-Ok.ensures.new (omega (arith, c.reach-in-Ok.ensures.there, b.marks.ok.0)) c.in-Ok.ensures.placed c.in-Ok.ensures.distinct c.in-Ok.ensures.room refl refl refl refl
+    (omega (arith, c.reach.ensures.there, b.elements.ok.0)) (ap (λ s. has s.marks c.args.mark) (r.marks ∙ c.self.view_is) ∙ c.requires.new)
 
 pub invariant_of-self : goal.invariant_of-self
 invariant_of-self c = (is_inserted c).kept
 
 pub returns-clause-marks : goal.returns-clause-marks
-returns-clause-marks c = (is_inserted c).marks ∙ ap (λ s. with_mark c.args.at c.args.mark s.marks) c.self.view_is
+returns-clause-marks c = (is_inserted c).marks ∙ ap (λ s. with_mark c.args.at c.args.mark s.marks) ((is_reached c).marks ∙ c.self.view_is)

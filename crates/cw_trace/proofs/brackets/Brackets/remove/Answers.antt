@@ -17,7 +17,7 @@ is_removed : (c : goal.After-remove) → HasRemoved c.self.inside (record { orde
 is_removed c =
     let a = c.self.inside in
     removed a (record { order = c.remove.new.self; elements = a.elements; marks = a.marks }) c.index.result.now c.args.mark c.self.invariant
-    (marked a c.args.self.now c.self.invariant c.self.view_is c.args.mark c.index.result.now c.requires c.index.ensures) c.remove.ensures.removed c.remove.ensures.distinct c.remove.ensures.room refl refl
+    (marked a c.args.self.now c.self.invariant c.self.view_is c.args.mark c.index.result.now c.requires c.index.ensures) c.remove.ensures.removed c.remove.ensures.distinct c.remove.ensures.room refl refl refl refl
 
 pub invariant_of-self : goal.invariant_of-self
 invariant_of-self c = (is_removed c).kept

@@ -1,4 +1,4 @@
-use Rattle.std.proofs.Common.{◌≡◌, ◌+◌, List, length, nat_eq, sym, ap, ◌∙◌, true, arith, subst}
+use Rattle.std.proofs.Common.{◌≡◌, List, nat_eq, sym, ap, true, arith, rules, subst}
 use Rattle.std.specs.List.{IsDistinct}
 use Rattle.cw_tree.specs.Walks.{has}
 use Rattle.cw_trace.proofs.brackets.Brackets.with_room.Goals as goal
@@ -12,8 +12,8 @@ invariant_of-result c =
     let none = sym c.in_ok-with_room.ensures.empty in
     let room = c.in_ok-with_room.ensures.room in
     record {
-      all_marks = omega (arith, c.in_ok-vec.ensures.len, c.in_ok-vec.field-0.ok.0, room);
-      all_elements = omega (arith, c.in_ok-vec-2.ensures.len, c.in_ok-vec-2.field-0.ok.0, room);
+      elements_room = search (rules, c.in_ok-with_capacity.ensures, room);
+      marks_room = search (rules, c.in_ok-with_capacity-2.ensures, room);
       distinct = subst (IsDistinct nat_eq) none no_elements;
       low = λ e h. absurd (cc (ap (λ xs. has xs e) none, h));
       mark_low = λ e h. absurd (cc (ap (λ xs. has xs e) none, h));

@@ -1,0 +1,13 @@
+use Rattle.std.proofs.Common.{arith}
+use Rattle.cw_order.proofs.Growing.{elements_grown, places_grown}
+use Rattle.cw_order.proofs.list.free_place.Goals as goal
+
+pub returns-clause-kept : goal.returns-clause-kept
+returns-clause-kept c =
+    let grown = c.grow-place.ensures in
+    places_grown c.args.ring.now c.grow-place.new.self grown.next grown.previous grown.labels c.args.made c.args.count c.args.free c.grow-place.result c.requires.kept c.if-count-made.false (omega (arith, c.requires.few, c.if-count-made.false)) grown.place grown.room
+
+pub returns-clause-elements : goal.returns-clause-elements
+returns-clause-elements c =
+    let grown = c.grow-place.ensures in
+    elements_grown c.args.ring.now c.grow-place.new.self grown.next grown.previous grown.labels c.args.count

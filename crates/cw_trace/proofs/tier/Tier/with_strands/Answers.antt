@@ -1,0 +1,34 @@
+use Rattle.std.proofs.Common.{◌≡◌, ℕ, List, Option, Some, None, [], ◌∷◌, sym, ap, ◌∙◌, subst, rules}
+use Rattle.cw_trace.specs.declared.tier.Trace.{Trace}
+use Rattle.cw_trace.specs.Columns.{ColumnTable, first_tier}
+use Rattle.cw_trace.specs.Tier.{AreSound}
+use Rattle.cw_trace.proofs.Sound.First.{sound_first}
+use Rattle.cw_trace.proofs.tier.Tier.with_strands.Goals as goal
+
+sound : (c : ColumnTable) → c.owners ≡ 0 ∷ [] → c.gaps ≡ 0 ∷ [] → c.parents ≡ 0 ∷ [] → c.traces ≡ Some (record { head = 0; lead = Some 0; up = None }) ∷ [] → c.brackets ≡ 0 ∷ 1 ∷ [] → c.outers ≡ None ∷ [] → AreSound c
+sound c owners gaps parents traces brackets outers =
+    let e : c ≡ first_tier c.room =
+    ap (λ xs. let d : ColumnTable = record c { owners = xs } in d) owners
+    ∙ ap (λ xs. let d : ColumnTable = record c { owners = 0 ∷ []; gaps = xs } in d) gaps
+    ∙ ap (λ xs. let d : ColumnTable = record c { owners = 0 ∷ []; gaps = 0 ∷ []; parents = xs } in d) parents
+    ∙ ap (λ xs. let d : ColumnTable = record c { owners = 0 ∷ []; gaps = 0 ∷ []; parents = 0 ∷ []; traces = xs } in d) traces
+    ∙ ap (λ xs. let d : ColumnTable = record (first_tier c.room) { brackets = xs; outers = c.outers } in d) brackets
+    ∙ ap (λ xs. let d : ColumnTable = record (first_tier c.room) { outers = xs } in d) outers in
+    subst AreSound (sym e) (sound_first c.room)
+
+pub invariant_of-result : goal.invariant_of-result
+invariant_of-result c = record {
+  few = search rules;
+  fits = search rules;
+  gaps = search rules;
+  parents = search rules;
+  traces = search rules;
+  outers = search rules;
+  owners_room = search rules;
+  gaps_room = search rules;
+  parents_room = search rules;
+  traces_room = search rules;
+  outers_room = search rules;
+  brackets_room = search rules;
+  sound = sound _ (search rules) (search rules) (search rules) (search rules) (search rules) (search rules);
+}
