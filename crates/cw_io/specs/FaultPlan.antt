@@ -1,4 +1,4 @@
--- Which calls of an object in memory fail: those whose numbers are listed, and for a sink those that it has no room for.
+-- Which calls of an object in memory fail: those whose numbers are listed, and no others.
 --
 -- Calls are numbered from 1, failed ones included. A number that stands at the last value of a u64 stays there.
 use Rattle.std.specs.Prelude.{◌≡◌, ◌↔◌, ℕ, ◌+◌, ◌-◌, ◌^◌, min, List, Contains, Result, IsErr, is_err, if◌then◌else◌}
@@ -27,9 +27,9 @@ IsListed p = Contains p.failing (next_number p.made)
 abbrev pub failed_after : {T E : Type 0} → ℕ → Result T E → ℕ
 failed_after failed result = if is_err result then next_number failed else failed
 
--- One call was made, and it failed exactly where this holds.
-pub record FailsWhere {T E : Type 0} (cause : Type 0) (old new : Plan) (result : Result T E) : Type 0 where
-  pub exactly : IsErr result ↔ cause
+-- One call was made, and it failed exactly where its number is listed.
+pub record FailsAsListed {T E : Type 0} (old new : Plan) (result : Result T E) : Type 0 where
+  pub exactly : IsErr result ↔ IsListed old
   pub same_list : new.failing ≡ old.failing
   pub made : new.made ≡ next_number old.made
   pub failed : new.failed ≡ failed_after old.failed result

@@ -1,31 +1,38 @@
--- Sinks in memory.
-use Rattle.std.specs.Prelude.{◌≡◌, ◌≢◌, ℕ, ◌-◌, min, List, [], ◌++◌, length, take}
+-- Sinks in memory. Such a sink takes what it is given. It tells it as long as it took no more bytes in all than it has room for, and from
+-- then on nothing.
+use Rattle.std.specs.Prelude.{◌≡◌, ◌≤◌, ℕ, ◌+◌, min, List, [], ◌++◌, length, take, nat_le, Option, Some, None, IfSome, if◌then◌else◌}
+use Rattle.std.specs.Option.{unwrap_or}
 use Rattle.cw_io.specs.FaultPlan.{Plan}
 
--- The bytes that a sink took, and how many it has room for in all.
+-- The bytes that a sink took, where it tells them, and how many it has room for in all.
 pub record Stock : Type 0 where
-  pub written : List ℕ
+  pub written : Option (List ℕ)
   pub room : ℕ
 
--- nothing, with room for so many bytes
+-- nothing was taken, with room for so many bytes
 abbrev pub empty_stock : ℕ → Stock
-empty_stock room = record { written = []; room = room }
+empty_stock room = record { written = Some []; room = room }
+
+-- what is told within this room, once these bytes were taken too
+abbrev pub told_within : (room : ℕ) → Option (List ℕ) → (bytes : List ℕ) → Option (List ℕ)
+told_within room None bytes = None
+told_within room (Some held) bytes = if nat_le (length held + length bytes) room then Some (held ++ bytes) else None
 
 -- the stock with these bytes too
 abbrev pub stock_after : Stock → List ℕ → Stock
-stock_after s bytes = record s { written = s.written ++ bytes }
+stock_after s bytes = record s { written = told_within s.room s.written bytes }
 
--- how many bytes it still has room for
-abbrev pub room_left : Stock → ℕ
-room_left s = s.room - length s.written
+-- the bytes that are told
+abbrev pub told_bytes : Stock → List ℕ
+told_bytes s = unwrap_or s.written []
 
--- It has room for no byte of the piece.
-abbrev pub IsFullFor : Stock → List ℕ → Type 0
-IsFullFor s piece = (room_left s ≡ 0) × (piece ≢ [])
+-- There is room for so many bytes more, where any are told.
+abbrev pub HasRoomFor : Stock → ℕ → Type 0
+HasRoomFor s n = IfSome s.written (λ held. length held + n ≤ s.room)
 
--- The first n bytes of the piece were taken: all of them, but no more than it has room for and than are taken in one call.
+-- The first n bytes of the piece were taken: all of them, but no more than are taken in one call.
 pub record TakesFront (most : ℕ) (old new : Stock) (piece : List ℕ) (n : ℕ) : Type 0 where
-  pub count : n ≡ min most (min (room_left old) (length piece))
+  pub count : n ≡ min most (length piece)
   pub taken : new ≡ stock_after old (take n piece)
 
 -- A stock whose calls may fail by their numbers, and the most that it takes in one call.
@@ -33,8 +40,3 @@ pub record FaultyStock : Type 0 where
   pub stock : Stock
   pub most : ℕ
   pub plan : Plan
-
--- A stock whose calls fail only where it is full, and how many did.
-pub record SureStock : Type 0 where
-  pub stock : Stock
-  pub failed : ℕ

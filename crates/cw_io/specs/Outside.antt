@@ -2,18 +2,16 @@
 --
 -- What is still to come from a source and what a sink holds are told, or are not told (`None`): a file or a
 -- terminal tells nothing. What is said of bytes is said of told ones.
-use Rattle.std.specs.Prelude.{◌≡◌, ◌⊎◌, ℕ, ◌+◌, ◌-◌, ◌^◌, ◌<◌, ◌≤◌, List, [], ◌++◌, length, take, Option, IsSome, IfSome, IsSomeAnd, Result, IsErr, IsOkAnd, OnOk}
+use Rattle.std.specs.Prelude.{◌≡◌, ◌⊎◌, ℕ, ◌+◌, ◌-◌, ◌^◌, ◌<◌, ◌≤◌, List, [], ◌++◌, length, take, Option, IsSome, IfSome, IsSomeAnd, Result, IsErr, IsOkAnd}
 
 -- A count rose. One that stands at its last value counts as risen.
 abbrev pub Rose : ℕ → ℕ → Type 0
 Rose before after = (before < after) ⊎ (after ≡ 2 ^ 64 - 1)
 
--- Faults never fall, and rise by one at most; a failure is told only where they rose, and with success they are as before.
+-- Faults never fall, and a failure is told only where they rose.
 pub record CountsFaults {T E : Type 0} (before after : ℕ) (result : Result T E) : Type 0 where
   pub later : before ≤ after
-  pub one : after ≤ before + 1
   pub failed : IsErr result → Rose before after
-  pub kept : OnOk result (after ≡ before)
 
 -- A read gave a byte at least.
 abbrev pub GaveBytes : {E : Type 0} → Result ℕ E → Type 0
@@ -45,6 +43,11 @@ RunsDry old new = IfSome old (λ xs. IsSomeAnd new (λ ys. ys ≡ []))
 -- What was told is told still.
 abbrev pub TellsOn : (old new : Option (List ℕ)) → Type 0
 TellsOn old new = IsSome old → IsSome new
+
+-- n bytes were taken by a sink that says for how many more bytes it goes on telling. Of so many and some more: what was told is told still,
+-- and it goes on telling for the rest.
+abbrev pub KeepsTelling : (before after : ℕ → Type 0) (old new : Option (List ℕ)) → ℕ → Type 0
+KeepsTelling before after old new n = (rest : ℕ) → before (n + rest) → TellsOn old new × after rest
 
 -- What is held is what was held, and behind it these bytes.
 abbrev pub Appends : (old new : Option (List ℕ)) (bytes : List ℕ) → Type 0

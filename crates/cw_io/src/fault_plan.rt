@@ -1,5 +1,5 @@
-ghost use Rattle.std.specs.Prelude.{◌≡◌, ◌⊎◌, true};
-ghost use Rattle.cw_io.specs.FaultPlan.{fresh_plan, IsListed, FailsWhere};
+ghost use Rattle.std.specs.Prelude.{◌≡◌};
+ghost use Rattle.cw_io.specs.FaultPlan.{fresh_plan, FailsAsListed};
 ghost use Rattle.cw_io.specs.Outside.{CountsFaults};
 
 use crate::Failed;
@@ -32,13 +32,13 @@ impl FaultPlan {
         }
     }
 
-    /// Counts one call, and says whether it fails: where its number is listed, or the object is full.
-    pub fn call(&mut self, is_full: bool) -> Result<(), Failed>
-        ensures planned { FailsWhere (IsListed self.old ⊎ (is_full ≡ true)) self.old self.new result }
+    /// Counts one call, and says whether it fails: where its number is listed.
+    pub fn call(&mut self) -> Result<(), Failed>
+        ensures planned { FailsAsListed self.old self.new result }
         ensures cause { CountsFaults self.old.failed self.new.failed result }
     {
         self.made = self.made.saturating_add(1);
-        if is_full || self.failing.contains(&self.made) {
+        if self.failing.contains(&self.made) {
             self.failed = self.failed.saturating_add(1);
             return Err(Failed);
         }

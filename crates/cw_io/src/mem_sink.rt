@@ -1,7 +1,7 @@
-ghost use Rattle.std.specs.Prelude.{◌≡◌, ◌↔◌, ◌⊎◌, ◌≤◌, [], length, take, Some, Ok, IsErr, IfOk, OnOk, OnErr};
-ghost use Rattle.cw_io.specs.FaultPlan.{fresh_plan, failed_after, IsListed, FailsWhere};
-ghost use Rattle.cw_io.specs.MemSink.{empty_stock, room_left, IsFullFor, TakesFront};
-ghost use Rattle.cw_io.specs.Outside.{CountsFaults, Appends, TellsOn};
+ghost use Rattle.std.specs.Prelude.{◌≡◌, ◌≤◌, [], length, take, Ok, IfOk, OnErr};
+ghost use Rattle.cw_io.specs.FaultPlan.{fresh_plan, FailsAsListed};
+ghost use Rattle.cw_io.specs.MemSink.{empty_stock, stock_after, told_bytes, HasRoomFor, TakesFront};
+ghost use Rattle.cw_io.specs.Outside.{CountsFaults, Appends, KeepsTelling};
 
 use crate::fault_plan::FaultPlan;
 use crate::store::Store;
@@ -10,7 +10,8 @@ use cw_base::OutOfMemory;
 use std::alloc::Global;
 use std::marker::Model;
 
-/// A sink in memory that fails in the calls it was told to fail in and once it is full, and in no others.
+/// A sink in memory that fails in the calls it was told to fail in, and in no others. It tells its bytes as long as it took no
+/// more than it has room for.
 #[derive(Drop)]
 pub struct MemSink {
     store: Store,
@@ -50,21 +51,23 @@ impl MemSink {
         })
     }
 
-    /// The bytes that it took.
+    /// The bytes that it tells: none once it took more than it has room for.
     pub fn taken(&self) -> &[u8]
-        ensures { result.now ≡ self.now.stock.written }
+        ensures { result.now ≡ told_bytes self.now.stock }
     {
-        self.store.taken()
+        self.store.told()
     }
 }
 
 impl Sink for MemSink {
-    ghost written = { λ s. Some s.stock.written };
+    ghost written = { λ s. s.stock.written };
+
+    ghost tells_for = { λ s. HasRoomFor s.stock };
 
     ghost faults = { λ s. s.plan.failed };
 
     fn write(&mut self, piece: &[u8]) -> Result<usize, Failed>
-        ensures planned { FailsWhere (IsListed self.old.plan ⊎ IsFullFor self.old.stock piece.now) self.old.plan self.new.plan result }
+        ensures planned { FailsAsListed self.old.plan self.new.plan result }
         ensures front { IfOk result (TakesFront self.old.most self.old.stock self.new.stock piece.now) }
         ensures same_most { self.new.most ≡ self.old.most }
         ensures same { OnErr result (self.new.stock ≡ self.old.stock) }
@@ -72,80 +75,70 @@ impl Sink for MemSink {
         // As of every sink.
         ensures cause { CountsFaults self.old.plan.failed self.new.plan.failed result }
         ensures within { IfOk result (λ n. n ≤ length piece.now) }
-        ensures taken { IfOk result (λ n. Appends (Some self.old.stock.written) (Some self.new.stock.written) (take n piece.now)) }
-        ensures told { OnOk result (TellsOn (Some self.old.stock.written) (Some self.new.stock.written)) }
+        ensures taken { IfOk result (λ n. Appends self.old.stock.written self.new.stock.written (take n piece.now)) }
+        ensures told { IfOk result (KeepsTelling (HasRoomFor self.old.stock) (HasRoomFor self.new.stock) self.old.stock.written self.new.stock.written) }
         ensures some { result ≡ Ok 0 → piece.now ≡ [] }
-        ensures err { OnErr result (Appends (Some self.old.stock.written) (Some self.new.stock.written) []) }
+        ensures err { OnErr result (Appends self.old.stock.written self.new.stock.written []) }
     {
-        let count = piece.len().min(self.store.room_left());
-        self.plan.call(count == 0 && !piece.is_empty())?;
-        let count = count.min(self.most);
+        self.plan.call()?;
+        let count = piece.len().min(self.most);
         self.store.take(&piece[..count]);
         Ok(count)
     }
 }
 
-/// A sink in memory that takes as much of a piece as it has room for, and fails only once it is full.
+/// A sink in memory that takes every piece, and never fails. It tells its bytes as long as it took no more than it has room for.
 #[derive(Drop)]
 pub struct SureSink {
     store: Store,
-    failed: u64,
 }
 
 impl Model for SureSink {
-    ghost use Rattle.cw_io.specs.MemSink.{SureStock};
+    ghost use Rattle.cw_io.specs.MemSink.{Stock};
 
-    ghost Value = { SureStock };
+    ghost Value = { Stock };
 
-    ghost view = { λ s. record { stock = s.store; failed = s.failed } };
+    ghost view = { λ s. s.store };
 }
 
 impl SureSink {
     /// Takes its memory here: it has room for so many bytes in all.
     pub fn with_room(alloc: Global, room: usize) -> Result<SureSink, OutOfMemory>
-        ensures stock { IfOk result (λ s. s.stock ≡ empty_stock room) }
-        ensures none { IfOk result (λ s. s.failed ≡ 0) }
+        ensures { IfOk result (λ s. s ≡ empty_stock room) }
     {
         Ok(SureSink {
             store: Store::with_room(alloc, room)?,
-            failed: 0,
         })
     }
 
-    /// The bytes that it took.
+    /// The bytes that it tells: none once it took more than it has room for.
     pub fn taken(&self) -> &[u8]
-        ensures { result.now ≡ self.now.stock.written }
+        ensures { result.now ≡ told_bytes self.now }
     {
-        self.store.taken()
+        self.store.told()
     }
 }
 
 impl Sink for SureSink {
-    ghost written = { λ s. Some s.stock.written };
+    ghost written = { λ s. s.written };
 
-    ghost faults = { λ s. s.failed };
+    ghost tells_for = { HasRoomFor };
+
+    ghost faults = { λ _. 0 };
 
     fn write(&mut self, piece: &[u8]) -> Result<usize, Failed>
-        ensures whole { length piece.now ≤ room_left self.old.stock → result ≡ Ok (length piece.now) }
-        ensures full { IsErr result ↔ IsFullFor self.old.stock piece.now }
-        ensures front { IfOk result (TakesFront (length piece.now) self.old.stock self.new.stock piece.now) }
-        ensures same { OnErr result (self.new.stock ≡ self.old.stock) }
-        ensures failed { self.new.failed ≡ failed_after self.old.failed result }
+        ensures whole { result ≡ Ok (length piece.now) }
+        ensures stock { self.new ≡ stock_after self.old piece.now }
 
         // As of every sink.
-        ensures cause { CountsFaults self.old.failed self.new.failed result }
+        ensures cause { CountsFaults 0 0 result }
         ensures within { IfOk result (λ n. n ≤ length piece.now) }
-        ensures taken { IfOk result (λ n. Appends (Some self.old.stock.written) (Some self.new.stock.written) (take n piece.now)) }
-        ensures told { OnOk result (TellsOn (Some self.old.stock.written) (Some self.new.stock.written)) }
+        ensures taken { IfOk result (λ n. Appends self.old.written self.new.written (take n piece.now)) }
+        ensures told { IfOk result (KeepsTelling (HasRoomFor self.old) (HasRoomFor self.new) self.old.written self.new.written) }
         ensures some { result ≡ Ok 0 → piece.now ≡ [] }
-        ensures err { OnErr result (Appends (Some self.old.stock.written) (Some self.new.stock.written) []) }
+        ensures err { OnErr result (Appends self.old.written self.new.written []) }
     {
-        let count = piece.len().min(self.store.room_left());
-        if count == 0 && !piece.is_empty() {
-            self.failed = self.failed.saturating_add(1);
-            return Err(Failed);
-        }
-        self.store.take(&piece[..count]);
-        Ok(count)
+        self.store.take(piece);
+        Ok(piece.len())
     }
 }

@@ -1,5 +1,5 @@
 ghost use Rattle.std.specs.Prelude.{◌≡◌, ◌≢◌, ◌≤◌, [], length, take, Some, Ok, IfOk, OnErr, IsOkAnd};
-ghost use Rattle.cw_io.specs.FaultPlan.{fresh_plan, IsListed, FailsWhere};
+ghost use Rattle.cw_io.specs.FaultPlan.{fresh_plan, FailsAsListed};
 ghost use Rattle.cw_io.specs.MemSource.{GivesNext, ends_after};
 ghost use Rattle.cw_io.specs.Outside.{CountsEnds, CountsFaults, Takes, TakesNothing, IsDry};
 
@@ -49,7 +49,7 @@ impl Source for MemSource {
     ghost ends = { λ s. s.ends };
 
     fn read(&mut self, buf: &mut [u8]) -> Result<usize, Failed>
-        ensures planned { FailsWhere (IsListed self.old.plan) self.old.plan self.new.plan result }
+        ensures planned { FailsAsListed self.old.plan self.new.plan result }
         ensures next { IfOk result (GivesNext self.old.supply self.new.supply buf.old buf.new) }
         ensures same { OnErr result (self.new.supply ≡ self.old.supply) }
         ensures ended { self.new.ends ≡ ends_after self.old.ends result }
@@ -62,7 +62,7 @@ impl Source for MemSource {
         ensures end { result ≡ Ok 0 → buf.old ≢ [] → IsDry (Some self.old.supply.left) }
         ensures err { OnErr result (TakesNothing (Some self.old.supply.left) (Some self.new.supply.left)) }
     {
-        if self.plan.call(false).is_err() {
+        if self.plan.call().is_err() {
             self.ends = self.ends.saturating_add(1);
             return Err(Failed);
         }

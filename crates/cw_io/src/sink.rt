@@ -1,5 +1,5 @@
 ghost use Rattle.std.specs.Prelude.{◌≡◌, ◌≤◌, ℕ, List, [], length, take, Option, IfOk, OnOk, OnErr, Ok};
-ghost use Rattle.cw_io.specs.Outside.{CountsFaults, Appends, AppendsFront, TellsOn};
+ghost use Rattle.cw_io.specs.Outside.{CountsFaults, Appends, AppendsFront, KeepsTelling};
 
 use crate::Failed;
 
@@ -8,16 +8,20 @@ pub trait Sink {
     /// The bytes that it took, where the sink tells them.
     ghost written: { Self → Option (List ℕ) };
 
-    /// How often a write failed.
+    /// It goes on telling for so many bytes more.
+    ghost tells_for: { Self → ℕ → Type 0 };
+
+    /// A count that rises with each write that fails.
     ghost faults: { Self → ℕ };
 
     /// Takes a front of the piece, and answers how many bytes. Nothing is taken only of an empty piece: else the write
-    /// failed. After `Failed` nothing was taken. A sink that told goes on telling, but it may fall silent at a failure.
+    /// failed. After `Failed` nothing was taken. A sink that told may fall silent at a failure, and behind the bytes for which
+    /// it goes on telling.
     fn write(&mut self, piece: &[u8]) -> Result<usize, Failed>
         ensures cause { CountsFaults (faults self.old) (faults self.new) result }
         ensures within { IfOk result (λ n. n ≤ length piece.now) }
         ensures taken { IfOk result (λ n. Appends (written self.old) (written self.new) (take n piece.now)) }
-        ensures told { OnOk result (TellsOn (written self.old) (written self.new)) }
+        ensures told { IfOk result (KeepsTelling (tells_for self.old) (tells_for self.new) (written self.old) (written self.new)) }
         ensures some { result ≡ Ok 0 → piece.now ≡ [] }
         ensures err { OnErr result (Appends (written self.old) (written self.new) []) };
 }
@@ -27,7 +31,7 @@ pub trait Sink {
 pub fn write_all<K: Sink>(sink: &mut K, text: &[u8]) -> Result<(), Failed>
     ensures cause { CountsFaults (K.faults sink.old) (K.faults sink.new) result }
     ensures ok { OnOk result (Appends (K.written sink.old) (K.written sink.new) text.now) }
-    ensures told { OnOk result (TellsOn (K.written sink.old) (K.written sink.new)) }
+    ensures told { OnOk result (KeepsTelling (K.tells_for sink.old) (K.tells_for sink.new) (K.written sink.old) (K.written sink.new) (length text.now)) }
     ensures err { OnErr result (AppendsFront (K.written sink.old) (K.written sink.new) text.now) }
 {
     let mut done = 0;

@@ -10,7 +10,7 @@ pub trait Source {
     /// The bytes still to come, where the source tells them.
     ghost left: { Self → Option (List ℕ) };
 
-    /// How often a read failed.
+    /// A count that rises with each read that fails.
     ghost faults: { Self → ℕ };
 
     /// How often a read gave no byte: at the end, into an empty buffer, or by a failure.

@@ -1,26 +1,27 @@
-ghost use Rattle.std.specs.Prelude.{◌≡◌, ◌≤◌, length, IfOk};
-ghost use Rattle.cw_io.specs.MemSink.{empty_stock, room_left, stock_after};
+ghost use Rattle.std.specs.Prelude.{◌≡◌, IfOk};
+ghost use Rattle.cw_io.specs.MemSink.{empty_stock, stock_after, told_bytes};
 
 use cw_base::OutOfMemory;
 use std::alloc::Global;
 use std::marker::Model;
 
-/// The bytes that a sink in memory took.
+/// The bytes that a sink in memory took, until they were more than it has room for.
 #[derive(Drop)]
 pub struct Store {
-    bytes: Vec<u8>,
+    told: Option<Vec<u8>>,
     room: usize,
 }
 
 impl Model for Store {
-    ghost use Rattle.std.specs.Prelude.{◌≤◌, vec_len, vec_capacity};
+    ghost use Rattle.std.specs.Prelude.{◌≤◌, vec_len, vec_capacity, IfSome};
+    ghost use Rattle.std.specs.Option.{option_map};
     ghost use Rattle.cw_io.specs.MemSink.{Stock};
 
     ghost Value = { Stock };
 
-    ghost view = { λ s. record { written = s.bytes.items; room = s.room } };
+    ghost view = { λ s. record { written = option_map (λ bytes. bytes.items) s.told; room = s.room } };
 
-    ghost invariant = { λ s. (vec_len s.bytes ≤ s.room) × (s.room ≤ vec_capacity s.bytes) };
+    ghost invariant = { λ s. IfSome s.told (λ bytes. (vec_len bytes ≤ s.room) × (s.room ≤ vec_capacity bytes)) };
 }
 
 impl Store {
@@ -29,30 +30,32 @@ impl Store {
         ensures { IfOk result (λ s. s ≡ empty_stock room) }
     {
         Ok(Store {
-            bytes: Vec::with_capacity(alloc, room)?,
+            told: Some(Vec::with_capacity(alloc, room)?),
             room,
         })
     }
 
-    /// How many bytes it still has room for.
-    pub fn room_left(&self) -> usize
-        ensures { result ≡ room_left self.now }
-    {
-        self.room - self.bytes.len()
-    }
-
     /// Takes the whole piece.
     pub fn take(&mut self, piece: &[u8])
-        requires { length piece.now ≤ room_left self.old }
         ensures { self.new ≡ stock_after self.old piece.now }
     {
-        self.bytes.extend_from_slice(piece).unwrap();
+        let Some(bytes) = &mut self.told else {
+            return;
+        };
+        if piece.len() <= self.room - bytes.len() {
+            bytes.extend_from_slice(piece).unwrap();
+        } else {
+            self.told = None;
+        }
     }
 
-    /// The bytes that were taken.
-    pub fn taken(&self) -> &[u8]
-        ensures { result.now ≡ self.now.written }
+    /// The bytes that it tells.
+    pub fn told(&self) -> &[u8]
+        ensures { result.now ≡ told_bytes self.now }
     {
-        self.bytes.as_slice()
+        match &self.told {
+            Some(bytes) => bytes.as_slice(),
+            None => &[],
+        }
     }
 }

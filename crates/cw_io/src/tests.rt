@@ -60,6 +60,24 @@ fn sinks_in_memory_hold_what_was_written(rt: HostRuntime) -> Result<(), Fail> {
     Ok(())
 }
 
+#[test]
+fn sinks_in_memory_tell_no_more_than_they_have_room_for(rt: HostRuntime) -> Result<(), Fail> {
+    for (room, told) in [(6, b"out 1\n".as_slice()), (5, b""), (0, b"")] {
+        let mut sure = SureSink::with_room(rt.alloc(), room)?;
+        let mut faulty = MemSink::with_room(rt.alloc(), room, 4, [3].to_vec(rt.alloc())?)?;
+        write_all(&mut sure, b"out 1\n")?;
+        write_all(&mut faulty, b"out 1\n")?;
+        assert_eq!(rt; sure.taken(), told, "room {room}");
+        assert_eq!(rt; faulty.taken(), told, "room {room}");
+        assert_eq!(rt; faulty.write(b"end\n"), Err(Failed), "room {room}");
+        write_all(&mut sure, b"end\n")?;
+        write_all(&mut faulty, b"end\n")?;
+        assert_eq!(rt; sure.taken(), b"".as_slice(), "room {room}");
+        assert_eq!(rt; faulty.taken(), b"".as_slice(), "room {room}");
+    }
+    Ok(())
+}
+
 /// A reader that fails, gives a byte, gives none, and then gives another byte in each call.
 #[derive(Drop)]
 struct Ragged {
@@ -153,6 +171,45 @@ fn writers_are_sinks(rt: HostRuntime) -> Result<(), Fail> {
     let mut clogged = WriteSink::new(Clogged { calls: 0 });
     assert!(rt; write_all(&mut clogged, b"out 1\n").is_err());
     Ok(())
+}
+
+/// A writer that holds at most two bytes, lets them through at a flush, and fails in its second write.
+#[derive(Drop)]
+struct Lock {
+    calls: usize,
+    held: usize,
+    through: usize,
+}
+
+impl Write for Lock {
+    fn write(&mut self, buf: &[u8]) -> io::Result<usize> {
+        self.calls = self.calls.saturating_add(1);
+        if self.calls == 2 {
+            return Err(io::Error::from(ErrorKind::BrokenPipe));
+        }
+        self.held = buf.len().min(2);
+        Ok(self.held)
+    }
+
+    fn flush(&mut self) -> io::Result<()> {
+        self.through = self.through.saturating_add(self.held);
+        self.held = 0;
+        Ok(())
+    }
+}
+
+#[test]
+fn writers_let_through_all_that_is_told(rt: HostRuntime) {
+    let mut lock = Lock {
+        calls: 0,
+        held: 0,
+        through: 0,
+    };
+    let mut sink = WriteSink::new(&mut lock);
+    assert_eq!(rt; sink.write(b"out 1\n"), Ok(2));
+    assert_eq!(rt; sink.write(b"t 1\n"), Err(Failed));
+    drop(sink);
+    assert_eq!(rt; lock.through, 2);
 }
 
 #[test]

@@ -1,4 +1,4 @@
-ghost use Rattle.std.specs.Prelude.{◌≡◌, IsSome};
+ghost use Rattle.std.specs.Prelude.{◌≡◌, ℕ, IsSome};
 ghost use Rattle.cw_io.specs.WriteSink.{told_since};
 
 use crate::{Failed, Sink};
@@ -23,6 +23,7 @@ pub struct WriteSink<W: Write> {
 impl<W: Write> WriteSink<W> {
     pub fn new(writer: W) -> WriteSink<W>
         ensures written { ⟦<WriteSink<W> as Sink>⟧.written result ≡ W.contents writer }
+        ensures tells { (n : ℕ) → ⟦<WriteSink<W> as Sink>⟧.tells_for result n }
         ensures faults { ⟦<WriteSink<W> as Sink>⟧.faults result ≡ 0 }
     {
         let first = Snapshot::of(&writer);
@@ -37,6 +38,9 @@ impl<W: Write> WriteSink<W> {
 
 impl<W: Write> Sink for WriteSink<W> {
     ghost written = { λ s. told_since s.is_told (W.contents s.first.value) (W.contents s.writer) };
+
+    // Only a flush that fails makes it silent.
+    ghost tells_for = { λ _ _. Unit {0} };
 
     ghost faults = { λ s. s.faults };
 

@@ -10,14 +10,14 @@ use Rattle.cw_top.specs.declared.command.Command.{Command}
 use Rattle.cw_top.specs.declared.command.Command.TheVariants.{Run}
 use Rattle.cw_io.specs.declared.schedule.Schedule.TheVariants.{List as Listed}
 use Rattle.cw_top.specs.Options.{Given, list_below}
-use Rattle.cw_top.specs.Reading.{integers_in, known_in, limits_in, schedule_in, text_in, value_in}
+use Rattle.cw_top.specs.Reading.{integers_in, known_in, limits_in, schedule_asked, text_in, value_in}
 use Rattle.cw_top.specs.Words as words
 use Rattle.cw_top.specs.Words.{run_given, run_options}
 
 abbrev pub schedule_by : (workers : ℕ) → (list seed : Option (Option (List ℕ))) → Option Schedule
 schedule_by workers list seed = option_and_then (λ l. option_and_then (λ s. words.schedule_in workers l s) seed) list
 
-pub schedule_is : (workers : ℕ) (g : Option Given) → schedule_in workers g ≡ schedule_by workers (value_in (codes "schedule") g) (value_in (codes "seed") g)
+pub schedule_is : (workers : ℕ) (g : Option Given) → schedule_asked workers g ≡ schedule_by workers (value_in (codes "schedule") g) (value_in (codes "seed") g)
 schedule_is workers None = refl
 schedule_is workers (Some h) = refl
 
@@ -30,11 +30,11 @@ run_is (Some h) = refl
 
 -- the schedule by the values that were read of its two options
 pub schedule_read : (workers : ℕ) (g : Option Given) (list seed : Option (Bor (List ℕ))) → text_in (Some list) ≡ value_in (codes "schedule") g → text_in (Some seed) ≡ value_in (codes "seed") g
-    → schedule_in workers g ≡ words.schedule_in workers (option_map (λ v. v.now) list) (option_map (λ v. v.now) seed)
+    → schedule_asked workers g ≡ words.schedule_in workers (option_map (λ v. v.now) list) (option_map (λ v. v.now) seed)
 schedule_read workers g list seed l s =
     schedule_is workers g ∙ ap (λ o. schedule_by workers o (value_in (codes "seed") g)) (sym l) ∙ ap (λ o. schedule_by workers (text_in (Some list)) o) (sym s)
 
-pub no_schedule : (workers : ℕ) (g : Option Given) (list : Option (Bor (List ℕ))) → text_in (Some list) ≡ value_in (codes "schedule") g → None ≡ value_in (codes "seed") g → schedule_in workers g ≡ None
+pub no_schedule : (workers : ℕ) (g : Option Given) (list : Option (Bor (List ℕ))) → text_in (Some list) ≡ value_in (codes "schedule") g → None ≡ value_in (codes "seed") g → schedule_asked workers g ≡ None
 no_schedule workers g list l s =
     schedule_is workers g ∙ ap (λ o. schedule_by workers o (value_in (codes "seed") g)) (sym l) ∙ ap (λ o. schedule_by workers (text_in (Some list)) o) (sym s)
 
@@ -43,32 +43,32 @@ module _ (workers : ℕ) (g : Option Given) (list seed : Option (Bor (List ℕ))
   abbrev by : (list seed : Option (Bor (List ℕ))) → Option Schedule
   by x y = words.schedule_in workers (option_map (λ v. v.now) x) (option_map (λ v. v.now) y)
 
-  pub none_listed : (r : Option (Result Schedule OutOfMemory)) → list ≡ None → Reads (words.schedule_in workers None (option_map (λ v. v.now) seed)) r → Reads (schedule_in workers g) r
+  pub none_listed : (r : Option (Result Schedule OutOfMemory)) → list ≡ None → Reads (words.schedule_in workers None (option_map (λ v. v.now) seed)) r → Reads (schedule_asked workers g) r
   none_listed r e h = subst (λ (o : Option Schedule). Reads o r) (sym (schedule_read workers g list seed l s ∙ ap (λ x. by x seed) e)) h
 
   module _ (text : Bor (List ℕ)) (e : list ≡ Some text) where
-    read : schedule_in workers g ≡ by (Some text) seed
+    read : schedule_asked workers g ≡ by (Some text) seed
     read = schedule_read workers g list seed l s ∙ ap (λ x. by x seed) e
 
-    pub both_read : is_some seed ≡ true → schedule_in workers g ≡ None
+    pub both_read : is_some seed ≡ true → schedule_asked workers g ≡ None
     both_read some = read ∙ go seed some
       where
         go : (o : Option (Bor (List ℕ))) → is_some o ≡ true → by (Some text) o ≡ None
         go None h = cc
         go (Some v) h = refl
 
-    list_read : is_some seed ≡ false → schedule_in workers g ≡ option_map Listed (list_below workers words.most_listed text.now)
+    list_read : is_some seed ≡ false → schedule_asked workers g ≡ option_map Listed (list_below workers words.most_listed text.now)
     list_read none = read ∙ go seed none
       where
         go : (o : Option (Bor (List ℕ))) → is_some o ≡ false → by (Some text) o ≡ option_map Listed (list_below workers words.most_listed text.now)
         go None h = refl
         go (Some v) h = cc
 
-    pub bad_list : is_some seed ≡ false → list_below workers words.most_listed text.now ≡ None → schedule_in workers g ≡ None
+    pub bad_list : is_some seed ≡ false → list_below workers words.most_listed text.now ≡ None → schedule_asked workers g ≡ None
     bad_list none bad = list_read none ∙ ap (λ o. option_map Listed o) bad
 
     pub listed_read : is_some seed ≡ false → (kept : Result (List ℕ) OutOfMemory) → Reads (list_below workers words.most_listed text.now) (Some kept)
-        → (r : Result Schedule OutOfMemory) → IfOk r (λ s. IsOkAnd kept (λ ns. s ≡ Listed ns)) → Reads (schedule_in workers g) (Some r)
+        → (r : Result Schedule OutOfMemory) → IfOk r (λ s. IsOkAnd kept (λ ns. s ≡ Listed ns)) → Reads (schedule_asked workers g) (Some r)
     listed_read none kept h r is = subst (λ (o : Option Schedule). Reads o (Some r)) (sym (list_read none)) (go (list_below workers words.most_listed text.now) kept h r is)
       where
         go : (o : Option (List ℕ)) (k : Result (List ℕ) OutOfMemory) → Reads o (Some k) → (r : Result Schedule OutOfMemory) → IfOk r (λ s. IsOkAnd k (λ ns. s ≡ Listed ns)) → Reads (option_map Listed o) (Some r)

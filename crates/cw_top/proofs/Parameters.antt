@@ -12,7 +12,7 @@ use Rattle.cw_strand.specs.Programs.{IsProgramOf}
 use Rattle.cw_strand.proofs.MainCode.{main_code}
 use Rattle.cw_job.specs.Jobs.{TakesWords}
 use Rattle.cw_job.proofs.Room.Lawful.{source_takes}
-use Rattle.cw_top.specs.Refusals.{AsksFor, IsMisfit, Spells, named, of_reading}
+use Rattle.cw_top.specs.Refusals.{AsksFor, IsMisfit, Spells, named, of_reading, refusal}
 
 module _ (ds : List Declaration) (p : Program) (is : IsProgramOf ds p) (n : ℕ) where
   code_takes : MainTakes ds n → TakesWords p n
@@ -33,10 +33,14 @@ module _ (n : ℕ) (bytes : List ℕ) (p : Program) (spells : Spells bytes p) wh
   pub asks : TakesWords p n → AsksFor bytes n
   asks t = (spells.0, (spells.1.0, source_takes spells.0 p spells.1.1 n t))
 
+-- bytes that spell a program are not refused
+pub spelled_accepted : (bytes : List ℕ) (p : Program) → Spells bytes p → refusal bytes ≡ None
+spelled_accepted bytes p spells = ap of_reading spells.1.0 ∙ ap named spells.1.1.named
+
 -- the words do not fit where the program takes another number of them
 pub misfits : (left : Option (List ℕ)) (words : List ℤ) (p : Program) → IfSome left (λ bytes. Spells bytes p) → (TakesWords p (length words) → ⊥) → IfSome left (IsMisfit words)
 misfits None words p spells other = tt
-misfits (Some bytes) words p spells other = (ap of_reading spells.1.0 ∙ ap named spells.1.1.named, λ a. other (takes (length words) bytes p spells a))
+misfits (Some bytes) words p spells other = (spelled_accepted bytes p spells, λ a. other (takes (length words) bytes p spells a))
 
 -- words that a program takes do fit
 pub fits : (left : Option (List ℕ)) (words : List ℤ) (p : Program) → IfSome left (λ bytes. Spells bytes p) → TakesWords p (length words) → IsSomeAnd left (IsMisfit words) → ⊥

@@ -1,8 +1,21 @@
 -- Bytes that come from a source one piece after another.
-use Rattle.std.proofs.Common.{◌≡◌, ℕ, List, [], ◌∷◌, ◌++◌, length, Option, Some, None, ap, ◌∙◌, sym, append_assoc, arith}
+use Rattle.std.proofs.Common.{◌≡◌, ℕ, inl, inr, List, [], ◌∷◌, ◌++◌, length, Option, Some, None, ap, ◌∙◌, sym, append_assoc, arith}
 use Rattle.std.proofs.Common.{◌≤◌, ◌-◌, length-append, subst}
-use Rattle.cw_io.specs.Outside.{Takes, TakesNothing}
+use Rattle.cw_io.specs.Outside.{Rose, Takes, TakesNothing}
+use Rattle.cw_top.specs.declared.reasons.Stop.{Stop}
+use Rattle.cw_top.specs.declared.reasons.Stop.TheVariants as stop
 use Rattle.cw_top.specs.Outcome.{GivesOn, TakesAtMost}
+use Rattle.cw_top.specs.Reasons.{WhyStopped}
+
+-- a count that rose from a later one on
+pub Rose-later : (before between after : ℕ) → before ≤ between → Rose between after → Rose before after
+Rose-later before between after later (inl more) = inl (omega (arith, later, more))
+Rose-later before between after later (inr most) = inr most
+
+-- reading that stopped for a read that failed after others
+pub WhyStopped-later : (s : Stop) (before between after : ℕ) → before ≤ between → WhyStopped s (Rose between after) → WhyStopped s (Rose before after)
+WhyStopped-later stop.OutOfMemory before between after later why = tt
+WhyStopped-later stop.ReadFault before between after later why = Rose-later before between after later why
 
 -- a piece, and another one behind it
 pub Takes-append : (a b c : Option (List ℕ)) (xs ys : List ℕ) → Takes a b xs → Takes b c ys → Takes a c (xs ++ ys)

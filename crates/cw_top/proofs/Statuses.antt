@@ -1,5 +1,6 @@
 -- What the statuses say, from the causes of the notes.
 use Rattle.std.proofs.Common.{◌≡◌, ◌≢◌, ◌⊎◌, inl, inr, List, length, ℕ, ℤ, Option, Some, None, IsSomeAnd, IfSome, sym, ◌∙◌, subst}
+use Rattle.std.proofs.lemmas.Option.{same_Some}
 use Rattle.cw_io.specs.Outside.{Appends}
 use Rattle.cw_code.specs.declared.CellInfo.{CellInfo}
 use Rattle.cw_tree.specs.declared.node.Node.{Node}
@@ -19,9 +20,9 @@ use Rattle.cw_top.specs.declared.command.Command.TheVariants.{Run, Sim}
 use Rattle.cw_top.specs.declared.outcome.Note.{Note}
 use Rattle.cw_top.specs.declared.outcome.Note.TheVariants as note
 use Rattle.cw_top.specs.Refusals.{AsksFor, IsMisfit, refusal}
-use Rattle.cw_top.proofs.Parameters.{fits}
+use Rattle.cw_top.proofs.Parameters.{fits, spelled_accepted}
 use Rattle.cw_top.specs.Texts.{end_text, finished_text}
-use Rattle.cw_top.specs.Outcome.{Accepts, MayBeMisusedWith, MayEndWith, HasCause, IsDoneAs, IsDoneBy, IsMisused, IsRefusedFor, IsRunBy, IsRunOf, IsStatus, IsSurelyMisused, Writes, WritesEndOfOneMemory, end_of_one_memory, status_of_end}
+use Rattle.cw_top.specs.Outcome.{Accepts, MayBeMisusedWith, MayEndWith, HasCause, IsDoneAs, IsDoneBy, IsMisused, IsRefusedFor, IsRefusedWith, IsRunBy, IsRunOf, IsStatus, IsSurelyMisused, IsSurelyRefused, Writes, WritesEndOfOneMemory, end_of_one_memory, status_of_end}
 use Rattle.cw_top.specs.Words.{words_of}
 
 -- words that are no command come to status 2
@@ -125,6 +126,31 @@ misused (Some co) None status note.Write left r w (some, is) cause run misfit no
 misused (Some co) (Some x) status note.Write left r w is cause run misfit no_r = absurd (run_fits co left x run misfit)
 misused (Some co) kept status (note.Text f) left r w is cause run misfit no_r = absurd (not_refused left (λ bytes. AsksFor bytes (length (words_of co)) → ⊥) (note.Text f) misfit cause)
 misused (Some co) kept status (note.Name f) left r w is cause run misfit no_r = absurd (not_refused left (λ bytes. AsksFor bytes (length (words_of co)) → ⊥) (note.Name f) misfit cause)
+
+-- a source that has a run is not refused
+run_accepted : (co : Command) (left : Option (List ℕ)) (x : Record) (fault : Note) → IsRunBy co left x → IsSomeAnd left (λ bytes. refusal bytes ≡ Some fault) → ⊥
+run_accepted co None x fault run is = is
+run_accepted co (Some bytes) x fault run is = let none = spelled_accepted bytes x.program run.spelled in cc
+
+same_fault : (left : Option (List ℕ)) (n fault : Note) → IsSomeAnd left (λ bytes. refusal bytes ≡ Some fault) → IsRefusedFor n left → n ≡ fault
+same_fault None n fault is why = absurd is
+same_fault (Some bytes) n fault is why = same_Some n fault (sym why ∙ is)
+
+no_misfit : (left : Option (List ℕ)) (words : List ℤ) (fault : Note) → IsSomeAnd left (λ bytes. refusal bytes ≡ Some fault) → IfSome left (IsMisfit words) → ⊥
+no_misfit None words fault is misfit = is
+no_misfit (Some bytes) words fault is misfit = let none = misfit.0 in cc
+
+pub refuses : (command : Option Command) (kept : Option Record) (status : ℕ) (n : Note) (left : Option (List ℕ)) (r w : Type 0) → IsStatus kept status n → HasCause command n left r w → IfSome kept (IsRunOf command left) → (fault : Note) → IsSurelyRefused command left fault → (r → ⊥) → IsRefusedWith fault status n
+refuses None kept status n left r w is cause run fault why no_r = absurd why
+refuses (Some co) None status note.Nothing left r w is cause run fault why no_r = absurd is
+refuses (Some co) (Some x) status note.Nothing left r w is cause run fault why no_r = absurd (run_accepted co left x fault run why)
+refuses (Some co) kept status note.Usage left r w is cause run fault why no_r = absurd (no_misfit left (words_of co) fault why cause)
+refuses (Some co) kept status note.Memory left r w (none, is) cause run fault why no_r = inr is
+refuses (Some co) kept status note.Read left r w is cause run fault why no_r = absurd (no_r cause)
+refuses (Some co) None status note.Write left r w (some, is) cause run fault why no_r = cc
+refuses (Some co) (Some x) status note.Write left r w is cause run fault why no_r = absurd (run_accepted co left x fault run why)
+refuses (Some co) kept status (note.Text f) left r w (none, is) cause run fault why no_r = inl (is, same_fault left (note.Text f) fault why cause)
+refuses (Some co) kept status (note.Name f) left r w (none, is) cause run fault why no_r = inl (is, same_fault left (note.Name f) fault why cause)
 
 pub complete : (command : Option Command) (kept : Option Record) (status : ℕ) (n : Note) (left : Option (List ℕ)) (r w : Type 0) → IsStatus kept status n → HasCause command n left r w → IfSome kept (IsDoneAs command) → Accepts command left → (r → ⊥) → (w → ⊥) → MayEndWith command status
 complete None kept status n left r w is cause done accepted no_r no_w = of_none kept status n cause is

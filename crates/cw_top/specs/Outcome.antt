@@ -1,7 +1,7 @@
 -- What a status says: a part for each thing that the top call promises. What depends on the command is a function of it, with a case for
 -- words that are none; so a further command adds its cases and changes no clause.
 use Rattle.std.specs.Prelude.{◌≡◌, ◌≤◌, ◌⊎◌, ℕ, ◌+◌, ℤ, List, [], ◌++◌, false, length, Option, Some, None, IfSome, IsSome, IsSomeAnd, IsTrue}
-use Rattle.cw_io.specs.Outside.{Takes, Appends, AppendsFront, RunsDry}
+use Rattle.cw_io.specs.Outside.{Takes, Appends, AppendsFront, RunsDry, TellsOn}
 use Rattle.cw_code.specs.declared.CellInfo.{CellInfo}
 use Rattle.cw_tree.specs.Names.{name_of}
 use Rattle.cw_tree.specs.Nodes.{is_fork}
@@ -18,7 +18,7 @@ use Rattle.cw_record.specs.Items.{items}
 use Rattle.cw_record.specs.Replay.{DoesAll, StandsRefused}
 use Rattle.cw_record.specs.Records.{job_of_record, BlocksEnded, HasEnded, HasItsOutputs, IsCoherentRecord, IsReplayed, IsDepthFirst, IsNumberedDepthFirst}
 use Rattle.cw_replay.specs.Attempts.{RecordsAttempts}
-use Rattle.cw_sim.specs.Moves.{is_over}
+use Rattle.cw_sim.specs.Moves.{is_run_over}
 use Rattle.cw_sim.specs.Runs.{IsRecordOf, simulation_of}
 use Rattle.cw_top.specs.declared.command.Command.{Command}
 use Rattle.cw_top.specs.declared.command.Command.TheVariants.{Run, Sim}
@@ -139,6 +139,11 @@ Writes command None n old new = Appends old new []
 Writes command (Some r) note.Write old new = AppendsFront old new (text_of command r)
 Writes command (Some r) n old new = Appends old new (text_of command r)
 
+-- A sink that told still tells, if it goes on telling for as many bytes as the text has. Without a run there is no text.
+abbrev pub StillTells : Option Command → Option Record → (goes_on : ℕ → Type 0) → (old new : Option (List ℕ)) → Type 0
+StillTells command None goes_on old new = TellsOn old new
+StillTells command (Some r) goes_on old new = goes_on (length (text_of command r)) → TellsOn old new
+
 -- how one memory ends in the order that is kept
 abbrev pub end_of_one_memory : Record → SerialEnd
 end_of_one_memory r = end_under (job_of_record r) r.order
@@ -171,7 +176,7 @@ pub record SpentItsBudget (r : Record) : Type 0 where
 
 -- All moves of a command were made, as many as its limit, and the run had not come to its end.
 abbrev pub HasSpentMoves : Option Command → Record → Type 0
-HasSpentMoves (Some (Sim words limits workers schedule)) r = is_over (simulation_of (job_of_record r) workers schedule) ≡ false
+HasSpentMoves (Some (Sim words limits workers schedule)) r = is_run_over (simulation_of (job_of_record r) workers schedule) ≡ false
 HasSpentMoves command r = ⊥
 
 -- ## The statuses that come, and their causes
@@ -206,6 +211,15 @@ IsSurelyMisused (Some c) left = IsSomeAnd left (IsMisfit (words_of c))
 abbrev pub MayBeMisusedWith : Option Command → ℕ → Type 0
 MayBeMisusedWith None status = status ≡ 2
 MayBeMisusedWith (Some c) status = (status ≡ 2) ⊎ (status ≡ 1)
+
+-- The source's bytes are told, and a command's source is refused for this reason.
+abbrev pub IsSurelyRefused : Option Command → (left : Option (List ℕ)) → Note → Type 0
+IsSurelyRefused None left fault = ⊥
+IsSurelyRefused (Some c) left fault = IsSomeAnd left (λ bytes. refusal bytes ≡ Some fault)
+
+-- what a source that is refused for this reason comes to, where no read fails
+abbrev pub IsRefusedWith : (fault : Note) → ℕ → Note → Type 0
+IsRefusedWith fault status n = ((status ≡ 5) × (n ≡ fault)) ⊎ (status ≡ 1)
 
 -- the statuses that a command comes to, where it accepts the source and neither a read nor a write fails
 abbrev pub MayEndWith : Option Command → ℕ → Type 0

@@ -24,14 +24,14 @@ known_in names g = option_map_or (λ h. are_known names h.options) g false
 abbrev pub value_in : (name : List ℕ) → Option Given → Option (Option (List ℕ))
 value_in name g = option_and_then (λ h. option_value name h.options) g
 
-abbrev pub number_in : NumberOption → Option Given → Option ℕ
-number_in o g = option_and_then (λ h. number_given o h.options) g
+abbrev pub number_asked : NumberOption → Option Given → Option ℕ
+number_asked o g = option_and_then (λ h. number_given o h.options) g
 
 abbrev pub limits_in : Option Given → Option Limits
 limits_in g = option_and_then (λ h. limits_given h.options) g
 
-abbrev pub schedule_in : (workers : ℕ) → Option Given → Option Schedule
-schedule_in workers g = option_and_then (λ h. schedule_given workers h.options) g
+abbrev pub schedule_asked : (workers : ℕ) → Option Given → Option Schedule
+schedule_asked workers g = option_and_then (λ h. schedule_given workers h.options) g
 
 abbrev pub integers_in : Option Given → Option (List ℤ)
 integers_in g = option_and_then (λ h. integers_of h.words) g

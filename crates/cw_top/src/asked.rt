@@ -4,7 +4,7 @@ ghost use Rattle.std.specs.Str.{bytes_eq};
 ghost use Rattle.cw_io.specs.declared.schedule.Schedule.TheVariants.{List as Listed};
 ghost use Rattle.cw_top.specs.Given.{Reads};
 ghost use Rattle.cw_top.specs.Options.{given};
-ghost use Rattle.cw_top.specs.Reading.{integers_in, known_in, limits_in, number_in, schedule_in, text_in, value_in};
+ghost use Rattle.cw_top.specs.Reading.{integers_in, known_in, limits_in, number_asked, schedule_asked, text_in, value_in};
 ghost use Rattle.cw_top.specs.Words.{schedule_in as schedule_by, workers_option};
 
 use crate::given::{Next, next_of, words_behind};
@@ -77,7 +77,7 @@ fn value_of<'a>(words: &'a [String], name: &str) -> Option<Option<&'a str>>
 fn number_of(words: &[String], name: &str, least: u64, most: u64, default: u64) -> Option<u64>
     requires least { least ≤ default }
     requires most { default ≤ most }
-    ensures exact { result ≡ number_in (record { name = name.now; least = least; most = most; default = default }) (given (map string_bytes words.now)) }
+    ensures exact { result ≡ number_asked (record { name = name.now; least = least; most = most; default = default }) (given (map string_bytes words.now)) }
     ensures within { IfSome result (λ n. (least ≤ n) × (n ≤ most)) }
 {
     match value_of(words, name)? {
@@ -107,7 +107,7 @@ pub fn limits_of(words: &[String]) -> Option<Limits>
 /// The number of workers that options give.
 pub fn workers_of(words: &[String]) -> Option<u32>
     ensures some { IfSome result (λ n. 0 < n) }
-    ensures exact { result ≡ number_in workers_option (given (map string_bytes words.now)) }
+    ensures exact { result ≡ number_asked workers_option (given (map string_bytes words.now)) }
 {
     Some(number_of(words, "workers", 1, 64, 4)? as u32)
 }
@@ -135,7 +135,7 @@ pub fn schedule_of(
     workers: u32,
 ) -> Option<Result<Schedule, OutOfMemory>>
     requires { 0 < workers }
-    ensures { Reads (schedule_in workers (given (map string_bytes words.now))) result }
+    ensures { Reads (schedule_asked workers (given (map string_bytes words.now))) result }
 {
     let list = value_of(words, "schedule")?;
     let seed = value_of(words, "seed")?;

@@ -1,8 +1,6 @@
-ghost use Rattle.std.specs.Prelude.{◌≡◌, ◌-◌, ◌<◌, ◌≤◌, length, Ok, IfOk, IfErr, IfSome, IsErrOf, OnOk};
+ghost use Rattle.std.specs.Prelude.{◌≡◌, ◌-◌, ◌<◌, ◌≤◌, length, Ok, IfOk, IfErr, IfSome, OnOk};
 ghost use Rattle.cw_io.specs.Outside.{IsDry, Rose, RunsDry, Takes};
 ghost use Rattle.cw_strand.specs.Programs.{IsCompiled};
-ghost use Rattle.cw_top.specs.declared.reasons.NoRun.TheVariants.{Stopped};
-ghost use Rattle.cw_top.specs.declared.reasons.Stop.TheVariants.{ReadFault};
 ghost use Rattle.cw_top.specs.Outcome.{GivesOn, RisesAtMost, TakesAtMost, most_bytes};
 ghost use Rattle.cw_top.specs.Reasons.{WhyNoRun, WhyRefused, WhyStopped};
 ghost use Rattle.cw_top.specs.Refusals.{Spells};
@@ -24,7 +22,6 @@ const ROOM: usize = 8_192;
 fn read_more<S: Source>(source: &mut S, bytes: &mut Vec<u8>) -> Result<usize, Stop>
     requires { length bytes.old.items < most_bytes }
     ensures later { S.faults source.old ≤ S.faults source.new }
-    ensures kept { (IsErrOf result ReadFault → ⊥) → S.faults source.new ≡ S.faults source.old }
     ensures why { IfErr result (λ s. WhyStopped s (Rose (S.faults source.old) (S.faults source.new))) }
     ensures taken { TakesAtMost (most_bytes - length bytes.old.items) (S.left source.old) (S.left source.new) }
     ensures given { IfOk result (λ n. GivesOn (S.left source.old) (S.left source.new) bytes.old.items bytes.new.items n) }
@@ -43,7 +40,6 @@ fn read_more<S: Source>(source: &mut S, bytes: &mut Vec<u8>) -> Result<usize, St
 // The bytes of a source up to its end, or the first of them, as many as are ever read.
 fn read_all<S: Source>(alloc: Global, source: &mut S) -> Result<Vec<u8>, Stop>
     ensures later { S.faults source.old ≤ S.faults source.new }
-    ensures kept { (IsErrOf result ReadFault → ⊥) → S.faults source.new ≡ S.faults source.old }
     ensures why { IfErr result (λ s. WhyStopped s (Rose (S.faults source.old) (S.faults source.new))) }
     ensures taken { TakesAtMost most_bytes (S.left source.old) (S.left source.new) }
     ensures given { IfOk result (λ bytes. Takes (S.left source.old) (S.left source.new) bytes.items) }
@@ -73,7 +69,6 @@ fn program_of(alloc: Global, bytes: &[u8]) -> Result<Program, Refusal>
 // The program that a source spells.
 pub fn program_from<S: Source>(alloc: Global, source: &mut S) -> Result<Program, NoRun>
     ensures later { S.faults source.old ≤ S.faults source.new }
-    ensures kept { (IsErrOf result (Stopped ReadFault) → ⊥) → S.faults source.new ≡ S.faults source.old }
     ensures why { IfErr result (λ n. WhyNoRun n (Rose (S.faults source.old) (S.faults source.new)) ⊥ (S.left source.old)) }
     ensures taken { TakesAtMost most_bytes (S.left source.old) (S.left source.new) }
     ensures whole { OnOk result (RunsDry (S.left source.old) (S.left source.new)) }

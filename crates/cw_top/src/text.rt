@@ -7,8 +7,8 @@ ghost use Rattle.cw_top.specs.Texts.{at_line, cell_lines, element_line, end_text
 use crate::Note;
 use cw_base::OutOfMemory;
 use cw_code::{CellInfo, FaultKind};
-use cw_record::{Record, RecordEnd};
 use cw_job::value_at;
+use cw_record::{Record, RecordEnd};
 use cw_strand::NameKind;
 use cw_text::TextKind;
 use cw_tree::Tree;

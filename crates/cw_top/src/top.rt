@@ -5,11 +5,11 @@ ghost use Rattle.cw_strand.specs.Programs.{IsCompiled};
 ghost use Rattle.cw_job.specs.Jobs.{TakesWords};
 ghost use Rattle.cw_record.specs.Order.{ending_strand};
 ghost use Rattle.cw_record.specs.Records.{HasItsOutputs, IsCoherentRun, IsNumberedDepthFirst, IsReplayed};
+ghost use Rattle.cw_top.specs.declared.outcome.Note.{Note};
 ghost use Rattle.cw_top.specs.declared.outcome.Note.TheVariants.{Nothing};
-ghost use Rattle.cw_top.specs.declared.reasons.NoRun.TheVariants.{Misfit, Stopped};
-ghost use Rattle.cw_top.specs.declared.reasons.Stop.TheVariants.{ReadFault};
+ghost use Rattle.cw_top.specs.declared.reasons.NoRun.TheVariants.{Misfit};
 ghost use Rattle.cw_top.specs.declared.reasons.NotWritten.TheVariants.{OutOfMemory, WriteFault};
-ghost use Rattle.cw_top.specs.Outcome.{Accepts, HasCause, HasSpentMoves, IsDoneAs, IsDoneBy, IsMisused, IsRefusedFor, IsRunOf, IsSurelyMisused, IsStatus, MayBeMisusedWith, MayEndWith, ReadsWhole, RisesAtMost, SpentItsBudget, TakesAtMost, Writes, WritesEndOfOneMemory, most_bytes, most_ends, most_read, status_of_end};
+ghost use Rattle.cw_top.specs.Outcome.{Accepts, HasCause, HasSpentMoves, IsDoneAs, IsDoneBy, IsMisused, IsRefusedFor, IsRefusedWith, IsRunOf, IsSurelyMisused, IsSurelyRefused, IsStatus, MayBeMisusedWith, MayEndWith, ReadsWhole, RisesAtMost, SpentItsBudget, StillTells, TakesAtMost, Writes, WritesEndOfOneMemory, most_bytes, most_ends, most_read, status_of_end};
 ghost use Rattle.cw_top.specs.OverSource.{IsRunOfSource, Spawns};
 ghost use Rattle.cw_top.specs.Reasons.{WhyNoRun, note_of};
 ghost use Rattle.cw_top.specs.Refusals.{IsMisfit};
@@ -22,8 +22,8 @@ use crate::reasons::{NoRun, NotWritten, Refusal, Stop};
 use crate::{Note, Reply, result_text};
 use cw_code::Program;
 use cw_io::{Gate, Sink, Source, write_all};
-use cw_record::{Record, RecordEnd, depth_first};
 use cw_job::takes_words;
+use cw_record::{Record, RecordEnd, depth_first};
 use cw_sim::simulate;
 use std::alloc::Global;
 use std::sync::Wait;
@@ -69,7 +69,6 @@ fn done(alloc: Global, command: Command, program: Program) -> Result<Record, cw_
 fn run_of<S: Source>(alloc: Global, command: Command, source: &mut S) -> Result<Record, NoRun>
     requires { IsReady command }
     ensures later { S.faults source.old ≤ S.faults source.new }
-    ensures kept { (IsErrOf result (Stopped ReadFault) → ⊥) → S.faults source.new ≡ S.faults source.old }
     ensures why { IfErr result (λ n. WhyNoRun n (Rose (S.faults source.old) (S.faults source.new)) (IfSome (S.left source.old) (IsMisfit (words_of command))) (S.left source.old)) }
     ensures taken { TakesAtMost most_bytes (S.left source.old) (S.left source.new) }
     ensures whole { OnOk result (RunsDry (S.left source.old) (S.left source.new)) }
@@ -89,10 +88,10 @@ fn run_of<S: Source>(alloc: Global, command: Command, source: &mut S) -> Result<
 fn write_run<K: Sink>(alloc: Global, run: &Record, sink: &mut K) -> Result<(), NotWritten>
     requires { IsTrue (is_strand run.now.tree (ending_strand run.now.end)) }
     ensures later { K.faults sink.old ≤ K.faults sink.new }
-    ensures kept { (IsErrOf result WriteFault → ⊥) → K.faults sink.new ≡ K.faults sink.old }
     ensures written { OnOk result (Appends (K.written sink.old) (K.written sink.new) (run_text run.now)) }
     ensures nothing { IsErrOf result OutOfMemory → Appends (K.written sink.old) (K.written sink.new) [] }
-    ensures tells { (IsErrOf result WriteFault → ⊥) → TellsOn (K.written sink.old) (K.written sink.new) }
+    ensures tells { OnOk result (K.tells_for sink.old (length (run_text run.now)) → TellsOn (K.written sink.old) (K.written sink.new)) }
+    ensures tells_nothing_more { IsErrOf result OutOfMemory → TellsOn (K.written sink.old) (K.written sink.new) }
     ensures front { IsErrOf result WriteFault → AppendsFront (K.written sink.old) (K.written sink.new) (run_text run.now) }
     ensures cause { IsErrOf result WriteFault → Rose (K.faults sink.old) (K.faults sink.new) }
 {
@@ -125,8 +124,6 @@ fn ran<S: Source, K: Sink>(alloc: Global, command: Command, source: &mut S, sink
     requires { IsReady command }
     ensures read_later { S.faults source.old ≤ S.faults source.new }
     ensures write_later { K.faults sink.old ≤ K.faults sink.new }
-    ensures read_kept { (result.status ≡ 3 → ⊥) → S.faults source.new ≡ S.faults source.old }
-    ensures write_kept { (result.status ≡ 4 → ⊥) → K.faults sink.new ≡ K.faults sink.old }
     ensures status { IsStatus result.kept result.status result.note }
     ensures cause { HasCause (Some command) result.note (S.left source.old) (Rose (S.faults source.old) (S.faults source.new)) (Rose (K.faults sink.old) (K.faults sink.new)) }
     ensures taken { TakesAtMost most_bytes (S.left source.old) (S.left source.new) }
@@ -136,7 +133,7 @@ fn ran<S: Source, K: Sink>(alloc: Global, command: Command, source: &mut S, sink
     ensures run { IfSome result.kept (IsRunOf (Some command) (S.left source.old)) }
     ensures done { IfSome result.kept (IsDoneBy command) }
     ensures written { Writes (Some command) result.kept result.note (K.written sink.old) (K.written sink.new) }
-    ensures tells { (result.status ≡ 4 → ⊥) → TellsOn (K.written sink.old) (K.written sink.new) }
+    ensures tells { (result.status ≡ 4 → ⊥) → StillTells (Some command) result.kept (K.tells_for sink.old) (K.written sink.old) (K.written sink.new) }
 {
     let run = match run_of(alloc, command, source) {
         Ok(run) => run,
@@ -167,8 +164,6 @@ fn answer<S: Source, K: Sink>(
     requires { IfSome command IsReady }
     ensures read_later { S.faults source.old ≤ S.faults source.new }
     ensures write_later { K.faults sink.old ≤ K.faults sink.new }
-    ensures read_kept { (result.status ≡ 3 → ⊥) → S.faults source.new ≡ S.faults source.old }
-    ensures write_kept { (result.status ≡ 4 → ⊥) → K.faults sink.new ≡ K.faults sink.old }
     ensures status { IsStatus result.kept result.status result.note }
     ensures cause { HasCause command result.note (S.left source.old) (Rose (S.faults source.old) (S.faults source.new)) (Rose (K.faults sink.old) (K.faults sink.new)) }
     ensures taken { TakesAtMost (most_read command) (S.left source.old) (S.left source.new) }
@@ -178,7 +173,7 @@ fn answer<S: Source, K: Sink>(
     ensures run { IfSome result.kept (IsRunOf command (S.left source.old)) }
     ensures done { IfSome result.kept (IsDoneAs command) }
     ensures written { Writes command result.kept result.note (K.written sink.old) (K.written sink.new) }
-    ensures tells { (result.status ≡ 4 → ⊥) → TellsOn (K.written sink.old) (K.written sink.new) }
+    ensures tells { (result.status ≡ 4 → ⊥) → StillTells command result.kept (K.tells_for sink.old) (K.written sink.old) (K.written sink.new) }
 {
     match command {
         None => Reply {
@@ -222,6 +217,10 @@ pub fn cwstm<R: Threads + Wait + Sync, S: Source, K: Sink, G: Gate>(
     ensures read_fault { result.status ≡ 3 → Rose (S.faults source.old) (S.faults source.new) }
     ensures write_fault { result.status ≡ 4 → Rose (K.faults sink.old) (K.faults sink.new) }
     ensures refused { result.status ≡ 5 → IsRefusedFor result.note (S.left source.old) }
+
+    // A source that is refused gives status 5 and its first fault, unless a read fails; want of memory alone may come before it.
+    ensures refuses { (fault : Note) → IsSurelyRefused (command_in words.now) (S.left source.old) fault
+        → (Rose (S.faults source.old) (S.faults source.new) → ⊥) → IsRefusedWith fault result.status result.note }
     ensures complete { Accepts (command_in words.now) (S.left source.old)
         → (Rose (S.faults source.old) (S.faults source.new) → ⊥) → (Rose (K.faults sink.old) (K.faults sink.new) → ⊥)
         → MayEndWith (command_in words.now) result.status }
@@ -255,14 +254,12 @@ pub fn cwstm<R: Threads + Wait + Sync, S: Source, K: Sink, G: Gate>(
     ensures once { RisesAtMost (most_ends (command_in words.now)) (S.ends source.old) (S.ends source.new) }
     ensures written { Writes (command_in words.now) result.kept result.note (K.written sink.old) (K.written sink.new) }
 
-    // Unless a write failed, a sink that told still tells.
-    ensures tells { (result.status ≡ 4 → ⊥) → TellsOn (K.written sink.old) (K.written sink.new) }
+    // Unless a write failed, a sink that told still tells, if it goes on telling for as many bytes as the text has.
+    ensures tells { (result.status ≡ 4 → ⊥) → StillTells (command_in words.now) result.kept (K.tells_for sink.old) (K.written sink.old) (K.written sink.new) }
 
-    // Counts of faults never fall, and rise only with the status that says so.
+    // Counts of faults never fall.
     ensures read_later { S.faults source.old ≤ S.faults source.new }
     ensures write_later { K.faults sink.old ≤ K.faults sink.new }
-    ensures read_kept { (result.status ≡ 3 → ⊥) → S.faults source.new ≡ S.faults source.old }
-    ensures write_kept { (result.status ≡ 4 → ⊥) → K.faults sink.new ≡ K.faults sink.old }
 {
     let Ok(command) = command_of(alloc, words) else {
         return without_run(NoRun::OutOfMemory);

@@ -1,6 +1,6 @@
 ghost use Rattle.std.specs.Prelude.{◌≤◌};
 
-use cw_io::{MemSink, MemSource, OpenGate, Sink, Source, SureSink, SureSource};
+use cw_io::{Gate, MemSink, MemSource, OpenGate, Sink, Source, SureSink, SureSource};
 use cw_top::{Note, Reply, cwstm, note_text};
 use std::alloc::Global;
 use std::sync::Wait;
@@ -8,6 +8,7 @@ use std::test::Fail;
 use std::thread::Threads;
 
 mod checking;
+mod outside;
 mod simulating;
 
 const COUNTS: &[u8] = b"cell c; fn main() { c = c + 1; out c; }";
@@ -29,15 +30,25 @@ fn strings(alloc: Global, words: &[&str]) -> Result<Vec<String>, Fail> {
 }
 
 // The one function that makes the top call.
+fn answer_at<R: AllocGlobal + Threads + Wait + Sync, S: Source, K: Sink, G: Gate>(
+    rt: &R,
+    words: &[&str],
+    source: &mut S,
+    sink: &mut K,
+    gate: &G,
+) -> Result<Reply, Fail> {
+    let words = strings(rt.alloc(), words)?;
+    let words = words.as_slice();
+    Ok(cwstm(rt, rt.alloc(), words, source, sink, gate))
+}
+
 fn answer<R: AllocGlobal + Threads + Wait + Sync, S: Source, K: Sink>(
     rt: &R,
     words: &[&str],
     source: &mut S,
     sink: &mut K,
 ) -> Result<Reply, Fail> {
-    let words = strings(rt.alloc(), words)?;
-    let words = words.as_slice();
-    Ok(cwstm(rt, rt.alloc(), words, source, sink, &OpenGate))
+    answer_at(rt, words, source, sink, &OpenGate)
 }
 
 fn ask<R: AllocGlobal + Threads + Wait + Sync, S: Source, K: Sink>(

@@ -8,7 +8,7 @@ invariant-pieces g l =
     let source = g.S.Source in
     record {
       few : length l.bytes.items ≤ most_bytes;
-      same : source.faults l.source ≡ source.faults l.fn.source;
+      later : source.faults l.fn.source ≤ source.faults l.source;
       none : source.ends l.source ≡ source.ends l.fn.source;
       given : Takes (source.left l.fn.source) (source.left l.source) l.bytes.items;
     }

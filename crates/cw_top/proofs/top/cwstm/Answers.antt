@@ -22,6 +22,12 @@ returns-clause-misused g c =
     let run = rw c.in-Ok.ensures.exact at c.answer.ensures.run in
     λ misfit no_read. statuses.misused _ _ _ _ _ _ _ c.answer.ensures.status cause run misfit no_read
 
+pub returns-clause-refuses : goal.returns-clause-refuses
+returns-clause-refuses g c =
+    let cause = rw c.in-Ok.ensures.exact at c.answer.ensures.cause in
+    let run = rw c.in-Ok.ensures.exact at c.answer.ensures.run in
+    λ fault refused no_read. statuses.refuses _ _ _ _ _ _ _ c.answer.ensures.status cause run fault refused no_read
+
 pub returns-clause-read_fault : goal.returns-clause-read_fault
 returns-clause-read_fault g c = statuses.read_fault _ _ _ _ _ _ _ c.answer.ensures.status c.answer.ensures.cause
 
