@@ -1,11 +1,9 @@
 pub mod ChainStates
 pub mod ChainSteps
 pub mod Chained
-pub mod Filtered
 pub mod ListCloses
 pub mod ListSteps
 pub mod Listing
 pub mod Lists
 pub mod Named
 pub mod Reading
-pub mod Rising

@@ -1,6 +1,5 @@
 pub mod Growth
 pub mod Nesting
-pub mod NodeKinds
 pub mod Standing
 pub mod Staying
 pub mod TreeSteps

@@ -1,6 +1,5 @@
 pub mod Conflicts
 pub mod History
-pub mod KeysRise
 pub mod Leaving
 pub mod Places
 pub mod Renamed

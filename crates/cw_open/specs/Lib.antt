@@ -5,8 +5,10 @@ pub mod Open
 pub mod Laws
 pub mod Times
 pub mod Refused
+pub mod LeftFirst
 pub mod Reads
 pub mod Left
 pub mod Reordered
 pub mod Spent
 pub mod Worked
+pub mod WorkedTimes

@@ -1,9 +1,12 @@
 -- Small runs, and what the definitions say of the states that they lead to.
-use Rattle.std.specs.Prelude.{◌≡◌, [], ◌∷◌, Some, None, true, false, pos}
+use Rattle.std.specs.Prelude.{◌≡◌, List, [], ◌∷◌, ◌++◌, length, Some, None, true, false, pos}
+use Rattle.std.specs.List.{list_any}
+use Rattle.cw_tree.specs.Nodes.{is_pending, all_nodes}
 use Rattle.cw_tree.specs.Series.{place}
 use Rattle.cw_open.specs.Machine.{OpenMachine, live, live_value, waits, is_running, is_dying, is_free, rolls_back}
-use Rattle.cw_open.specs.Steps.{forks, begins, accesses, refuses, outputs, commits, undoes, aborts, finishes, joins, stops, after_all, first_machine}
-use Rattle.cw_open.specs.Runs.{left_died, is_undone}
+use Rattle.cw_open.specs.Steps.{Met, Step, forks, begins, accesses, refuses, outputs, commits, undoes, aborts, finishes, joins, stops, after_all, first_machine}
+use Rattle.cw_open.specs.Runs.{IsMet, left_died, is_undone}
+use Rattle.cw_open.specs.LeftFirst.{go_left_first}
 
 -- ## A block forks; a block of the left strand writes, and the right strand is refused
 
@@ -114,3 +117,40 @@ pub record Twice : Type 0 where
       ∷ []
   pub listed : live refused_twice 0 ≡ 3 ∷ 4 ∷ []
   pub stopped : refused_twice.stopped ≡ 0 ∷ []
+
+-- ## A block of the left strand writes, and the right strand reads
+
+abbrev pub left_wrote : List Step
+left_wrote = forks 0 1 ∷ begins 2 2 ∷ accesses 2 0 (Some (pos 1)) 3 ∷ []
+
+abbrev pub left_ended : List Step
+left_ended = commits 2 4 ∷ finishes 2 false ∷ []
+
+-- what the left strand wrote, in a block with stamp 2
+abbrev pub written_left : Met
+written_left = record { last = 3; block = 2; chain = 3 ∷ [] }
+
+-- when the left strand has finished, or before
+abbrev pub read_after : List Step
+read_after = left_wrote ++ left_ended ++ accesses 3 0 None 5 ∷ finishes 3 false ∷ joins 1 ∷ finishes 0 false ∷ []
+
+abbrev pub read_before : List Step
+read_before = left_wrote ++ refuses 3 0 None written_left ∷ left_ended ++ accesses 3 0 None 5 ∷ []
+
+-- or it is refused when the left strand has finished
+abbrev pub told_after : List Step
+told_after = left_wrote ++ left_ended ++ refuses 3 0 None written_left ∷ []
+
+abbrev pub one_cell : OpenMachine
+one_cell = first_machine (pos 0 ∷ [])
+
+pub record LeftStrands : Type 0 where
+  pub after : go_left_first one_cell read_after ≡ true
+  pub unrefused : (after_all one_cell read_after).conflicts ≡ []
+  pub before : go_left_first one_cell read_before ≡ false
+  pub refused : length (after_all one_cell read_before).conflicts ≡ 1
+  -- what it met can be told then too, but nothing is pending any more
+  pub late : go_left_first one_cell told_after ≡ true
+  pub met : IsMet (after_all one_cell (left_wrote ++ left_ended)).tree 3 0 written_left
+  pub ended : list_any (is_pending (after_all one_cell (left_wrote ++ left_ended)).tree) (all_nodes (after_all one_cell (left_wrote ++ left_ended)).tree) ≡ false
+  pub refused_late : length (after_all one_cell told_after).conflicts ≡ 1

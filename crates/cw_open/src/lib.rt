@@ -4,17 +4,19 @@
 //! Contracts cite `specs/Machine.antt` (the state, and where its strands stand), `specs/Steps.antt` (the steps, and what each does),
 //! `specs/Runs.antt` (what each step needs, and runs), `specs/Open.antt` (nodes that are still open), `specs/Laws.antt` (what is true of
 //! every state that a run leads to), `specs/Reads.antt` (what live reads met), `specs/Times.antt` (when stamps are drawn),
-//! `specs/Told.antt` (what is true of refused accesses), `specs/Left.antt` (what a run leaves) and `specs/Reordered.antt` (that it is true
-//! in depth-first order); `specs/Rows.antt` tries them.
+//! `specs/Refused.antt` (what is true of refused accesses), `specs/LeftFirst.antt` (runs in which none is), `specs/Left.antt` (what a run
+//! leaves) and `specs/Reordered.antt` (that it is true in depth-first order); `specs/Worked.antt` and `specs/WorkedTimes.antt` try them.
 #![tactic(auto)]
 
 ghost use Rattle.cw_open.specs.Laws.{AtOnceIsAtAnyTime, BlocksHaveEnded, CellsFit, ClocksAreLatest, DyingRollBack, FreeAreSafe, ListsAreChains, ListsAreLive, ListsHaveAll, ListsRise, OpenAreNested, RefusalsAreTold, StrandsStandAtPlaces, TreesAreSound, VictimsAreAbove};
 ghost use Rattle.cw_open.specs.Left.{HistoriesAreInOrder, HistoriesAreLeft};
+ghost use Rattle.cw_open.specs.LeftFirst.{AtOnceIsWhilePending, LeftFirstIsUnrefused};
 ghost use Rattle.cw_open.specs.Reads.{ReadsAreMet};
 ghost use Rattle.cw_open.specs.Reordered.{CellsStay, EndsStay, FaultsStay, JournalsStay, RefusalsStay, RollsBackStays};
 ghost use Rattle.cw_open.specs.Refused.{AbortedAreVictims, AheadIsTimely, AskersAreTried, AtOnceIsTold, CommittedAreSafe, ConflictsAreRecorded, DeadGoBack, DyingGoBack, StopsAreLeftOut, ToldIsAtAnyTime};
 ghost use Rattle.cw_open.specs.Spent.{SpentAreInOrder};
-ghost use Rattle.cw_open.specs.Worked.{Beneath, Inside, InnerCommitted, Outer, Twice};
+ghost use Rattle.cw_open.specs.Worked.{Beneath, Inside, InnerCommitted, LeftStrands, Outer, Twice};
+ghost use Rattle.cw_open.specs.WorkedTimes.{DrawnEarly, RefusedLate};
 
 /// The tree of every state: it is sound, its open nodes are nested, its running strands stand at places, and the clock is at its latest
 /// stamp or after it.
@@ -82,6 +84,13 @@ pub fn conflicts_at_once()
     ensures timely { AheadIsTimely }
 {}
 
+/// Where each fork's left strand finishes before its right one steps, no access is refused: one may be refused only while some block is
+/// pending that is not around its place, as is so where it is refused as soon as it conflicts.
+pub fn left_strands_are_unrefused()
+    ensures unrefused { LeftFirstIsUnrefused }
+    ensures at_once { AtOnceIsWhilePending }
+{}
+
 /// What a run leaves where no undo is under way: its journals, conflicts and rolled-back blocks are as they have to be, and in depth-first
 /// order they are a history.
 pub fn histories_of_runs()
@@ -117,4 +126,12 @@ pub fn worked_runs()
     ensures inner_committed { InnerCommitted }
     ensures beneath { Beneath }
     ensures twice { Twice }
+    ensures left_strands { LeftStrands }
+{}
+
+/// What they say of small runs in which a step comes late: an access is refused for a block that has ended by then, and a block begins with
+/// a stamp that was drawn early. Both are histories. With an output of that strand before it, no run as told and in time leads there.
+pub fn worked_times()
+    ensures late { RefusedLate }
+    ensures early { DrawnEarly }
 {}

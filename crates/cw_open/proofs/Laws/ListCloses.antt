@@ -15,16 +15,15 @@ use Rattle.cw_tree.specs.Journals.{fits_cells}
 use Rattle.cw_tree.specs.AccessStacks.{access_at}
 use Rattle.cw_tree.specs.NextNodes.{IsPlace}
 use Rattle.cw_tree.proofs.Lists.{In}
-use Rattle.cw_tree.proofs.Members.{in_filter}
+use Rattle.cw_tree.proofs.Members.{in_filter, filter_in}
 use Rattle.cw_tree.proofs.Walks.There.{node_there}
 use Rattle.cw_tree.proofs.Walks.Ancestors.{ancestor_above}
 use Rattle.cw_tree.proofs.NextNodes.Closing.{length_closed, node_closed, node_closed_other, number_closed, state_closed, ancestor_closed, is_above_closed, strand_of_closed}
 use Rattle.cw_tree.proofs.NextNodes.Pending.{pending_stays}
+use Rattle.cw_tree.proofs.Rising.{Rises, rises_filter}
+use Rattle.cw_tree.proofs.NodeKinds.{pending_block}
 use Rattle.cw_open.specs.Machine.{OpenMachine, live, leads_back}
 use Rattle.cw_open.specs.Steps.{live_beside}
-use Rattle.cw_open.proofs.Open.NodeKinds.{pending_block}
-use Rattle.cw_open.proofs.Laws.Filtered.{filter_in}
-use Rattle.cw_open.proofs.Laws.Rising.{Rises, rises_filter}
 use Rattle.cw_open.proofs.Refused.Falling.{Holds, IsGone, back_kept}
 use Rattle.cw_open.proofs.Laws.Listing.{AreListed, listed, with_parts}
 use Rattle.cw_open.proofs.Laws.ListSteps.{listed_here, listed_other}

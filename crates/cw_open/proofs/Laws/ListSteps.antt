@@ -1,10 +1,11 @@
 -- Each step keeps of the lists of live accesses what is true of them: steps by which nodes come in.
-use Rattle.std.proofs.Common.{◌≡◌, ◌≢◌, ℕ, zero, suc, ◌<◌, ◌≤◌, List, [], ◌∷◌, ◌++◌, length, refl, ap, sym, ◌∙◌, subst, arith, Bool, true, false, Option, Some, None, inl, inr, nat_eq, nat_lt, append-nil}
-use Rattle.std.specs.Prelude.{◌⊎◌, ℤ, slice_get, slice_set, unwrap_or}
+use Rattle.std.proofs.Common.{◌≡◌, ◌≢◌, ℕ, zero, suc, ◌<◌, ◌≤◌, List, [], ◌∷◌, ◌++◌, length, refl, ap, sym, ◌∙◌, subst, arith, Bool, true, false, Option, Some, None, inl, inr, nat_eq, nat_lt, append-nil, get_or}
+use Rattle.std.specs.Prelude.{◌⊎◌, ℤ, slice_set, unwrap_or}
 use Rattle.std.specs.List.{list_any, list_all}
 use Rattle.std.proofs.lemmas.Bool.{and_parts, or_parts, cases_eq, eqb-true, eq-eqb, lt-ltb}
 use Rattle.std.proofs.lemmas.List.{length-set}
 use Rattle.std.proofs.lemmas.List.Elements.{All-nil}
+use Rattle.std.proofs.lemmas.Option.{slice_get-get_or}
 use Rattle.cw_tree.specs.declared.node.Node.{Node}
 use Rattle.cw_tree.specs.declared.conflict.Conflict.{Conflict}
 use Rattle.cw_tree.specs.Nodes.{is_node, touches_kind, stamp_of, touches, fresh_node}
@@ -18,8 +19,8 @@ use Rattle.cw_tree.proofs.Members.{in_append, append_in}
 use Rattle.cw_tree.proofs.Walks.There.{node_there}
 use Rattle.cw_tree.proofs.NextNodes.Growing.{length_more, node_new, number_new}
 use Rattle.cw_tree.proofs.NextNodes.Closing.{get_set_same, get_set_other}
+use Rattle.cw_tree.proofs.Rising.{Rises, rises_more}
 use Rattle.cw_open.specs.Machine.{OpenMachine, live}
-use Rattle.cw_open.proofs.Laws.Rising.{Rises, rises_more}
 use Rattle.cw_open.proofs.Refused.Falling.{AreAskers}
 use Rattle.cw_open.proofs.Laws.Listing.{AreListed, listed, with_parts, listed_grown}
 use Rattle.cw_open.proofs.Laws.Named.{live_new}
@@ -48,13 +49,8 @@ all_new p (x ∷ t) xs (suc n) e le h = all_new p t xs n e (omega arith) (omega 
 
 -- ## Lists of which one is changed
 
-get_there : {A : Type 0} (xs : List A) (n : ℕ) → n < length xs → (x : A) × (slice_get xs n ≡ Some x)
-get_there [] n h = absurd (omega arith)
-get_there (x ∷ xs) zero h = (x, refl)
-get_there (x ∷ xs) (suc n) h = get_there xs n (omega arith)
-
 pub listed_here : (ls : List (List ℕ)) (c : ℕ) (l : List ℕ) → c < length ls → listed (slice_set ls c l) c ≡ l
-listed_here ls c l h = let w = get_there ls c h in ap (λ o. unwrap_or o []) (get_set_same ls c w.0 l w.1)
+listed_here ls c l h = ap (λ o. unwrap_or o []) (get_set_same ls c (get_or ls c []) l (slice_get-get_or ls c [] h))
 
 pub listed_other : (ls : List (List ℕ)) (c d : ℕ) (l : List ℕ) → d ≢ c → listed (slice_set ls c l) d ≡ listed ls d
 listed_other ls c d l ne = ap (λ o. unwrap_or o []) (get_set_other ls c d l ne)

@@ -13,8 +13,9 @@ use Rattle.cw_tree.specs.Journals.{fits_cells, FitsCells}
 use Rattle.cw_tree.proofs.Lists.{In}
 use Rattle.cw_tree.proofs.Walks.There.{node_there}
 use Rattle.cw_tree.proofs.NextNodes.Growing.{node_grown, number_grown, ancestor_grown, is_above_grown, strand_of_grown}
+use Rattle.cw_tree.proofs.ChainLaws.Stamps.{has_grown}
+use Rattle.cw_tree.proofs.Rising.{Rises}
 use Rattle.cw_open.specs.Machine.{OpenMachine, live, leads_back}
-use Rattle.cw_open.proofs.Laws.Rising.{Rises}
 use Rattle.cw_open.proofs.Refused.Falling.{AreAskers, Holds, IsGone, back_kept}
 use Rattle.cw_open.proofs.Laws.Named.{live_grown}
 
@@ -36,12 +37,6 @@ listed ls c = unwrap_or (slice_get ls c) []
 -- a machine with other parts
 abbrev pub with_parts : OpenMachine → List Node → List (List ℕ) → ℕ → List Conflict → List (ℕ × Bool) → (joined stopped : List ℕ) → OpenMachine
 with_parts m t ls clock cs finished joined stopped = record { first = m.first; tree = t; lists = ls; clock = clock; conflicts = cs; finished = finished; joined = joined; stopped = stopped }
-
--- an access stays one
-has_more : (t s : List Node) (c x : ℕ) → HasAccess t c x → HasAccess (t ++ s) c x
-has_more t s c x a =
-    let there : a.0 < length t = node_there (λ y. touches_kind c y.kind) t a.0 a.1 in
-    (a.0, node_grown t s (λ y. touches_kind c y.kind) a.0 there ∙ a.1, number_grown t s (λ y. y.stamp) a.0 there ∙ a.2)
 
 module _ (m : OpenMachine) (r : IsRooted m.tree) (a : AreListed m) (xs : List Node) (ls : List (List ℕ)) (clock : ℕ) (cs more : List Conflict) (finished : List (ℕ × Bool)) (joined stopped : List ℕ) (told : cs ≡ m.conflicts ++ more)
     (new_askers : AreAskers (m.tree ++ xs) more) where
@@ -95,7 +90,7 @@ module _ (m : OpenMachine) (r : IsRooted m.tree) (a : AreListed m) (xs : List No
       askers =
           (let P : List Conflict → Type 0 = λ cs. AreAskers u cs in
           subst P (sym told) (All-append (λ c. c.asker < length u) m.conflicts more (All-weaker (λ c. c.asker < length t) (λ c. c.asker < length u) (λ c h. omega (arith, length-append t xs)) m.conflicts a.askers) new_askers));
-      accesses = λ c s i. elim (came c s i) [ inl j ↦ has_more t xs c s (a.accesses c s j) | inr h ↦ h ];
+      accesses = λ c s i. elim (came c s i) [ inl j ↦ has_grown t xs c s (a.accesses c s j) | inr h ↦ h ];
       rises = rise;
       lives = λ c.
           old_or_new (λ n. touches u c n ≡ true → In (stamp_of u n) (listed ls c) → is_live u n ≡ true)

@@ -1,5 +1,5 @@
 -- Accesses by their stamps, and which nodes are live, as the tree changes.
-use Rattle.std.proofs.Common.{◌≡◌, ℕ, ◌<◌, List, [], ◌∷◌, ◌++◌, length, refl, ap, sym, ◌∙◌, arith, Bool, true, false, cond, Option, Some, None, inl, inr, nat_eq}
+use Rattle.std.proofs.Common.{◌≡◌, ℕ, ◌<◌, List, [], ◌∷◌, ◌++◌, length, refl, ap, sym, ◌∙◌, arith, Bool, true, false, cond, Option, Some, None, nat_eq}
 use Rattle.std.specs.Prelude.{◌&&◌, ◌||◌, not, unwrap_or}
 use Rattle.std.specs.List.{find, list_all}
 use Rattle.std.proofs.lemmas.Bool.{and_parts, and_from, and_right, or_from, not-true, not_from_false, false_from_ne_true, eqb-true, ltb-true}
@@ -15,13 +15,14 @@ use Rattle.cw_tree.specs.Shape.{AreStamps}
 use Rattle.cw_tree.specs.Accesses.{is_live}
 use Rattle.cw_tree.specs.AccessStacks.{access_at}
 use Rattle.cw_tree.specs.NextNodes.{IsPlace}
-use Rattle.cw_tree.proofs.Lists.{In, all_in, all_from}
+use Rattle.cw_tree.proofs.Lists.{all_in, all_from}
 use Rattle.cw_tree.proofs.Walks.There.{node_there}
 use Rattle.cw_tree.proofs.Walks.Kin.{in_ancestor, in_above, above_in}
 use Rattle.cw_tree.proofs.Walks.Ancestors.{above_ancestor, ancestor_le}
 use Rattle.cw_tree.proofs.NextNodes.Growing.{node_grown, above_grown, above_new}
 use Rattle.cw_tree.proofs.ChainLaws.Stamps.{named}
-use Rattle.cw_open.proofs.Open.NodeKinds.{at_node, not_at_node}
+use Rattle.cw_tree.proofs.Members.{all_same}
+use Rattle.cw_tree.proofs.NodeKinds.{node_tells, access_stamped, aborted_block}
 
 -- ## What a stamp names
 
@@ -39,22 +40,6 @@ strand_is t root n = by (find (is_strand t) (path t n)) refl where
   by None e = root
   by (Some s) e = find_passes (is_strand t) (path t n) s e
 
-access_kind_no : (c : ℕ) (k : Kind) → touches_kind c k ≡ true → (is_strand_kind k ≡ false) × (is_tried_kind k ≡ false) × (is_block_kind k ≡ false)
-access_kind_no c (Read d v) e = (refl, refl, refl)
-access_kind_no c (Write d v) e = (refl, refl, refl)
-access_kind_no c Strand e = absurd (cc e)
-access_kind_no c Fork e = absurd (cc e)
-access_kind_no c Block e = absurd (cc e)
-access_kind_no c (Out v) e = absurd (cc e)
-access_kind_no c (Tried d) e = absurd (cc e)
-
--- an access has a stamp
-pub access_stamped : (t : List Node) → AreStamps t → (c n : ℕ) → touches t c n ≡ true → 0 < stamp_of t n
-access_stamped t s c n e =
-    let no_strand = not_at_node t (λ x. touches_kind c x.kind) (λ x. is_strand_kind x.kind) (λ x f. (access_kind_no c x.kind f).0) n e in
-    let no_tried = not_at_node t (λ x. touches_kind c x.kind) (λ x. is_tried_kind x.kind) (λ x f. (access_kind_no c x.kind f).1) n e in
-    ltb-true 0 (stamp_of t n) (s.there n (node_there (λ x. touches_kind c x.kind) t n e) ∙ not_from_false (is_strand t n || is_tried t n) (or_from (is_strand t n) (is_tried t n) no_strand no_tried))
-
 -- and the stamp names it
 pub access_named : (t : List Node) → AreStamps t → (c n : ℕ) → touches t c n ≡ true → access_at t (stamp_of t n) ≡ n
 access_named t s c n e =
@@ -64,10 +49,6 @@ access_named t s c n e =
     s.distinct (access_at t (stamp_of t n)) n w.there (node_there (λ x. touches_kind c x.kind) t n e) (omega (arith, same)) same
 
 -- ## Live nodes
-
-all_same : (p q : ℕ → Bool) (xs : List ℕ) → ((v : ℕ) → In v xs → p v ≡ q v) → list_all p xs ≡ list_all q xs
-all_same p q [] e = refl
-all_same p q (x ∷ xs) e = ap (λ b. b && list_all p xs) (e x (inl refl)) ∙ ap (λ b. q x && b) (all_same p q xs (λ v i. e v (inr i)))
 
 -- what is above a live node was not rolled back
 pub live_tells : (t : List Node) (n b : ℕ) → is_live t n ≡ true → is_above t b n ≡ true → is_aborted t b ≡ false
@@ -91,11 +72,8 @@ both_states Committed e = absurd (cc e)
 
 pub aborted_done : (t : List Node) (n : ℕ) → is_aborted t n ≡ true → is_pending t n ≡ false
 aborted_done t =
-    not_at_node t (λ x. is_block_kind x.kind && is_aborted_state x.state) (λ x. is_block_kind x.kind && is_pending_state x.state)
+    node_tells false t (λ x. is_block_kind x.kind && is_aborted_state x.state) (λ x. is_block_kind x.kind && is_pending_state x.state)
     (λ x e. let z = and_parts (is_block_kind x.kind) (is_aborted_state x.state) e in and_right (is_block_kind x.kind) (is_pending_state x.state) (both_states x.state z.1))
-
-pub aborted_block : (t : List Node) (n : ℕ) → is_aborted t n ≡ true → is_block t n ≡ true
-aborted_block t = at_node t (λ x. is_block_kind x.kind && is_aborted_state x.state) (λ x. is_block_kind x.kind) (λ x e. (and_parts (is_block_kind x.kind) (is_aborted_state x.state) e).0)
 
 -- the blocks around a place were not rolled back
 pub none_aborted : (t : List Node) (p : ℕ) → IsPlace t p → (b : ℕ) → is_ancestor t b p ≡ true → is_aborted t b ≡ false
@@ -124,6 +102,6 @@ block_kind_no (Tried c) e = absurd (cc e)
 -- a block has a stamp
 pub block_stamp : (t : List Node) → AreStamps t → (n : ℕ) → is_block t n ≡ true → 0 < stamp_of t n
 block_stamp t s n e =
-    let no_strand = not_at_node t (λ x. is_block_kind x.kind) (λ x. is_strand_kind x.kind) (λ x f. (block_kind_no x.kind f).0) n e in
-    let no_tried = not_at_node t (λ x. is_block_kind x.kind) (λ x. is_tried_kind x.kind) (λ x f. (block_kind_no x.kind f).1) n e in
+    let no_strand = node_tells false t (λ x. is_block_kind x.kind) (λ x. is_strand_kind x.kind) (λ x f. (block_kind_no x.kind f).0) n e in
+    let no_tried = node_tells false t (λ x. is_block_kind x.kind) (λ x. is_tried_kind x.kind) (λ x f. (block_kind_no x.kind f).1) n e in
     ltb-true 0 (stamp_of t n) (s.there n (node_there (λ x. is_block_kind x.kind) t n e) ∙ not_from_false (is_strand t n || is_tried t n) (or_from (is_strand t n) (is_tried t n) no_strand no_tried))

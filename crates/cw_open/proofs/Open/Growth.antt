@@ -16,6 +16,7 @@ use Rattle.cw_tree.proofs.NextNodes.Trees.{each_more, hung_one, hung_two, in_tur
 use Rattle.cw_tree.proofs.NextNodes.Stamps.{IsEnd}
 use Rattle.cw_tree.proofs.NextNodes.Before.{old_before, new_first, new_last, new_before_at, new_apart}
 use Rattle.cw_tree.proofs.NextNodes.Pending.{end_of_place, end_new, end_stays}
+use Rattle.cw_tree.proofs.NodeKinds.{new_stands}
 
 -- nodes came at place p, one of them with a stamp
 pub record IsGrowth (t u : List Node) (p stamp : ℕ) : Type 0 where
@@ -30,15 +31,6 @@ pub record IsGrowth (t u : List Node) (p stamp : ℕ) : Type 0 where
   pub first : (g n : ℕ) → length t ≤ g → g < length u → n < length t → is_before u g n ≡ false
   pub apart : (g h : ℕ) → length t ≤ g → g < length u → length t ≤ h → h < length u → is_before u g h ≡ false
   pub before : (n k : ℕ) → n < length t → length t ≤ k → k < length u → 0 < stamp_of u k → is_before u n k ≡ true → (is_before_at t n p ≡ true) × (stamp_of u k ≡ stamp)
-
-not_aborted : (k : Kind) → (is_block_kind k && is_aborted_state (first_state k)) ≡ false
-not_aborted Strand = refl
-not_aborted Fork = refl
-not_aborted Block = refl
-not_aborted (Read c v) = refl
-not_aborted (Write c v) = refl
-not_aborted (Out v) = refl
-not_aborted (Tried c) = refl
 
 not_committed : (k : Kind) → (is_block_kind k && is_committed_state (first_state k)) ≡ false
 not_committed Strand = refl
@@ -80,7 +72,7 @@ module _ (t : List Node) (r : IsRooted t) (p : ℕ) (w : IsEnd t p) (kind : Kind
     rooted = rooted_more t x r w.there;
     longer = omega (arith, length_more t x);
     old = get_append t (x ∷ []);
-    aborted = none_more t x (λ y. is_block_kind y.kind && is_aborted_state y.state) (length t) (past t (λ y. is_block_kind y.kind && is_aborted_state y.state)) (not_aborted kind);
+    aborted = none_more t x (λ y. is_block_kind y.kind && is_aborted_state y.state) (length t) (past t (λ y. is_block_kind y.kind && is_aborted_state y.state)) (new_stands kind);
     committed = none_more t x (λ y. is_block_kind y.kind && is_committed_state y.state) (length t) (past t (λ y. is_block_kind y.kind && is_committed_state y.state)) (not_committed kind);
     parents = λ k le h. inl (ap (parent_of u) (at_end k le h) ∙ number_new t x (λ y. y.parent));
     first = λ k n le h low. ap (λ k. is_before u k n) (at_end k le h) ∙ new_first t x r w.there w.last n low;

@@ -1,5 +1,5 @@
 -- Where a running strand stands: at a place, in which nothing is open.
-use Rattle.std.proofs.Common.{◌≡◌, ℕ, zero, suc, ◌<◌, ◌≤◌, List, length, refl, ap, sym, ◌∙◌, arith, Bool, true, false, cond, Option, Some, None, inl, inr, nat_eq}
+use Rattle.std.proofs.Common.{◌≡◌, ℕ, ◌<◌, ◌≤◌, List, length, refl, ap, ◌∙◌, arith, Bool, true, false, Option, Some, None, inl, inr, nat_eq}
 use Rattle.std.specs.Prelude.{◌⊎◌, ◌&&◌, ◌||◌, not, unwrap_or}
 use Rattle.std.proofs.lemmas.Bool.{and_parts, and_from, or_cases, or_left, or_right, not-true, not_from_false, eqb-true, eq-eqb, false_from_ne_true, true_from_ne_false}
 use Rattle.cw_tree.specs.declared.node.Node.{Node}
@@ -13,44 +13,13 @@ use Rattle.cw_tree.proofs.Members.{below_in}
 use Rattle.cw_tree.proofs.Walks.There.{node_there}
 use Rattle.cw_tree.proofs.Walks.Ancestors.{above_ancestor, beneath, ancestor_le}
 use Rattle.cw_tree.proofs.Walks.Kin.{of_before, branch}
-use Rattle.cw_tree.proofs.Walks.Strands.{strand_of_root, strand_of_strand, strand_of_other}
+use Rattle.cw_tree.proofs.Walks.Strands.{strand_of_other, strand_itself}
 use Rattle.cw_tree.proofs.NextNodes.Trees.{no_fork}
 use Rattle.cw_tree.proofs.NextNodes.Before.{above_less}
+use Rattle.cw_tree.proofs.NodeKinds.{strand_no_block, fork_no_strand, fork_no_block, pending_block}
+use Rattle.cw_tree.proofs.LastBelow.{last_is, none_is}
 use Rattle.cw_open.specs.Machine.{OpenMachine, has_finished, waits, is_running}
 use Rattle.cw_open.specs.Open.{is_open, AreNested}
-use Rattle.cw_open.proofs.Open.NodeKinds.{pending_block, strand_no_block, fork_no_strand, fork_no_block_at}
-
--- ## The last number that passes a test
-
-pub record IsLast (p : ℕ → Bool) (n b : ℕ) : Type 0 where
-  pub low : b < n
-  pub passes : p b ≡ true
-  pub none : (c : ℕ) → b < c → c < n → p c ≡ false
-
-lt_or : (c n : ℕ) → c < suc n → (c < n) ⊎ (c ≡ n)
-lt_or c n h = grind arith
-
-last_step : (p : ℕ → Bool) (n b : ℕ) (x : Bool) → p n ≡ x → (last_below p n ≡ Some b → IsLast p n b) → cond x (Some n) (last_below p n) ≡ Some b → IsLast p (suc n) b
-last_step p n b true is more e =
-    let same : n ≡ b = cc e in
-    record { low = omega arith; passes = sym (ap p same) ∙ is; none = λ c l h. absurd (omega arith) }
-last_step p n b false is more e =
-    let w = more e in
-    record { low = omega (arith, w.low); passes = w.passes; none = λ c l h. elim (lt_or c n h) [ inl g ↦ w.none c l g | inr q ↦ ap p q ∙ is ] }
-
-pub last_is : (p : ℕ → Bool) (n b : ℕ) → last_below p n ≡ Some b → IsLast p n b
-last_is p zero b e = absurd (cc e)
-last_is p (suc n) b e = last_step p n b (p n) refl (last_is p n b) e
-
-none_step : (p : ℕ → Bool) (n c : ℕ) (x : Bool) → p n ≡ x → (last_below p n ≡ None → c < n → p c ≡ false) → cond x (Some n) (last_below p n) ≡ None → c < suc n → p c ≡ false
-none_step p n c true is more e h = absurd (cc e)
-none_step p n c false is more e h = elim (lt_or c n h) [ inl g ↦ more e g | inr q ↦ ap p q ∙ is ]
-
-pub none_is : (p : ℕ → Bool) (n c : ℕ) → last_below p n ≡ None → c < n → p c ≡ false
-none_is p zero c e h = absurd (omega arith)
-none_is p (suc n) c e h = none_step p n c (p n) refl (none_is p n c) e h
-
--- ## Where a strand stands
 
 -- it stands at itself, or in a pending block begun in it, the last of them
 pub record StandsAt (t : List Node) (s p : ℕ) : Type 0 where
@@ -58,10 +27,6 @@ pub record StandsAt (t : List Node) (s p : ℕ) : Type 0 where
   pub strand : strand_of t p ≡ s
   pub kind : (p ≡ s) ⊎ (is_pending t p ≡ true)
   pub last : (b : ℕ) → p < b → is_pending t b ≡ true → strand_of t b ≡ s → ⊥
-
-pub strand_itself : (t : List Node) → IsRooted t → (s : ℕ) → is_strand t s ≡ true → strand_of t s ≡ s
-strand_itself t r zero e = strand_of_root t
-strand_itself t r (suc s) e = strand_of_strand t r (suc s) (omega arith) (node_there (λ y. is_strand_kind y.kind) t (suc s) e) e
 
 abbrev pub begun_in : List Node → ℕ → ℕ → Bool
 begun_in t s n = is_pending t n && nat_eq (strand_of t n) s
@@ -116,7 +81,7 @@ module _ (m : OpenMachine) (tree : IsTree m.tree) (w : AreNested m.tree (is_open
         | inr z ↦ z
         | inl z ↦ elim (or_cases (is_strand t n && not (has_finished m n)) (is_fork t n && not (has m.joined n)) z) [
           | inl y ↦ absurd (cc (block, strand_no_block t n (and_parts (is_strand t n) (not (has_finished m n)) y).0))
-          | inr y ↦ absurd (cc (block, fork_no_block_at t n (and_parts (is_fork t n) (not (has m.joined n)) y).0))
+          | inr y ↦ absurd (cc (block, fork_no_block t n (and_parts (is_fork t n) (not (has m.joined n)) y).0))
         ]
       ]
 

@@ -9,13 +9,12 @@ use Rattle.cw_tree.specs.Nodes.{passes, is_strand_kind, is_fork_kind, is_block_k
 use Rattle.cw_tree.specs.Walks.{IsRooted, is_ancestor, is_above}
 use Rattle.cw_tree.specs.Series.{strand_of, children, has_later, is_before}
 use Rattle.cw_tree.proofs.Lists.{any_in, any_from}
-use Rattle.cw_tree.proofs.Members.{filter_same, below_in}
+use Rattle.cw_tree.proofs.Members.{filter_same, below_in, filter_in}
 use Rattle.cw_tree.proofs.NextNodes.Kept.{KeepsParents, is_above_kept, ancestor_kept, strand_of_kept}
 use Rattle.cw_tree.proofs.NextNodes.Closing.{length_closed, all_nodes_closed, node_closed, number_closed}
 use Rattle.cw_tree.proofs.InOrder.DepthFirst.{child_is}
 use Rattle.cw_tree.proofs.Walks.Kin.{before_of}
 use Rattle.cw_tree.proofs.Walks.Ancestors.{ancestor_self}
-use Rattle.cw_open.proofs.Laws.Filtered.{filter_in}
 use Rattle.cw_open.proofs.Open.Growth.{IsGrowth}
 
 -- the nodes of tree t are in tree u what they were, but for the states and ends of blocks

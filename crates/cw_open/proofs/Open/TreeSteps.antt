@@ -11,15 +11,14 @@ use Rattle.cw_tree.specs.Walks.{has}
 use Rattle.cw_tree.specs.Series.{children, place}
 use Rattle.cw_tree.specs.AccessStacks.{access_kind}
 use Rattle.cw_tree.proofs.Lists.{In, all_in}
-use Rattle.cw_tree.proofs.Members.{below_in}
+use Rattle.cw_tree.proofs.Members.{below_in, filter_in}
 use Rattle.cw_tree.proofs.Walks.There.{node_there}
 use Rattle.cw_tree.proofs.NextNodes.Trees.{is_child}
+use Rattle.cw_tree.proofs.NodeKinds.{strand_no_block, fork_no_strand, fork_no_block, pending_block}
 use Rattle.cw_open.specs.Machine.{OpenMachine, live_value, has_finished, is_running, in_block, is_dying, is_free, rolls_back}
 use Rattle.cw_open.specs.Steps.{Step, forks, begins, accesses, refuses, outputs, commits, undoes, aborts, finishes, joins, stops, after_open_step}
 use Rattle.cw_open.specs.Runs.{Rules, Allowed}
 use Rattle.cw_open.specs.Open.{is_open}
-use Rattle.cw_open.proofs.Laws.Filtered.{filter_in}
-use Rattle.cw_open.proofs.Open.NodeKinds.{pending_block, strand_no_block, fork_no_strand, fork_no_block_at}
 use Rattle.cw_open.proofs.Open.Standing.{runs, stands, none_open}
 use Rattle.cw_open.proofs.Open.Nesting.{nested_shut}
 use Rattle.cw_open.proofs.Open.Trees.{IsWell, well_grows, well_refuses, well_forks, well_closes}
@@ -88,7 +87,7 @@ module _ (m : OpenMachine) (w : IsWell m) where
             (or_from (is_strand t f && not (has_finished m f) || is_fork t f && not (nat_eq f f || has m.joined f)) (is_pending t f)
             (or_from (is_strand t f && not (has_finished m f)) (is_fork t f && not (nat_eq f f || has m.joined f)) (and_left (is_strand t f) _ (fork_no_strand t f fork))
             (and_right (is_fork t f) _ (not_from_true _ (or_left (nat_eq f f) (has m.joined f) (eq-eqb f f refl)))))
-            (false_from_ne_true (is_pending t f) (λ e. absurd (cc (fork_no_block_at t f fork, pending_block t f e)))))
+            (false_from_ne_true (is_pending t f) (λ e. absurd (cc (fork_no_block t f fork, pending_block t f e)))))
             (λ c some h up.
             let tree = w.sound.tree in
             let (l, r, these, strands) = tree.forks f there fork in

@@ -14,10 +14,10 @@ use Rattle.cw_tree.proofs.NextNodes.Growing.{get_append, length_more, node_grown
 use Rattle.cw_tree.proofs.NextNodes.Closing.{length_closed, node_closed, number_closed, number_closed_other, end_closed}
 use Rattle.cw_tree.proofs.NextNodes.Trees.{each_more, in_turn, hung_one, hung_two}
 use Rattle.cw_tree.proofs.NextNodes.Pending.{sound_grows, sound_refuses, sound_forks, sound_closes, pending_closed, pending_stays}
+use Rattle.cw_tree.proofs.NodeKinds.{strand_no_block, fork_no_block, pending_block}
 use Rattle.cw_open.specs.Machine.{OpenMachine, has_finished, is_running}
 use Rattle.cw_open.specs.Steps.{adds, closes}
 use Rattle.cw_open.specs.Open.{is_open, AreNested}
-use Rattle.cw_open.proofs.Open.NodeKinds.{pending_block, strand_no_block, fork_no_block_at}
 use Rattle.cw_open.proofs.Open.Standing.{is_place, place_open, none_open}
 use Rattle.cw_open.proofs.Open.Nesting.{nested_more, nested_shut}
 
@@ -170,7 +170,7 @@ module _ (m : OpenMachine) (w : IsWell m) (s : ℕ) (running : is_running m s �
         or_from ((is_strand v p && not (has_finished m p)) || (is_fork v p && not (has m.joined p))) (is_pending v p)
         (or_from (is_strand v p && not (has_finished m p)) (is_fork v p && not (has m.joined p))
         (and_left (is_strand v p) (not (has_finished m p)) (node_closed t p state end (λ y. is_strand_kind y.kind) (λ y. refl) p ∙ false_from_ne_true (is_strand t p) (λ e. absurd (cc (block, strand_no_block t p e)))))
-        (and_left (is_fork v p) (not (has m.joined p)) (node_closed t p state end (λ y. is_fork_kind y.kind) (λ y. refl) p ∙ false_from_ne_true (is_fork t p) (λ e. absurd (cc (block, fork_no_block_at t p e))))))
+        (and_left (is_fork v p) (not (has m.joined p)) (node_closed t p state end (λ y. is_fork_kind y.kind) (λ y. refl) p ∙ false_from_ne_true (is_fork t p) (λ e. absurd (cc (block, fork_no_block t p e))))))
         (false_from_ne_true (is_pending v p) (λ e. (pending_closed t p state end done p e).0 refl))
 
     end_low : (n : ℕ) → n < length t → end_of v n ≤ max m.clock end

@@ -1,39 +1,20 @@
 -- Attempt numbers and outermost blocks stay as the tree changes elsewhere.
-use Rattle.std.proofs.Common.{◌≡◌, ℕ, ◌+◌, ◌<◌, ◌≤◌, List, [], ◌∷◌, length, refl, ap, sym, ◌∙◌, subst, arith, Bool, true, false, cond, Option, Some, None, inl, inr, nat_eq, nat_lt, reverse}
+use Rattle.std.proofs.Common.{◌≡◌, ℕ, ◌+◌, ◌<◌, ◌≤◌, List, [], ◌∷◌, length, refl, ap, sym, ◌∙◌, arith, Bool, true, false, cond, Option, Some, None, inl, inr, nat_eq, nat_lt}
 use Rattle.std.specs.Prelude.{◌&&◌, filter}
-use Rattle.std.specs.List.{prefix_len, suffix_len}
+use Rattle.std.specs.List.{suffix_len}
 use Rattle.std.specs.Option.{option_or}
 use Rattle.std.proofs.lemmas.Bool.{and_right, lt-ltb, ltb-true, false_from_ne_true}
-use Rattle.std.proofs.lemmas.List.{reverse-append}
 use Rattle.cw_tree.specs.declared.node.Node.{Node}
 use Rattle.cw_tree.specs.Nodes.{parent_of, is_aborted, below}
 use Rattle.cw_tree.specs.Walks.{outermost}
 use Rattle.cw_tree.specs.Series.{children}
 use Rattle.cw_tree.specs.Attempts.{elders, tried_cell, same_cell, attempt_of}
 use Rattle.cw_tree.proofs.Lists.{In}
-use Rattle.cw_tree.proofs.Members.{in_append, in_below, in_filter, filter_same, below_none}
+use Rattle.cw_tree.proofs.Members.{in_below, in_filter, filter_same, below_none, suffix_same}
 use Rattle.cw_tree.proofs.InOrder.DepthFirst.{child_is}
 use Rattle.cw_open.proofs.Open.Staying.{Stays}
 
 -- ## The end of a list that passes a test
-
-prefix_same : (p q : ℕ → Bool) (xs : List ℕ) → ((v : ℕ) → In v xs → p v ≡ q v) → prefix_len p xs ≡ prefix_len q xs
-prefix_same p q [] f = refl
-prefix_same p q (x ∷ xs) f =
-    ap (λ b. cond b (1 + prefix_len p xs) 0) (f x (inl refl))
-    ∙ ap (λ n. cond (q x) (1 + n) 0) (prefix_same p q xs (λ v i. f v (inr i)))
-
-in_reverse : (v : ℕ) (xs : List ℕ) → In v (reverse xs) → In v xs
-in_reverse v [] i = i
-in_reverse v (x ∷ xs) i =
-    let P : List ℕ → Type 0 = λ ys. In v ys in
-    elim (in_append v (reverse xs) (x ∷ []) (subst P (reverse-append (x ∷ []) xs) i)) [
-      | inl j ↦ inr (in_reverse v xs j)
-      | inr j ↦ elim j [ inl e ↦ inl e | inr n ↦ absurd n ]
-    ]
-
-pub suffix_same : (p q : ℕ → Bool) (xs : List ℕ) → ((v : ℕ) → In v xs → p v ≡ q v) → suffix_len p xs ≡ suffix_len q xs
-suffix_same p q xs f = prefix_same p q (reverse xs) (λ v i. f v (in_reverse v xs i))
 
 -- ## Elders
 

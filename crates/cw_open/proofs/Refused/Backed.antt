@@ -1,32 +1,28 @@
 -- What was rolled back was so for its victim, and what dying strands leave is the last of its place: in every state that a run leads to.
-use Rattle.std.proofs.Common.{◌≡◌, ℕ, ◌<◌, List, [], ◌∷◌, ◌++◌, length, refl, ap, sym, ◌∙◌, subst, arith, Bool, true, false, cond, Option, Some, None, inl, inr, nat_eq, nat_lt, append-nil}
+use Rattle.std.proofs.Common.{◌≡◌, ℕ, ◌<◌, List, [], ◌∷◌, ◌++◌, length, ap, sym, ◌∙◌, subst, arith, Bool, true, false, cond, Option, Some, None, inl, inr, nat_eq, append-nil}
 use Rattle.std.specs.Prelude.{◌⊎◌, ◌&&◌, ℤ, is_some, slice_get}
 use Rattle.std.specs.List.{list_any}
 use Rattle.std.specs.Option.{option_map_or}
-use Rattle.std.proofs.lemmas.Bool.{and_parts, and_from, or_cases, or_left, or_right, cases_eq, eqb-true, eq-eqb, ne_eqb, lt-ltb, false_from_ne_true}
+use Rattle.std.proofs.lemmas.Bool.{and_parts, and_from, or_cases, or_left, or_right, cases_eq, eqb-true, eq-eqb, ne_eqb, false_from_ne_true}
 use Rattle.cw_tree.specs.declared.node.Node.{Node}
 use Rattle.cw_tree.specs.declared.node.Kind.TheVariants.{Tried}
 use Rattle.cw_tree.specs.declared.node.BlockState.{BlockState}
 use Rattle.cw_tree.specs.declared.node.BlockState.TheVariants.{Pending, Committed, Aborted}
 use Rattle.cw_tree.specs.declared.conflict.Conflict.{Conflict}
-use Rattle.cw_tree.specs.Nodes.{passes, is_fork_kind, is_block_kind, is_pending_state, is_committed_state, number_in, all_nodes, parent_of, stamp_of, is_strand, is_fork, is_block, is_pending, is_committed, fresh_node}
+use Rattle.cw_tree.specs.Nodes.{passes, is_block_kind, is_pending_state, is_committed_state, number_in, parent_of, stamp_of, is_block, is_pending, is_committed, fresh_node}
 use Rattle.cw_tree.specs.Walks.{IsRooted, has, is_ancestor, is_above}
 use Rattle.cw_tree.specs.Series.{strand_of, place}
 use Rattle.cw_tree.specs.Refusals.{victim_of, is_victim, names_victim as tells_back}
 use Rattle.cw_tree.specs.NextNodes.{IsPlace}
-use Rattle.cw_tree.specs.Shape.{IsTree}
-use Rattle.cw_tree.proofs.Lists.{In}
-use Rattle.cw_tree.proofs.Members.{below_in}
 use Rattle.cw_tree.proofs.Walks.There.{node_there}
 use Rattle.cw_tree.proofs.Walks.Ancestors.{ancestor_le}
 use Rattle.cw_tree.proofs.NextNodes.Growing.{length_more, number_grown, above_new}
 use Rattle.cw_tree.proofs.NextNodes.Pending.{end_of_place}
+use Rattle.cw_tree.proofs.NodeKinds.{committed_block}
 use Rattle.cw_open.specs.Machine.{OpenMachine, has_finished, finished_dead, is_running, is_dying}
 use Rattle.cw_open.specs.Steps.{Met, refusal}
 use Rattle.cw_open.proofs.Open.Trees.{IsWell, stands_well}
 use Rattle.cw_open.proofs.Open.Standing.{stands}
-use Rattle.cw_open.proofs.Open.NodeKinds.{at_node}
-use Rattle.cw_open.proofs.Laws.Filtered.{filter_in}
 use Rattle.cw_open.proofs.Refused.Falling.{AreAskers}
 use Rattle.cw_open.proofs.Open.Growth.{IsGrowth, growth_leaf}
 use Rattle.cw_open.proofs.Open.Staying.{later_last}
@@ -37,19 +33,6 @@ use Rattle.cw_open.proofs.Refused.Backing.{Died, GoesBack, AllDied, one_more, ba
 pub record IsBacked (m : OpenMachine) : Type 0 where
   pub back : GoesBack m.tree m.conflicts
   pub died : AllDied m.tree m.conflicts (has_finished m) (finished_dead m)
-
--- the children of a fork are strands
-pub fork_child : (t : List Node) → IsTree t → (n : ℕ) → 0 < n → n < length t → is_fork t (parent_of t n) ≡ true → is_strand t n ≡ true
-fork_child t tree n some low fork =
-    let f = parent_of t n in
-    let (l, r, these, strands) = tree.forks f (node_there (λ y. is_fork_kind y.kind) t f fork) fork in
-    let both = and_parts (is_strand t l) (is_strand t r) strands in
-    let i = filter_in (λ m. nat_lt 0 m && nat_eq (parent_of t m) f) n (all_nodes t) (below_in n (length t) low) (and_from (nat_lt 0 n) (nat_eq (parent_of t n) f) (lt-ltb 0 n some) (eq-eqb (parent_of t n) f refl)) in
-    let P : List ℕ → Type 0 = λ ns. In n ns in
-    elim (subst P these i) [
-      | inl q ↦ ap (is_strand t) q ∙ both.0
-      | inr z ↦ elim z [ inl q ↦ ap (is_strand t) q ∙ both.1 | inr none ↦ absurd none ]
-    ]
 
 pub dead_finished : (m : OpenMachine) (x : ℕ) → finished_dead m x ≡ true → has_finished m x ≡ true
 dead_finished m x e = by m.finished e where
@@ -73,9 +56,6 @@ not_both t n = by (slice_get t n) where
   by : (o : Option Node) → passes (λ x. is_block_kind x.kind && is_pending_state x.state) o ≡ true → passes (λ x. is_block_kind x.kind && is_committed_state x.state) o ≡ true → ⊥
   by None e f = cc e
   by (Some x) e f = states (is_block_kind x.kind) x.state e f
-
-pub committed_block : (t : List Node) (n : ℕ) → is_committed t n ≡ true → is_block t n ≡ true
-committed_block t = at_node t (λ x. is_block_kind x.kind && is_committed_state x.state) (λ x. is_block_kind x.kind) (λ x e. (and_parts (is_block_kind x.kind) (is_committed_state x.state) e).0)
 
 module _ (first : List ℤ) (m : OpenMachine) (w : IsToldState first m) (k : IsBacked m) where
   abbrev t : List Node

@@ -15,15 +15,15 @@ use Rattle.cw_tree.specs.NextNodes.{IsPlace}
 use Rattle.cw_tree.proofs.Lists.{any_in}
 use Rattle.cw_tree.proofs.Walks.There.{node_there}
 use Rattle.cw_tree.proofs.Walks.Ancestors.{ancestor_self, ancestor_step, ancestor_up, ancestor_above, above_ancestor}
-use Rattle.cw_tree.proofs.Walks.Kin.{ancestor_linear}
+use Rattle.cw_tree.proofs.Walks.Kin.{ancestor_linear, fork_child}
 use Rattle.cw_tree.proofs.ChainLaws.Nearest.{above_from}
 use Rattle.cw_tree.proofs.NextNodes.Closing.{number_closed, state_closed}
 use Rattle.cw_tree.proofs.InOrder.DepthFirst.{child_is}
+use Rattle.cw_tree.proofs.NodeKinds.{strand_no_block, fork_no_strand, pending_block, block_some, committed_block}
 use Rattle.cw_open.specs.Machine.{OpenMachine, has_finished, finished_dead, falls, is_running, in_block, is_dying, rolls_back}
 use Rattle.cw_open.specs.Steps.{finishes, after_open_step}
 use Rattle.cw_open.specs.Runs.{left_died}
 use Rattle.cw_open.specs.Open.{is_open}
-use Rattle.cw_open.proofs.Open.NodeKinds.{pending_block, strand_no_block, fork_no_strand}
 use Rattle.cw_open.proofs.Open.Trees.{IsWell, stands_well}
 use Rattle.cw_open.proofs.Open.TreeSteps.{place_pending}
 use Rattle.cw_open.proofs.Open.Standing.{runs, stands, open_block}
@@ -31,9 +31,9 @@ use Rattle.cw_open.proofs.Laws.Lists.{rolls}
 use Rattle.cw_open.proofs.Refused.Victims.{IsTold, IsToldState, victim_above}
 use Rattle.cw_open.proofs.Open.Staying.{later_is, later_none}
 use Rattle.cw_open.proofs.Refused.Fell.{fell, fell_for, fell_of, names, any_one, back_fell, fork_fell, fell_dies}
-use Rattle.cw_open.proofs.Refused.Backing.{Died, GoesBack, AllDied, block_some, died_elsewhere}
+use Rattle.cw_open.proofs.Refused.Backing.{Died, GoesBack, AllDied, died_elsewhere}
 use Rattle.cw_open.proofs.Refused.BackingCloses.{back_closed, died_closed}
-use Rattle.cw_open.proofs.Refused.Backed.{IsBacked, fork_child, dead_finished, not_both, committed_block}
+use Rattle.cw_open.proofs.Refused.Backed.{IsBacked, dead_finished, not_both}
 
 module _ (first : List ℤ) (m : OpenMachine) (w : IsToldState first m) (k : IsBacked m) where
   abbrev t : List Node

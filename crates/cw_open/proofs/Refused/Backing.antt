@@ -3,7 +3,7 @@ use Rattle.std.proofs.Common.{◌≡◌, ◌≢◌, ℕ, ◌<◌, List, [], ◌�
 use Rattle.std.specs.Prelude.{◌⊎◌, ◌&&◌, is_some, All}
 use Rattle.std.specs.List.{list_any}
 use Rattle.std.specs.Option.{option_map_or}
-use Rattle.std.proofs.lemmas.Bool.{and_parts, and_from, or_cases, or_left, or_right, cases_eq, cases_lt, ne_eqb, false_from_ne_true}
+use Rattle.std.proofs.lemmas.Bool.{and_parts, and_from, or_cases, or_left, or_right, cases_lt, ne_eqb, false_from_ne_true}
 use Rattle.cw_tree.specs.declared.node.Node.{Node}
 use Rattle.cw_tree.specs.declared.conflict.Conflict.{Conflict}
 use Rattle.cw_tree.specs.Nodes.{passes, is_fork_kind, is_block_kind, is_committed_state, is_aborted_state, parent_of, stamp_of, is_strand, is_fork, is_block, is_committed, is_aborted}
@@ -14,8 +14,8 @@ use Rattle.cw_tree.specs.NextNodes.{IsPlace}
 use Rattle.cw_tree.proofs.Walks.There.{node_there}
 use Rattle.cw_tree.proofs.Walks.Ancestors.{ancestor_self, above_parent, ancestor_up}
 use Rattle.cw_tree.proofs.Walks.Strands.{strand_over, strand_of_other}
+use Rattle.cw_tree.proofs.NodeKinds.{aborted_block, block_some, block_no_strand}
 use Rattle.cw_open.specs.Machine.{OpenMachine, is_dying}
-use Rattle.cw_open.proofs.Open.NodeKinds.{at_node, strand_no_block}
 use Rattle.cw_open.proofs.Open.Growth.{IsGrowth}
 use Rattle.cw_open.proofs.Open.Staying.{Stays, grown_stays, strand_stays, later_grown}
 use Rattle.cw_open.proofs.Refused.Fell.{fell, fell_stays, victim_stays, fell_above, fork_fell, tried_fell, fell_dies}
@@ -40,20 +40,6 @@ pub record GoesBack (t : List Node) (cs : List Conflict) : Type 0 where
 
 abbrev pub AllDied : List Node → List Conflict → (done dead : ℕ → Bool) → Type 0
 AllDied t cs done dead = (x : ℕ) → 0 < x → dead x ≡ true → Died t cs done dead (parent_of t x)
-
-pub aborted_block : (t : List Node) (n : ℕ) → is_aborted t n ≡ true → is_block t n ≡ true
-aborted_block t = at_node t (λ x. is_block_kind x.kind && is_aborted_state x.state) (λ x. is_block_kind x.kind) (λ x e. (and_parts (is_block_kind x.kind) (is_aborted_state x.state) e).0)
-
--- a block is not the root
-pub block_some : (t : List Node) → is_strand t 0 ≡ true → (n : ℕ) → is_block t n ≡ true → 0 < n
-block_some t root n e =
-    elim (cases_eq n 0) [
-      | inl q ↦ absurd (cc (e, ap (is_block t) q, strand_no_block t 0 root))
-      | inr ne ↦ omega arith
-    ]
-
-block_no_strand : (t : List Node) (n : ℕ) → is_block t n ≡ true → is_strand t n ≡ false
-block_no_strand t n e = false_from_ne_true (is_strand t n) (λ q. absurd (cc (e, strand_no_block t n q)))
 
 -- one conflict more with a victim at n, or none of the others
 pub one_more : (cs : List Conflict) (c : Conflict) (n : ℕ) → c.asker ≢ n → tells_back (cs ++ c ∷ []) n ≡ true → tells_back cs n ≡ true

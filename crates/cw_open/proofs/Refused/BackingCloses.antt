@@ -1,12 +1,11 @@
 -- What was rolled back, and what dying strands leave undone, as a block is closed and as a strand finishes.
-use Rattle.std.proofs.Common.{◌≡◌, ◌≢◌, ℕ, ◌<◌, List, [], length, refl, ap, sym, ◌∙◌, subst, arith, Bool, true, false, Option, Some, None, inl, inr, append-nil}
-use Rattle.std.specs.Prelude.{◌&&◌, slice_get}
+use Rattle.std.proofs.Common.{◌≡◌, ◌≢◌, ℕ, ◌<◌, List, [], length, ap, sym, ◌∙◌, subst, arith, Bool, true, false, inl, inr, append-nil}
+use Rattle.std.specs.Prelude.{◌&&◌}
 use Rattle.std.proofs.lemmas.Bool.{and_right, cases_eq, false_from_ne_true}
 use Rattle.cw_tree.specs.declared.node.Node.{Node}
 use Rattle.cw_tree.specs.declared.node.BlockState.{BlockState}
-use Rattle.cw_tree.specs.declared.node.BlockState.TheVariants.{Pending, Committed, Aborted}
 use Rattle.cw_tree.specs.declared.conflict.Conflict.{Conflict}
-use Rattle.cw_tree.specs.Nodes.{passes, is_fork_kind, is_block_kind, is_pending_state, is_committed_state, is_aborted_state, parent_of, is_strand, is_block, is_pending, is_committed, is_aborted, closed}
+use Rattle.cw_tree.specs.Nodes.{is_fork_kind, is_block_kind, is_committed_state, is_aborted_state, parent_of, is_strand, is_block, is_committed, is_aborted, closed}
 use Rattle.cw_tree.specs.Walks.{IsRooted}
 use Rattle.cw_tree.specs.Series.{strand_of, has_later}
 use Rattle.cw_tree.specs.Refusals.{is_victim}
@@ -16,19 +15,6 @@ use Rattle.cw_open.proofs.Refused.Falling.{AreAskers}
 use Rattle.cw_open.proofs.Open.Staying.{Stays, closed_stays, strand_stays, later_closed}
 use Rattle.cw_open.proofs.Refused.Fell.{fell, fell_stays, victim_stays}
 use Rattle.cw_open.proofs.Refused.Backing.{Died, GoesBack}
-
--- a pending block is not rolled back
-no_end : (t : List Node) (p : ℕ) → is_pending t p ≡ true → is_aborted t p ≡ false
-no_end t p pending = by (slice_get t p) pending where
-  states : (k : Bool) (s : BlockState) → (k && is_pending_state s) ≡ true → (k && is_aborted_state s) ≡ false
-  states false s e = refl
-  states true Pending e = refl
-  states true Committed e = refl
-  states true Aborted e = absurd (cc e)
-
-  by : (o : Option Node) → passes (λ x. is_block_kind x.kind && is_pending_state x.state) o ≡ true → passes (λ x. is_block_kind x.kind && is_aborted_state x.state) o ≡ false
-  by None e = refl
-  by (Some x) e = states (is_block_kind x.kind) x.state e
 
 module _ (t : List Node) (r : IsRooted t) (cs : List Conflict) (askers : AreAskers t cs) (p : ℕ) (state : BlockState) (end : ℕ) where
   abbrev v : List Node

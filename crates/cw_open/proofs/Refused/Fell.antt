@@ -17,8 +17,8 @@ use Rattle.cw_tree.proofs.Walks.There.{node_there}
 use Rattle.cw_tree.proofs.Walks.Kin.{ancestor_in}
 use Rattle.cw_tree.proofs.Walks.Ancestors.{ancestor_step, above_parent, ancestor_trans}
 use Rattle.cw_tree.proofs.ChainLaws.Nearest.{above_from}
+use Rattle.cw_tree.proofs.NodeKinds.{fork_no_block}
 use Rattle.cw_open.specs.Machine.{OpenMachine, falls, is_dying, leads_back}
-use Rattle.cw_open.proofs.Open.NodeKinds.{fork_no_block_at}
 use Rattle.cw_open.proofs.Refused.Falling.{AreAskers, any_kept, any_weaker}
 use Rattle.cw_open.proofs.Open.Staying.{Stays, above_stays, ancestor_stays}
 use Rattle.cw_open.proofs.Refused.Victims.{IsTold}
@@ -166,7 +166,7 @@ module _ (t : List Node) (r : IsRooted t) (cs : List Conflict) (told : All (IsTo
   pub fork_fell : (a f : ℕ) → 0 < f → is_fork t f ≡ true → fell t cs a f ≡ true → fell t cs a (parent_of t f) ≡ true
   fork_fell a f some fork e =
       fell_above a f some (node_there (λ y. is_fork_kind y.kind) t f fork)
-      (ap (λ q. q && list_any (λ c. option_map_or (λ x. nat_eq x (stamp_of t f)) (victim_of c) false) cs) (fork_no_block_at t f fork)) e
+      (ap (λ q. q && list_any (λ c. option_map_or (λ x. nat_eq x (stamp_of t f)) (victim_of c) false) cs) (fork_no_block t f fork)) e
 
   -- a refused access whose conflict has a victim stands in what fell
   pub tried_fell : (a n : ℕ) → 0 < n → n < length t → is_above t a n ≡ true → tells_back cs n ≡ true → fell t cs a (parent_of t n) ≡ true

@@ -21,7 +21,7 @@ use Rattle.cw_tree.proofs.Walks.Kin.{in_above, before_of}
 use Rattle.cw_tree.proofs.Walks.Ancestors.{ancestor_self, above_ancestor, ancestor_le}
 use Rattle.cw_tree.proofs.Walks.Meets.{lca_is_meet}
 use Rattle.cw_tree.proofs.NextNodes.Kept.{above_kept, find_path_kept}
-use Rattle.cw_open.proofs.Open.NodeKinds.{not_at_node}
+use Rattle.cw_tree.proofs.NodeKinds.{node_tells}
 use Rattle.cw_open.proofs.Open.Staying.{Stays, keeps, above_stays, ancestor_stays}
 use Rattle.cw_open.proofs.Refused.Victims.{outermost_in}
 use Rattle.cw_open.proofs.Refused.Attempted.{IsElder, attempt_stays, outermost_agrees}
@@ -202,7 +202,7 @@ module _ (times after : ℕ → ℕ) (was clock : ℕ) (t u : List Node) (g : Go
         elim w.met [ inl waits ↦ absurd (cc (waits, d.0)) | inr came ↦ (came, d.1) ]
 
     tried_closed : is_pending t v ≡ false
-    tried_closed = not_at_node t (λ y. tries_kind c.cell y.kind) (λ y. is_block_kind y.kind && is_pending_state y.state) (λ y e. no_tried y.kind y.state e) v q.asker where
+    tried_closed = node_tells false t (λ y. tries_kind c.cell y.kind) (λ y. is_block_kind y.kind && is_pending_state y.state) (λ y e. no_tried y.kind y.state e) v q.asker where
       no_tried : (k : Kind) (st : BlockState) → tries_kind c.cell k ≡ true → (is_block_kind k && is_pending_state st) ≡ false
       no_tried (Tried d) st e = refl
       no_tried Strand st e = absurd (cc e)

@@ -16,18 +16,17 @@ use Rattle.cw_tree.specs.NextNodes.{is_before_at}
 use Rattle.cw_tree.proofs.Walks.There.{node_there}
 use Rattle.cw_tree.proofs.NextNodes.Growing.{length_more, number_new}
 use Rattle.cw_tree.proofs.NextNodes.Pending.{end_of_place}
+use Rattle.cw_tree.proofs.Walks.Kin.{fork_child}
+use Rattle.cw_tree.proofs.NodeKinds.{strand_no_block, block_some}
 use Rattle.cw_open.specs.Machine.{OpenMachine, live_value, is_running, in_block, is_free, rolls_back}
 use Rattle.cw_open.specs.Steps.{Step, forks, begins, accesses, refuses, outputs, commits, undoes, aborts, finishes, joins, stops, refusal, after_open_step, after_all, first_machine}
 use Rattle.cw_open.specs.Runs.{Allowed, IsRun}
 use Rattle.cw_open.specs.Times.{times_after, IsTimely, AreTimely}
 use Rattle.cw_open.specs.Refused.{as_told, ConflictsAreRecorded}
-use Rattle.cw_open.proofs.Open.NodeKinds.{strand_no_block}
 use Rattle.cw_open.proofs.Open.Trees.{IsWell, stands_well}
 use Rattle.cw_open.proofs.Open.TreeSteps.{free_runs, rolls_runs, place_pending}
 use Rattle.cw_open.proofs.Refused.Victims.{IsToldState, told_opening, told_state_after}
 use Rattle.cw_open.proofs.Open.Growth.{IsGrowth, growth_leaf, growth_fork}
-use Rattle.cw_open.proofs.Refused.Backing.{block_some}
-use Rattle.cw_open.proofs.Refused.Backed.{fork_child}
 use Rattle.cw_open.proofs.Refused.Onward.{GoesOn, AreTimes, IsKept, times_on, kept_on}
 use Rattle.cw_open.proofs.Refused.OnwardSteps.{goes_grown, goes_closed, goes_same, times_same, times_new, times_shut}
 use Rattle.cw_open.proofs.Refused.Refusing.{kept_new}

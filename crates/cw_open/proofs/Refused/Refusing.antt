@@ -24,12 +24,12 @@ use Rattle.cw_tree.proofs.NextNodes.Kept.{find_path_kept}
 use Rattle.cw_tree.proofs.NextNodes.Growing.{length_more, node_grown, node_new, number_grown, number_new, ancestor_grown, is_above_grown, above_new, ancestor_new, keeps_grown, rooted_more}
 use Rattle.cw_tree.proofs.NextNodes.Before.{new_before_at}
 use Rattle.cw_tree.proofs.NextNodes.Pending.{end_of_place}
+use Rattle.cw_tree.proofs.NodeKinds.{pending_block}
 use Rattle.cw_open.specs.Machine.{OpenMachine, is_running}
 use Rattle.cw_open.specs.Steps.{Met, refuses, refusal}
 use Rattle.cw_open.specs.Runs.{IsMet}
 use Rattle.cw_open.specs.Times.{times_after, IsMetInTime, ClosedLater}
 use Rattle.cw_open.specs.Refused.{IsNewest}
-use Rattle.cw_open.proofs.Open.NodeKinds.{pending_block}
 use Rattle.cw_open.proofs.Laws.Named.{block_stamp}
 use Rattle.cw_open.proofs.Open.Growth.{IsGrowth, growth_leaf}
 use Rattle.cw_open.proofs.Refused.Attempted.{outermost_agrees}

@@ -15,10 +15,10 @@ use Rattle.cw_tree.proofs.Walks.There.{node_there}
 use Rattle.cw_tree.proofs.Walks.Ancestors.{above_ancestor, ancestor_above, ancestor_step, ancestor_le, ancestor_trans, ancestor_up}
 use Rattle.cw_tree.proofs.Walks.Kin.{of_before, before_of, branch, ancestor_linear}
 use Rattle.cw_tree.proofs.Walks.Parting.{series_or_parallel}
+use Rattle.cw_tree.proofs.NodeKinds.{pending_block}
 use Rattle.cw_open.specs.Machine.{OpenMachine, live, is_free}
 use Rattle.cw_open.specs.Steps.{Met, refuses}
 use Rattle.cw_open.specs.Runs.{IsMet, Allowed, at_once, IsReachedBy}
-use Rattle.cw_open.proofs.Open.NodeKinds.{pending_block}
 use Rattle.cw_open.proofs.Open.Trees.{stands_well}
 use Rattle.cw_open.proofs.Open.TreeSteps.{free_runs}
 use Rattle.cw_open.proofs.Laws.Named.{access_named}

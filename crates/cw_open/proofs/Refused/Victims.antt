@@ -27,11 +27,11 @@ use Rattle.cw_tree.proofs.Walks.Strands.{strand_over, strand_innermost}
 use Rattle.cw_tree.proofs.NextNodes.Growing.{length_more, node_grown, number_grown, is_above_grown, above_new}
 use Rattle.cw_tree.proofs.NextNodes.Closing.{length_closed, node_closed, number_closed, is_above_closed}
 use Rattle.cw_tree.proofs.NextNodes.Before.{above_down}
+use Rattle.cw_tree.proofs.NodeKinds.{fork_no_strand, fork_no_block, pending_block}
 use Rattle.cw_open.specs.Machine.{OpenMachine, has_finished, falls, is_running, in_block, is_dying, is_free, leads_back, rolls_back}
 use Rattle.cw_open.specs.Steps.{Met, Step, forks, begins, accesses, refuses, outputs, commits, undoes, aborts, finishes, joins, stops, refusal, after_open_step, first_machine}
 use Rattle.cw_open.specs.Runs.{Rules, Allowed, IsReachedBy, at_any_time}
 use Rattle.cw_open.specs.Laws.{VictimsAreAbove, DyingRollBack, FreeAreSafe}
-use Rattle.cw_open.proofs.Open.NodeKinds.{pending_block, fork_no_strand, fork_no_block_at}
 use Rattle.cw_open.proofs.Open.Standing.{runs, stands, pending_open, open_over, open_last, place_open}
 use Rattle.cw_open.proofs.Open.Trees.{IsWell, stands_well}
 use Rattle.cw_open.proofs.Open.TreeSteps.{free_runs, place_pending}
@@ -209,7 +209,7 @@ module _ (first : List ℤ) (m : OpenMachine) (w : IsToldState first m) where
         let same : strand_of t f ≡ s = omega (arith, same_strand) in
         let joined = (runs m well.sound.tree well.nested s running).waits_for_none f fork same in
         elim (or_cases (is_strand t f && not (has_finished m f) || is_fork t f && not (has m.joined f)) (is_pending t f) open_f) [
-          | inr z ↦ cc (fork_no_block_at t f fork, pending_block t f z)
+          | inr z ↦ cc (fork_no_block t f fork, pending_block t f z)
           | inl z ↦ elim (or_cases (is_strand t f && not (has_finished m f)) (is_fork t f && not (has m.joined f)) z) [
             | inl y ↦ cc ((and_parts (is_strand t f) (not (has_finished m f)) y).0, fork_no_strand t f fork)
             | inr y ↦ cc (joined, not-true (has m.joined f) (and_parts (is_fork t f) (not (has m.joined f)) y).1)

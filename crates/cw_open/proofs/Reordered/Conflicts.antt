@@ -1,10 +1,10 @@
 -- Conflicts of a tree in depth-first order: each is recorded as it was, and they stand as the tree lists their askers.
-use Rattle.std.proofs.Common.{◌≡◌, ◌≢◌, ℕ, ◌<◌, List, [], ◌∷◌, length, map, refl, ap, sym, ◌∙◌, subst, arith, Bool, true, false, cond, Option, Some, None, inl, inr, nat_eq, nat_le}
-use Rattle.std.specs.Prelude.{◌⊎◌, ◌&&◌, ◌||◌, not, is_some, All, filter, option_map}
+use Rattle.std.proofs.Common.{◌≡◌, ℕ, ◌<◌, List, [], ◌∷◌, length, map, refl, ap, sym, ◌∙◌, subst, arith, Bool, true, false, Option, Some, None, inl, inr, nat_eq}
+use Rattle.std.specs.Prelude.{◌&&◌, ◌||◌, not, is_some, All, filter, option_map}
 use Rattle.std.specs.List.{list_any}
 use Rattle.std.specs.Option.{option_map_or}
-use Rattle.std.proofs.lemmas.Bool.{and_parts, cases_eq, cases_lt, leb-true, le-leb}
-use Rattle.std.proofs.lemmas.List.Elements.{All-cons, All-head, All-tail, All-weaker, All-map}
+use Rattle.std.proofs.lemmas.Bool.{and_parts, cases_eq}
+use Rattle.std.proofs.lemmas.List.Elements.{All-head, All-tail, All-weaker, All-map}
 use Rattle.cw_tree.specs.declared.node.Node.{Node}
 use Rattle.cw_tree.specs.declared.node.Kind.{Kind}
 use Rattle.cw_tree.specs.declared.node.Kind.TheVariants.{Strand, Fork, Block, Read, Write, Out, Tried}
@@ -12,21 +12,21 @@ use Rattle.cw_tree.specs.declared.conflict.Conflict.{Conflict}
 use Rattle.cw_tree.specs.Nodes.{is_strand_kind, is_block_kind, is_tried_kind, touches_kind, tries_kind, stamp_of, end_of, is_strand, is_block, is_tried, tries, all_nodes}
 use Rattle.cw_tree.specs.Walks.{IsNumbered, above, is_above}
 use Rattle.cw_tree.specs.Series.{is_before, depth_first}
-use Rattle.cw_tree.specs.Accesses.{HasAccess}
+use Rattle.cw_tree.specs.Accesses.{HasAccess, by_key}
 use Rattle.cw_tree.specs.Attempts.{attempt_of}
 use Rattle.cw_tree.specs.Refusals.{outermost_apart, victim_of, is_victim, names_victim, IsRefusal, IsRecorded}
-use Rattle.cw_tree.specs.InOrder.{renamed, in_order, conflict_in_order, put_by_asker, by_asker, conflicts_in_order}
+use Rattle.cw_tree.specs.InOrder.{renamed, in_order, conflict_in_order, by_asker, conflicts_in_order, asker_of}
 use Rattle.cw_tree.proofs.Lists.{In}
-use Rattle.cw_tree.proofs.Members.{in_filter, in_below, below_in}
+use Rattle.cw_tree.proofs.Members.{in_filter, in_below, below_in, map_in, in_map, filter_in, all_at}
 use Rattle.cw_tree.proofs.Walks.There.{node_there}
 use Rattle.cw_tree.proofs.InOrder.Renaming.{renamed_apart, above_stays}
 use Rattle.cw_tree.proofs.Walks.Siblings.{numbered}
 use Rattle.cw_tree.proofs.InOrder.Sound.{series_stay}
-use Rattle.cw_open.proofs.Open.NodeKinds.{not_at_node}
-use Rattle.cw_open.proofs.Laws.Filtered.{filter_in}
-use Rattle.cw_open.proofs.Laws.Rising.{Rises, rises_same, rises_filter}
-use Rattle.cw_open.proofs.Reordered.KeysRise.{map_in, in_map, below_rises}
-use Rattle.cw_open.proofs.Refused.Backing.{block_some}
+use Rattle.cw_tree.proofs.Rising.{below_rises, Rises, rises_filter, rises_same, rises_apart}
+use Rattle.cw_tree.proofs.NodeKinds.{node_tells, block_some}
+use Rattle.cw_tree.proofs.Sorts.{by_key_map, any_by_key, all_by_key}
+use Rattle.cw_tree.proofs.InOrder.Keys.{in_by_key, by_key_in, by_key_rises}
+use Rattle.cw_tree.proofs.Ahead.{Apart, apart_map}
 use Rattle.cw_open.proofs.Refused.Victims.{outermost_in}
 use Rattle.cw_open.proofs.Refused.Falling.{AreAskers}
 use Rattle.cw_open.proofs.Reordered.Renamed.{each_number, each_pair, low, node_kept, stamp_kept, end_kept, block_kept, same_number, parallel_renamed, outermost_renamed, attempt_renamed, any_map}
@@ -44,7 +44,7 @@ module _ (t : List Node) (w : IsNumbered t) where
   pub tried_some : (c n : ℕ) → tries t c n ≡ true → 0 < n
   tried_some c n e =
       elim (cases_eq n 0) [
-        | inl q ↦ absurd (let root = w.root in cc (root, ap (is_strand t) (sym q), not_at_node t (λ y. tries_kind c y.kind) (λ y. is_strand_kind y.kind) (λ y e. no_strand y.kind e) n e))
+        | inl q ↦ absurd (let root = w.root in cc (root, ap (is_strand t) (sym q), node_tells false t (λ y. tries_kind c y.kind) (λ y. is_strand_kind y.kind) (λ y e. no_strand y.kind e) n e))
         | inr ne ↦ omega arith
       ] where
         no_strand : (k : Kind) → tries_kind c k ≡ true → is_strand_kind k ≡ false
@@ -125,90 +125,16 @@ module _ (t : List Node) (w : IsNumbered t) where
 -- ## Their order
 
 abbrev askers : List Conflict → List ℕ
-askers cs = map (λ c. c.asker) cs
+askers = map asker_of
 
-put_in : (v : ℕ) (c : Conflict) (ds : List Conflict) → In v (askers (put_by_asker c ds)) → (v ≡ c.asker) ⊎ In v (askers ds)
-put_in v c [] (inl e) = inl e
-put_in v c [] (inr i) = absurd i
-put_in v c (d ∷ ds) i = by (nat_le c.asker d.asker) i (put_in v c ds) where
-  by : (b : Bool) → In v (askers (cond b (c ∷ d ∷ ds) (d ∷ put_by_asker c ds))) → (In v (askers (put_by_asker c ds)) → (v ≡ c.asker) ⊎ In v (askers ds)) → (v ≡ c.asker) ⊎ In v (askers (d ∷ ds))
-  by true (inl e) more = inl e
-  by true (inr j) more = inr j
-  by false (inl e) more = inr (inl e)
-  by false (inr j) more = elim (more j) [ inl e ↦ inl e | inr k ↦ inr (inr k) ]
-
-in_put : (v : ℕ) (c : Conflict) (ds : List Conflict) → (v ≡ c.asker) ⊎ In v (askers ds) → In v (askers (put_by_asker c ds))
-in_put v c [] (inl e) = inl e
-in_put v c [] (inr i) = absurd i
-in_put v c (d ∷ ds) i = by (nat_le c.asker d.asker) i (in_put v c ds) where
-  by : (b : Bool) → (v ≡ c.asker) ⊎ In v (askers (d ∷ ds)) → ((v ≡ c.asker) ⊎ In v (askers ds) → In v (askers (put_by_asker c ds))) → In v (askers (cond b (c ∷ d ∷ ds) (d ∷ put_by_asker c ds)))
-  by true (inl e) more = inl e
-  by true (inr j) more = inr j
-  by false (inl e) more = inr (more (inl e))
-  by false (inr (inl e)) more = inl e
-  by false (inr (inr j)) more = inr (more (inr j))
-
-put_rises : (c : Conflict) (ds : List Conflict) → Rises (askers ds) → (In c.asker (askers ds) → ⊥) → Rises (askers (put_by_asker c ds))
-put_rises c [] r out = (λ y i. absurd i, tt)
-put_rises c (d ∷ ds) r out = by (nat_le c.asker d.asker) refl (put_rises c ds r.1 (λ i. out (inr i))) where
-  by : (b : Bool) → nat_le c.asker d.asker ≡ b → Rises (askers (put_by_asker c ds)) → Rises (askers (cond b (c ∷ d ∷ ds) (d ∷ put_by_asker c ds)))
-  by true e more =
-      let less : c.asker < d.asker = let le = leb-true c.asker d.asker e in let ne : c.asker ≢ d.asker = λ q. out (inl q) in omega arith in (
-        λ y i. elim i [ inl q ↦ omega arith | inr j ↦ (let more = r.0 y j in omega arith) ],
-        r,
-      )
-  by false e more = (
-    λ y i. elim (put_in y c ds i) [
-      | inl q ↦ elim (cases_lt d.asker c.asker) [ inl less ↦ omega arith | inr le ↦ absurd (cc (e, le-leb c.asker d.asker le)) ]
-      | inr j ↦ r.0 y j
-    ],
-    more,
-  )
-
-abbrev Differ : List Conflict → Type 0
-Differ [] = Unit {0}
-Differ (c ∷ cs) = (In c.asker (askers cs) → ⊥) × Differ cs
+askers_sorted : (cs : List Conflict) → askers (by_asker cs) ≡ by_key (λ n. n) (askers cs)
+askers_sorted cs = sym (by_key_map (λ n. n) asker_of cs)
 
 by_in : (v : ℕ) (cs : List Conflict) → In v (askers (by_asker cs)) → In v (askers cs)
-by_in v [] i = i
-by_in v (c ∷ cs) i = elim (put_in v c (by_asker cs) i) [ inl e ↦ inl e | inr j ↦ inr (by_in v cs j) ]
+by_in v cs i = let P : List ℕ → Type 0 = λ ns. In v ns in by_key_in (λ n. n) v (askers cs) (subst P (askers_sorted cs) i)
 
 in_by : (v : ℕ) (cs : List Conflict) → In v (askers cs) → In v (askers (by_asker cs))
-in_by v [] i = i
-in_by v (c ∷ cs) (inl e) = in_put v c (by_asker cs) (inl e)
-in_by v (c ∷ cs) (inr i) = in_put v c (by_asker cs) (inr (in_by v cs i))
-
-sorted_rise : (cs : List Conflict) → Differ cs → Rises (askers (by_asker cs))
-sorted_rise [] d = tt
-sorted_rise (c ∷ cs) d = put_rises c (by_asker cs) (sorted_rise cs d.1) (λ i. d.0 (by_in c.asker cs i))
-
-all_put : (P : Conflict → Type 0) (c : Conflict) (ds : List Conflict) → P c → All P ds → All P (put_by_asker c ds)
-all_put P c [] p a = All-cons P c [] p a
-all_put P c (d ∷ ds) p a = by (nat_le c.asker d.asker) (all_put P c ds p (All-tail P d ds a)) where
-  by : (b : Bool) → All P (put_by_asker c ds) → All P (cond b (c ∷ d ∷ ds) (d ∷ put_by_asker c ds))
-  by true more = All-cons P c (d ∷ ds) p a
-  by false more = All-cons P d (put_by_asker c ds) (All-head P d ds a) more
-
-pub all_sorted : (P : Conflict → Type 0) (cs : List Conflict) → All P cs → All P (by_asker cs)
-all_sorted P [] a = a
-all_sorted P (c ∷ cs) a = all_put P c (by_asker cs) (All-head P c cs a) (all_sorted P cs (All-tail P c cs a))
-
-any_put : (p : Conflict → Bool) (c : Conflict) (ds : List Conflict) → list_any p (put_by_asker c ds) ≡ (p c || list_any p ds)
-any_put p c [] = refl
-any_put p c (d ∷ ds) = by (nat_le c.asker d.asker) (any_put p c ds) where
-  swap : (x y z : Bool) → (y || (x || z)) ≡ (x || (y || z))
-  swap true true z = refl
-  swap true false z = refl
-  swap false true z = refl
-  swap false false z = refl
-
-  by : (b : Bool) → list_any p (put_by_asker c ds) ≡ (p c || list_any p ds) → list_any p (cond b (c ∷ d ∷ ds) (d ∷ put_by_asker c ds)) ≡ (p c || list_any p (d ∷ ds))
-  by true e = refl
-  by false e = ap (λ b. p d || b) e ∙ swap (p c) (p d) (list_any p ds)
-
-pub any_sorted : (p : Conflict → Bool) (cs : List Conflict) → list_any p (by_asker cs) ≡ list_any p cs
-any_sorted p [] = refl
-any_sorted p (c ∷ cs) = any_put p c (by_asker cs) ∙ ap (λ b. p c || b) (any_sorted p cs)
+in_by v cs i = let P : List ℕ → Type 0 = λ ns. In v ns in subst P (sym (askers_sorted cs)) (in_by_key (λ n. n) v (askers cs) i)
 
 any_of : (P : Conflict → Type 0) (p q : Conflict → Bool) (cs : List Conflict) → All P cs → ((c : Conflict) → P c → p c ≡ q c) → list_any p cs ≡ list_any q cs
 any_of P p q [] a e = refl
@@ -222,22 +148,17 @@ module _ (t : List Node) (w : IsNumbered t) (cs : List Conflict) (low_askers : A
   asker_renamed [] = refl
   asker_renamed (c ∷ xs) = ap (λ ns. (renamed t) c.asker ∷ ns) (asker_renamed xs)
 
+  asker_low : (xs : List Conflict) → AreAskers t xs → (n : ℕ) → In n (askers xs) → n < length t
+  asker_low xs a n i =
+      let z = in_map asker_of n xs i in
+      let P : ℕ → Type 0 = λ k. k < length t in
+      subst P (sym z.2) (all_at (λ c. c.asker < length t) xs a z.0 z.1)
+
   -- askers differ, since they rise
-  differ : (xs : List Conflict) → Rises (askers xs) → AreAskers t xs → Differ (map (conflict_in_order t) xs)
-  differ [] r a = tt
-  differ (c ∷ xs) r a = (
-    λ i.
-        let P : List ℕ → Type 0 = λ ns. In ((renamed t) c.asker) ns in
-        let z = in_map (renamed t) ((renamed t) c.asker) (askers xs) (subst P (asker_renamed xs) i) in
-        let less = r.0 z.0 z.1 in
-        let same = renamed_apart t w c.asker z.0 (All-head (λ c. c.asker < length t) c xs a) (asker_low xs (All-tail (λ c. c.asker < length t) c xs a) z.0 z.1) z.2 in
-        omega arith,
-    differ xs r.1 (All-tail (λ c. c.asker < length t) c xs a),
-  ) where
-    asker_low : (xs : List Conflict) → AreAskers t xs → (n : ℕ) → In n (askers xs) → n < length t
-    asker_low [] a n i = absurd i
-    asker_low (c ∷ xs) a n (inl e) = let h = All-head (λ c. c.asker < length t) c xs a in omega arith
-    asker_low (c ∷ xs) a n (inr i) = asker_low xs (All-tail (λ c. c.asker < length t) c xs a) n i
+  differ : (xs : List Conflict) → Rises (askers xs) → AreAskers t xs → Apart (askers (map (conflict_in_order t) xs))
+  differ xs r a =
+      let P : List ℕ → Type 0 = λ ns. Apart ns in
+      subst P (sym (asker_renamed xs)) (apart_map (renamed t) (askers xs) (λ x y i j. renamed_apart t w x y (asker_low xs a x i) (asker_low xs a y j)) (rises_apart (askers xs) r))
 
   tried_rises : Rises (askers cs)
   tried_rises = let P : List ℕ → Type 0 = λ ns. Rises ns in subst P (sym each) (rises_filter (is_tried t) (all_nodes t) (below_rises (length t)))
@@ -271,15 +192,15 @@ module _ (t : List Node) (w : IsNumbered t) (cs : List Conflict) (low_askers : A
 
   pub each_renamed : map (λ c. c.asker) ds ≡ filter (is_tried (in_order t)) (depth_first (in_order t))
   each_renamed =
-      rises_same (askers ds) tried_new (sorted_rise (map (conflict_in_order t) cs) (differ cs tried_rises low_askers)) (rises_filter (is_tried (in_order t)) (all_nodes (in_order t)) (below_rises (length (in_order t)))) from_asker to_asker
+      rises_same (askers ds) tried_new (by_key_rises asker_of (map (conflict_in_order t) cs) (differ cs tried_rises low_askers)) (rises_filter (is_tried (in_order t)) (all_nodes (in_order t)) (below_rises (length (in_order t)))) from_asker to_asker
       ∙ ap (filter (is_tried (in_order t))) (sym (numbered t w))
 
   pub recorded_all : All (IsRecorded t) cs → All (IsRecorded (in_order t)) ds
-  recorded_all a = all_sorted (IsRecorded (in_order t)) (map (conflict_in_order t) cs) (All-map (IsRecorded (in_order t)) (conflict_in_order t) cs (All-weaker (IsRecorded t) (λ c. IsRecorded (in_order t) (conflict_in_order t c)) (recorded_renamed t w) cs a))
+  recorded_all a = all_by_key asker_of (IsRecorded (in_order t)) (map (conflict_in_order t) cs) (All-map (IsRecorded (in_order t)) (conflict_in_order t) cs (All-weaker (IsRecorded t) (λ c. IsRecorded (in_order t) (conflict_in_order t c)) (recorded_renamed t w) cs a))
 
   -- what some conflict tells
   any_renamed : (p q : Conflict → Bool) → ((c : Conflict) → c.asker < length t → p (conflict_in_order t c) ≡ q c) → list_any p ds ≡ list_any q cs
-  any_renamed p q e = any_sorted p (map (conflict_in_order t) cs) ∙ any_map p (conflict_in_order t) cs ∙ any_of (λ c. c.asker < length t) (λ c. p (conflict_in_order t c)) q cs low_askers e
+  any_renamed p q e = any_by_key asker_of p (map (conflict_in_order t) cs) ∙ any_map p (conflict_in_order t) cs ∙ any_of (λ c. c.asker < length t) (λ c. p (conflict_in_order t c)) q cs low_askers e
 
   pub victim_renamed : (b : ℕ) → b < length t → is_victim (in_order t) ds ((renamed t) b) ≡ is_victim t cs b
   victim_renamed b h =

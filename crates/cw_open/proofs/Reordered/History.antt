@@ -18,23 +18,21 @@ use Rattle.cw_tree.specs.Journals.{AreEntries, AreJournals, EndedBetween, AllEnd
 use Rattle.cw_tree.specs.Refusals.{victim_of, is_victim, names_victim, IsRecorded, AreRefusals, RollsBack}
 use Rattle.cw_tree.specs.InOrder.{renamed, in_order, conflicts_in_order}
 use Rattle.cw_tree.proofs.Lists.{In}
-use Rattle.cw_tree.proofs.Members.{in_filter, in_below, below_in}
-use Rattle.cw_tree.proofs.InOrder.Keys.{by_key_in}
+use Rattle.cw_tree.proofs.Members.{in_filter, in_below, below_in, map_in, in_map, filter_in, any_same}
+use Rattle.cw_tree.proofs.InOrder.Keys.{by_key_in, in_by_key}
 use Rattle.cw_tree.proofs.Walks.There.{node_there}
 use Rattle.cw_tree.proofs.Walks.Kin.{in_ancestor}
 use Rattle.cw_tree.proofs.Walks.Ancestors.{ancestor_le}
 use Rattle.cw_tree.proofs.InOrder.Renaming.{above_stays}
 use Rattle.cw_tree.proofs.InOrder.Sound.{sound_stays}
+use Rattle.cw_tree.proofs.ChainLaws.LiveAccesses.{live_rises}
+use Rattle.cw_tree.proofs.Rising.{Rises, rises_same}
+use Rattle.cw_tree.proofs.NodeKinds.{access_stamped, aborted_block, block_some}
 use Rattle.cw_open.specs.Left.{AreMade, HistoriesAreInOrder}
 use Rattle.cw_open.specs.Reordered.{CellsStay, JournalsStay, EndsStay, RefusalsStay, RollsBackStays, FaultsStay}
-use Rattle.cw_open.proofs.Laws.Filtered.{filter_in}
-use Rattle.cw_open.proofs.Laws.Rising.{Rises, rises_same, rises_filter}
-use Rattle.cw_open.proofs.Reordered.KeysRise.{map_in, in_map, below_rises, in_by_key, by_key_rises}
-use Rattle.cw_open.proofs.Laws.Named.{access_stamped}
-use Rattle.cw_open.proofs.Refused.Backing.{aborted_block, block_some}
 use Rattle.cw_open.proofs.Refused.Falling.{AreAskers}
 use Rattle.cw_open.proofs.Reordered.Leaving.{histories_left}
-use Rattle.cw_open.proofs.Reordered.Renamed.{each_number, low, node_kept, stamp_kept, end_kept, block_kept, aborted_kept, committed_kept, live_renamed, strand_kept, written_kept, read_kept, path_renamed, later_renamed, any_map, any_agrees}
+use Rattle.cw_open.proofs.Reordered.Renamed.{each_number, low, node_kept, stamp_kept, end_kept, block_kept, aborted_kept, committed_kept, live_renamed, strand_kept, written_kept, read_kept, path_renamed, later_renamed, any_map}
 use Rattle.cw_open.proofs.Reordered.Conflicts.{tried_some, each_renamed, recorded_all, victim_renamed, leads_renamed}
 
 -- what a function makes equal, of members on which it is one to one
@@ -87,14 +85,6 @@ module _ (t : List Node) (w : IsNumbered t) (sound : IsSound t) where
         let P : ℕ → Type 0 = λ n. In n (live_accesses new c) in
         subst P (sym z.2) (there_live new (f z.0) (low t w z.0 y.0) (lives_kept z.0 y.0 ∙ y.1))
 
-    live_rises : (u : List Node) → AreStamps u → Rises (map (stamp_of u) (live_accesses u c))
-    live_rises u s =
-        by_key_rises (stamp_of u) (filter (lives u) (all_nodes u)) (rises_filter (lives u) (all_nodes u) (below_rises (length u)))
-        (λ x y i j e.
-        let a = in_filter (lives u) x (all_nodes u) i in
-        let b = in_filter (lives u) y (all_nodes u) j in
-        s.distinct x y (in_below x (length u) a.0) (in_below y (length u) b.0) (access_stamped u s c x (and_parts (touches u c x) (is_live u x) a.1).0) e)
-
     stamps_moved : (ns : List ℕ) → ((n : ℕ) → In n ns → n < length t) → map (stamp_of new) (map f ns) ≡ map (stamp_of t) ns
     stamps_moved [] g = refl
     stamps_moved (n ∷ ns) g = ap (λ s. s ∷ map (stamp_of new) (map f ns)) (stamp_kept t w n (g n (inl refl))) ∙ ap (λ ss. stamp_of t n ∷ ss) (stamps_moved ns (λ k i. g k (inr i)))
@@ -105,7 +95,7 @@ module _ (t : List Node) (w : IsNumbered t) (sound : IsSound t) where
         let P : List ℕ → Type 0 = λ ss. Rises ss in
         let moved = stamps_moved (live_accesses t c) (λ n i. (live_there t n i).0) in
         map_back (stamp_of new) (live_accesses new c) M
-        (rises_same (map (stamp_of new) (live_accesses new c)) (map (stamp_of new) M) (live_rises new stamps_new) (subst P (sym moved) (live_rises t sound.stamps))
+        (rises_same (map (stamp_of new) (live_accesses new c)) (map (stamp_of new) M) (live_rises new c stamps_new) (subst P (sym moved) (live_rises t c sound.stamps))
         (λ s i. let z = in_map (stamp_of new) s (live_accesses new c) i in let Q : ℕ → Type 0 = λ s. In s (map (stamp_of new) M) in subst Q (sym z.2) (map_in (stamp_of new) z.0 M (new_in z.0 z.1)))
         (λ s i. let z = in_map (stamp_of new) s M i in let Q : ℕ → Type 0 = λ s. In s (map (stamp_of new) (live_accesses new c)) in subst Q (sym z.2) (map_in (stamp_of new) z.0 (live_accesses new c) (old_in z.0 z.1))))
         (λ x y i j e.
@@ -203,7 +193,7 @@ module _ (t : List Node) (w : IsNumbered t) (cs : List Conflict) (made : AreMade
         (λ b l e.
         ap (list_any (is_victim moved ds)) (path_renamed t w b l)
         ∙ any_map (is_victim moved ds) g (path t b)
-        ∙ any_agrees (λ n. is_victim moved ds (g n)) (is_victim t cs) (path t b) (λ n i. victim_renamed t w cs askers_low made.each n (path_low b n l i))
+        ∙ any_same (λ n. is_victim moved ds (g n)) (is_victim t cs) (path t b) (λ n i. victim_renamed t w cs askers_low made.each n (path_low b n l i))
         ∙ made.aborted b (sym (aborted_kept t w b l) ∙ e));
     committed =
         each_number t w (λ b. is_committed moved b ≡ true → is_victim moved ds b ≡ false)

@@ -1,39 +1,23 @@
 -- Where a running strand stands in depth-first order.
-use Rattle.std.proofs.Common.{◌≡◌, ◌≢◌, ℕ, zero, suc, ◌<◌, ◌≤◌, List, length, refl, ap, sym, ◌∙◌, subst, arith, Bool, true, false, cond, Option, Some, None, inl, inr, nat_eq}
-use Rattle.std.specs.Prelude.{◌⊎◌, ◌&&◌, not, ℤ, unwrap_or}
-use Rattle.std.proofs.lemmas.Bool.{and_parts, and_from, cases_lt, cases_eq, eqb-true, eq-eqb, false_from_ne_true}
+use Rattle.std.proofs.Common.{◌≡◌, ℕ, ◌<◌, List, length, ap, sym, ◌∙◌, subst, arith, Bool, true, false, inl, inr, nat_eq}
+use Rattle.std.specs.Prelude.{◌&&◌, ℤ, unwrap_or}
+use Rattle.std.proofs.lemmas.Bool.{and_parts, and_from, eqb-true, eq-eqb, false_from_ne_true}
 use Rattle.cw_tree.specs.declared.node.Node.{Node}
-use Rattle.cw_tree.specs.Nodes.{is_strand, is_block, is_pending, last_below}
-use Rattle.cw_tree.specs.Walks.{IsNumbered, IsRooted, is_ancestor}
+use Rattle.cw_tree.specs.Nodes.{is_strand, is_block, is_pending}
+use Rattle.cw_tree.specs.Walks.{IsNumbered, is_ancestor}
 use Rattle.cw_tree.specs.Series.{strand_of, place}
 use Rattle.cw_tree.specs.InOrder.{renamed, in_order}
 use Rattle.cw_tree.proofs.Walks.Ancestors.{ancestor_le}
 use Rattle.cw_tree.proofs.Walks.Strands.{strand_over, strand_of_le}
 use Rattle.cw_tree.proofs.InOrder.Renumbered.{in_order_numbered}
 use Rattle.cw_tree.proofs.InOrder.Renaming.{renamed_apart, ancestor_stays}
+use Rattle.cw_tree.proofs.LastBelow.{last_none, last_some}
+use Rattle.cw_tree.proofs.NodeKinds.{strand_no_block, pending_block}
 use Rattle.cw_open.specs.Machine.{OpenMachine, is_running}
-use Rattle.cw_open.proofs.Open.NodeKinds.{pending_block, strand_no_block}
-use Rattle.cw_open.proofs.Open.Standing.{IsLast, runs, stands}
+use Rattle.cw_open.proofs.Open.Standing.{runs, stands}
 use Rattle.cw_open.proofs.Open.Trees.{IsWell}
 use Rattle.cw_open.proofs.Refused.Victims.{IsToldState, over_own}
 use Rattle.cw_open.proofs.Reordered.Renamed.{each_number, low, pending_kept, strand_of_renamed}
-
--- ## The last number that passes
-
-last_none : (p : ℕ → Bool) (k : ℕ) → ((c : ℕ) → c < k → p c ≡ false) → last_below p k ≡ None
-last_none p zero e = refl
-last_none p (suc k) e = ap (λ b. cond b (Some k) (last_below p k)) (e k (omega arith)) ∙ last_none p k (λ c h. e c (omega arith))
-
-pub last_some : (p : ℕ → Bool) (k b : ℕ) → IsLast p k b → last_below p k ≡ Some b
-last_some p zero b w = absurd (let low = w.low in omega arith)
-last_some p (suc k) b w = by (cases_eq b k) (λ v. last_some p k b v) where
-  by : (b ≡ k) ⊎ (b ≡ k → ⊥) → (IsLast p k b → last_below p k ≡ Some b) → cond (p k) (Some k) (last_below p k) ≡ Some b
-  by (inl q) more = ap (λ x. cond x (Some k) (last_below p k)) (ap p (sym q) ∙ w.passes) ∙ ap Some (sym q)
-  by (inr ne) more =
-      let low = w.low in
-      ap (λ x. cond x (Some k) (last_below p k)) (w.none k (omega arith) (omega arith)) ∙ more (record { low = omega arith; passes = w.passes; none = λ c l h. w.none c l (omega arith) })
-
--- ## The place
 
 module _ (first : List ℤ) (m : OpenMachine) (w : IsToldState first m) (n : IsNumbered m.tree) (x : ℕ) (running : is_running m x ≡ true) where
   abbrev t : List Node

@@ -15,18 +15,18 @@ use Rattle.cw_tree.specs.Attempts.{elders, tried_cell, same_cell, attempt_of}
 use Rattle.cw_tree.specs.Refusals.{outermost_apart}
 use Rattle.cw_tree.specs.InOrder.{renamed, with_parent_renamed, in_order}
 use Rattle.cw_tree.proofs.Lists.{In}
-use Rattle.cw_tree.proofs.Members.{filter_same}
+use Rattle.cw_tree.proofs.Members.{filter_same, find_same, suffix_same, any_same, all_same}
 use Rattle.cw_tree.proofs.Walks.Climbs.{by_parent, path_step}
 use Rattle.cw_tree.proofs.Walks.Ancestors.{above_ancestor, ancestor_le}
 use Rattle.cw_tree.proofs.Walks.Kin.{in_ancestor, in_above}
 use Rattle.cw_tree.proofs.Walks.Meets.{lca_is_meet}
 use Rattle.cw_tree.proofs.InOrder.DepthFirst.{child_is, IsChild}
-use Rattle.cw_tree.proofs.NextNodes.Kept.{find_same}
 use Rattle.cw_tree.proofs.InOrder.Visits.{renamed_is}
 use Rattle.cw_tree.proofs.InOrder.Renumbered.{visited, some_node, visited_there, new_length, in_order_numbered}
 use Rattle.cw_tree.proofs.InOrder.Renaming.{number_of, node_stays, renamed_apart, renamed_some, root_stays, parent_stays, ancestor_stays, above_stays}
 use Rattle.cw_tree.proofs.Walks.Siblings.{rises, siblings}
-use Rattle.cw_open.proofs.Refused.Attempted.{suffix_same, outermost_agrees, elder_is}
+use Rattle.cw_tree.proofs.InOrder.Sound.{number_option, passes_option}
+use Rattle.cw_open.proofs.Refused.Attempted.{outermost_agrees, elder_is}
 use Rattle.cw_open.proofs.Refused.OnwardSteps.{tells}
 
 -- ## Lists
@@ -38,14 +38,6 @@ any_map p f (x ∷ xs) = ap (λ b. p (f x) || b) (any_map p f xs)
 all_map : (p : ℕ → Bool) (f : ℕ → ℕ) (xs : List ℕ) → list_all p (map f xs) ≡ list_all (λ x. p (f x)) xs
 all_map p f [] = refl
 all_map p f (x ∷ xs) = ap (λ b. p (f x) && b) (all_map p f xs)
-
-pub any_agrees : (p q : ℕ → Bool) (xs : List ℕ) → ((x : ℕ) → In x xs → p x ≡ q x) → list_any p xs ≡ list_any q xs
-any_agrees p q [] e = refl
-any_agrees p q (x ∷ xs) e = ap (λ b. b || list_any p xs) (e x (inl refl)) ∙ ap (λ b. q x || b) (any_agrees p q xs (λ y i. e y (inr i)))
-
-all_agrees : (p q : ℕ → Bool) (xs : List ℕ) → ((x : ℕ) → In x xs → p x ≡ q x) → list_all p xs ≡ list_all q xs
-all_agrees p q [] e = refl
-all_agrees p q (x ∷ xs) e = ap (λ b. b && list_all p xs) (e x (inl refl)) ∙ ap (λ b. q x && b) (all_agrees p q xs (λ y i. e y (inr i)))
 
 find_map : (p : ℕ → Bool) (f : ℕ → ℕ) (xs : List ℕ) → find p (map f xs) ≡ option_map f (find (λ x. p (f x)) xs)
 find_map p f [] = refl
@@ -88,14 +80,6 @@ suffix_map p f xs = ap (prefix_len p) (reverse_map f xs) ∙ prefix_map p f (rev
 map_drop : (f : ℕ → ℕ) (xs : List ℕ) → drop 1 (map f xs) ≡ map f (drop 1 xs)
 map_drop f [] = refl
 map_drop f (x ∷ xs) = refl
-
-number_option : (f : Node → ℕ) (g : Node → Node) → ((x : Node) → f (g x) ≡ f x) → (o : Option Node) → number_in f (option_map g o) ≡ number_in f o
-number_option f g same None = refl
-number_option f g same (Some x) = same x
-
-passes_option : (p : Node → Bool) (g : Node → Node) → ((x : Node) → p (g x) ≡ p x) → (o : Option Node) → passes p (option_map g o) ≡ passes p o
-passes_option p g same None = refl
-passes_option p g same (Some x) = same x
 
 -- ## Renamed nodes
 
@@ -197,7 +181,7 @@ module _ (t : List Node) (w : IsNumbered t) where
   live_renamed n h =
       ap (list_all (λ a. not (is_aborted new a))) (above_renamed n h)
       ∙ all_map (λ a. not (is_aborted new a)) f (above t n)
-      ∙ all_agrees (λ a. not (is_aborted new (f a))) (λ a. not (is_aborted t a)) (above t n) (λ a i. ap not (aborted_kept a (above_low n a h i)))
+      ∙ all_same (λ a. not (is_aborted new (f a))) (λ a. not (is_aborted t a)) (above t n) (λ a i. ap not (aborted_kept a (above_low n a h i)))
 
   -- what is found on the way up
   option_zero : (o : Option ℕ) → unwrap_or (option_map f o) 0 ≡ f (unwrap_or o 0)
@@ -259,7 +243,7 @@ module _ (t : List Node) (w : IsNumbered t) where
       ap (λ q. list_any (nat_lt (f n)) (children new q)) (parent_stays t w n h)
       ∙ ap (list_any (nat_lt (f n))) (siblings t w (parent_of t n) (low_parent n some h))
       ∙ any_map (nat_lt (f n)) f (children t (parent_of t n))
-      ∙ any_agrees (λ m. nat_lt (f n) (f m)) (nat_lt n) (children t (parent_of t n)) (λ m i. sibling_less n m some h (child_is t (parent_of t n) m i))
+      ∙ any_same (λ m. nat_lt (f n) (f m)) (nat_lt n) (children t (parent_of t n)) (λ m i. sibling_less n m some h (child_is t (parent_of t n) m i))
 
   sibling_more : (n m : ℕ) → 0 < n → n < length t → IsChild t (parent_of t n) m → nat_lt (f m) (f n) ≡ nat_lt m n
   sibling_more n m some h c =

@@ -11,41 +11,39 @@ use Rattle.cw_tree.specs.declared.node.Kind.TheVariants.{Strand, Fork, Block, Re
 use Rattle.cw_tree.specs.declared.node.BlockState.{BlockState}
 use Rattle.cw_tree.specs.declared.node.BlockState.TheVariants.{Pending, Committed, Aborted}
 use Rattle.cw_tree.specs.declared.conflict.Conflict.{Conflict}
-use Rattle.cw_tree.specs.Nodes.{passes, is_strand_kind, is_block_kind, is_tried_kind, is_fork_kind, is_pending_state, is_aborted_state, parent_of, stamp_of, is_strand, is_fork, is_block, is_pending, is_aborted, is_tried, all_nodes, last_below, block_with_stamp}
+use Rattle.cw_tree.specs.Nodes.{passes, is_strand_kind, is_block_kind, is_tried_kind, is_pending_state, is_aborted_state, parent_of, stamp_of, is_strand, is_fork, is_block, is_pending, is_aborted, is_tried, all_nodes, last_below, block_with_stamp}
 use Rattle.cw_tree.specs.Walks.{IsNumbered, IsRooted, has, lca, is_ancestor, is_above}
 use Rattle.cw_tree.specs.Series.{strand_of, last_of, place, parallel, is_before}
 use Rattle.cw_tree.specs.Shape.{AreStamps}
 use Rattle.cw_tree.specs.Accesses.{is_live}
 use Rattle.cw_tree.specs.ForkCounts.{one_if}
-use Rattle.cw_tree.specs.Refusals.{victim_of, refused, is_refused_in, tells, telling, may_be_last, Spent}
-use Rattle.cw_tree.specs.InOrder.{renamed, in_order, conflict_in_order, conflicts_in_order}
+use Rattle.cw_tree.specs.Refusals.{victim_of, refused, is_refused_in, tells, may_be_last, Spent}
+use Rattle.cw_tree.specs.InOrder.{renamed, in_order, conflict_in_order, conflicts_in_order, asker_of}
 use Rattle.cw_tree.proofs.Lists.{In}
 use Rattle.cw_tree.proofs.Members.{in_filter, in_below, below_in}
 use Rattle.cw_tree.proofs.Walks.There.{node_there}
-use Rattle.cw_tree.proofs.Walks.Ancestors.{ancestor_self, above_parent, ancestor_le, ancestor_step, ancestor_past, above_ancestor, ancestor_above}
-use Rattle.cw_tree.proofs.Walks.Kin.{of_before, children_apart, branch, ancestor_linear}
+use Rattle.cw_tree.proofs.Walks.Ancestors.{above_parent, ancestor_le, ancestor_step, above_ancestor}
+use Rattle.cw_tree.proofs.Walks.Kin.{of_before, children_apart, branch, ancestor_linear, fork_child}
 use Rattle.cw_tree.proofs.Walks.Meets.{lca_is_meet}
 use Rattle.cw_tree.proofs.Walks.Parting.{series_or_parallel}
 use Rattle.cw_tree.proofs.Walks.Strands.{strand_over, strand_of_le, strand_of_other, strand_innermost}
-use Rattle.cw_tree.proofs.InOrder.Renumbered.{new_length, in_order_numbered}
+use Rattle.cw_tree.proofs.InOrder.Renumbered.{in_order_numbered}
 use Rattle.cw_tree.proofs.InOrder.Renaming.{renamed_apart, ancestor_stays}
 use Rattle.cw_tree.proofs.InOrder.Sound.{sound_stays}
+use Rattle.cw_tree.proofs.Sorts.{any_by_key, all_by_key}
+use Rattle.cw_tree.proofs.NodeKinds.{node_tells, aborted_block}
+use Rattle.cw_tree.proofs.LastBelow.{last_some, last_is, none_is}
 use Rattle.cw_open.specs.Machine.{OpenMachine, has_finished}
 use Rattle.cw_open.specs.Open.{is_open}
 use Rattle.cw_open.specs.Runs.{IsReachedBy, at_any_time}
 use Rattle.cw_open.specs.Spent.{StandsStill, HasSpent, SpentAreInOrder}
-use Rattle.cw_open.proofs.Open.NodeKinds.{not_at_node, pending_block, strand_no_block, fork_no_strand}
-use Rattle.cw_open.proofs.Open.Standing.{IsLast, last_is, none_is, stands_at, open_over, open_block, pending_open}
+use Rattle.cw_open.proofs.Open.Standing.{stands_at, open_over, open_block, pending_open}
 use Rattle.cw_open.proofs.Open.Trees.{IsWell}
 use Rattle.cw_open.proofs.Laws.Named.{strand_is, block_stamp, live_from}
-use Rattle.cw_open.proofs.Refused.Backing.{aborted_block, block_some}
-use Rattle.cw_open.proofs.Refused.Backed.{fork_child}
 use Rattle.cw_open.proofs.Refused.Victims.{IsTold, IsToldState, told_states}
 use Rattle.cw_open.proofs.Refused.Asking.{asking_states}
 use Rattle.cw_open.proofs.Refused.Fell.{One, any_one}
 use Rattle.cw_open.proofs.Reordered.Renamed.{each_number, low, strand_kept, block_kept, pending_kept, stamp_kept, node_kept, live_renamed, strand_of_renamed, any_map}
-use Rattle.cw_open.proofs.Reordered.Conflicts.{any_sorted, all_sorted}
-use Rattle.cw_open.proofs.Reordered.Places.{last_some}
 use Rattle.cw_open.proofs.Reordered.SeriesRise.{series_rises}
 
 -- ## Lists
@@ -97,7 +95,7 @@ not_pending t n = by (slice_get t n) where
 
 -- a refused access is no strand
 tried_no_strand : (t : List Node) (n : ℕ) → is_tried t n ≡ true → is_strand t n ≡ false
-tried_no_strand t = not_at_node t (λ y. is_tried_kind y.kind) (λ y. is_strand_kind y.kind) (λ y e. kinds y.kind e) where
+tried_no_strand t = node_tells false t (λ y. is_tried_kind y.kind) (λ y. is_strand_kind y.kind) (λ y e. kinds y.kind e) where
   kinds : (k : Kind) → is_tried_kind k ≡ true → is_strand_kind k ≡ false
   kinds (Tried d) e = refl
   kinds Strand e = absurd (cc e)
@@ -368,7 +366,7 @@ module _ (asked : List Node → List ℕ → Option ℤ → List ℕ) (first : L
 
     some_tell : list_any (tells new budget (f x)) (conflicts_in_order t cs) ≡ true
     some_tell =
-        any_sorted (tells new budget (f x)) (map (conflict_in_order t) cs)
+        any_by_key asker_of (tells new budget (f x)) (map (conflict_in_order t) cs)
         ∙ any_map (tells new budget (f x)) (conflict_in_order t) cs
         ∙ one.among (λ c. tells new budget (f x) (conflict_in_order t c))
         (and_from (nat_eq one.one.attempt budget) (is_refused_in new (f x) (f one.one.asker) (victim_of one.one)) (eq-eqb one.one.attempt budget parts.0) ((one.holds parts.0).tells x parts.1))
@@ -376,7 +374,7 @@ module _ (asked : List Node → List ℕ → Option ℤ → List ℕ) (first : L
     each_last : All (λ d. tells new budget (f x) d ≡ true → may_be_last new d ≡ true) (conflicts_in_order t cs)
     each_last =
         let P : Conflict → Type 0 = λ d. tells new budget (f x) d ≡ true → may_be_last new d ≡ true in
-        all_sorted P (map (conflict_in_order t) cs)
+        all_by_key asker_of P (map (conflict_in_order t) cs)
         (All-map P (conflict_in_order t) cs
         (all_with Facts Facts (λ c. P (conflict_in_order t c)) cs facts facts
         (λ c a b e. (a (eqb-true c.attempt budget (and_parts (nat_eq c.attempt budget) (is_refused_in new (f x) (f c.asker) (victim_of c)) e).0)).last)))

@@ -1,26 +1,24 @@
 -- The laws on runs.
-use Rattle.std.proofs.Common.{◌≡◌, ℕ, List, length, map, sym, subst, refl, Bool, true, inl, inr, nat_eq}
+use Rattle.std.proofs.Common.{◌≡◌, ℕ, List, length, map, sym, subst, Bool, inl, inr}
 use Rattle.std.specs.Prelude.{◌&&◌, ℤ, filter}
-use Rattle.std.proofs.lemmas.Bool.{and_parts, and_from, eqb-true, eq-eqb}
+use Rattle.std.proofs.lemmas.Bool.{and_parts, and_from}
 use Rattle.cw_tree.specs.declared.node.Node.{Node}
 use Rattle.cw_tree.specs.Nodes.{touches_kind, stamp_of, touches, all_nodes}
-use Rattle.cw_tree.specs.Walks.{has}
 use Rattle.cw_tree.specs.Accesses.{is_live, live_accesses}
 use Rattle.cw_tree.specs.Journals.{FitsCells}
 use Rattle.cw_tree.specs.Shape.{AreStamps}
-use Rattle.cw_tree.proofs.Lists.{In, any_in, any_from}
-use Rattle.cw_tree.proofs.Members.{in_filter, below_in}
-use Rattle.cw_tree.proofs.InOrder.Keys.{by_key_in}
+use Rattle.cw_tree.proofs.Lists.{In}
+use Rattle.cw_tree.proofs.Members.{in_filter, below_in, map_in, in_map, filter_in}
+use Rattle.cw_tree.proofs.InOrder.Keys.{by_key_in, in_by_key}
 use Rattle.cw_tree.proofs.Walks.There.{node_there}
+use Rattle.cw_tree.proofs.ChainLaws.LiveAccesses.{live_rises}
+use Rattle.cw_tree.proofs.Rising.{rises_increase, rises_same}
+use Rattle.cw_tree.proofs.Walks.Kin.{has_in}
 use Rattle.cw_open.specs.Machine.{OpenMachine, live}
 use Rattle.cw_open.specs.Steps.{Step, forks, begins, accesses, refuses, outputs, commits, undoes, aborts, finishes, joins, stops}
 use Rattle.cw_open.specs.Runs.{Allowed, at_once, at_any_time}
 use Rattle.cw_open.specs.Laws.{TreesAreSound, OpenAreNested, StrandsStandAtPlaces, ClocksAreLatest, CellsFit, ListsRise, ListsAreLive, ListsHaveAll, NoneUndone, ListsAreChains, BlocksHaveEnded, AtOnceIsAtAnyTime, RefusalsAreTold}
-use Rattle.cw_open.proofs.Laws.Filtered.{filter_in}
-use Rattle.cw_open.proofs.Laws.Rising.{rises_filter, rises_increase, rises_same}
-use Rattle.cw_open.proofs.Reordered.KeysRise.{map_in, in_map, below_rises, in_by_key, by_key_rises}
 use Rattle.cw_open.proofs.Open.Trees.{stands_well}
-use Rattle.cw_open.proofs.Laws.Named.{access_stamped}
 use Rattle.cw_open.proofs.Runs.States.{IsState, states, by_rules}
 use Rattle.cw_open.proofs.Laws.ChainStates.{newest_alone, chain_states}
 use Rattle.cw_open.proofs.Refused.Told.{told}
@@ -40,15 +38,6 @@ pub clocks : ClocksAreLatest
 clocks asked first m r = (states (at_any_time asked) first m r).well.clock
 
 -- ## Lists
-
-has_in : (us : List ℕ) (s : ℕ) → has us s ≡ true → In s us
-has_in us s e =
-    let z = any_in (λ n. nat_eq n s) us e in
-    let P : ℕ → Type 0 = λ n. In n us in
-    subst P (eqb-true z.0 s z.2) z.1
-
-in_has : (us : List ℕ) (s : ℕ) → In s us → has us s ≡ true
-in_has us s i = any_from (λ n. nat_eq n s) s us i (eq-eqb s s refl)
 
 pub cells : CellsFit
 cells asked first m r =
@@ -97,11 +86,7 @@ module _ (first : List ℤ) (m : OpenMachine) (s : IsState first m) (none : None
   pub same_list : live m c ≡ map (stamp_of t) (live_accesses t c)
   same_list =
       rises_same (live m c) (map (stamp_of t) (live_accesses t c)) (s.listed.rises c)
-      (by_key_rises (stamp_of t) (filter lives (all_nodes t)) (rises_filter lives (all_nodes t) (below_rises (length t)))
-      (λ x y i j e.
-      let a = (and_parts (touches t c x) (is_live t x) (in_filter lives x (all_nodes t) i).1).0 in
-      let b = (and_parts (touches t c y) (is_live t y) (in_filter lives y (all_nodes t) j).1).0 in
-      stamps.distinct x y (node_there (λ z. touches_kind c z.kind) t x a) (node_there (λ z. touches_kind c z.kind) t y b) (access_stamped t stamps c x a) e))
+      (live_rises t c stamps)
       all_there none_more
 
 pub have_all : ListsHaveAll

@@ -11,10 +11,10 @@ use Rattle.cw_tree.specs.Journals.{fits_cells}
 use Rattle.cw_tree.specs.NextNodes.{IsSound}
 use Rattle.cw_tree.proofs.Lists.{In}
 use Rattle.cw_tree.proofs.Worked.Checks.{is_tree, are_stamps, pending_last}
+use Rattle.cw_tree.proofs.Rising.{Rises}
 use Rattle.cw_open.specs.Machine.{OpenMachine, live}
 use Rattle.cw_open.specs.Steps.{Step, forks, begins, accesses, refuses, outputs, commits, undoes, aborts, finishes, joins, stops, after_open_step, after_all, first_machine}
 use Rattle.cw_open.specs.Runs.{Rules, Allowed, IsRun, IsReachedBy}
-use Rattle.cw_open.proofs.Laws.Rising.{Rises}
 use Rattle.cw_open.proofs.Open.Trees.{IsWell}
 use Rattle.cw_open.proofs.Open.TreeSteps.{well_after}
 use Rattle.cw_open.proofs.Laws.Listing.{AreListed}

@@ -1,10 +1,9 @@
 -- Where an access is refused as soon as it conflicts, its conflict can tell what it met; and where each stamp is drawn by the step that uses
 -- it, all are drawn in time.
-use Rattle.std.proofs.Common.{◌≡◌, ℕ, zero, suc, ◌+◌, ◌-◌, ◌<◌, ◌≤◌, List, [], ◌∷◌, ◌++◌, length, drop, refl, ap, sym, ◌∙◌, subst, arith, cond, inl, inr, nat_le, length-append}
+use Rattle.std.proofs.Common.{◌≡◌, ℕ, zero, suc, ◌+◌, ◌-◌, ◌<◌, ◌≤◌, List, [], ◌∷◌, ◌++◌, length, drop, ap, sym, ◌∙◌, subst, arith, cond, inl, inr, nat_le, length-append}
 use Rattle.std.specs.Prelude.{◌&&◌, not, ℤ, All}
 use Rattle.std.proofs.lemmas.Bool.{and_parts, or_parts, cases_Bool, cases_lt, le-leb}
 use Rattle.std.proofs.lemmas.List.{length-drop, drop-append-le}
-use Rattle.std.proofs.lemmas.List.Elements.{All-cons, All-nil}
 use Rattle.std.specs.List.Sorted.{IsStrictlyIncreasing}
 use Rattle.cw_tree.specs.declared.node.Node.{Node}
 use Rattle.cw_tree.specs.Nodes.{is_pending}
@@ -14,13 +13,14 @@ use Rattle.cw_tree.specs.Accesses.{HasAccess}
 use Rattle.cw_tree.specs.AccessStacks.{access_at}
 use Rattle.cw_tree.specs.Newest.{newest, last_eight}
 use Rattle.cw_tree.proofs.Lists.{In}
+use Rattle.cw_tree.proofs.Rising.{Rises, rises_increase}
+use Rattle.cw_tree.proofs.Members.{all_of}
+use Rattle.cw_tree.proofs.NodeKinds.{pending_block}
 use Rattle.cw_open.specs.Machine.{OpenMachine, live}
 use Rattle.cw_open.specs.Steps.{Met, Step, forks, begins, accesses, refuses, outputs, commits, undoes, aborts, finishes, joins, stops, after_open_step, first_machine}
 use Rattle.cw_open.specs.Runs.{Allowed, IsRun, IsRefused, at_once}
 use Rattle.cw_open.specs.Times.{is_changed, times_after, IsDrawn, IsMetInTime, IsTimely, AreTimely, IsAhead, AreAhead}
 use Rattle.cw_open.specs.Refused.{IsNewest, as_told, AtOnceIsTold, AheadIsTimely}
-use Rattle.cw_open.proofs.Open.NodeKinds.{pending_block}
-use Rattle.cw_open.proofs.Laws.Rising.{Rises, rises_increase}
 use Rattle.cw_open.proofs.Runs.States.{IsState, state_after, state_opening}
 use Rattle.cw_open.proofs.Refused.Told.{met_is}
 
@@ -40,10 +40,6 @@ newest_split : (us : List ℕ) (s : ℕ) → newest us ≡ s ∷ [] → (vs : Li
 newest_split [] s e = absurd (cc e)
 newest_split (u ∷ []) s e = ([], e)
 newest_split (u ∷ v ∷ us) s e = let z = newest_split (v ∷ us) s e in (u ∷ z.0, ap (λ ns. u ∷ ns) z.1)
-
-all_of : (P : ℕ → Type 0) (us : List ℕ) → ((v : ℕ) → In v us → P v) → All P us
-all_of P [] f = All-nil P
-all_of P (u ∷ us) f = All-cons P u us (f u (inl refl)) (all_of P us (λ v i. f v (inr i)))
 
 -- the last eight of rising accesses are as a conflict tells them
 newest_told : (t : List Node) (c : ℕ) (us : List ℕ) (met : Met) → Rises us → ((v : ℕ) → In v us → HasAccess t c v) → newest us ≡ met.last ∷ [] → met.chain ≡ last_eight us → IsNewest t c met

@@ -1,0 +1,58 @@
+-- Runs in which each fork's left strand finishes before its right one steps: no access is refused in them.
+use Rattle.std.specs.Prelude.{◌≡◌, ℕ, ℤ, ◌&&◌, Bool, true, not, nat_lt, IsTrue, List, [], ◌∷◌, Option}
+use Rattle.std.specs.List.{list_any, list_all}
+use Rattle.cw_tree.specs.declared.node.Node.{Node}
+use Rattle.cw_tree.specs.Nodes.{parent_of, is_pending}
+use Rattle.cw_tree.specs.Walks.{is_ancestor}
+use Rattle.cw_tree.specs.Series.{children, place}
+use Rattle.cw_tree.specs.Names.{strands_on}
+use Rattle.cw_tree.specs.Newest.{newest}
+use Rattle.cw_open.specs.Machine.{OpenMachine, has_finished}
+use Rattle.cw_open.specs.Steps.{Step, forks, begins, accesses, refuses, outputs, commits, undoes, aborts, finishes, joins, stops, after_open_step, after_all, first_machine}
+use Rattle.cw_open.specs.Runs.{Rules, IsRun, at_once}
+
+-- ## Left strands first
+
+-- the strand that makes a step: none joins a fork, and one that stops makes nothing
+abbrev pub makers : Step → List ℕ
+makers (forks s stamp) = s ∷ []
+makers (begins s stamp) = s ∷ []
+makers (accesses s c w stamp) = s ∷ []
+makers (refuses s c w met) = s ∷ []
+makers (outputs s v stamp) = s ∷ []
+makers (commits s stamp) = s ∷ []
+makers (undoes s c) = s ∷ []
+makers (aborts s stamp) = s ∷ []
+makers (finishes s dead) = s ∷ []
+makers (joins f) = []
+makers (stops s) = []
+
+-- strand r is a left one, or the left strand of its fork has finished: none that is to the left of it is unfinished
+abbrev pub left_has_finished : OpenMachine → ℕ → Bool
+left_has_finished m r = not (list_any (λ l. nat_lt l r && not (has_finished m l)) (children m.tree (parent_of m.tree r)))
+
+-- so it is of strand s, and of each strand around it
+abbrev pub lefts_have_finished : OpenMachine → ℕ → Bool
+lefts_have_finished m s = list_all (left_has_finished m) (strands_on m.tree s)
+
+-- whenever a strand steps, the left strand of each fork in whose right one it stands has finished
+abbrev pub go_left_first : OpenMachine → List Step → Bool
+go_left_first m [] = true
+go_left_first m (e ∷ es) = list_all (lefts_have_finished m) (makers e) && go_left_first (after_open_step m e) es
+
+-- ## Accesses are refused while a block stands in the way
+
+-- An access may be refused, whatever is said of it, but only while some block is pending that is not around its place. So it is not of one
+-- that is refused later, for what it met before: its strand may have tried it ahead of its turn.
+abbrev pub while_pending : (List Node → List ℕ → Option ℤ → List ℕ) → Rules
+while_pending asked = record { asked = asked; MayRefuse = λ m s c w met. (b : ℕ) × IsTrue (is_pending m.tree b && not (is_ancestor m.tree b (place m.tree s))) }
+
+-- one that is refused as soon as it conflicts meets such a block
+abbrev pub AtOnceIsWhilePending : Type 0
+AtOnceIsWhilePending = (first : List ℤ) (es : List Step) → IsRun at_once (first_machine first) es → IsRun (while_pending (λ t us w. newest us)) (first_machine first) es
+
+-- where left strands go first, none is refused
+abbrev pub LeftFirstIsUnrefused : Type 0
+LeftFirstIsUnrefused =
+    (asked : List Node → List ℕ → Option ℤ → List ℕ) (first : List ℤ) (es : List Step) → IsRun (while_pending asked) (first_machine first) es → IsTrue (go_left_first (first_machine first) es)
+    → (after_all (first_machine first) es).conflicts ≡ []
