@@ -3,7 +3,7 @@ use Rattle.std.proofs.Common.{◌≡◌, ◌≢◌, ℕ, zero, suc, ◌+◌, ◌
 use Rattle.std.specs.Prelude.{slice_get, slice_set, slice_index_or, Contains, nat_le, ◌==◌, if◌then◌else◌}
 use Rattle.std.proofs.lemmas.Option.{slice_get_within, get_or_from_slice_get}
 use Rattle.std.proofs.lemmas.List.{get_or-set_other}
-use Rattle.std.proofs.lemmas.Bool.{ltb-true, leb-true, eqb-true, ltb-false, leb-false, cases_order, eq-eqb, le-leb, lt-ltb}
+use Rattle.std.proofs.lemmas.Bool.{ltb-true, leb-true, eqb-true, ltb-false, leb-false, cases_order, eq-eqb, le-leb, lt-ltb, and_parts}
 use Rattle.cw_code.specs.declared.instruction.CodeKind.{CodeKind}
 use Rattle.cw_code.specs.declared.instruction.CodeFault.{CodeFault}
 use Rattle.cw_code.specs.declared.instruction.Instr.{Instr}
@@ -15,13 +15,6 @@ use Rattle.cw_code.specs.Table.{Effect}
 use Rattle.cw_code.specs.Rules.{effect_of, pops, below, inside, is_target, is_tick, when, operand_faults, at_start, passed, onwards, jumps, never_passed, next_of, target_of, Places, offered, give, visit, pass, passes, begun, size_of, places, situation_of, known_at, is_border, is_torn, same, uneven_faults, situation_faults, faults_at, place_faults, is_laid, head_faults, faults_from, faults}
 
 -- ## Tests
-
-pub both_true : (a b : Bool) → (a && b) ≡ true → (a ≡ true) × (b ≡ true)
-both_true true b e = (refl, e)
-both_true false b e = absurd (no e)
-  where
-    no : false ≡ true → ⊥
-    no e = cc
 
 pub not_false : (b : Bool) → not b ≡ false → b ≡ true
 not_false true e = refl
@@ -68,12 +61,12 @@ pub record Inside (f : Func) (p : ℕ) : Type 0 where
 
 pub is_inside : (f : Func) (p : ℕ) → inside f p ≡ true → Inside f p
 is_inside f p e =
-    let b = both_true (nat_le f.start p) (nat_lt p f.end) e in
+    let b = and_parts (nat_le f.start p) (nat_lt p f.end) e in
     record { from = leb-true f.start p b.0; to = ltb-true p f.end b.1 }
 
 pub target_is : (c : Code) (f : Func) (p : ℕ) (z : ℤ) → is_target c f p z ≡ true → (q : ℕ) × (z ≡ pos q) × (inside f q ≡ true) × ((p < q) ⊎ (is_tick (slice_get c.instrs q) ≡ true))
 target_is c f p (pos q) e =
-    let b = both_true (inside f q) _ e in
+    let b = and_parts (inside f q) _ e in
     (q, refl, b.0, further (nat_lt p q) (is_tick (slice_get c.instrs q)) (ltb-true p q) b.1)
   where
     further : (x y : Bool) {A : Type 0} → (x ≡ true → A) → (x || y) ≡ true → A ⊎ (y ≡ true)
@@ -112,8 +105,8 @@ module _ (c : Code) where
       let h2 = nil_right (when (nat_lt f.locals f.params) _ f.start) _ head in
       let w : well ≡ true = not_false well (when_not (not well) _ f.start (nil_left (when (not well) _ f.start) _ h2)) in
       let h4 = when_not (nat_le f.end f.start) _ f.start (nil_right (when (not well) _ f.start) _ h2) in
-      let parts = both_true (f.start == at) (nat_le f.start f.end && nat_le f.end (length c.instrs)) w in
-      let parts2 = both_true (nat_le f.start f.end) (nat_le f.end (length c.instrs)) parts.1 in
+      let parts = and_parts (f.start == at) (nat_le f.start f.end && nat_le f.end (length c.instrs)) w in
+      let parts2 = and_parts (nat_le f.start f.end) (nat_le f.end (length c.instrs)) parts.1 in
       let next : faults_from c well f.end fs ≡ [] = nil_right (if well then place_faults c f (places c f) (size_of f) else []) _ rest in
       record {
         laid = record {
@@ -239,8 +232,8 @@ module _ (c : Code) where
       no : false ≡ true → ⊥
       no e = cc
   same_is (Some t) s e =
-      let b = both_true (t.height == s.height) _ e in
-      let d = both_true (t.blocks == s.blocks) _ b.1 in
+      let b = and_parts (t.height == s.height) _ e in
+      let d = and_parts (t.blocks == s.blocks) _ b.1 in
       let h = eqb-true t.height s.height b.0 in
       let k = eqb-true t.blocks s.blocks d.0 in
       let f = eqb-true t.forks s.forks d.1 in

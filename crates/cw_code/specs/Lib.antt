@@ -1,4 +1,5 @@
 pub mod Table
+pub mod Mnemonics
 pub mod Rules
 pub mod Answers
 pub mod Printed

@@ -7,40 +7,12 @@ use Rattle.cw_code.specs.declared.instruction.CodeKind.{CodeKind}
 use Rattle.cw_code.specs.declared.instruction.CodeFault.{CodeFault}
 use Rattle.cw_code.specs.declared.instruction.CodeKind.TheVariants.{Underflow, Uneven, JumpOut, NoEnd}
 use Rattle.cw_code.specs.Table.{rows}
+use Rattle.cw_code.specs.Mnemonics.{plain, push, jump, jump_zero, fork, ret, done, tick}
 use Rattle.cw_code.specs.Printed.{lines_from}
 use Rattle.cw_code.specs.Rules.{faults}
 
--- ## Instructions
-
-abbrev pub plain : ℕ → Instr
-plain op = record { op = op; a = pos 0; b = 0 }
-
-abbrev pub with : ℕ → ℕ → Instr
-with op a = record { op = op; a = pos a; b = 0 }
-
-abbrev pub push : ℕ → Instr
-push = with 1
-
-abbrev pub jump : ℕ → Instr
-jump = with 21
-
-abbrev pub jumpz : ℕ → Instr
-jumpz = with 22
-
-abbrev pub fork : ℕ → Instr
-fork = with 29
-
 abbrev pub add : Instr
 add = plain 8
-
-abbrev pub ret : Instr
-ret = plain 24
-
-abbrev pub done : Instr
-done = plain 31
-
-abbrev pub tick : Instr
-tick = plain 32
 
 -- code of one function, without parameters, locals and cells
 abbrev pub code : List Instr → Code
@@ -52,16 +24,16 @@ fault k p = record { kind = k; at = p }
 pub record Verdicts : Type 0 where
   pub table : length rows ≡ 32
   pub no_operands : faults (code (add ∷ ret ∷ [])) ≡ fault Underflow 0 ∷ []
-  pub sound : faults (code (push 1 ∷ ret ∷ [])) ≡ []
+  pub sound : faults (code (push (pos 1) ∷ ret ∷ [])) ≡ []
   pub no_target : faults (code (jump 9 ∷ ret ∷ [])) ≡ fault JumpOut 0 ∷ []
-  pub no_end : faults (code (push 1 ∷ [])) ≡ fault NoEnd 0 ∷ []
-  pub two_heights : faults (code (push 1 ∷ jumpz 3 ∷ push 5 ∷ push 6 ∷ ret ∷ [])) ≡ fault Uneven 3 ∷ []
+  pub no_end : faults (code (push (pos 1) ∷ [])) ≡ fault NoEnd 0 ∷ []
+  pub two_heights : faults (code (push (pos 1) ∷ jump_zero 3 ∷ push (pos 5) ∷ push (pos 6) ∷ ret ∷ [])) ≡ fault Uneven 3 ∷ []
   pub to_itself : faults (code (jump 0 ∷ [])) ≡ fault JumpOut 0 ∷ []
   pub to_a_tick : faults (code (tick ∷ jump 0 ∷ [])) ≡ []
   pub no_index : faults (code (record { op = 5; a = pos 0; b = 4 } ∷ ret ∷ [])) ≡ fault JumpOut 0 ∷ fault Underflow 0 ∷ []
   -- a tick that is entered from behind alone, and a way round that grows
-  pub from_behind : faults (code (jump 3 ∷ tick ∷ ret ∷ push 0 ∷ jump 1 ∷ [])) ≡ []
-  pub growing : faults (code (tick ∷ push 3 ∷ jump 0 ∷ [])) ≡ fault Uneven 0 ∷ []
+  pub from_behind : faults (code (jump 3 ∷ tick ∷ ret ∷ push (pos 0) ∷ jump 1 ∷ [])) ≡ []
+  pub growing : faults (code (tick ∷ push (pos 3) ∷ jump 0 ∷ [])) ≡ fault Uneven 0 ∷ []
   -- a fork to the place behind it
   pub to_the_next : faults (code (fork 1 ∷ done ∷ [])) ≡ fault Uneven 1 ∷ fault Uneven 1 ∷ []
   pub no_function : faults (record { cells = 0; funcs = []; instrs = tick ∷ [] }) ≡ fault JumpOut 0 ∷ []
@@ -69,5 +41,5 @@ pub record Verdicts : Type 0 where
   pub unknown : faults (code (plain 33 ∷ ret ∷ [])) ≡ fault Underflow 0 ∷ fault Underflow 1 ∷ []
 
 pub record Texts : Type 0 where
-  pub one : lines_from 0 (push 1 ∷ ret ∷ []) ≡ decimal 0 ++ (codes " push " ++ (signed_decimal (pos 1) ++ 10 ∷ [])) ++ (decimal 1 ++ codes " ret\n")
+  pub one : lines_from 0 (push (pos 1) ∷ ret ∷ []) ≡ decimal 0 ++ (codes " push " ++ (signed_decimal (pos 1) ++ 10 ∷ [])) ++ (decimal 1 ++ codes " ret\n")
   pub two : lines_from 7 (record { op = 5; a = negsuc 2; b = 4 } ∷ []) ≡ decimal 7 ++ (codes " loadx " ++ (signed_decimal (negsuc 2) ++ (codes " " ++ (decimal 4 ++ 10 ∷ []))))

@@ -2,7 +2,7 @@
 //! several layers name: run faults, limits, cells.
 //! Stands on `cw_base`.
 //! Contracts cite `specs/Table.antt` (instructions), `specs/Rules.antt` (the rules, as the list of what is broken), `specs/Answers.antt`
-//! (what the verifier answers), `specs/Printed.antt` (texts) and `specs/Programs.antt` (programs). `Rows` tries them.
+//! (what the verifier answers), `specs/Printed.antt` (texts) and `specs/Programs.antt` (programs). `Worked` tries them.
 #![tactic(auto)]
 
 ghost use Rattle.cw_code.specs.Worked.{Verdicts, Texts};

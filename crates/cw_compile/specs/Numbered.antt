@@ -8,9 +8,9 @@ use Rattle.cw_compile.specs.declared.names.Names.{Names}
 use Rattle.cw_compile.specs.Named.{value_named}
 
 -- each local has as its number how many there were before it
-abbrev pub AreNumbered : List (List ℕ × ℕ) → Type 0
-AreNumbered [] = Unit {0}
-AreNumbered (x ∷ xs) = (x.1 ≡ length xs) × AreNumbered xs
+abbrev pub NamesAreNumbered : List (List ℕ × ℕ) → Type 0
+NamesAreNumbered [] = Unit {0}
+NamesAreNumbered (x ∷ xs) = (x.1 ≡ length xs) × NamesAreNumbered xs
 
 -- the elements of a cell
 abbrev pub extent_of : CellInfo → Extent

@@ -16,13 +16,13 @@ pub(crate) struct Slots<'a> {
 impl<'a> Model for Slots<'a> {
     ghost use Rattle.std.specs.Prelude.{map, length, ◌<◌, ◌^◌};
     ghost use Rattle.cw_strand.specs.Compilation.{Slots};
-    ghost use Rattle.cw_compile.specs.Numbered.{AreNumbered};
+    ghost use Rattle.cw_compile.specs.Numbered.{NamesAreNumbered};
 
     ghost Value = { Slots };
 
     ghost view = { λ s. map (λ x. x.0) s.numbers };
 
-    ghost invariant = { λ s. AreNumbered s.numbers × (length s.numbers < 2 ^ 32) };
+    ghost invariant = { λ s. NamesAreNumbered s.numbers × (length s.numbers < 2 ^ 32) };
 }
 
 impl<'a> Slots<'a> {

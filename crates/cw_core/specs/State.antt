@@ -55,7 +55,7 @@ waits_for_left k s =
     not (is_split k (parent_of k.machine.tree s))
     && list_any (λ l. nat_lt l s && not (has_finished k.machine l)) (children k.machine.tree (parent_of k.machine.tree s))
 
--- the conflict that a block or an access was refused with as often as it may be
+-- the conflict that refused the last attempt that a block or an access may have
 abbrev pub last_refusal : CoreState → Option Conflict
 last_refusal k = find (λ c. c.attempt == k.budget) k.machine.conflicts
 

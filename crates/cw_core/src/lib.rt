@@ -3,7 +3,7 @@
 //! Stands on `cw_tree`, `cw_trace`, `cw_xconf`, `cw_stack` and `cw_open`.
 //! Contracts cite `specs/State.antt` (what is seen of a core), `specs/Events.antt` (which events fit, the steps that each stands for, and
 //! how it is answered), `specs/Laws.antt` (what is true of a core between events) and `specs/Closing.antt` (what it leaves);
-//! `specs/Rows.antt` tries them.
+//! `specs/Worked.antt` tries them.
 #![tactic(auto)]
 
 ghost use Rattle.cw_core.specs.Laws.{AlikeAnswer, AlikeStay, CellsAreChains, EventsAreRuns, ListsAreRuns, SplitsAreAnswered, SplitsChangeNoAnswer, SplitsChangeNothing, StartsAreCores, StrandsGoOn};

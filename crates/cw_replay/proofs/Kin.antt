@@ -3,43 +3,33 @@ use Rattle.std.proofs.Common.{◌≡◌, ℕ, ◌<◌, ◌≤◌, List, [], ◌�
 use Rattle.std.specs.Prelude.{◌⊎◌, ◌&&◌, not}
 use Rattle.std.proofs.lemmas.Bool.{and_parts, and_from, eqb-true, eq-eqb, ltb-true, lt-ltb, false_from_ne_true, not-true, cases_lt, cases_eq}
 use Rattle.cw_tree.specs.declared.node.Node.{Node}
-use Rattle.cw_tree.specs.Nodes.{parent_of, is_strand, is_fork, is_aborted, all_nodes, below}
+use Rattle.cw_tree.specs.Nodes.{parent_of, is_strand, is_fork, is_aborted, below}
 use Rattle.cw_tree.specs.Walks.{IsRooted, above, is_ancestor}
 use Rattle.cw_tree.specs.Accesses.{is_live}
 use Rattle.cw_tree.specs.Series.{children}
 use Rattle.cw_tree.specs.Names.{is_right}
 use Rattle.cw_tree.specs.Shape.{IsTree}
-use Rattle.cw_tree.specs.Links.{is_child}
-use Rattle.cw_tree.proofs.Lists.{any_in, any_from, all_in}
-use Rattle.cw_tree.proofs.Walks.Ancestors.{ancestor_above, ancestor_self, ancestor_up, ancestor_le, ancestor_trans}
+use Rattle.cw_tree.proofs.Lists.{any_in, any_from, all_in, In}
+use Rattle.cw_tree.proofs.Walks.Ancestors.{ancestor_above, ancestor_le, ancestor_trans}
 use Rattle.cw_tree.proofs.Walks.Kin.{above_in, AreOrdered, ancestor_linear, children_apart}
-use Rattle.cw_tree.proofs.InOrder.DepthFirst.{IsChild, child_is}
-use Rattle.cw_replay.proofs.Lists.{In, Rising, filter_in, in_below, below_in, to_number, of_number, rising_filter, rising_below}
-
-pub child_in : (t : List Node) (q c : ℕ) → In c (children t q) → IsChild t q c
-child_in t q c h = child_is t q c (to_number c (children t q) h)
-
-pub in_child : (t : List Node) (q c : ℕ) → IsChild t q c → In c (children t q)
-in_child t q c k =
-    filter_in (is_child t q) c (all_nodes t) (below_in c (length t) k.there)
-    (and_from (nat_lt 0 c) (nat_eq (parent_of t c) q) (lt-ltb 0 c k.some) (eq-eqb (parent_of t c) q k.parent))
-
-pub children_rise : (t : List Node) (q : ℕ) → Rising (children t q)
-children_rise t q = rising_filter (is_child t q) (all_nodes t) (rising_below (length t))
+use Rattle.cw_tree.proofs.InOrder.DepthFirst.{IsChild, child_is, child_in, children_rise}
+use Rattle.cw_tree.proofs.InOrder.Visits.{child_over}
+use Rattle.cw_tree.proofs.Members.{in_below, below_in}
+use Rattle.cw_tree.proofs.Rising.{Rises}
 
 -- the strands of a fork
 module _ (t : List Node) (f l d : ℕ) (e : children t f ≡ l ∷ d ∷ []) where
   pub left_child : IsChild t f l
-  left_child = child_in t f l (let P : List ℕ → Type 0 = λ xs. In l xs in subst P (sym e) (inl refl))
+  left_child = child_is t f l (let P : List ℕ → Type 0 = λ xs. In l xs in subst P (sym e) (inl refl))
 
   pub right_child : IsChild t f d
-  right_child = child_in t f d (let P : List ℕ → Type 0 = λ xs. In d xs in subst P (sym e) (inr (inl refl)))
+  right_child = child_is t f d (let P : List ℕ → Type 0 = λ xs. In d xs in subst P (sym e) (inr (inl refl)))
 
   pub left_less : l < d
-  left_less = (let P : List ℕ → Type 0 = λ xs. Rising xs in subst P e (children_rise t f)).0 d (inl refl)
+  left_less = (let P : List ℕ → Type 0 = λ xs. Rises xs in subst P e (children_rise t f)).0 d (inl refl)
 
   pub left_or_right : (c : ℕ) → IsChild t f c → (c ≡ l) ⊎ (c ≡ d)
-  left_or_right c k = let P : List ℕ → Type 0 = λ xs. In c xs in elim (subst P e (in_child t f c k)) [ inl q ↦ inl q | inr w ↦ elim w [ inl q ↦ inr q | inr v ↦ absurd v ] ]
+  left_or_right c k = let P : List ℕ → Type 0 = λ xs. In c xs in elim (subst P e (child_in t f c k)) [ inl q ↦ inl q | inr w ↦ elim w [ inl q ↦ inr q | inr v ↦ absurd v ] ]
 
   abbrev sibling : ℕ → ℕ → Bool
   sibling s m = nat_lt 0 m && is_strand t m && nat_eq (parent_of t m) (parent_of t s)
@@ -48,7 +38,7 @@ module _ (t : List Node) (f l d : ℕ) (e : children t f ≡ l ∷ d ∷ []) whe
   left_is_left = false_from_ne_true (is_right t l) (λ g.
       let z = any_in (sibling l) (below l) g in
       let y = and_parts (nat_lt 0 z.0 && is_strand t z.0) (nat_eq (parent_of t z.0) (parent_of t l)) z.2 in
-      let low : z.0 < l = in_below z.0 l (of_number z.0 (below l) z.1) in
+      let low : z.0 < l = in_below z.0 l z.1 in
       let high = left_child.there in
       let less : l < d = left_less in
       let k : IsChild t f z.0 = record { some = ltb-true 0 z.0 (and_parts (nat_lt 0 z.0) (is_strand t z.0) y.0).0; there = omega arith; parent = eqb-true (parent_of t z.0) (parent_of t l) y.1 ∙ left_child.parent } in
@@ -56,19 +46,16 @@ module _ (t : List Node) (f l d : ℕ) (e : children t f ≡ l ∷ d ∷ []) whe
 
   pub right_is_right : is_strand t l ≡ true → is_right t d ≡ true
   right_is_right s =
-      any_from (sibling d) l (below d) (to_number l (below d) (below_in l d left_less))
+      any_from (sibling d) l (below d) (below_in l d left_less)
       (and_from (nat_lt 0 l && is_strand t l) (nat_eq (parent_of t l) (parent_of t d)) (and_from (nat_lt 0 l) (is_strand t l) (lt-ltb 0 l left_child.some) s) (eq-eqb (parent_of t l) (parent_of t d) (left_child.parent ∙ sym right_child.parent)))
 
 module _ (t : List Node) (r : IsRooted t) where
   pub parent_low : (q c : ℕ) → IsChild t q c → q < c
   parent_low q c k = let low : parent_of t c < c = r c k.some k.there in omega (arith, k.parent)
 
-  pub over_child : (q c : ℕ) → IsChild t q c → is_ancestor t q c ≡ true
-  over_child q c k = ancestor_up t r q c k.some k.there (let P : ℕ → Type 0 = λ x. is_ancestor t q x ≡ true in subst P (sym k.parent) (ancestor_self t q))
-
   -- what is over a child is over its parent too
   pub over_parent : (q c n : ℕ) → n < length t → IsChild t q c → is_ancestor t c n ≡ true → is_ancestor t q n ≡ true
-  over_parent q c n h k e = ancestor_trans t r q c n h (over_child q c k) e
+  over_parent q c n h k e = ancestor_trans t r q c n h (child_over t r q c k) e
 
   -- of two ancestors of a node one is an ancestor of the other
   pub either_over : (a b n : ℕ) → n < length t → is_ancestor t a n ≡ true → is_ancestor t b n ≡ true → (is_ancestor t a b ≡ true) ⊎ (is_ancestor t b a ≡ true)

@@ -1,5 +1,3 @@
-mod Lists
-mod Keys
 mod Kin
 mod ForkNumbers
 mod Elders

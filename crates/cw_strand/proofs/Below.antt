@@ -263,7 +263,7 @@ module _ (code : Code) (ok : faults code ≡ []) (start : State) (deep : ℕ) (s
       leaps : (e : Effect) → effect_of i ≡ Some e → jumps (Some e) ≡ true → ((f : Func) → operand_faults code f s.current.place i (Some e) ≡ [] → is_target code f s.current.place i.a ≡ true) → ((j : ℕ) → blocks_after (Some e) j ≡ j) → Above (index i.a) s.current.locals s.callers s.scopes n
       leaps e does j target flat = goes (index i.a) s.current.locals refl (λ m at. subst (λ k. BlocksAt code (index i.a) k) (flat m) (jumped code ok s.current.place i e is does j target at)) h.0
 
-      goes_called : (o : Option Func) → slice_get code.funcs (index i.a) ≡ o → (vs : List ℤ) (u : State) → Holds n u → Above (s.current.place + 1) u.current.locals u.callers u.scopes n → Goes n (coded.called o (s.current.place + 1) vs u)
+      goes_called : (o : Option Func) → slice_get code.funcs (index i.a) ≡ o → (vs : List ℤ) (u : State) → Holds n u → Above (s.current.place + 1) u.current.locals u.callers u.scopes n → Goes n (coded.begins_call o (s.current.place + 1) vs u)
       goes_called None found vs u g at = tt
       goes_called (Some f) found vs u g at =
           goes_either n (nat_lt (length vs) f.params) stuck _ tt
@@ -285,7 +285,7 @@ module _ (code : Code) (ok : faults code ≡ []) (start : State) (deep : ℕ) (s
           either : (b : Bool) {x y : ℕ} → Above x s.current.locals s.callers s.scopes n → Above y s.current.locals s.callers s.scopes n → Above (if b then x else y) s.current.locals s.callers s.scopes n
           either true a b = a
           either false a b = b
-      acts t.Call vs does = goes_spent s (λ u. coded.called (slice_get code.funcs (index i.a)) (s.current.place + 1) vs u) h (goes_called (slice_get code.funcs (index i.a)) refl vs (record s { fuel = s.fuel + 1 }) h (behind t.Call does refl (λ j. refl) s.current.locals refl))
+      acts t.Call vs does = goes_spent s (λ u. coded.begins_call (slice_get code.funcs (index i.a)) (s.current.place + 1) vs u) h (goes_called (slice_get code.funcs (index i.a)) refl vs (record s { fuel = s.fuel + 1 }) h (behind t.Call does refl (λ j. refl) s.current.locals refl))
       acts t.Ret (v ∷ vs) does = goes_returned s.callers v s refl (λ j at. returns_flat code ok s.current.place j i is does at) h
       acts t.Drop (v ∷ vs) does = moved t.Drop does refl (λ j. refl) vs
       acts t.Out (v ∷ vs) does = goes_counts (Out v) (goes_to (s.current.place + 1) vs s) refl (moved t.Out does refl (λ j. refl) vs)

@@ -91,7 +91,7 @@ module _ (code : Code) where
         let fewer : length s.callers ≡ suc (length fs) = ap length (sym e) in
         lighter (length code.instrs) _ _ (rank code f.place) (rank code s.current.place) (omega (arith, fewer)) (rank_low f.place)
 
-    called_falls : (o : Option Func) (p : ℕ) (vs : List ℤ) (s : State) → s.fuel < s.limits.fuel → Falls s (coded.called o p vs (record s { fuel = s.fuel + 1 }))
+    called_falls : (o : Option Func) (p : ℕ) (vs : List ℤ) (s : State) → s.fuel < s.limits.fuel → Falls s (coded.begins_call o p vs (record s { fuel = s.fuel + 1 }))
     called_falls None p vs s lt = tt
     called_falls (Some g) p vs s lt =
         falls_either s (nat_lt (length vs) g.params) _ _
@@ -144,7 +144,7 @@ module _ (code : Code) where
             either : (b : Bool) (p q n : ℕ) → rank code p < n → rank code q < n → rank code (if b then p else q) < n
             either true p q n g h = g
             either false p q n g h = h
-        act_falls t.Call vs d = spent_falls s (λ u. coded.called (slice_get code.funcs (index i.a)) (s.current.place + 1) vs u) (λ lt. called_falls (slice_get code.funcs (index i.a)) _ vs s lt)
+        act_falls t.Call vs d = spent_falls s (λ u. coded.begins_call (slice_get code.funcs (index i.a)) (s.current.place + 1) vs u) (λ lt. called_falls (slice_get code.funcs (index i.a)) _ vs s lt)
         act_falls t.Ret (v ∷ vs) d = returned_falls s.callers v s refl
         act_falls t.Drop (v ∷ vs) d = moves _ vs (next_falls t.Drop d refl)
         act_falls t.Out (v ∷ vs) d = wanted _ s (goes_to (s.current.place + 1) vs s) refl (omega (arith, next_falls t.Out d refl))

@@ -10,7 +10,7 @@ use Rattle.cw_code.specs.declared.Limits.{Limits}
 use Rattle.cw_code.specs.declared.FaultKind.TheVariants.{Depth, Fuel}
 use Rattle.cw_strand.specs.declared.want.Want.TheVariants.{Fault}
 use Rattle.cw_strand.specs.Running.{on, wants, stuck}
-use Rattle.cw_strand.specs.Names.{find, called, globals, in_functions, cells_of}
+use Rattle.cw_strand.specs.Names.{find, fault_of_call, globals, in_functions, cells_of}
 use Rattle.cw_strand.specs.Meaning as m
 use Rattle.cw_strand.specs.Meaning.{Function, Locals, Task, function_of, bound_to, most_frames, perform, wait, value, enter, back_to}
 use Rattle.cw_strand.specs.Coded as c
@@ -90,22 +90,22 @@ module _ (ds : List Declaration) (words : List ℤ) (limits : Limits) where
       deep true step = both_want ds words limits x p vs (Fault Depth) (source a count) (code_at ds words limits spent p vs) step tt
       deep false step = enters step
 
-      called_follows : Steps (c.called (slice_get (code_of ds).funcs (number_from 0 a function_list)) (p + 1) vs (code_at ds words limits spent p vs)) → Follows (m.called cells functions limits (functions a) count k (source a count))
+      called_follows : Steps (c.begins_call (slice_get (code_of ds).funcs (number_from 0 a function_list)) (p + 1) vs (code_at ds words limits spent p vs)) → Follows (m.begins_call cells functions limits (functions a) count k (source a count))
       called_follows step =
-          let there = step ∙ ap (λ o. c.called o (p + 1) vs (code_at ds words limits spent p vs)) code.numbered in
+          let there = step ∙ ap (λ o. c.begins_call o (p + 1) vs (code_at ds words limits spent p vs)) code.numbered in
           let room : nat_lt (length vs) code.func.params ≡ false = le-ltb (length vs) code.func.params (omega (arith, code.params, q.count, enough)) in
           let goes = there ∙ ap (λ b. if b then stuck else (if nat_le most_frames (length fs + 1) then wants (Fault Depth) (code_at ds words limits spent p vs) else on (code_at ds words limits begun code.func.start []))) room in
-          subst (λ o. Follows (m.called cells functions limits o count k (source a count))) (sym q.found) (deep (nat_le most_frames (length fs + 1)) goes)
+          subst (λ o. Follows (m.begins_call cells functions limits o count k (source a count))) (sym q.found) (deep (nat_le most_frames (length fs + 1)) goes)
 
-    pub call_follows : (a : List ℕ) (count line : ℕ) → called (find a (scope_of ds g)) count line ≡ None → count ≤ length vs → slice_get instrs p ≡ Some (calls cells function_list a) → Does ds instrs n g (suc (length vs - count)) k (p + 1) fs
+    pub call_follows : (a : List ℕ) (count line : ℕ) → fault_of_call (find a (scope_of ds g)) count line ≡ None → count ≤ length vs → slice_get instrs p ≡ Some (calls cells function_list a) → Does ds instrs n g (suc (length vs - count)) k (p + 1) fs
         → Follows (m.act cells functions limits (enter a count) vs k (syntax_at ds words limits x (enter a count ∷ k) vs))
     call_follows a count line may enough there rest = by (nat_le limits.fuel x.fuel) (acts ds words limits x p vs small (calls cells function_list a) effect.Call there refl)
       where
         q : IsFunction ds a count
         q = function_there ds g a count line may
 
-        by : (b : Bool) → Steps (if b then wants (Fault Fuel) (code_at ds words limits x p vs) else c.called (slice_get (code_of ds).funcs (number_from 0 a function_list)) (p + 1) vs (code_at ds words limits spent p vs))
-            → Follows (if b then wants (Fault Fuel) (syntax_at ds words limits x (enter a count ∷ k) vs) else m.called cells functions limits (functions a) count k (source a count))
+        by : (b : Bool) → Steps (if b then wants (Fault Fuel) (code_at ds words limits x p vs) else c.begins_call (slice_get (code_of ds).funcs (number_from 0 a function_list)) (p + 1) vs (code_at ds words limits spent p vs))
+            → Follows (if b then wants (Fault Fuel) (syntax_at ds words limits x (enter a count ∷ k) vs) else m.begins_call cells functions limits (functions a) count k (source a count))
         by true step = both_want ds words limits x p vs (Fault Fuel) (syntax_at ds words limits x (enter a count ∷ k) vs) (code_at ds words limits x p vs) step tt
         by false step = called_follows a count q (function_code_there ds a q.function named q.found) enough rest step
 

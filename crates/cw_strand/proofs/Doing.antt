@@ -8,7 +8,7 @@ use Rattle.cw_code.specs.declared.instruction.Instr.{Instr}
 use Rattle.cw_code.specs.declared.effects.Operator.{Operator}
 use Rattle.cw_code.specs.declared.effects.Effect.TheVariants as effect
 use Rattle.cw_code.specs.Table.{effect_at}
-use Rattle.cw_strand.specs.Names.{find, used, indexed, called, count_of, in_term, in_terms, in_block, cells_of}
+use Rattle.cw_strand.specs.Names.{find, used, indexed, fault_of_call, count_of, in_term, in_terms, in_block, cells_of}
 use Rattle.cw_strand.specs.Meaning.{Locals, cell_of, Task, value, lift, join, enter, perform, bind, store_in, load_at, store_at, show, choose_by, test, repeat_by, forget, wait, commit, finish, finish_main, back_to, leave, arguments, unwound, lifted, joining, lifts, joins}
 use Rattle.cw_strand.specs.Meaning as meaning
 use Rattle.cw_strand.specs.Coded.{Frame}
@@ -78,7 +78,7 @@ module _ (ds : List Declaration) (code : List Instr) where
       does_value : {n h p : ℕ} {g : Slots} {e : Term} {k : List Task} {fs : List Frame} → in_term (scope_of ds g) e ≡ None → HasAt code p (term_code (cells_of ds) (function_names ds) g e) → Does n g (suc h) k (p + length (term_code (cells_of ds) (function_names ds) g e)) fs → Does n g h (value e ∷ k) p fs
       does_lift : {n h p : ℕ} {g : Slots} {o : Operator} {k : List Task} {fs : List Frame} → effect_at (operator_number o) ≡ Some (effect.Lift o) → slice_get code p ≡ Some (plain (operator_number o)) → Does n g (suc h) k (p + 1) fs → Does n g (suc h) (lift o ∷ k) p fs
       does_join : {n h p : ℕ} {g : Slots} {o : Operator} {k : List Task} {fs : List Frame} → effect_at (operator_number o) ≡ Some (effect.Join o) → slice_get code p ≡ Some (plain (operator_number o)) → Does n g (suc h) k (p + 1) fs → Does n g (suc (suc h)) (join o ∷ k) p fs
-      does_enter : {n h p a : ℕ} {g : Slots} {x : List ℕ} {k : List Task} {fs : List Frame} (line : ℕ) → called (find x (scope_of ds g)) a line ≡ None → a ≤ h → slice_get code p ≡ Some (calls (cells_of ds) (function_names ds) x) → Does n g (suc (h - a)) k (p + 1) fs → Does n g h (enter x a ∷ k) p fs
+      does_enter : {n h p a : ℕ} {g : Slots} {x : List ℕ} {k : List Task} {fs : List Frame} (line : ℕ) → fault_of_call (find x (scope_of ds g)) a line ≡ None → a ≤ h → slice_get code p ≡ Some (calls (cells_of ds) (function_names ds) x) → Does n g (suc (h - a)) k (p + 1) fs → Does n g h (enter x a ∷ k) p fs
       does_discard : {n h p : ℕ} {g : Slots} {k : List Task} {fs : List Frame} → slice_get code p ≡ Some instr.discard → Does n g h k (p + 1) fs → Does n g (suc h) (meaning.discard ∷ k) p fs
       does_perform : {n h p : ℕ} {g : Slots} {b : Block} {k : List Task} {fs : List Frame} (inside : Bool) → in_block (scope_of ds g) inside b ≡ None → most (length g) b ≤ n → HasAt code p (block_code (cells_of ds) (function_names ds) g p b) → Does n (slots_behind b g) h k (p + length (block_code (cells_of ds) (function_names ds) g p b)) fs → Does n g h (perform b ∷ k) p fs
       does_bind : {n h p : ℕ} {g : Slots} {x : List ℕ} {k : List Task} {fs : List Frame} → length g < n → slice_get code p ≡ Some (set (length g)) → Does n (x ∷ g) h k (p + 1) fs → Does n g (suc h) (bind x ∷ k) p fs
@@ -183,7 +183,7 @@ module _ (ds : List Declaration) (code : List Instr) where
       does_value parts.0 (front code p a b has) (does_arguments es parts.1 (behind code p a b has) behind_it)
 
   -- a call, from its arguments on
-  pub does_call : {n h p : ℕ} {g : Slots} {k : List Task} {fs : List Frame} (x : List ℕ) (line : ℕ) (es : Terms) (is : List Instr) → called (find x (scope_of ds g)) (count_of es) line ≡ None → in_terms (scope_of ds g) es ≡ None
+  pub does_call : {n h p : ℕ} {g : Slots} {k : List Task} {fs : List Frame} (x : List ℕ) (line : ℕ) (es : Terms) (is : List Instr) → fault_of_call (find x (scope_of ds g)) (count_of es) line ≡ None → in_terms (scope_of ds g) es ≡ None
       → HasAt code p (terms_code (cells_of ds) (function_names ds) g es ++ calls (cells_of ds) (function_names ds) x ∷ is) → Does n g (suc h) k (p + length (terms_code (cells_of ds) (function_names ds) g es) + 1) fs → Does n g h (arguments es (enter x (count_of es) ∷ k)) p fs
   does_call {n = n} {h = h} {p = p} {g = g} {k = k} {fs = fs} x line es is may named has rest =
       let a = terms_code (cells_of ds) (function_names ds) g es in

@@ -1,7 +1,7 @@
 -- Strands of code that breaks no rule load and store only elements of the cells.
 use Rattle.std.proofs.Common.{◌≡◌, ℕ, zero, suc, ◌+◌, ◌<◌, Bool, true, false, List, [], ◌∷◌, length, refl, sym, subst, arith, Option, Some, None, Result, Ok, Err, ℤ, pos, negsuc, nat_lt}
 use Rattle.std.specs.Prelude.{slice_get, if◌then◌else◌, nat_le}
-use Rattle.std.proofs.lemmas.Bool.{ltb-true, leb-true}
+use Rattle.std.proofs.lemmas.Bool.{ltb-true, leb-true, and_parts}
 use Rattle.std.proofs.lemmas.Option.{slice_get_within}
 use Rattle.cw_code.specs.declared.instruction.Instr.{Instr}
 use Rattle.cw_code.specs.declared.instruction.Func.{Func}
@@ -11,7 +11,7 @@ use Rattle.cw_code.specs.declared.Limits.{Limits}
 use Rattle.cw_code.specs.declared.effects.Effect.{Effect}
 use Rattle.cw_code.specs.declared.effects.Effect.TheVariants as t
 use Rattle.cw_code.specs.Rules.{below, cells_below, effect_of, faults, operand_faults}
-use Rattle.cw_code.proofs.Sound.{owner, operands_fine, has_effect, below_names, both_true, tested}
+use Rattle.cw_code.proofs.Sound.{owner, operands_fine, has_effect, below_names, tested}
 use Rattle.cw_strand.specs.declared.want.Want.{Want}
 use Rattle.cw_strand.specs.declared.want.Want.TheVariants.{Out, Begin}
 use Rattle.cw_strand.specs.Strands.{Strands, GoesTo, Reached, stays, answered, joins, of_main, of_left, of_right}
@@ -25,7 +25,7 @@ use Rattle.cw_strand.proofs.Settling.{stand_holds}
 
 -- a cell of an array
 pub element_below : (a : ℤ) (len cells : ℕ) → cells_below a len cells ≡ true → (n : ℕ) → n < len → index a + n < cells
-element_below (pos m) len cells e n lt = omega (arith, lt, leb-true (m + len) cells (both_true (nat_lt m cells) (nat_le (m + len) cells) e).1)
+element_below (pos m) len cells e n lt = omega (arith, lt, leb-true (m + len) cells (and_parts (nat_lt m cells) (nat_le (m + len) cells) e).1)
 element_below (negsuc m) len cells e n lt = absurd cc
 
 pub cell_below : (a : ℤ) (cells : ℕ) → below a cells ≡ true → index a < cells
@@ -69,7 +69,7 @@ module _ (code : Code) where
   waited_names (zero ∷ ns) p vs s = tt
   waited_names (suc n ∷ ns) p vs s = tt
 
-  called_names : (o : Option Func) (p : ℕ) (vs : List ℤ) (s : State) → Names (coded.called o p vs s)
+  called_names : (o : Option Func) (p : ℕ) (vs : List ℤ) (s : State) → Names (coded.begins_call o p vs s)
   called_names None p vs s = tt
   called_names (Some g) p vs s = names_either (nat_lt (length vs) g.params) _ _ (λ few. tt) (λ enough. names_either (nat_le most_frames (length s.callers + 1)) _ _ (λ e. tt) (λ e. tt))
 
@@ -85,7 +85,7 @@ module _ (code : Code) where
   act_names f q (t.Join o) i ok p (y ∷ x ∷ vs) s = result_names _ p vs s
   act_names f q t.Jump i ok p vs s = tt
   act_names f q t.JumpZero i ok p (v ∷ vs) s = tt
-  act_names f q t.Call i ok p vs s = spent_names s (λ u. coded.called (slice_get code.funcs (index i.a)) p vs u) (called_names _ p vs _)
+  act_names f q t.Call i ok p vs s = spent_names s (λ u. coded.begins_call (slice_get code.funcs (index i.a)) p vs u) (called_names _ p vs _)
   act_names f q t.Ret i ok p (v ∷ vs) s = returned_names s.callers v s
   act_names f q t.Drop i ok p (v ∷ vs) s = tt
   act_names f q t.Out i ok p (v ∷ vs) s = counted_names (Out v) _ tt

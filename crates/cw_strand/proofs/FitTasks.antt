@@ -14,10 +14,10 @@ use Rattle.cw_strand.specs.declared.want.Given.{Given}
 use Rattle.cw_strand.specs.declared.want.Given.TheVariants.{Nothing, Value}
 use Rattle.cw_strand.specs.Strands.{own_after, MayWant}
 use Rattle.cw_strand.specs.Arithmetic.{one, two, is_zero}
-use Rattle.cw_strand.specs.Names.{used, indexed, called as call_fault, find, count_of, in_term, in_terms, in_block, in_functions, returned_from, globals, cells_of}
+use Rattle.cw_strand.specs.Names.{used, indexed, fault_of_call as call_fault, find, count_of, in_term, in_terms, in_block, in_functions, returned_from, globals, cells_of}
 use Rattle.cw_strand.specs.Running.{on, wants, stuck}
 use Rattle.cw_strand.specs.Laws.{AllIsDone}
-use Rattle.cw_strand.specs.Meaning.{State, Locals, function_of, Task, value, lift, join, enter, discard, perform, bind, store_in, load_at, store_at, show, choose_by, test, repeat_by, forget, wait, commit, finish, finish_main, back_to, leave, arguments, unwound, called, most_frames, bound_to, lifted, joining, lifts, joins, Step, step, step_of, result, read_name, write_name, begin_with, perform_with, wait_in, element_of, cell_of, in_range, local_of, in_place, with_value}
+use Rattle.cw_strand.specs.Meaning.{State, Locals, function_of, Task, value, lift, join, enter, discard, perform, bind, store_in, load_at, store_at, show, choose_by, test, repeat_by, forget, wait, commit, finish, finish_main, back_to, leave, arguments, unwound, begins_call, most_frames, bound_to, lifted, joining, lifts, joins, Step, step, step_of, result, read_name, write_name, begin_with, perform_with, wait_in, element_of, cell_of, in_range, local_of, in_place, with_value}
 use Rattle.cw_strand.proofs.StandingNames.{no_fault, IsFound, IsCell, names_of, with_names, name_found, name_indexed, name_called, names_kept, names_dropped, body_named}
 
 -- the names that are left of more names once those are dropped
@@ -362,7 +362,7 @@ module _ (ds : List Declaration) (limits : Limits) where
     module _ (ls : Locals) (frames fuel size : ℕ) (beside : Block) where
       -- a function begins
       called_goes : (n : List ℕ) (c : ℕ) (k : List Task) (vs : List ℤ) (own : List ℕ) (o : Open) (os : List Open) → Scoped own (o ∷ os) → Fits (enter n c ∷ k) (length vs) (names_of ls) (o ∷ os)
-          → Goes own (called (cells_of ds) (function_of ds) limits (function_of ds n) c k (state ls frames fuel size beside (enter n c ∷ k) vs (o ∷ os)))
+          → Goes own (begins_call (cells_of ds) (function_of ds) limits (function_of ds n) c k (state ls frames fuel size beside (enter n c ∷ k) vs (o ∷ os)))
       called_goes n c k vs own o os r h =
           let q = name_called ds (names_of ls) n c h.0.1.0 h.0.1.1 in
           let f = q.function in
@@ -372,7 +372,7 @@ module _ (ds : List Declaration) (limits : Limits) where
           let later : Fits k (suc (length (drop c vs))) (names_of ls) (o ∷ os) = subst (λ m. Fits k (suc m) (names_of ls) (o ∷ os)) left h.1 in
           let todo : List Task = perform f.body ∷ wait ∷ value (number (pos 0)) ∷ back_to ls (drop c vs) ∷ k in
           let fits : Fits todo 0 (names_of inside) (opened false 0 ∷ o ∷ os) = (fine, λ more m. (refl, later)) in
-          subst (λ z. Goes own (called (cells_of ds) (function_of ds) limits z c k (state ls frames fuel size beside (enter n c ∷ k) vs (o ∷ os)))) (sym q.found)
+          subst (λ z. Goes own (begins_call (cells_of ds) (function_of ds) limits z c k (state ls frames fuel size beside (enter n c ∷ k) vs (o ∷ os)))) (sym q.found)
           (either own (nat_le most_frames frames) _ _ (tt, tt) (fit inside (frames + 1) fuel size beside (opened false 0 ∷ o ∷ os) todo [] (function_begun r) fits))
 
     module _ (ls : Locals) (frames fuel size : ℕ) (beside : Block) where

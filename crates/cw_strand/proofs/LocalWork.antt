@@ -18,7 +18,7 @@ use Rattle.cw_strand.specs.declared.want.Given.TheVariants.{Nothing, Value}
 use Rattle.cw_strand.specs.Arithmetic.{one, two, is_zero}
 use Rattle.cw_strand.specs.Running.{on, wants, stuck, depth_of, IsBounded}
 use Rattle.cw_strand.specs.Names.{cells_of, count_of}
-use Rattle.cw_strand.specs.Meaning.{State, Locals, Step, Function, function_of, Task, value, lift, join, enter, discard, perform, bind, store_in, load_at, store_at, show, choose_by, test, repeat_by, forget, wait, commit, finish, finish_main, back_to, leave, arguments, unwound, called, most_frames, lifted, joining, lifts, joins, result, wait_in, read_name, write_name, begin_with, perform_with, to_do, spends, local_of, element_of, cell_of, in_range, step, step_of, work, most_added, most_begun, block_work, terms_work, steps_left, with_value, runs}
+use Rattle.cw_strand.specs.Meaning.{State, Locals, Step, Function, function_of, Task, value, lift, join, enter, discard, perform, bind, store_in, load_at, store_at, show, choose_by, test, repeat_by, forget, wait, commit, finish, finish_main, back_to, leave, arguments, unwound, begins_call, most_frames, lifted, joining, lifts, joins, result, wait_in, read_name, write_name, begin_with, perform_with, to_do, spends, local_of, element_of, cell_of, in_range, step, step_of, work, most_added, most_begun, block_work, terms_work, steps_left, with_value, runs}
 
 -- ## Less to do
 
@@ -174,7 +174,7 @@ module _ (ds : List Declaration) (words : List ℤ) (limits : Limits) (cells : L
 
       -- a function begins, or too many stand
       called_leaves : (n : List ℕ) (c : ℕ) (k : List Task) (vs : List ℤ) (o : Option Function) → functions n ≡ o → fuel < limits.fuel
-          → let before = enter n c ∷ k in Leaves (left_at ds limits fuel before) (called cells functions limits o c k (state (fuel + 1) before vs))
+          → let before = enter n c ∷ k in Leaves (left_at ds limits fuel before) (begins_call cells functions limits o c k (state (fuel + 1) before vs))
       called_leaves n c k vs None is lt = tt
       called_leaves n c k vs (Some f) is lt =
           let before : List Task = enter n c ∷ k in
@@ -196,7 +196,7 @@ module _ (ds : List Declaration) (words : List ℤ) (limits : Limits) (cells : L
       leaves (lift o ∷ k) (x ∷ vs) = result_leaves _ (one o x) vs _ (goes k (lift o ∷ k) (omega arith) (omega arith))
       leaves (join o ∷ k) (y ∷ x ∷ vs) = result_leaves _ (two o x y) vs _ (goes k (join o ∷ k) (omega arith) (omega arith))
       leaves (enter n c ∷ k) vs =
-          spends_leaves (state fuel (enter n c ∷ k) vs) (λ t. called cells functions limits (functions n) c k t) (λ lt. called_leaves n c k vs (functions n) refl lt)
+          spends_leaves (state fuel (enter n c ∷ k) vs) (λ t. begins_call cells functions limits (functions n) c k t) (λ lt. called_leaves n c k vs (functions n) refl lt)
       leaves (discard ∷ k) (v ∷ vs) = goes k (discard ∷ k) (omega arith) (omega arith)
       leaves (perform empty ∷ k) vs = goes k (perform empty ∷ k) (omega arith) (omega arith)
       leaves (perform (first st b) ∷ k) vs = perform_leaves st b k vs

@@ -46,10 +46,6 @@ module _ (ds : List Declaration) (words : List ℤ) (limits : Limits) (faultless
   count : length main.function.params ≡ length words
   count = ap params_in (sym main.found) ∙ faultless.takes
 
-  -- main of the code takes the words too
-  pub code_takes : c.MainTakes (code_of ds) (main_function ds) (length words)
-  code_takes = (main.func, main.numbered, main.params ∙ count)
-
   begins : Alike ds words limits (m.at_main (Some main.function) words) (c.starts_at (code_of ds) (Some code.func) (reverse words) limits)
   begins =
       let f = main.function in

@@ -1,7 +1,7 @@
 -- A strand that stands has what its next instruction needs.
 use Rattle.std.proofs.Common.{◌≡◌, ℕ, ◌+◌, ◌<◌, ◌≤◌, ◌^◌, true, [], length, Some, None, sym, ap, ◌∙◌, subst, arith, ℤ, pos, negsuc, nat_lt}
 use Rattle.std.specs.Prelude.{slice_get, nat_le}
-use Rattle.std.proofs.lemmas.Bool.{leb-true}
+use Rattle.std.proofs.lemmas.Bool.{leb-true, and_parts}
 use Rattle.std.proofs.lemmas.Option.{slice_get_within}
 use Rattle.cw_code.specs.declared.instruction.Instr.{Instr}
 use Rattle.cw_code.specs.declared.instruction.Func.{Func}
@@ -9,7 +9,7 @@ use Rattle.cw_code.specs.declared.instruction.Code.{Code}
 use Rattle.cw_code.specs.declared.effects.Effect.{Effect}
 use Rattle.cw_code.specs.declared.effects.Effect.TheVariants as t
 use Rattle.cw_code.specs.Rules.{below, cells_below, called, effect_of, faults, params_of}
-use Rattle.cw_code.proofs.Sound.{below_names, both_true, contained, laid, tested}
+use Rattle.cw_code.proofs.Sound.{below_names, contained, laid, tested}
 use Rattle.cw_strand.specs.Coded.{State, index}
 use Rattle.cw_strand.specs.Standing.{NoneOver, StandsIn}
 use Rattle.cw_strand.specs.Acting.{Needs, HasArguments}
@@ -17,7 +17,7 @@ use Rattle.cw_strand.proofs.Standing.{Here, next}
 use Rattle.cw_strand.proofs.Elements.{cell_below}
 
 array_below : (a : ℤ) (len cells : ℕ) → cells_below a len cells ≡ true → index a + len ≤ cells
-array_below (pos m) len cells e = leb-true (m + len) cells (both_true (nat_lt m cells) (nat_le (m + len) cells) e).1
+array_below (pos m) len cells e = leb-true (m + len) cells (and_parts (nat_lt m cells) (nat_le (m + len) cells) e).1
 array_below (negsuc m) len cells e = absurd cc
 
 module _ (code : Code) (ok : faults code ≡ []) where

@@ -7,7 +7,7 @@ use Rattle.std.specs.Prelude.{slice_get, slice_set, if◌then◌else◌}
 use Rattle.std.specs.Str.{bytes_eq}
 use Rattle.cw_text.specs.declared.ast.Word.{Word}
 use Rattle.cw_text.specs.Syntax.{Statement, declare, Block, empty, first, Declaration, cell, func}
-use Rattle.cw_strand.specs.Names.{Scope, a_local, a_function, globals, find, used, elements, cells_from, cells_of, scope_after, cell_thing, indexed, called}
+use Rattle.cw_strand.specs.Names.{Scope, a_local, a_function, globals, find, used, elements, cells_from, cells_of, scope_after, cell_thing, indexed, fault_of_call}
 use Rattle.cw_strand.proofs.StandingNames.{IsCell, IsFunction, with_names, name_indexed, name_called}
 use Rattle.cw_strand.specs.Names as names
 use Rattle.cw_strand.specs.Meaning.{Locals, local_of, with_local, bound_to, element_of, cell_of}
@@ -194,8 +194,8 @@ pub array_there : (ds : List Declaration) (g : Slots) (n : List ℕ) (l : ℕ) �
 array_there ds g n l e = name_indexed ds g n l (subst (λ (s : Scope). indexed (find n s) l ≡ None) (scope_named ds g) e)
 
 -- the function of a call
-pub function_there : (ds : List Declaration) (g : Slots) (n : List ℕ) (c l : ℕ) → called (find n (scope_of ds g)) c l ≡ None → IsFunction ds n c
-function_there ds g n c l e = name_called ds g n c l (subst (λ (s : Scope). called (find n s) c l ≡ None) (scope_named ds g) e)
+pub function_there : (ds : List Declaration) (g : Slots) (n : List ℕ) (c l : ℕ) → fault_of_call (find n (scope_of ds g)) c l ≡ None → IsFunction ds n c
+function_there ds g n c l e = name_called ds g n c l (subst (λ (s : Scope). fault_of_call (find n s) c l ≡ None) (scope_named ds g) e)
 
 -- ## Arguments
 

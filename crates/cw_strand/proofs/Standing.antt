@@ -163,7 +163,7 @@ module _ (code : Code) (ok : faults code ≡ []) where
       let len : g.locals ≡ length (locals_for g vs) = simp (length-append, length-reverse, length-replicate, length-take-le g.params vs le) (omega arith) in
       record { func = g; declared = co; within = inside_is code g g.start (omega arith) li.starts; situation = at_start; known = start_known code g li.starts; operands_there = refl; locals_there = len }
 
-  called_stands : (o : Option Func) (g : Func) → o ≡ Some g → Contains code.funcs g → (p : ℕ) (vs : List ℤ) (s : State) → g.params ≤ length vs → StandsIn code s → StandsAt code p (length s.current.locals) (suc (length (drop g.params vs))) → StepStands code (coded.called o p vs s)
+  called_stands : (o : Option Func) (g : Func) → o ≡ Some g → Contains code.funcs g → (p : ℕ) (vs : List ℤ) (s : State) → g.params ≤ length vs → StandsIn code s → StandsAt code p (length s.current.locals) (suc (length (drop g.params vs))) → StepStands code (coded.begins_call o p vs s)
   called_stands o g e co p vs s le f h =
       rw e (stands_either code (nat_lt (length vs) g.params) _ _
       (λ few. absurd (omega (arith, le, ltb-true (length vs) g.params few)))
@@ -216,7 +216,7 @@ module _ (code : Code) (ok : faults code ≡ []) where
         let here : slice_get code.funcs (index i.a) ≡ Some x.0 = ap (λ z. slice_get code.funcs (index z)) n.1 ∙ x.1 in
         let count : called code i.a ≡ x.0.params = ap (called code) n.1 ∙ ap params_of x.1 in
         let spent = record s { fuel = s.fuel + 1 } in
-        spent_stands s (λ u. coded.called (slice_get code.funcs (index i.a)) (s.current.place + 1) vs u) f
+        spent_stands s (λ u. coded.begins_call (slice_get code.funcs (index i.a)) (s.current.place + 1) vs u) f
         (called_stands (slice_get code.funcs (index i.a)) x.0 here (contained code.funcs n.0 x.0 x.1) (s.current.place + 1) vs spent (omega (arith, w.room, count)) (record { current = f.current; callers = f.callers; scopes = f.scopes }) (onward w refl _ (omega (arith, w.room, count, length-drop x.0.params vs))))
     act_stands t.Ret (v ∷ vs) w = returned_stands s.callers v s f f.callers
     act_stands t.Drop (v ∷ vs) w = moved _ vs (onward w refl _ (omega arith))

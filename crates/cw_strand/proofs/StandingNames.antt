@@ -10,7 +10,7 @@ use Rattle.std.specs.Str.{bytes_eq}
 use Rattle.cw_text.specs.declared.ast.Word.{Word}
 use Rattle.cw_text.specs.Syntax.{Declaration, cell, func}
 use Rattle.cw_code.specs.declared.CellInfo.{CellInfo}
-use Rattle.cw_strand.specs.Names.{Thing, a_local, a_function, cell_thing, Scope, ◌then◌, find, used, indexed, called, elements, globals, scope_with_params, in_block, in_functions, main_from, without_main, cells_from, cells_of}
+use Rattle.cw_strand.specs.Names.{Thing, a_local, a_function, cell_thing, Scope, ◌then◌, find, used, indexed, fault_of_call, elements, globals, scope_with_params, in_block, in_functions, main_from, without_main, cells_from, cells_of}
 use Rattle.cw_strand.specs.Names as names
 use Rattle.cw_strand.specs.declared.naming.NameKind.TheVariants.{WrongCount}
 use Rattle.cw_strand.specs.Meaning.{Locals, Function, function_of, local_of, with_local, bound_to, element_of, cell_of}
@@ -111,7 +111,7 @@ pub record IsFunction (ds : List Declaration) (n : List ℕ) (takes : ℕ) : Typ
   pub found : function_of ds n ≡ Some function
   pub count : length function.params ≡ takes
 
-no_cell_called : (len c line : ℕ) → called (Some (cell_thing len)) c line ≡ None → ⊥
+no_cell_called : (len c line : ℕ) → fault_of_call (Some (cell_thing len)) c line ≡ None → ⊥
 no_cell_called zero c line h = cc
 no_cell_called (suc n) c line h = cc
 
@@ -119,11 +119,11 @@ count_right : (k c line : ℕ) (b : Bool) → (k == c) ≡ b → (if b then None
 count_right k c line true e h = eqb-true k c e
 count_right k c line false e h = absurd cc
 
-globals_called : (ds : List Declaration) (n : List ℕ) (c line : ℕ) → called (find n (globals ds)) c line ≡ None → IsFunction ds n c
+globals_called : (ds : List Declaration) (n : List ℕ) (c line : ℕ) → fault_of_call (find n (globals ds)) c line ≡ None → IsFunction ds n c
 globals_called [] n c line h = absurd cc
 globals_called (cell x l len i ∷ ds) n c line h = by (bytes_eq n x) h (globals_called ds n c line)
   where
-    by : (b : Bool) → called (if b then Some (cell_thing len) else find n (globals ds)) c line ≡ None → (called (find n (globals ds)) c line ≡ None → IsFunction ds n c) → IsFunction (cell x l len i ∷ ds) n c
+    by : (b : Bool) → fault_of_call (if b then Some (cell_thing len) else find n (globals ds)) c line ≡ None → (fault_of_call (find n (globals ds)) c line ≡ None → IsFunction ds n c) → IsFunction (cell x l len i ∷ ds) n c
     by true e later = absurd (no_cell_called len c line e)
     by false e later = let q = later e in record { function = q.function; found = q.found; count = q.count }
 globals_called (func x l ps b ∷ ds) n c line h = by (bytes_eq n x) refl h (globals_called ds n c line)
@@ -131,18 +131,18 @@ globals_called (func x l ps b ∷ ds) n c line h = by (bytes_eq n x) refl h (glo
     f : Function
     f = record { params = ps; body = b }
 
-    by : (z : Bool) → bytes_eq n x ≡ z → called (if z then Some (a_function (length ps)) else find n (globals ds)) c line ≡ None → (called (find n (globals ds)) c line ≡ None → IsFunction ds n c) → IsFunction (func x l ps b ∷ ds) n c
+    by : (z : Bool) → bytes_eq n x ≡ z → fault_of_call (if z then Some (a_function (length ps)) else find n (globals ds)) c line ≡ None → (fault_of_call (find n (globals ds)) c line ≡ None → IsFunction ds n c) → IsFunction (func x l ps b ∷ ds) n c
     by true e z later = record { function = f; found = ap (λ y. if y then Some f else function_of ds n) (eq_turned x n ∙ e); count = count_right (length ps) c line (length ps == c) refl z }
     by false e z later =
         let q = later z in
         record { function = q.function; found = ap (λ y. if y then Some f else function_of ds n) (eq_turned x n ∙ e) ∙ q.found; count = q.count }
 
 -- a function that may be called, whatever locals there are
-pub name_called : (ds : List Declaration) (names : List (List ℕ)) (n : List ℕ) (c line : ℕ) → called (find n (with_names names (globals ds))) c line ≡ None → IsFunction ds n c
+pub name_called : (ds : List Declaration) (names : List (List ℕ)) (n : List ℕ) (c line : ℕ) → fault_of_call (find n (with_names names (globals ds))) c line ≡ None → IsFunction ds n c
 name_called ds [] n c line h = globals_called ds n c line h
 name_called ds (x ∷ names) n c line h = by (bytes_eq n x) h (name_called ds names n c line)
   where
-    by : (b : Bool) → called (if b then Some a_local else find n (with_names names (globals ds))) c line ≡ None → (called (find n (with_names names (globals ds))) c line ≡ None → IsFunction ds n c) → IsFunction ds n c
+    by : (b : Bool) → fault_of_call (if b then Some a_local else find n (with_names names (globals ds))) c line ≡ None → (fault_of_call (find n (with_names names (globals ds))) c line ≡ None → IsFunction ds n c) → IsFunction ds n c
     by true e later = absurd cc
     by false e later = later e
 

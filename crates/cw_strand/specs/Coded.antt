@@ -105,9 +105,9 @@ write_local n v p vs s =
     if nat_lt n (length s.current.locals) then on (record s { current = record { place = p; operands = vs; locals = slice_set s.current.locals n v } }) else stuck
 
 -- the caller goes on at the place behind its call, without the arguments
-abbrev pub called : Option Func → ℕ → List ℤ → State → Step
-called None p vs s = stuck
-called (Some f) p vs s =
+abbrev pub begins_call : Option Func → ℕ → List ℤ → State → Step
+begins_call None p vs s = stuck
+begins_call (Some f) p vs s =
     if nat_lt (length vs) f.params then stuck
     else if nat_le most_frames (length s.callers + 1) then wants (Fault Depth) s
     else on (record s {
@@ -144,7 +144,7 @@ module _ (code : Code) where
   act (join o) i p (y ∷ x ∷ vs) s = result (two o x y) p vs s
   act jump i p vs s = on (goes_to (index i.a) vs s)
   act jump_zero i p (v ∷ vs) s = on (goes_to (if is_zero v then index i.a else p) vs s)
-  act call i p vs s = spends s (λ t. called (slice_get code.funcs (index i.a)) p vs t)
+  act call i p vs s = spends s (λ t. begins_call (slice_get code.funcs (index i.a)) p vs t)
   act ret i p (v ∷ vs) s = returned s.callers v s
   act drop_top i p (v ∷ vs) s = on (goes_to p vs s)
   act out i p (v ∷ vs) s = counts (Out v) (goes_to p vs s)

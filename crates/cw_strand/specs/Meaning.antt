@@ -257,9 +257,9 @@ module _ (cells : List CellInfo) (functions : List ℕ → Option Function) (lim
   in_range (Some c) (pos n) s go = if nat_lt n c.len then go (c.base + n) else wants (Fault Range) s
 
   -- a function begins, within the limit of those that stand, and what called it with so many arguments waits
-  abbrev pub called : Option Function → ℕ → List Task → State → Step
-  called None n k s = stuck
-  called (Some f) n k s =
+  abbrev pub begins_call : Option Function → ℕ → List Task → State → Step
+  begins_call None n k s = stuck
+  begins_call (Some f) n k s =
       if nat_le most_frames s.frames then wants (Fault Depth) s
       else on (record s {
         todo = perform f.body ∷ wait ∷ value (number (pos 0)) ∷ back_to s.locals (drop n s.values) ∷ k;
@@ -298,7 +298,7 @@ module _ (cells : List CellInfo) (functions : List ℕ → Option Function) (lim
   act (value (binary o l r)) vs k s = on (to_do (value l ∷ value r ∷ joins (joining o) k) s)
   act (lift o) (x ∷ vs) k s = result (one o x) vs (to_do k s)
   act (join o) (y ∷ x ∷ vs) k s = result (two o x y) vs (to_do k s)
-  act (enter n c) vs k s = spends s (λ t. called (functions n) c k t)
+  act (enter n c) vs k s = spends s (λ t. begins_call (functions n) c k t)
   act discard (v ∷ vs) k s = on (record s { todo = k; values = vs })
   act (perform empty) vs k s = on (to_do k s)
   act (perform (first st b)) vs k s = perform_with st (perform b ∷ k) s

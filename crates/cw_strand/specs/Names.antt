@@ -57,9 +57,9 @@ indexed (Some an_array) l = None
 indexed (Some t) l = fault kind.NotACell l
 
 -- a name that is called with so many arguments
-abbrev pub called : Option Thing → ℕ → ℕ → Fault
-called (Some (a_function n)) arguments l = if n == arguments then None else fault kind.WrongCount l
-called t arguments l = fault kind.Unknown l
+abbrev pub fault_of_call : Option Thing → ℕ → ℕ → Fault
+fault_of_call (Some (a_function n)) arguments l = if n == arguments then None else fault kind.WrongCount l
+fault_of_call t arguments l = fault kind.Unknown l
 
 -- a name that is declared
 abbrev pub declared_new : Option Thing → ℕ → Fault
@@ -80,7 +80,7 @@ abbrev mutual
   in_term g (number n) = None
   in_term g (name w) = used (find w.name g) w.line
   in_term g (at w i) = indexed (find w.name g) w.line then in_term g i
-  in_term g (call w es) = called (find w.name g) (count_of es) w.line then in_terms g es
+  in_term g (call w es) = fault_of_call (find w.name g) (count_of es) w.line then in_terms g es
   in_term g (unary o e) = in_term g e
   in_term g (binary o l r) = in_term g l then in_term g r
 
@@ -100,7 +100,7 @@ abbrev mutual
   in_statement g i (declare w e) = declared_new (find w.name g) w.line then in_term g e
   in_statement g i (assign w e) = used (find w.name g) w.line then in_term g e
   in_statement g i (assign_at w a e) = indexed (find w.name g) w.line then in_term g a then in_term g e
-  in_statement g i (run w es) = called (find w.name g) (count_of es) w.line then in_terms g es
+  in_statement g i (run w es) = fault_of_call (find w.name g) (count_of es) w.line then in_terms g es
   in_statement g i (out e) = in_term g e
   in_statement g i (choose e a b) = in_term g e then in_block g i a then in_block g i b
   in_statement g i (repeat e b) = in_term g e then in_block g i b

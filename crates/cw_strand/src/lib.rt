@@ -4,7 +4,7 @@
 //! is given twice: by `specs/Meaning.antt` from the syntax tree, and by `specs/Coded.antt` from compiled code; `specs/Compilation.antt` is
 //! the code of a tree. `specs/Names.antt` has the naming rules, `specs/Arithmetic.antt` the operators, `specs/Pasts.antt` what it is that
 //! two laws want the same, `specs/Saving.antt` what is inside a block and what it needs to go back to its begin. `specs/Laws.antt` has what
-//! holds of strands, `specs/Rows.antt` the worked programs.
+//! holds of strands, `specs/Worked.antt` the worked programs.
 #![tactic(auto)]
 
 ghost use Rattle.cw_strand.specs.Laws.{LocalWorkEnds, ForksEnd, EndsOnlyWhenDone, BlocksClose, StrandsAreLawful};

@@ -1,5 +1,5 @@
 -- What a text begins with.
-use Rattle.std.proofs.Common.{◌≡◌, ℕ, ◌<◌, ◌≤◌, ◌^◌, ◌==◌, not, ◌||◌, ◌&&◌, Bool, true, false, cond, List, [], ◌∷◌, length, get_or, codes, refl, ap, arith, lit<}
+use Rattle.std.proofs.Common.{◌≡◌, ℕ, ◌<◌, ◌≤◌, ◌^◌, ◌==◌, not, ◌||◌, Bool, true, false, cond, List, [], ◌∷◌, length, get_or, codes, refl, ap, arith, lit<}
 use Rattle.std.proofs.lemmas.List.Sums.{take_while-cons, prefix_len-le-length}
 use Rattle.std.proofs.lemmas.List.Folds.{length-prefix_len}
 use Rattle.std.specs.Prelude.{nat_eq, nat_le}
@@ -10,6 +10,7 @@ use Rattle.cw_text.specs.declared.terminal.Terminal.{Terminal}
 use Rattle.cw_text.specs.declared.terminal.Terminal.TheVariants as m
 use Rattle.cw_text.specs.Lexemes.{Token, Front, gap, found, terminal, number, bad, end, is_blank, is_letter, is_word, begins_by, spelling, signs, word_token, number_token, value_of_digits, after_digits, sign_front, front, width}
 use Rattle.std.specs.Str.{bytes_eq}
+use Rattle.std.proofs.lemmas.Bool.{and_parts}
 
 -- ## Words and numbers from their first byte on
 
@@ -62,14 +63,10 @@ spelled_some : (a : Terminal) → 0 < length (spelling a)
 spelled_some m.Cell = lit< tt
 spelled_some a = lit< tt
 
-and_right : (a b : Bool) → (a && b) ≡ true → b ≡ true
-and_right true b h = h
-and_right false b h = cc
-
 starts_with_fits : (xs ys : List ℕ) → starts_with nat_eq ys xs ≡ true → length xs ≤ length ys
 starts_with_fits [] ys h = omega arith
 starts_with_fits (x ∷ xs) [] h = cc
-starts_with_fits (x ∷ xs) (y ∷ ys) h = omega (arith, starts_with_fits xs ys (and_right (x == y) (starts_with nat_eq ys xs) h))
+starts_with_fits (x ∷ xs) (y ∷ ys) h = omega (arith, starts_with_fits xs ys (and_parts (x == y) (starts_with nat_eq ys xs) h).1)
 
 sign_is_front : (ss : List Terminal) (c : ℕ) (cs : List ℕ) → IsFrontOf (c ∷ cs) (sign_front ss (c ∷ cs))
 sign_is_front [] c cs = record { some = omega arith; within = omega arith; no_end = refl }

@@ -18,7 +18,6 @@ pub mod Readable
 pub mod Readings
 pub mod Scanned
 pub mod Spellable
-pub mod Spelled
 pub mod Steps
 pub mod Turns
 pub mod WrittenIsRead

@@ -2,13 +2,11 @@
 use Rattle.std.proofs.Common.{◌≡◌, ℕ, ◌+◌, ◌-◌, ◌<◌, ◌≤◌, ◌==◌, Bool, true, false, List, [], ◌∷◌, ◌++◌, length, get_or, take, drop, map, append_assoc, append-nil, refl, sym, ap, ◌∙◌, arith}
 use Rattle.std.proofs.Math.Seq.{take-length}
 use Rattle.std.proofs.lemmas.List.{drop_all, drop_more}
-use Rattle.std.specs.List.{flat_map}
 use Rattle.cw_text.specs.declared.ast.Expr.{Expr}
 use Rattle.cw_text.specs.declared.ast.Item.{Item}
 use Rattle.cw_text.specs.declared.ast.Stmt.{Stmt}
-use Rattle.cw_text.specs.declared.ast.Word.{Word}
 use Rattle.cw_text.specs.declared.terminal.Terminal.TheVariants as m
-use Rattle.cw_text.specs.Printed.{Placed, bracketed, declaration_tokens, else_tokens, in_braces, more_terms_tokens, sign, statement_tokens, statements_tokens, term_tokens, terms_tokens, tokens, word_tokens}
+use Rattle.cw_text.specs.Printed.{Placed, declaration_tokens, else_tokens, in_braces, more_terms_tokens, sign, statement_tokens, statements_tokens, term_tokens, terms_tokens, tokens}
 use Rattle.cw_text.specs.PrintedText.{blank_behind, spelled, text_of, with_tokens}
 use Rattle.cw_text.specs.Syntax.{Block, Term, block_of, choose, declaration_of, repeat, statement_of, term_of, terms_of}
 
@@ -21,11 +19,6 @@ abbrev pub bracket_if : Bool → List Placed → List Placed
 bracket_if true ps = ps
 bracket_if false ps = []
 
-pub with_tokens_bracketed : (text : List ℕ) (b : Bool) (ps : List Placed) → with_tokens text (bracketed b ps) ≡
-    with_tokens (with_tokens (with_tokens text (bracket_if b (sign m.ParenOpen))) ps) (bracket_if b (sign m.ParenClose))
-with_tokens_bracketed text true ps = with_tokens_append (with_tokens text (sign m.ParenOpen)) ps (sign m.ParenClose)
-with_tokens_bracketed text false ps = refl
-
 pub with_tokens_text : (text : List ℕ) (ps : List Placed) → with_tokens text ps ≡ text ++ text_of ps
 with_tokens_text text [] = sym (append-nil text)
 with_tokens_text text (p ∷ ps) =
@@ -35,7 +28,7 @@ with_tokens_text text (p ∷ ps) =
 
 -- ## The next of those that are left
 
-first_left : {X : Type 0} (xs : List X) (i : ℕ) (x : X) → i < length xs → x ≡ get_or xs i x → drop i xs ≡ x ∷ drop (i + 1) xs
+pub first_left : {X : Type 0} (xs : List X) (i : ℕ) (x : X) → i < length xs → x ≡ get_or xs i x → drop i xs ≡ x ∷ drop (i + 1) xs
 first_left xs i x below is = drop_more xs i x below ∙ ap (λ y. y ∷ drop (i + 1) xs) (sym is)
 
 pub arguments_next : (text : List ℕ) (xs : List Expr) (i : ℕ) (x : Expr) → i < length xs → x ≡ get_or xs i x →
@@ -47,10 +40,6 @@ pub statements_next : (text : List ℕ) (xs : List Stmt) (i : ℕ) (x : Stmt) �
     with_tokens text (statements_tokens (block_of (drop i xs))) ≡ with_tokens (with_tokens text (statement_tokens (statement_of x))) (statements_tokens (block_of (drop (i + 1) xs)))
 statements_next text xs i x below is =
     rw (first_left xs i x below is) (with_tokens_append text (statement_tokens (statement_of x)) (statements_tokens (block_of (drop (i + 1) xs))))
-
-pub words_next : (text : List ℕ) (xs : List Word) (i : ℕ) (x : Word) → i < length xs → x ≡ get_or xs i x →
-    with_tokens text (flat_map (λ w. sign m.Comma ++ word_tokens w) (drop i xs)) ≡ with_tokens (with_tokens (with_tokens text (sign m.Comma)) (word_tokens x)) (flat_map (λ w. sign m.Comma ++ word_tokens w) (drop (i + 1) xs))
-words_next text xs i x below is = rw (first_left xs i x below is) refl
 
 pub items_next : (text : List ℕ) (xs : List Item) (i : ℕ) (x : Item) → i < length xs → x ≡ get_or xs i x →
     with_tokens text (tokens (map declaration_of (drop i xs))) ≡ with_tokens (with_tokens text (declaration_tokens (declaration_of x))) (tokens (map declaration_of (drop (i + 1) xs)))

@@ -1,5 +1,5 @@
 -- The text of tokens is read as these tokens, but for their lines.
-use Rattle.std.proofs.Common.{◌≡◌, ℕ, ◌+◌, ◌^◌, ◌<◌, ◌&&◌, Bool, true, false, List, [], ◌∷◌, ◌++◌, length, take, refl, ap, ◌∙◌, arith, rules}
+use Rattle.std.proofs.Common.{◌≡◌, ℕ, ◌+◌, ◌^◌, ◌<◌, Bool, true, false, List, [], ◌∷◌, ◌++◌, length, take, refl, ap, ◌∙◌, arith, rules}
 use Rattle.std.proofs.Math.Seq.{drop-append_seam}
 use Rattle.std.proofs.lemmas.Bool.Decides.{nat_tests}
 use Rattle.std.proofs.lemmas.Fmt.{IsAscii-decimal, decimal_nonempty, digits_decimal, digits_value-decimal}
@@ -13,6 +13,7 @@ use Rattle.std.specs.List.{list_all, take_while}
 use Rattle.std.specs.Prelude.{nat_le}
 use Rattle.std.specs.Str.{IsAscii, IsUtf8}
 use Rattle.cw_text.specs.declared.terminal.Terminal.TheVariants as m
+use Rattle.std.proofs.lemmas.Bool.{and_parts}
 use Rattle.cw_text.specs.Lexemes.{Token, Lexemes, name as a_name, number as a_number, terminal, bad, end, after_digits, end_on, found, front, is_blank, is_letter, is_word, keywords, lexemes, lexemes_from, line_after, value_of_digits}
 use Rattle.cw_text.specs.Printed.{Placed, tokens_before}
 use Rattle.cw_text.specs.PrintedText.{AreSpellable, IsName, IsSpellable, blank_behind, more, none, spelled, text_of}
@@ -23,23 +24,15 @@ use Rattle.cw_text.proofs.Passing.{begun, newlines_in, passed}
 
 -- ## Words and digits up to a blank
 
-both_left : (a b : Bool) → (a && b) ≡ true → a ≡ true
-both_left true b h = refl
-both_left false b h = cc
-
-both_right : (a b : Bool) → (a && b) ≡ true → b ≡ true
-both_right true b h = h
-both_right false b h = cc
-
 take_while_all : (p : ℕ → Bool) (xs : List ℕ) (c : ℕ) (rest : List ℕ) → list_all p xs ≡ true → p c ≡ false → take_while p (xs ++ c ∷ rest) ≡ xs
 take_while_all p [] c rest all stops = rw (take_while-cons p c rest, stops) refl
 take_while_all p (x ∷ xs) c rest all stops =
-    rw (take_while-cons p x (xs ++ c ∷ rest), both_left (p x) (list_all p xs) all, take_while_all p xs c rest (both_right (p x) (list_all p xs) all) stops) refl
+    rw (take_while-cons p x (xs ++ c ∷ rest), (and_parts (p x) (list_all p xs) all).0, take_while_all p xs c rest (and_parts (p x) (list_all p xs) all).1 stops) refl
 
 after_digits_all : (ds : List ℕ) (c : ℕ) (rest : List ℕ) → list_all is_ascii_digit ds ≡ true → is_ascii_digit c ≡ false → after_digits (ds ++ c ∷ rest) ≡ c ∷ rest
 after_digits_all [] c rest all stops = rw stops refl
 after_digits_all (d ∷ ds) c rest all stops =
-    rw (both_left (is_ascii_digit d) (list_all is_ascii_digit ds) all) (after_digits_all ds c rest (both_right (is_ascii_digit d) (list_all is_ascii_digit ds) all) stops)
+    rw (and_parts (is_ascii_digit d) (list_all is_ascii_digit ds) all).0 (after_digits_all ds c rest (and_parts (is_ascii_digit d) (list_all is_ascii_digit ds) all).1 stops)
 
 letter_is_no_blank : (c : ℕ) → is_letter c ≡ true → is_blank c ≡ false
 letter_is_no_blank c h = grind (arith, nat_tests)
@@ -69,7 +62,7 @@ digits_are_front : (ds rest : List ℕ) (n : ℕ) → 0 < length ds → list_all
 digits_are_front [] rest n some all value small = absurd (omega arith)
 digits_are_front (d ∷ ds) rest n some all value small =
     let text = (d ∷ ds) ++ 32 ∷ rest in
-    let digit = both_left (is_ascii_digit d) (list_all is_ascii_digit ds) all in
+    let digit = (and_parts (is_ascii_digit d) (list_all is_ascii_digit ds) all).0 in
     let taken : take_while is_ascii_digit text ≡ d ∷ ds = take_while_all is_ascii_digit (d ∷ ds) 32 rest all refl in
     let left : after_digits text ≡ 32 ∷ rest = after_digits_all (d ∷ ds) 32 rest all refl in
     let fits : nat_le (2 ^ 63) n ≡ false = grind (arith, nat_tests) in
@@ -128,7 +121,7 @@ word_is_ascii c h = grind (arith, nat_tests)
 name_is_ascii : (n : List ℕ) → list_all is_word n ≡ true → IsAscii n
 name_is_ascii [] all = IsAscii-nil
 name_is_ascii (c ∷ cs) all =
-    IsAscii-cons c cs (word_is_ascii c (both_left (is_word c) (list_all is_word cs) all)) (name_is_ascii cs (both_right (is_word c) (list_all is_word cs) all))
+    IsAscii-cons c cs (word_is_ascii c (and_parts (is_word c) (list_all is_word cs) all).0) (name_is_ascii cs (and_parts (is_word c) (list_all is_word cs) all).1)
 
 spelled_is_ascii : (t : Token) → IsSpellable t → IsAscii (spelled t)
 spelled_is_ascii (a_name n) is = name_is_ascii n is.1

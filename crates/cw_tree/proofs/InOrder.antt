@@ -1,4 +1,3 @@
-pub mod Askers
 pub mod DepthFirst
 pub mod Keys
 pub mod Renaming

@@ -1,6 +1,10 @@
 pub mod Lists
 pub mod Counting
 pub mod Members
+pub mod Ahead
+pub mod Rising
+pub mod Sorts
+pub mod NodeKinds
 pub mod ChainLaws
 pub mod InOrder
 pub mod Names
@@ -8,3 +12,4 @@ pub mod NextNodes
 pub mod VictimsAt
 pub mod Walks
 pub mod Worked
+pub mod LastBelow

@@ -12,15 +12,15 @@ use Rattle.cw_tree.specs.Walks.{above, is_ancestor, nua}
 abbrev pub is_live : List Node → ℕ → Bool
 is_live t n = list_all (λ a. not (is_aborted t a)) (above t n)
 
--- n, put into nodes that rise by a key, before those with an equal key
-abbrev pub put_by : (ℕ → ℕ) → ℕ → List ℕ → List ℕ
-put_by key n [] = n ∷ []
-put_by key n (m ∷ ms) = if nat_le (key n) (key m) then n ∷ m ∷ ms else m ∷ put_by key n ms
+-- x, put into a list that rises by a key, before what has an equal key
+abbrev pub put_by : {X : Type 0} → (X → ℕ) → X → List X → List X
+put_by key x [] = x ∷ []
+put_by key x (y ∷ ys) = if nat_le (key x) (key y) then x ∷ y ∷ ys else y ∷ put_by key x ys
 
--- nodes by rising keys; nodes with equal keys stay in their order
-abbrev pub by_key : (ℕ → ℕ) → List ℕ → List ℕ
+-- a list by rising keys; what has equal keys stays in its order
+abbrev pub by_key : {X : Type 0} → (X → ℕ) → List X → List X
 by_key key [] = []
-by_key key (n ∷ ns) = put_by key n (by_key key ns)
+by_key key (x ∷ xs) = put_by key x (by_key key xs)
 
 -- the live accesses of cell c, oldest first
 abbrev pub live_accesses : List Node → ℕ → List ℕ

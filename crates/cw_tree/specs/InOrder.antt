@@ -1,5 +1,5 @@
 -- The tree of a run in depth-first order: its nodes are numbered as a depth-first walk comes to them, and what names nodes is renamed.
-use Rattle.std.specs.Prelude.{ℕ, ◌==◌, nat_le, List, [], ◌∷◌, map, slice_index_or, Option, Some, if◌then◌else◌}
+use Rattle.std.specs.Prelude.{ℕ, ◌==◌, List, map, slice_index_or, Option, Some}
 use Rattle.std.specs.List.{position_or_len}
 use Rattle.cw_tree.specs.declared.node.Node.{Node}
 use Rattle.cw_tree.specs.declared.node.Kind.TheVariants.{Strand}
@@ -8,6 +8,7 @@ use Rattle.cw_tree.specs.declared.closed.Halt.{Halt}
 use Rattle.cw_tree.specs.declared.closed.Halt.TheVariants.{Fault, Budget}
 use Rattle.cw_tree.specs.Nodes.{fresh_node}
 use Rattle.cw_tree.specs.Series.{depth_first}
+use Rattle.cw_tree.specs.Accesses.{by_key}
 
 -- the new number of node n: its place in depth-first order
 abbrev pub renamed : List Node → ℕ → ℕ
@@ -29,15 +30,12 @@ in_order t = map (node_in_order t) (depth_first t)
 abbrev pub conflict_in_order : List Node → Conflict → Conflict
 conflict_in_order t c = record c { asker = renamed t c.asker }
 
--- conflict c, put into conflicts that rise by their askers, before those of an equal one
-abbrev pub put_by_asker : Conflict → List Conflict → List Conflict
-put_by_asker c [] = c ∷ []
-put_by_asker c (d ∷ ds) = if nat_le c.asker d.asker then c ∷ d ∷ ds else d ∷ put_by_asker c ds
+abbrev pub asker_of : Conflict → ℕ
+asker_of c = c.asker
 
 -- conflicts by rising askers; those of an equal asker stay in their order
 abbrev pub by_asker : List Conflict → List Conflict
-by_asker [] = []
-by_asker (c ∷ cs) = put_by_asker c (by_asker cs)
+by_asker = by_key asker_of
 
 -- the conflicts as the new tree lists their askers
 abbrev pub conflicts_in_order : List Node → List Conflict → List Conflict

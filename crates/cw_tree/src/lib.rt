@@ -3,10 +3,10 @@
 //! Stands on `cw_base` and `cw_code`.
 //! Contracts cite `specs/Nodes.antt` (nodes), `specs/Walks.antt` (what stands above a node), `specs/Names.antt` (names of strands) and
 //! `specs/ForkCounts.antt` (how forks are counted). `Series`, `Attempts`, `Accesses`, `Shape`, `Journals`, `Refusals` and `Histories`
-//! there hold what the layers above say of a tree, its accesses and its conflicts, and `Stacks` the accesses of a cell with their
+//! there hold what the layers above say of a tree, its accesses and its conflicts, and `AccessStacks` the accesses of a cell with their
 //! entries; `Laws` and `ChainLaws` are laws on them, `VictimsAt` says who falls for an access at a place, `NextNodes` where a node may
 //! be made next and with which stamp, `Newest` which accesses are newest, `InOrder` what a tree, its conflicts and its end are with the
-//! nodes numbered depth first, of which `OrderLaws` are laws, `Rows` and `WorkedRun` try them.
+//! nodes numbered depth first, of which `OrderLaws` are laws, `Worked` and `WorkedRun` try them.
 #![tactic(auto)]
 
 ghost use Rattle.cw_tree.specs.Laws.{SeriesOrParallel};

@@ -2,7 +2,7 @@ ghost use Rattle.std.specs.Prelude.{◌≡◌, map, OnOk, IfOk, Some, false};
 ghost use Rattle.std.specs.List.{position_from};
 ghost use Rattle.std.specs.Result.{result_err};
 ghost use Rattle.cw_text.specs.Syntax.{term_of, terms_of, statement_of, block_of, declaration_of};
-ghost use Rattle.cw_strand.specs.Names.{find, used, indexed, called, count_of, returned_from, in_term, in_terms, in_statement, scope_after, in_block, in_params, scope_with_params, ◌then◌, in_functions, main_of, naming_fault, without_main};
+ghost use Rattle.cw_strand.specs.Names.{find, used, indexed, fault_of_call, count_of, returned_from, in_term, in_terms, in_statement, scope_after, in_block, in_params, scope_with_params, ◌then◌, in_functions, main_of, naming_fault, without_main};
 ghost use Rattle.cw_compile.specs.NamingRules.Items.{IsAllOf, is_main};
 ghost use Rattle.cw_compile.specs.NamingRules.Scopes.{Finds};
 ghost use Rattle.cw_compile.specs.NamingRules.Visible.{StaysVisible, visible_in};
@@ -48,7 +48,7 @@ fn indexed(visible: &Visible<'_>, word: &Word) -> Result<(), NameFault>
 
 /// The fault of a name that is called with so many arguments.
 fn called(visible: &Visible<'_>, word: &Word, args: usize) -> Result<(), NameFault>
-    ensures { result_err result ≡ called (find word.now.name (visible_in visible.now)) args word.now.line }
+    ensures { result_err result ≡ fault_of_call (find word.now.name (visible_in visible.now)) args word.now.line }
 {
     let kind = match visible.find(&word.name) {
         Some(Thing::Function(params)) if params == args => return Ok(()),
@@ -99,7 +99,7 @@ fn in_term(visible: &Visible<'_>, term: &Expr) -> Result<(), NameFault>
 #[cycle(expression)]
 #[tactic(auto, using(crate::proofs::NamingRules::NameSteps::arguments_counted))]
 fn in_call(visible: &Visible<'_>, name: &Word, args: &[Expr]) -> Result<(), NameFault>
-    ensures { result_err result ≡ (called (find name.now.name (visible_in visible.now)) (count_of (terms_of args.now)) name.now.line
+    ensures { result_err result ≡ (fault_of_call (find name.now.name (visible_in visible.now)) (count_of (terms_of args.now)) name.now.line
         then in_terms (visible_in visible.now) (terms_of args.now)) }
 {
     called(visible, name, args.len())?;

@@ -30,10 +30,10 @@ use Rattle.cw_open.proofs.Laws.Listing.{listed}
 use Rattle.cw_open.proofs.Laws.ListSteps.{none_new, kept, new_in}
 use Rattle.cw_open.proofs.Laws.ChainSteps.{newest_in}
 use Rattle.cw_core.specs.declared.event.Event.TheVariants as event
+use Rattle.cw_tree.proofs.Walks.Kin.{has_in}
 use Rattle.cw_core.specs.State.{CoreState, joined_columns, waits_for_left, column_of}
 use Rattle.cw_core.specs.Events.{is_met, met_by, against}
 use Rattle.cw_core.specs.Laws.{IsCore}
-use Rattle.cw_core.proofs.Events.Joined.{has_in}
 use Rattle.cw_core.proofs.Events.Complete.{HasAll, none_of, all_quiet}
 use Rattle.cw_core.proofs.Events.Going.{reached_more, state, well, all_listed, next_stamp, forks_grown, column_place, in_order, goes, at_place, leaf_stands, node_left}
 use Rattle.cw_core.proofs.Events.Making.{IsKept}

@@ -8,12 +8,12 @@ use Rattle.cw_tree.specs.Walks.{IsRooted}
 use Rattle.cw_tree.specs.Accesses.{is_live}
 use Rattle.cw_tree.proofs.Lists.{In}
 use Rattle.cw_tree.proofs.NextNodes.Growing.{node_grown, number_grown}
+use Rattle.cw_tree.proofs.Walks.Kin.{has_in, in_has}
 use Rattle.cw_open.specs.Machine.{OpenMachine, live}
 use Rattle.cw_open.specs.Laws.{NoneUndone}
 use Rattle.cw_open.proofs.Laws.Named.{live_grown}
 use Rattle.cw_open.proofs.Laws.Listing.{listed}
 use Rattle.cw_open.proofs.Runs.States.{IsState}
-use Rattle.cw_core.proofs.Events.Joined.{has_in, in_has}
 
 abbrev pub HasAll : List Node → List (List ℕ) → Type 0
 HasAll t ls = (c n : ℕ) → touches t c n ≡ true → is_live t n ≡ true → In (stamp_of t n) (listed ls c)

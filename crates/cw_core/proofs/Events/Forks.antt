@@ -2,18 +2,17 @@
 use Rattle.std.proofs.Common.{◌≡◌, ℕ, ◌+◌, ◌<◌, ◌≤◌, List, [], ◌∷◌, length, refl, ap, sym, ◌∙◌, subst, arith, Bool, true, false, cond, Option, Some, None, inl, inr, nat_eq, nat_lt}
 use Rattle.std.specs.Prelude.{◌%◌, ◌==◌, ◌&&◌, ◌||◌, not, ℤ, is_none}
 use Rattle.std.specs.List.{list_any, list_all}
-use Rattle.std.proofs.lemmas.Bool.{and_parts, and_from, or_cases, or_left, or_right, or_parts, not-true, not_from_true, not_from_false, ltb-true, lt-ltb, eqb-true, eq-eqb, ne_eqb}
+use Rattle.std.proofs.lemmas.Bool.{and_parts, and_from, or_cases, or_left, or_right, or_parts, not-true, not_from_true, not_from_false, lt-ltb, eqb-true, eq-eqb, ne_eqb}
 use Rattle.std.proofs.Math.Bool.{and-true}
 use Rattle.std.proofs.lemmas.List.{length-map}
 use Rattle.cw_tree.specs.declared.node.Node.{Node}
-use Rattle.cw_tree.specs.Nodes.{is_fork_kind, parent_of, is_strand, is_fork, is_pending, all_nodes, below}
+use Rattle.cw_tree.specs.Nodes.{is_fork_kind, parent_of, is_strand, is_fork, is_pending, below}
 use Rattle.cw_tree.specs.Walks.{has}
 use Rattle.cw_tree.specs.Series.{children}
 use Rattle.cw_tree.specs.Shape.{IsTree}
 use Rattle.cw_tree.proofs.Lists.{In, any_from, all_in}
-use Rattle.cw_tree.proofs.Members.{in_below, below_in, in_filter}
+use Rattle.cw_tree.proofs.Members.{below_in}
 use Rattle.cw_tree.proofs.Walks.There.{node_there}
-use Rattle.cw_tree.proofs.NextNodes.Trees.{is_child}
 use Rattle.cw_trace.specs.Columns.{ColumnTable, used, owner, back_to, around_fork, is_trace, before_split, split_at, merged, left_column_of}
 use Rattle.cw_trace.specs.Stands.{fork_column, is_apart}
 use Rattle.cw_trace.specs.Keeps.{Keeps}
@@ -24,16 +23,16 @@ use Rattle.cw_trace.proofs.Keeps.TierLaws.{join}
 use Rattle.cw_open.specs.Machine.{OpenMachine, has_finished}
 use Rattle.cw_open.specs.Runs.{IsRun, at_once}
 use Rattle.cw_open.specs.Open.{is_open}
-use Rattle.cw_open.proofs.Laws.Filtered.{filter_in}
-use Rattle.cw_open.proofs.Laws.Rising.{Rises, rises_filter}
-use Rattle.cw_open.proofs.Reordered.KeysRise.{below_rises}
 use Rattle.cw_core.specs.declared.event.Event.TheVariants as event
+use Rattle.cw_tree.proofs.Walks.Kin.{fork_child}
+use Rattle.cw_tree.proofs.InOrder.DepthFirst.{child_is, child_in, children_rise}
+use Rattle.cw_tree.proofs.Rising.{Rises}
+use Rattle.cw_trace.proofs.Marks.Edits.{length_parts}
 use Rattle.cw_core.specs.State.{CoreState, joined_columns, has_columns, is_split}
 use Rattle.cw_core.specs.Events.{steps_of, after_event, is_unstarted, is_early}
 use Rattle.cw_core.specs.Laws.{IsCore}
-use Rattle.cw_core.proofs.Laws.Alike.{parts_length}
 use Rattle.cw_core.proofs.Events.Joined.{joins_of, joins_more, joins_no_more}
-use Rattle.cw_core.proofs.Events.Ordering.{columns_used, unjoined, open_fork, ordered, strand_under, closed_strand}
+use Rattle.cw_core.proofs.Events.Ordering.{columns_used, unjoined, open_fork, ordered, closed_strand}
 use Rattle.cw_core.proofs.Laws.LeftFirst.{left_tier, left_shut}
 use Rattle.cw_core.proofs.Events.Complete.{none_of}
 use Rattle.cw_core.proofs.Events.Going.{reached_more, well, all_listed, root_open}
@@ -41,23 +40,6 @@ use Rattle.cw_core.proofs.Events.Making.{IsKept}
 use Rattle.cw_core.proofs.Events.Closing.{same_shape}
 
 -- ## Children
-
-pub child_in : (t : List Node) (f c : ℕ) → 0 < c → c < length t → parent_of t c ≡ f → In c (children t f)
-child_in t f c some h up = filter_in (is_child t f) c (all_nodes t) (below_in c (length t) h) (and_from (nat_lt 0 c) (nat_eq (parent_of t c) f) (lt-ltb 0 c some) (eq-eqb (parent_of t c) f up))
-
-pub record IsChild (t : List Node) (f c : ℕ) : Type 0 where
-  pub some : 0 < c
-  pub there : c < length t
-  pub up : parent_of t c ≡ f
-
-pub in_child : (t : List Node) (f c : ℕ) → In c (children t f) → IsChild t f c
-in_child t f c i =
-    let w = in_filter (is_child t f) c (all_nodes t) i in
-    let z = and_parts (nat_lt 0 c) (nat_eq (parent_of t c) f) w.1 in
-    record { some = ltb-true 0 c z.0; there = in_below c (length t) w.0; up = eqb-true (parent_of t c) f z.1 }
-
-pub children_rise : (t : List Node) (f : ℕ) → Rises (children t f)
-children_rise t f = rises_filter (is_child t f) (all_nodes t) (below_rises (length t))
 
 none_in : (xs : List ℕ) (v : ℕ) → nat_eq (length xs) 0 ≡ true → In v xs → ⊥
 none_in [] v e i = i
@@ -116,8 +98,8 @@ module _ (first : List ℤ) (k : CoreState) (core : IsCore first k) (f : ℕ) (f
         let less : l < r = (subst P these (children_rise t f)).0 r (inl refl) in
         let in_l : In l (children t f) = subst Q (sym these) (inl refl) in
         let in_r : In r (children t f) = subst R (sym these) (inr (inl refl)) in
-        let left = in_child t f l in_l in
-        let right = in_child t f r in_r in
+        let left = child_is t f l in_l in
+        let right = child_is t f r in_r in
         let test = all_in (λ r. not (list_any (λ l. nat_lt l r) (children t f)) || ((length (children t r) == 0) && not (has_finished m r))) r (children t f) unstarted in_r in
         let has_left : list_any (λ l. nat_lt l r) (children t f) ≡ true = any_from (λ l. nat_lt l r) l (children t f) in_l (lt-ltb l r less) in
         let none : (length (children t r) == 0) ≡ true = elim (or_cases (not (list_any (λ l. nat_lt l r) (children t f))) ((length (children t r) == 0) && not (has_finished m r)) test) [
@@ -132,10 +114,10 @@ module _ (first : List ℤ) (k : CoreState) (core : IsCore first k) (f : ℕ) (f
           right = r;
           some = right.some;
           low = right.there;
-          child = right.up;
+          child = right.parent;
           side = any_from (λ m. nat_lt 0 m && is_strand t m && (parent_of t m == parent_of t r)) l (below r) (below_in l r less)
-              (and_from (nat_lt 0 l && is_strand t l) (parent_of t l == parent_of t r) (and_from (nat_lt 0 l) (is_strand t l) (lt-ltb 0 l left.some) both.0) (eq-eqb (parent_of t l) (parent_of t r) (left.up ∙ sym right.up)));
-          nothing = λ n some h up. none_in (children t r) n none (child_in t r n some h up);
+              (and_from (nat_lt 0 l && is_strand t l) (parent_of t l == parent_of t r) (and_from (nat_lt 0 l) (is_strand t l) (lt-ltb 0 l left.some) both.0) (eq-eqb (parent_of t l) (parent_of t r) (left.parent ∙ sym right.parent)));
+          nothing = λ n some h up. none_in (children t r) n none (child_in t r n (record { some = some; there = h; parent = up }));
         }
 
     split_to : (z : Bool) → is_none (is_early k f) ≡ z → IsCore first (record k { tier = cond z (split_at col k.tier) k.tier; splits = cond z (col ∷ k.splits) k.splits })
@@ -154,7 +136,7 @@ module _ (first : List ℤ) (k : CoreState) (core : IsCore first k) (f : ℕ) (f
           is_none_tells (Some x) e = absurd (cc e)
 
           same_used : used (split_at col k.tier) ≡ used k.tier
-          same_used = parts_length (owner k.tier col) col 0 k.tier.owners
+          same_used = length_parts (owner k.tier col) col 0 k.tier.owners
 
     pub keeps_split : IsKept first k (event.Split f)
     keeps_split = record { run = tt; core = split_to (is_none (is_early k f)) refl }
@@ -163,7 +145,7 @@ module _ (first : List ℤ) (k : CoreState) (core : IsCore first k) (f : ℕ) (f
 
   module _ (all : list_all (has_finished m) (children t f) ≡ true) where
     child_done : (s : ℕ) → 0 < s → s < length t → parent_of t s ≡ f → is_open m s ≡ false
-    child_done s some h up = closed_strand m s (strand_under t tree s some h (ap (is_fork t) up ∙ fork)) (all_in (has_finished m) s (children t f) all (child_in t f s some h up))
+    child_done s some h up = closed_strand m s (fork_child t tree s some h (ap (is_fork t) up ∙ fork)) (all_in (has_finished m) s (children t f) all (child_in t f s (record { some = some; there = h; parent = up })))
 
     is_done : IsDone t (is_open m) col
     is_done = record { fork = f; is = fork; at = refl; done = child_done }

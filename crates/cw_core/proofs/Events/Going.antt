@@ -14,6 +14,8 @@ use Rattle.cw_tree.proofs.Walks.Ancestors.{root_ancestor}
 use Rattle.cw_tree.proofs.NextNodes.Growing.{node_grown}
 use Rattle.cw_tree.proofs.Walks.There.{node_there}
 use Rattle.cw_tree.proofs.NextNodes.Stamps.{stamp_test}
+use Rattle.cw_tree.proofs.Walks.Strands.{strand_itself}
+use Rattle.cw_tree.proofs.NodeKinds.{strand_no_block, fork_no_strand, pending_block}
 use Rattle.cw_trace.specs.Columns.{used}
 use Rattle.cw_trace.specs.Stands.{column, column_in}
 use Rattle.cw_trace.specs.Keeps.{Keeps}
@@ -24,8 +26,7 @@ use Rattle.cw_open.specs.Machine.{OpenMachine, has_finished, is_running}
 use Rattle.cw_open.specs.Steps.{Step, after_open_step, after_all, first_machine}
 use Rattle.cw_open.specs.Runs.{Rules, IsRun, IsReachedBy, at_once}
 use Rattle.cw_open.specs.Open.{is_open}
-use Rattle.cw_open.proofs.Open.Standing.{runs, stands, strand_itself, place_open, open_over}
-use Rattle.cw_open.proofs.Open.NodeKinds.{strand_no_block, fork_no_strand, pending_block}
+use Rattle.cw_open.proofs.Open.Standing.{runs, stands, place_open, open_over}
 use Rattle.cw_open.proofs.Open.Trees.{IsWell, stands_well, open_more}
 use Rattle.cw_open.proofs.Runs.States.{IsState, states}
 use Rattle.cw_core.specs.State.{CoreState, joined_columns, waits_for_left}

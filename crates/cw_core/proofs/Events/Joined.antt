@@ -1,25 +1,13 @@
 -- The joined forks, by the columns of their left strands, as the tree changes.
-use Rattle.std.proofs.Common.{◌≡◌, ℕ, ◌+◌, List, ◌∷◌, map, refl, ap, sym, ◌∙◌, subst, true, false, cond, nat_eq, nat_le}
+use Rattle.std.proofs.Common.{◌≡◌, ℕ, ◌+◌, List, ◌∷◌, map, ap, sym, ◌∙◌, subst, true, false, cond, nat_le}
 use Rattle.std.specs.Prelude.{filter}
-use Rattle.std.proofs.lemmas.Bool.{eqb-true, eq-eqb}
 use Rattle.cw_tree.specs.declared.node.Node.{Node}
 use Rattle.cw_tree.specs.Nodes.{is_fork}
 use Rattle.cw_tree.specs.Walks.{has}
-use Rattle.cw_tree.proofs.Lists.{In, any_in, any_from}
-use Rattle.cw_tree.proofs.Members.{in_filter, map_same, filter_same}
+use Rattle.cw_tree.proofs.Members.{in_filter, map_same, filter_same, map_in, in_map, filter_in}
+use Rattle.cw_tree.proofs.Walks.Kin.{has_in, in_has}
 use Rattle.cw_trace.specs.Stands.{fork_column}
 use Rattle.cw_trace.proofs.Stands.Counting.{fork_column_one}
-use Rattle.cw_open.proofs.Laws.Filtered.{filter_in}
-use Rattle.cw_open.proofs.Reordered.KeysRise.{map_in, in_map}
-
-pub has_in : (us : List ℕ) (s : ℕ) → has us s ≡ true → In s us
-has_in us s e =
-    let z = any_in (λ n. nat_eq n s) us e in
-    let P : ℕ → Type 0 = λ n. In n us in
-    subst P (eqb-true z.0 s z.2) z.1
-
-pub in_has : (us : List ℕ) (s : ℕ) → In s us → has us s ≡ true
-in_has us s i = any_from (λ n. nat_eq n s) s us i (eq-eqb s s refl)
 
 -- the joined forks with columns, of those that were joined
 abbrev pub joins_of : List Node → ℕ → List ℕ → List ℕ

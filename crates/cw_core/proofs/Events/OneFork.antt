@@ -9,7 +9,7 @@ use Rattle.cw_tree.specs.Series.{strand_of, parallel}
 use Rattle.cw_tree.specs.Shape.{IsTree}
 use Rattle.cw_tree.specs.ForkCounts.{one_if}
 use Rattle.cw_tree.proofs.Walks.There.{node_there}
-use Rattle.cw_tree.proofs.Walks.Kin.{ancestor_linear, branch}
+use Rattle.cw_tree.proofs.Walks.Kin.{ancestor_linear, branch, fork_child}
 use Rattle.cw_tree.proofs.Walks.Ancestors.{ancestor_le, ancestor_trans}
 use Rattle.cw_tree.proofs.Walks.Meets.{lca_is_meet}
 use Rattle.cw_tree.proofs.Walks.Parting.{series_or_parallel}
@@ -17,7 +17,6 @@ use Rattle.cw_tree.proofs.Walks.Strands.{strand_over, strand_innermost, strand_o
 use Rattle.cw_open.specs.Machine.{OpenMachine}
 use Rattle.cw_open.specs.Open.{is_open, AreNested}
 use Rattle.cw_open.proofs.Open.Standing.{open_over, open_last}
-use Rattle.cw_core.proofs.Events.Ordering.{strand_under}
 
 -- two nodes of one strand are not parallel
 pub not_parallel : (t : List Node) → IsTree t → (f g : ℕ) → f < length t → g < length t → is_ancestor t f g ≡ false → strand_of t f ≡ strand_of t g → parallel t f g ≡ false
@@ -34,7 +33,7 @@ not_parallel t tree f g hf hg off same =
     let ne : f ≢ q = λ e. (let Q : ℕ → Type 0 = λ x. is_ancestor t x g ≡ true in cc (subst Q (sym e) meet.right, off)) in
     let z = branch t r q f hf ne meet.left in
     let low : z.child ≤ f = ancestor_le t r z.child f hf z.over in
-    let strand : is_strand t z.child ≡ true = strand_under t tree z.child z.some (omega arith) (ap (is_fork t) z.parent ∙ fork) in
+    let strand : is_strand t z.child ≡ true = fork_child t tree z.child z.some (omega arith) (ap (is_fork t) z.parent ∙ fork) in
     let inner : z.child ≤ p = strand_innermost t r z.child strand f hf z.over in
     let down : is_ancestor t z.child p ≡ true = ancestor_linear t r z.child p f hf z.over over_f inner in
     let both : is_ancestor t z.child g ≡ true = ancestor_trans t r z.child p g hg down over_g in
@@ -65,7 +64,7 @@ module _ (m : OpenMachine) (tree : IsTree m.tree) (w : AreNested m.tree (is_open
         | inl over ↦
             (let z = branch t r f g hg (omega arith) over in
             let low : z.child ≤ g = ancestor_le t r z.child g hg z.over in
-            let strand : is_strand t z.child ≡ true = strand_under t tree z.child z.some (omega arith) (ap (is_fork t) z.parent ∙ ff) in
+            let strand : is_strand t z.child ≡ true = fork_child t tree z.child z.some (omega arith) (ap (is_fork t) z.parent ∙ ff) in
             let inner : z.child ≤ strand_of t g = strand_innermost t r z.child strand g hg z.over in
             let up : parent_of t z.child < z.child = r z.child z.some (omega arith) in
             let e = z.parent in

@@ -1,5 +1,5 @@
 -- What the tier asks of open nodes holds of a core, and where a strand may go on.
-use Rattle.std.proofs.Common.{◌≡◌, ℕ, ◌+◌, ◌<◌, List, length, refl, ap, sym, ◌∙◌, subst, arith, true, false, inl, inr, nat_eq, nat_lt}
+use Rattle.std.proofs.Common.{◌≡◌, ℕ, ◌+◌, ◌<◌, List, length, ap, sym, ◌∙◌, subst, arith, true, false, inl, inr, nat_eq, nat_lt}
 use Rattle.std.specs.Prelude.{◌⊎◌, ◌&&◌, ◌||◌, not}
 use Rattle.std.specs.List.{list_any}
 use Rattle.std.proofs.lemmas.Bool.{and_parts, and_from, and_left, and_right, and_cases, or_cases, or_from, or_left, or_right, cases_lt, cases_eq, not-true, not-false, not_from_false, not_from_true, false_from_ne_true, true_from_ne_false, lt-ltb, eq-eqb}
@@ -9,31 +9,21 @@ use Rattle.cw_tree.specs.Walks.{has}
 use Rattle.cw_tree.specs.Series.{children, place}
 use Rattle.cw_tree.specs.Shape.{IsTree}
 use Rattle.cw_tree.proofs.Lists.{In, any_from}
-use Rattle.cw_tree.proofs.Members.{below_in}
+use Rattle.cw_tree.proofs.Members.{below_in, filter_in}
 use Rattle.cw_tree.proofs.NextNodes.Trees.{is_child, no_fork}
+use Rattle.cw_tree.proofs.Walks.Kin.{fork_child}
+use Rattle.cw_tree.proofs.NodeKinds.{strand_no_block, fork_no_strand, fork_no_block, pending_block}
 use Rattle.cw_trace.specs.Columns.{used}
 use Rattle.cw_trace.specs.Stands.{fork_column}
 use Rattle.cw_trace.specs.Keeps.{Keeps}
 use Rattle.cw_trace.specs.Running.{IsUnsplit, IsOrdered, MayGoOn}
 use Rattle.cw_open.specs.Machine.{OpenMachine, has_finished, is_running}
 use Rattle.cw_open.specs.Open.{is_open}
-use Rattle.cw_open.proofs.Laws.Filtered.{filter_in}
-use Rattle.cw_open.proofs.Open.NodeKinds.{fork_no_strand, fork_no_block_at, strand_no_block, pending_block}
 use Rattle.cw_open.proofs.Open.Standing.{stands, place_open, none_open, pending_open}
 use Rattle.cw_open.proofs.Open.Trees.{IsWell, stands_well}
 use Rattle.cw_core.specs.State.{CoreState, joined_columns, has_columns, is_split, waits_for_left}
 use Rattle.cw_core.specs.Laws.{IsLeftFirst}
 use Rattle.cw_core.proofs.Events.Joined.{joins_have, joins_tell}
-
--- what hangs from a fork is a strand
-pub strand_under : (t : List Node) → IsTree t → (n : ℕ) → 0 < n → n < length t → is_fork t (parent_of t n) ≡ true → is_strand t n ≡ true
-strand_under t tree n some h fork =
-    let low : parent_of t n < n = tree.rooted n some h in
-    let (l, r, these, strands) = tree.forks (parent_of t n) (omega arith) fork in
-    let both = and_parts (is_strand t l) (is_strand t r) strands in
-    let child : In n (children t (parent_of t n)) = filter_in (is_child t (parent_of t n)) n (all_nodes t) (below_in n (length t) h) (and_from (nat_lt 0 n) (nat_eq (parent_of t n) (parent_of t n)) (lt-ltb 0 n some) (eq-eqb (parent_of t n) (parent_of t n) refl)) in
-    let P : List ℕ → Type 0 = λ ns. In n ns in
-    elim (subst P these child) [ inl q ↦ ap (is_strand t) q ∙ both.0 | inr q ↦ elim q [ inl e ↦ ap (is_strand t) e ∙ both.1 | inr e ↦ absurd e ] ]
 
 -- a strand that finished is open no more
 pub closed_strand : (m : OpenMachine) (s : ℕ) → is_strand m.tree s ≡ true → has_finished m s ≡ true → is_open m s ≡ false
@@ -67,7 +57,7 @@ module _ (k : CoreState) (w : IsWell k.machine) (forks : (f : ℕ) → has k.mac
   open_unjoined : (f : ℕ) → is_fork t f ≡ true → is_open m f ≡ true → has m.joined f ≡ false
   open_unjoined f fork e =
       elim (or_cases (is_strand t f && not (has_finished m f) || is_fork t f && not (has m.joined f)) (is_pending t f) e) [
-        | inr z ↦ absurd (cc (pending_block t f z, fork_no_block_at t f fork))
+        | inr z ↦ absurd (cc (pending_block t f z, fork_no_block t f fork))
         | inl z ↦ elim (or_cases (is_strand t f && not (has_finished m f)) (is_fork t f && not (has m.joined f)) z) [
           | inl y ↦ absurd (cc ((and_parts (is_strand t f) (not (has_finished m f)) y).0, fork_no_strand t f fork))
           | inr y ↦ not-true (has m.joined f) (and_parts (is_fork t f) (not (has m.joined f)) y).1
@@ -131,7 +121,7 @@ module _ (k : CoreState) (w : IsWell k.machine) (forks : (f : ℕ) → has k.mac
         elim at.kind [
           | inr pending ↦
               absurd (
-              let strand : is_strand t p ≡ true = strand_under t tree p (omega arith) there fork in
+              let strand : is_strand t p ≡ true = fork_child t tree p (omega arith) there fork in
               cc (pending_block t p pending, strand_no_block t p strand))
           | inl e ↦
               (let P : ℕ → Type 0 = λ p. (l < p) × (parent_of t l ≡ parent_of t p) × (is_fork t (parent_of t p) ≡ true) × IsUnsplit k.tier t k.splits (parent_of t p) in
@@ -143,7 +133,7 @@ module _ (k : CoreState) (w : IsWell k.machine) (forks : (f : ℕ) → has k.mac
                     let child : In l (children t (parent_of t s)) = filter_in (is_child t (parent_of t s)) l (all_nodes t) (below_in l (length t) low) (and_from (nat_lt 0 l) (nat_eq (parent_of t l) (parent_of t s)) (lt-ltb 0 l some) (eq-eqb (parent_of t l) (parent_of t s) z.1)) in
                     let done : has_finished m l ≡ true =
                     true_from_ne_false (has_finished m l) (λ f. absurd (cc (none, any_from (λ x. nat_lt x s && not (has_finished m x)) l (children t (parent_of t s)) child (and_from (nat_lt l s) (not (has_finished m l)) (lt-ltb l s z.0) (not_from_false (has_finished m l) f))))) in
-                    closed_strand m l (strand_under t tree l some low (ap (is_fork t) z.1 ∙ z.2)) done)
+                    closed_strand m l (fork_child t tree l some low (ap (is_fork t) z.1 ∙ z.2)) done)
               ])
         ]
 

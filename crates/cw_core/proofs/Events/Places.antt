@@ -11,26 +11,11 @@ use Rattle.cw_tree.specs.Series.{strand_of, place}
 use Rattle.cw_tree.proofs.Lists.{any_from}
 use Rattle.cw_tree.proofs.Members.{any_same, in_below, below_in}
 use Rattle.cw_tree.proofs.NextNodes.Growing.{node_grown, strand_of_grown}
+use Rattle.cw_tree.proofs.LastBelow.{last_past, last_same}
 use Rattle.cw_open.specs.Machine.{OpenMachine, waits}
 use Rattle.cw_open.proofs.Open.Standing.{StandsAt, begun_in, stands_at}
 
 -- ## Tests of the numbers below another
-
-pub last_same : (p q : ℕ → Bool) (k : ℕ) → ((m : ℕ) → m < k → p m ≡ q m) → last_below p k ≡ last_below q k
-last_same p q zero f = refl
-last_same p q (suc k) f =
-    ap (λ b. cond b (Some k) (last_below p k)) (f k (omega arith))
-    ∙ ap (λ o. cond (q k) (Some k) o) (last_same p q k (λ m h. f m (omega arith)))
-
-pub last_pass : (p : ℕ → Bool) (k n : ℕ) → k ≤ n → ((m : ℕ) → k ≤ m → m < n → p m ≡ false) → last_below p n ≡ last_below p k
-last_pass p k zero le f = let e : zero ≡ k = omega arith in ap (last_below p) e
-last_pass p k (suc n) le f =
-    elim (cases_lt n k) [
-      | inl h ↦ (let e : suc n ≡ k = omega arith in ap (last_below p) e)
-      | inr h ↦
-          ap (λ b. cond b (Some n) (last_below p n)) (f n h (omega arith))
-          ∙ last_pass p k n h (λ m a b. f m a (omega arith))
-    ]
 
 pub any_pass : (p q : ℕ → Bool) (k n : ℕ) → k ≤ n → ((m : ℕ) → m < k → p m ≡ q m) → ((m : ℕ) → k ≤ m → m < n → p m ≡ false) → list_any p (below n) ≡ list_any q (below k)
 any_pass p q k n le same none = past n le none ∙ any_same p q (below k) (λ v i. same v (in_below v k i)) where
@@ -82,7 +67,7 @@ module _ (t xs : List Node) (r : IsRooted t) where
 
   -- no new node is a pending block of the strand
   pub place_grown : (s : ℕ) → ((m : ℕ) → length t ≤ m → m < length u → begun_in u s m ≡ false) → place u s ≡ place t s
-  place_grown s none = ap (λ o. unwrap_or o s) (last_pass (begun_in u s) (length t) (length u) longer none ∙ last_same (begun_in u s) (begun_in t s) (length t) (begun_same s))
+  place_grown s none = ap (λ o. unwrap_or o s) (last_past (begun_in u s) (length t) (length u) longer none ∙ last_same (begun_in u s) (begun_in t s) (length t) (begun_same s))
 
   -- a pending block of the strand comes last
   pub place_begun : (s b : ℕ) → length u ≡ suc b → begun_in u s b ≡ true → place u s ≡ b

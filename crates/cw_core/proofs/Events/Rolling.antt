@@ -11,19 +11,18 @@ use Rattle.cw_tree.specs.Walks.{is_above}
 use Rattle.cw_tree.specs.Series.{place}
 use Rattle.cw_tree.specs.AccessStacks.{access_at}
 use Rattle.cw_tree.proofs.Lists.{In, any_from, all_from}
-use Rattle.cw_tree.proofs.Members.{in_filter, in_below, below_in}
+use Rattle.cw_tree.proofs.Members.{in_filter, in_below, below_in, filter_in}
 use Rattle.cw_tree.proofs.Walks.There.{node_there}
 use Rattle.cw_tree.proofs.NextNodes.Closing.{state_closed, is_above_closed}
 use Rattle.cw_open.specs.Machine.{OpenMachine, live, is_running, in_block, rolls_back}
 use Rattle.cw_open.specs.Steps.{undoes, aborts, after_all}
 use Rattle.cw_open.specs.Runs.{IsRun, IsReachedBy, at_once}
-use Rattle.cw_open.proofs.Open.NodeKinds.{pending_block}
 use Rattle.cw_open.proofs.Open.TreeSteps.{rolls_runs}
-use Rattle.cw_open.proofs.Laws.Filtered.{filter_in}
 use Rattle.cw_open.proofs.Laws.Listing.{listed}
 use Rattle.cw_open.proofs.Laws.ListSteps.{listed_here, listed_other}
 use Rattle.cw_open.proofs.Laws.Named.{access_named, live_tells}
 use Rattle.cw_core.specs.declared.event.Event.TheVariants as event
+use Rattle.cw_tree.proofs.NodeKinds.{pending_block}
 use Rattle.cw_core.specs.State.{CoreState, waits_for_left}
 use Rattle.cw_core.specs.Events.{steps_of, after_event, touched, next}
 use Rattle.cw_core.specs.Laws.{IsCore}

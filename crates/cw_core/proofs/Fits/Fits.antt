@@ -4,17 +4,15 @@ use Rattle.std.proofs.Math.Bool.{and-true}
 use Rattle.std.specs.Prelude.{◌&&◌, ◌||◌, ◌==◌, not, filter}
 use Rattle.std.specs.List.{list_any, list_all}
 use Rattle.std.proofs.lemmas.Bool.{and_from, and_parts, lt-ltb, le-ltb}
-use Rattle.cw_tree.specs.Nodes.{is_strand_kind, is_fork_kind, parent_of, is_strand, is_fork}
+use Rattle.cw_tree.specs.Nodes.{parent_of, is_strand, is_fork}
 use Rattle.cw_tree.specs.Walks.{has}
 use Rattle.cw_tree.specs.Series.{children, place}
 use Rattle.cw_tree.specs.Refusals.{is_victim}
 use Rattle.cw_tree.specs.Newest.{newest}
 use Rattle.cw_tree.proofs.Lists.{In}
 use Rattle.cw_tree.proofs.Members.{in_filter}
-use Rattle.cw_tree.proofs.Walks.There.{node_there}
-use Rattle.cw_open.specs.Machine.{OpenMachine, has_finished, finished_dead, waits, is_running, is_dying, is_free, in_block, leads_back, rolls_back}
+use Rattle.cw_open.specs.Machine.{OpenMachine, has_finished, finished_dead, is_running, is_dying, is_free, in_block, leads_back, rolls_back}
 use Rattle.cw_open.specs.Runs.{left_died, at_once}
-use Rattle.cw_open.proofs.Laws.Rising.{Rises}
 use Rattle.cw_open.proofs.Refused.Falling.{back_dies}
 use Rattle.cw_open.proofs.Runs.LawsHold.{any_time}
 use Rattle.cw_open.proofs.Runs.States.{by_rules}
@@ -22,12 +20,14 @@ use Rattle.cw_open.proofs.Laws.ChainStates.{newest_alone}
 use Rattle.cw_open.proofs.Refused.Victims.{dying_roll_back, free_are_safe}
 use Rattle.cw_core.specs.declared.row.Row.{Row}
 use Rattle.cw_core.specs.declared.event.Event.TheVariants as event
+use Rattle.cw_tree.proofs.InOrder.DepthFirst.{child_is, children_rise}
+use Rattle.cw_tree.proofs.Names.Forks.{same_truth}
+use Rattle.cw_tree.proofs.Rising.{Rises}
 use Rattle.cw_core.specs.State.{CoreState, has_columns, is_split, waits_for_left}
 use Rattle.cw_core.specs.Events.{fits_now, is_unstarted}
 use Rattle.cw_core.specs.Laws.{IsCore}
 use Rattle.cw_core.specs.Kept.{IsRow, elder_list}
 use Rattle.cw_core.proofs.Fits.LeftStrands.{any_filter}
-use Rattle.cw_core.proofs.Events.Forks.{in_child, children_rise}
 
 -- ## Strands
 
@@ -45,7 +45,7 @@ module _ (k : CoreState) (s : ℕ) (r : Row) (row : IsRow k s r) where
   elder_low strand l e =
       let P : List ℕ → Type 0 = λ ns. In l ns in
       let i : In l (filter (λ l. nat_lt l s) (children m.tree (parent_of m.tree s))) = subst P (sym (row.made.elder strand ∙ ap elder_list e)) (inl refl) in
-      (in_child m.tree (parent_of m.tree s) l (in_filter (λ l. nat_lt l s) l (children m.tree (parent_of m.tree s)) i).0).there
+      (child_is m.tree (parent_of m.tree s) l (in_filter (λ l. nat_lt l s) l (children m.tree (parent_of m.tree s)) i).0).there
 
 -- ## Forks
 
@@ -63,10 +63,10 @@ module _ (k : CoreState) (f : ℕ) (r : Row) (row : IsRow k f r) (fork : is_fork
   halves = row.made.halves fork
 
   pub left_there : left < length n.tree
-  left_there = let P : List ℕ → Type 0 = λ ns. In left ns in (in_child n.tree f left (subst P (sym halves) (inl refl))).there
+  left_there = let P : List ℕ → Type 0 = λ ns. In left ns in (child_is n.tree f left (subst P (sym halves) (inl refl))).there
 
   pub right_there : right < length n.tree
-  right_there = let P : List ℕ → Type 0 = λ ns. In right ns in (in_child n.tree f right (subst P (sym halves) (inr (inl refl)))).there
+  right_there = let P : List ℕ → Type 0 = λ ns. In right ns in (child_is n.tree f right (subst P (sym halves) (inr (inl refl)))).there
 
   in_order : left < right
   in_order = let P : List ℕ → Type 0 = λ ns. Rises ns in (subst P halves (children_rise n.tree f)).0 right (inl refl)
@@ -94,11 +94,6 @@ module _ (k : CoreState) (f : ℕ) (r : Row) (row : IsRow k f r) (fork : is_fork
       ∙ ap (λ b. r.made.has_columns && not r.now.split && not r.now.joined && b) unstarted_is
 
 -- ## Blocks
-
-same_truth : (x y : Bool) → (x ≡ true → y ≡ true) → (y ≡ true → x ≡ true) → x ≡ y
-same_truth true y f g = sym (f refl)
-same_truth false true f g = g refl
-same_truth false false f g = refl
 
 module _ (k : CoreState) (core : IsCore k.machine.first k) (s : ℕ) where
   abbrev j : OpenMachine

@@ -10,11 +10,11 @@ use Rattle.cw_tree.specs.Shape.{IsTree}
 use Rattle.cw_tree.proofs.Lists.{In}
 use Rattle.cw_tree.proofs.Members.{in_filter}
 use Rattle.cw_tree.proofs.Walks.There.{node_there}
+use Rattle.cw_tree.proofs.InOrder.DepthFirst.{child_is}
 use Rattle.cw_open.specs.Machine.{has_finished}
 use Rattle.cw_core.specs.declared.row.Made.{Made}
 use Rattle.cw_core.specs.State.{CoreState, is_split, waits_for_left}
 use Rattle.cw_core.specs.Kept.{IsMade, elder_list}
-use Rattle.cw_core.proofs.Events.Forks.{in_child}
 
 -- a test of what passes another test
 pub any_filter : (p q : ℕ → Bool) (xs : List ℕ) → list_any (λ x. p x && q x) xs ≡ list_any q (filter p xs)
@@ -40,7 +40,7 @@ module _ (k : CoreState) (tree : IsTree k.machine.tree) (s : ℕ) (strand : is_s
       let P : List ℕ → Type 0 = λ ns. In l ns in
       let i : In l (filter (λ l. nat_lt l s) (children t f)) = subst P (sym (row.elder strand ∙ ap elder_list e)) (inl refl) in
       let w = in_filter (λ l. nat_lt l s) l (children t f) i in
-      let c = in_child t f l w.0 in
+      let c = child_is t f l w.0 in
       let less : l < s = ltb-true l s w.1 in
       let h = node_there (λ y. is_strand_kind y.kind) t s strand in
       (c.there, tree.strands s h (omega arith) strand, h)

@@ -19,6 +19,8 @@ use Rattle.cw_open.specs.Machine.{has_finished}
 use Rattle.cw_open.proofs.Laws.Named.{strand_is}
 use Rattle.cw_core.specs.declared.cores.Core.TheInside.{Inside}
 use Rattle.cw_core.specs.declared.event.Event.TheVariants as event
+use Rattle.cw_tree.proofs.Walks.Kin.{fork_child}
+use Rattle.cw_tree.proofs.InOrder.DepthFirst.{child_is}
 use Rattle.cw_core.specs.declared.row.Row.{Row}
 use Rattle.cw_core.specs.State.{CoreState, has_columns, is_split}
 use Rattle.cw_core.specs.Events.{fits, after_event}
@@ -26,8 +28,8 @@ use Rattle.cw_core.specs.Kept.{IsRow, AreParts, IsVictim, changed, with_joined, 
 use Rattle.cw_core.specs.InMemory.{state_of, IsCoreInMemory}
 use Rattle.cw_core.proofs.Events.Kept.{events}
 use Rattle.cw_core.proofs.Events.Going.{well}
-use Rattle.cw_core.proofs.Events.Ordering.{columns_used, strand_under}
-use Rattle.cw_core.proofs.Events.Forks.{names, in_child}
+use Rattle.cw_core.proofs.Events.Ordering.{columns_used}
+use Rattle.cw_core.proofs.Events.Forks.{names}
 use Rattle.cw_core.proofs.Events.Places.{waits_for}
 use Rattle.cw_core.proofs.Kept.PartsGrow.{unspent, none_spent}
 use Rattle.cw_core.proofs.Fits.Ready.{row_there}
@@ -71,8 +73,8 @@ module _ (k : CoreState) (rows : List Row) (forks : List ℕ) (cells : List Cell
 
   half : (h : ℕ) → In h (children t f) → (is_strand t h ≡ true) × (h < length t)
   half h i =
-      let b = in_child t f h i in
-      (strand_under t (well k.machine.first k w.core).sound.tree h b.some b.there (ap (is_fork t) b.up ∙ may.fork), b.there)
+      let b = child_is t f h i in
+      (fork_child t (well k.machine.first k w.core).sound.tree h b.some b.there (ap (is_fork t) b.parent ∙ may.fork), b.there)
 
   pub halves_there : (r : Row) → IsRow k f r → (is_strand t r.made.left ≡ true) × (r.made.left < length t) × (is_strand t r.made.right ≡ true) × (r.made.right < length t)
   halves_there r row =

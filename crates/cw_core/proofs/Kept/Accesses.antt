@@ -132,7 +132,7 @@ module _ (k : CoreState) (rows : List Row) (forks : List ℕ) (cells : List Cell
       wrote = ap (value_in written_kind) (get_next t x []) ∙ wrote_kind c write (live_value m c) v mark;
       strand =
           (let h = strand_there k rows forks cells last w s running in
-          let self = Rattle.cw_open.proofs.Open.Standing.strand_itself t rooted s (Rattle.cw_open.proofs.Open.Standing.runs m (well m.first k w.core).sound.tree (well m.first k w.core).nested s running).strand in
+          let self = Rattle.cw_tree.proofs.Walks.Strands.strand_itself t rooted s (Rattle.cw_open.proofs.Open.Standing.runs m (well m.first k w.core).sound.tree (well m.first k w.core).nested s running).strand in
           ap (λ q. column_in u (used k.tier) q q) (own ∙ sym self ∙ sym (strand_of_grown t (x ∷ []) rooted s h)) ∙ column_append t (x ∷ []) rooted (used k.tier) s h);
     }
 

@@ -64,10 +64,6 @@ module _ (a : Inside) (i : IsCoreInMemory a) (s c : ℕ) (fit : fits (state_of a
   same_list : live m c ≡ stamps cell.entries
   same_list = live_is k a.rows.items a.forks.items a.cells.items a.spent i c cell at
 
-  -- where a cell has no entry no access of it conflicts
-  pub free_of : cell.entries ≡ [] → is_met k s c ≡ false
-  free_of e = ap (λ us. meets t (newest us) p) (same_list ∙ ap stamps e)
-
   module _ (e : Entry) (last : stack.newest_entry cell.entries ≡ Some e) where
     alone : newest (live m c) ≡ e.mark.stamp ∷ []
     alone = ap newest same_list ∙ newest_stamp cell.entries e last

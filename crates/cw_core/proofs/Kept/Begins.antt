@@ -21,13 +21,14 @@ use Rattle.cw_open.proofs.Open.Standing.{stands}
 use Rattle.cw_open.proofs.Open.TreeSteps.{free_runs}
 use Rattle.cw_open.proofs.Refused.Victims.{IsTold, told_states}
 use Rattle.cw_core.specs.declared.event.Event.TheVariants as event
+use Rattle.cw_tree.proofs.Members.{suffix_same}
 use Rattle.cw_core.specs.declared.row.Row.{Row}
 use Rattle.cw_core.specs.State.{CoreState, waits_for_left, spent}
 use Rattle.cw_core.specs.Events.{fits, fits_now, is_stop, after_event}
 use Rattle.cw_core.specs.Kept.{AreParts, changed, with_tail, with_place, plain_tail, leaf_row}
 use Rattle.cw_core.proofs.Events.Going.{well, at_place}
 use Rattle.cw_core.proofs.Events.Kept.{events, free_ready}
-use Rattle.cw_core.proofs.Kept.Tails.{suffix_same, child_low, elders_more}
+use Rattle.cw_core.proofs.Kept.Tails.{child_low, elders_more}
 use Rattle.cw_core.proofs.Events.Places.{place_grown, place_begun}
 use Rattle.cw_core.proofs.Kept.Stakes.{no_victim}
 use Rattle.cw_core.proofs.Kept.RowsGrow.{tail_here}

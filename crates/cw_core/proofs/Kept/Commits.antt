@@ -12,10 +12,10 @@ use Rattle.cw_tree.proofs.NextNodes.Closing.{length_closed, state_closed}
 use Rattle.cw_stack.specs.Cells.{CellParts}
 use Rattle.cw_trace.specs.Columns.{closed_word}
 use Rattle.cw_open.specs.Machine.{OpenMachine, is_running, in_block, is_free}
-use Rattle.cw_open.proofs.Open.NodeKinds.{pending_block}
 use Rattle.cw_open.proofs.Open.TreeSteps.{free_runs}
 use Rattle.cw_core.specs.declared.cores.Core.TheInside.{Inside}
 use Rattle.cw_core.specs.declared.event.Event.TheVariants as event
+use Rattle.cw_tree.proofs.NodeKinds.{pending_block}
 use Rattle.cw_core.specs.declared.row.Row.{Row}
 use Rattle.cw_core.specs.State.{CoreState, waits_for_left, gap_of}
 use Rattle.cw_core.specs.Events.{fits, after_event}
@@ -69,9 +69,6 @@ module _ (k : CoreState) (rows : List Row) (forks : List ℕ) (cells : List Cell
 
   pub block_here : is_block t b ≡ true
   block_here = pending_block t b (open_block m.first k w.core s may.running may.ready may.within Committed refl end (max m.clock end) z.words)
-
-  pub block_there : b < length t
-  block_there = there m.first k w.core s may.running may.ready may.within Committed refl end (max m.clock end) z.words
 
   pub parent_low : q < b
   parent_low = low m.first k w.core s may.running may.ready may.within Committed refl end (max m.clock end) z.words

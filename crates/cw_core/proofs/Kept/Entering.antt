@@ -1,8 +1,7 @@
 -- The cells of a core: what is seen of one, and an entry that is put in.
-use Rattle.std.proofs.Common.{◌≡◌, ◌≢◌, ℕ, zero, suc, ◌+◌, ◌<◌, List, [], ◌∷◌, ◌++◌, length, map, refl, ap, sym, ◌∙◌, arith, true, cond, Option, Some, None, inl, inr}
-use Rattle.std.specs.Prelude.{◌⊎◌, ℤ, slice_get, slice_set, is_some, unwrap_or}
+use Rattle.std.proofs.Common.{◌≡◌, ℕ, zero, suc, ◌+◌, ◌<◌, List, [], ◌∷◌, ◌++◌, length, map, refl, ap, sym, ◌∙◌, arith, Option, Some, None, inl, inr}
+use Rattle.std.specs.Prelude.{◌⊎◌, slice_get, slice_set, unwrap_or}
 use Rattle.std.specs.Option.{option_map}
-use Rattle.std.proofs.lemmas.List.{map-append, map-set}
 use Rattle.std.proofs.lemmas.Simd.{map-map}
 use Rattle.std.proofs.lemmas.Option.{slice_get-map, slice_get_within}
 use Rattle.std.proofs.lemmas.Bool.{cases_lt}
@@ -10,7 +9,6 @@ use Rattle.cw_tree.specs.declared.access.Entry.{Entry}
 use Rattle.cw_tree.specs.Accesses.{cell_value, written}
 use Rattle.cw_tree.specs.AccessStacks.{access_at, written_by, stamps}
 use Rattle.cw_tree.proofs.NextNodes.Growing.{get_append, get_next}
-use Rattle.cw_tree.specs.Nodes.{stamp_of}
 use Rattle.cw_open.specs.Machine.{OpenMachine, live}
 use Rattle.cw_open.proofs.Laws.Named.{access_named}
 use Rattle.cw_stack.specs.Cells.{CellParts, entries_value}
@@ -74,9 +72,6 @@ firsts_kept f (x ∷ cells) (suc n) c b at e = ap (λ ys. f x ∷ ys) (firsts_ke
 module _ (k : CoreState) (rows : List Rattle.cw_core.specs.declared.row.Row.Row) (forks : List ℕ) (cells : List CellParts) (last : Option ℕ) (w : AreParts k rows forks cells last) where
   abbrev m : OpenMachine
   m = k.machine
-
-  pub cells_len : length cells ≡ length m.lists
-  cells_len = sym (Rattle.std.proofs.lemmas.List.length-map cells (λ c. stamps c.entries)) ∙ ap length w.lists
 
   module _ (c : ℕ) (cell : CellParts) (at : slice_get cells c ≡ Some cell) where
     pub live_is : live m c ≡ stamps cell.entries

@@ -11,14 +11,13 @@ use Rattle.cw_tree.specs.Series.{strand_of}
 use Rattle.cw_tree.specs.Shape.{IsTree}
 use Rattle.cw_tree.specs.AccessStacks.{access_at}
 use Rattle.cw_tree.proofs.Walks.Climbs.{path_step}
-use Rattle.cw_tree.proofs.Walks.Strands.{strand_of_le}
+use Rattle.cw_tree.proofs.Walks.Strands.{strand_of_le, strand_itself}
+use Rattle.cw_tree.proofs.NodeKinds.{strand_no_block, pending_block}
 use Rattle.cw_trace.specs.Columns.{used}
 use Rattle.cw_trace.specs.Stands.{column_in}
 use Rattle.cw_trace.specs.Verdicts.{TellsOfBlock}
 use Rattle.cw_trace.proofs.Keeps.Meaning.{stands_of}
 use Rattle.cw_open.proofs.Laws.Named.{strand_is}
-use Rattle.cw_open.proofs.Open.NodeKinds.{pending_block, strand_no_block}
-use Rattle.cw_open.proofs.Open.Standing.{strand_itself}
 use Rattle.cw_core.specs.declared.row.Row.{Row}
 use Rattle.cw_core.specs.declared.cores.Core.TheInside.{Inside}
 use Rattle.cw_core.specs.State.{CoreState, joined_columns, column_of}

@@ -8,13 +8,13 @@ use Rattle.cw_tree.specs.Walks.{has}
 use Rattle.cw_stack.specs.Cells.{CellParts}
 use Rattle.cw_open.specs.Machine.{OpenMachine, has_finished, finished_dead, waits, is_running}
 use Rattle.cw_core.specs.declared.event.Event.TheVariants as event
+use Rattle.cw_open.proofs.Refused.Backed.{dead_finished}
 use Rattle.cw_core.specs.declared.row.Row.{Row}
 use Rattle.cw_core.specs.State.{CoreState}
 use Rattle.cw_core.specs.Events.{fits, after_event}
 use Rattle.cw_core.specs.Kept.{IsNow, IsRow, AreRows, AreParts, IsAtStake, IsVictim, is_counted, changed, with_finished}
 use Rattle.cw_core.proofs.Events.Kept.{events}
 use Rattle.cw_core.proofs.Kept.Changed.{length_changed, was_changed}
-use Rattle.cw_core.proofs.Kept.RowsGrow.{dead_finished}
 use Rattle.cw_core.proofs.Kept.PartsGrow.{unspent, none_spent}
 use Rattle.cw_core.proofs.Kept.SameTree.{with_same_tree, made_same, forks_same, held_same}
 

@@ -13,13 +13,12 @@ use Rattle.cw_tree.specs.Accesses.{value_in, written_kind}
 use Rattle.cw_tree.specs.NextNodes.{fork_nodes}
 use Rattle.cw_tree.proofs.Lists.{any_in, any_from}
 use Rattle.cw_tree.proofs.Members.{in_below, below_in}
-use Rattle.cw_tree.proofs.Walks.There.{node_there}
+use Rattle.cw_tree.proofs.Walks.There.{node_there, fork_there}
 use Rattle.cw_tree.proofs.NextNodes.Growing.{get_next, get_append, node_grown, number_grown}
 use Rattle.cw_stack.specs.Cells.{CellParts}
 use Rattle.cw_trace.specs.Columns.{ColumnTable, used, left_column_of, forked}
 use Rattle.cw_trace.specs.Stands.{column, fork_column}
 use Rattle.cw_trace.proofs.Stands.Counting.{fork_column_lt}
-use Rattle.cw_trace.proofs.Stands.InRange.{fork_low}
 use Rattle.cw_trace.proofs.Keeps.Meaning.{odd_column}
 use Rattle.cw_trace.proofs.Keeps.Grow.{fork_column_append, column_append}
 use Rattle.cw_trace.proofs.Keeps.Owners.{column_strand, column_other}
@@ -31,7 +30,7 @@ use Rattle.cw_core.specs.declared.row.Row.{Row}
 use Rattle.cw_core.specs.State.{CoreState, waits_for_left, column_of, gap_of, is_split, spent}
 use Rattle.cw_core.specs.Events.{fits, fits_now, is_stop, may_fork, after_event}
 use Rattle.cw_core.specs.Laws.{IsCore}
-use Rattle.cw_core.specs.Kept.{AreParts, AreForks, IsEntryOf, IsHeld, changed, with_tail, with_wait, plain_tail, fork_row, strand_row, fork_rows}
+use Rattle.cw_core.specs.Kept.{AreParts, AreForks, IsHeld, changed, with_tail, with_wait, plain_tail, fork_row, strand_row, fork_rows}
 use Rattle.cw_core.proofs.Events.Going.{well, at_place, column_place}
 use Rattle.cw_core.proofs.Events.Kept.{events, free_ready}
 use Rattle.cw_core.proofs.Kept.PartsGrow.{unspent, none_spent}
@@ -110,7 +109,7 @@ module _ (k : CoreState) (rows : List Row) (forks : List ℕ) (cells : List Cell
       odd_some n e = omega arith
     by_used (suc (suc n)) e all =
         let z = all (suc n) (omega arith) (omega arith) in
-        let l = fork_column_lt t z.0 f (fork_low t z.0 z.1) z.1 in
+        let l = fork_column_lt t z.0 f (fork_there t z.0 z.1) z.1 in
         let at : left_column_of (suc n) ≡ n = even_left n e in
         omega (arith, l, z.2, at) where
           even_left : (n : ℕ) → suc (suc n) % 2 ≡ 1 → left_column_of (suc n) ≡ n
@@ -129,7 +128,7 @@ module _ (k : CoreState) (rows : List Row) (forks : List ℕ) (cells : List Cell
   columns false e n h = refl
   columns true e n h =
       column_more t old_tree (used (tier true)) (used k.tier)
-      (λ g fork. let low = fork_column_lt t g f (fork_low t g fork) fork in let all = w.core.stands.all_forks (roomy e) in (omega (arith, low, all, used_more), omega (arith, low, all)))
+      (λ g fork. let low = fork_column_lt t g f (fork_there t g fork) fork in let all = w.core.stands.all_forks (roomy e) in (omega (arith, low, all, used_more), omega (arith, low, all)))
       n h
 
   has_is : (z : Bool) → may_fork k ≡ z → nat_le (fork_column u f + 2) (tier z).room ≡ z

@@ -14,11 +14,12 @@ use Rattle.cw_tree.specs.Refusals.{is_victim}
 use Rattle.cw_tree.specs.Attempts.{tried_cell, same_cell, elders}
 use Rattle.cw_tree.specs.NextNodes.{fork_nodes}
 use Rattle.cw_tree.proofs.Lists.{any_in}
-use Rattle.cw_tree.proofs.Members.{in_filter, in_below}
+use Rattle.cw_tree.proofs.Members.{in_filter, in_below, suffix_same}
 use Rattle.cw_tree.proofs.NextNodes.Growing.{get_next, length_more, node_grown, number_grown, strand_of_grown, is_above_grown}
 use Rattle.cw_tree.proofs.NextNodes.Trees.{no_fork}
 use Rattle.cw_tree.proofs.Walks.Ancestors.{above_ancestor, ancestor_le}
 use Rattle.cw_tree.proofs.Walks.Strands.{strand_of_strand, strand_of_other, strand_of_le}
+use Rattle.cw_tree.proofs.LastBelow.{last_past}
 use Rattle.cw_trace.specs.Columns.{ColumnTable, used}
 use Rattle.cw_trace.specs.Stands.{fork_column, column}
 use Rattle.cw_trace.proofs.Keeps.Grow.{fork_column_append, column_append}
@@ -29,6 +30,7 @@ use Rattle.cw_open.proofs.Laws.ListSteps.{none_new}
 use Rattle.cw_open.proofs.Open.Standing.{runs, stands}
 use Rattle.cw_open.proofs.Open.TreeSteps.{free_runs}
 use Rattle.cw_open.proofs.Refused.Victims.{IsTold, told_states}
+use Rattle.cw_open.proofs.Refused.Backed.{dead_finished}
 use Rattle.cw_core.specs.declared.row.Made.{Made}
 use Rattle.cw_core.specs.declared.row.Tail.{Tail}
 use Rattle.cw_core.specs.declared.row.Now.{Now}
@@ -37,11 +39,11 @@ use Rattle.cw_core.specs.State.{CoreState, has_columns, is_split, waits_for_left
 use Rattle.cw_core.specs.Laws.{IsCore}
 use Rattle.cw_core.specs.Kept.{IsMade, IsTail, IsNow, IsRow, AreRows, IsVictim, is_counted, elder_list, plain_tail, fork_row, strand_row, changed, with_tail, with_wait}
 use Rattle.cw_core.proofs.Events.Going.{well, at_place}
-use Rattle.cw_core.proofs.Kept.Tails.{suffix_same, suffix_more, child_low}
-use Rattle.cw_core.proofs.Events.Places.{last_pass, place_grown, waits_grown, waits_for}
+use Rattle.cw_core.proofs.Kept.Tails.{suffix_more, child_low}
+use Rattle.cw_core.proofs.Events.Places.{place_grown, waits_grown, waits_for}
 use Rattle.cw_core.proofs.Kept.Changed.{length_changed, was_changed, was_there}
 use Rattle.cw_core.proofs.Kept.Stakes.{stake_old, falls_still}
-use Rattle.cw_core.proofs.Kept.RowsGrow.{tried_grown, dead_finished}
+use Rattle.cw_core.proofs.Kept.RowsGrow.{tried_grown}
 use Rattle.cw_core.proofs.Kept.PartsGrow.{all_at}
 use Rattle.cw_core.proofs.Fits.Dying.{dying_is}
 use Rattle.cw_core.proofs.Kept.ForkTails.{elders_apart, place_children, fork_children, other_children, no_children}
@@ -303,7 +305,7 @@ module _ (first : List ℤ) (k : CoreState) (core : IsCore first k) (s : ℕ) (f
     place_new n le =
         same_place n
         ∙ ap (λ o. unwrap_or o n)
-        (last_pass (λ b. is_pending t b && nat_eq (strand_of t b) n) 0 (length t) (omega arith)
+        (last_past (λ b. is_pending t b && nat_eq (strand_of t b) n) 0 (length t) (omega arith)
         (λ b a h. and_right (is_pending t b) (nat_eq (strand_of t b) n) (ne_eqb (strand_of t b) n (λ q. absurd (let low = strand_of_le t rooted b h in omega arith)))))
 
     pub fork_is : (c : ℕ) (columned : Bool) → has_columns z f ≡ columned → (columned ≡ true → fork_column u f ≡ c) → is_split z f ≡ false → IsRow z f (fork_row s c (suc f) (suc (suc f)) columned)

@@ -1,5 +1,5 @@
 -- The parts of a core after a block was closed.
-use Rattle.std.proofs.Common.{◌≡◌, ◌≢◌, ℕ, zero, suc, ◌+◌, ◌<◌, ◌≤◌, List, [], ◌∷◌, ◌++◌, length, refl, ap, sym, ◌∙◌, subst, arith, Bool, true, false, cond, Option, Some, None, nat_eq, nat_lt, inl, inr, length-append}
+use Rattle.std.proofs.Common.{◌≡◌, ◌≢◌, ℕ, zero, suc, ◌+◌, ◌<◌, List, [], ◌∷◌, ◌++◌, length, refl, ap, ◌∙◌, arith, Bool, true, false, cond, Option, Some, None, nat_eq, nat_lt, inl, inr, length-append}
 use Rattle.std.specs.Prelude.{◌&&◌, not, ℤ, filter, slice_get}
 use Rattle.std.specs.List.{suffix_len}
 use Rattle.std.proofs.lemmas.List.Elements.{filter-append}
@@ -13,20 +13,19 @@ use Rattle.cw_tree.specs.Series.{children, place}
 use Rattle.cw_tree.specs.Shape.{is_closed}
 use Rattle.cw_tree.specs.Attempts.{tried_cell_in, tried_cell, same_cell, block_attempt, elders}
 use Rattle.cw_tree.specs.Accesses.{value_in, written_kind}
-use Rattle.cw_tree.proofs.Lists.{In}
-use Rattle.cw_tree.proofs.Members.{filter_same, in_filter, in_below}
+use Rattle.cw_tree.proofs.Members.{filter_same, in_filter, in_below, suffix_same, filter_all}
 use Rattle.cw_tree.proofs.Walks.There.{node_there}
 use Rattle.cw_tree.proofs.NextNodes.Closing.{all_nodes_closed, node_closed, same_closed}
 use Rattle.cw_tree.proofs.NextNodes.Trees.{is_child}
+use Rattle.cw_tree.proofs.NodeKinds.{pending_block}
 use Rattle.cw_stack.specs.Cells.{CellParts}
 use Rattle.cw_trace.specs.Columns.{used}
 use Rattle.cw_trace.proofs.Keeps.Ending.{fork_column_same, column_same}
 use Rattle.cw_open.specs.Machine.{OpenMachine, is_running, in_block}
-use Rattle.cw_open.proofs.Open.NodeKinds.{pending_block}
 use Rattle.cw_core.specs.State.{CoreState, waits_for_left}
 use Rattle.cw_core.specs.Laws.{IsCore}
 use Rattle.cw_core.specs.Kept.{IsTail, AreForks, IsHeld}
-use Rattle.cw_core.proofs.Kept.Tails.{suffix_same, suffix_more}
+use Rattle.cw_core.proofs.Kept.Tails.{suffix_more}
 use Rattle.cw_core.proofs.Kept.RowsClose.{shape, blocks, children_same, aborted_other, pending_other, pending_here, open_block, tried_same, front, there, rooted}
 
 -- one number more passes the test
@@ -48,10 +47,6 @@ count_flip p r b (suc n) h off on other =
           let same : length (filter r (n ∷ [])) ≡ length (filter p (n ∷ [])) = ap (λ c. length (cond c (n ∷ []) (let ns : List ℕ = [] in ns))) (other n ne) in
           omega (arith, x, y, more, same))
     ]
-
-pub filter_all : (f : ℕ → Bool) (xs : List ℕ) → ((v : ℕ) → In v xs → f v ≡ true) → filter f xs ≡ xs
-filter_all f [] g = refl
-filter_all f (y ∷ xs) g = ap (λ b. cond b (y ∷ filter f xs) (filter f xs)) (g y (inl refl)) ∙ ap (λ ns. y ∷ ns) (filter_all f xs (λ v i. g v (inr i)))
 
 module _ (first : List ℤ) (k : CoreState) (core : IsCore first k) (s : ℕ) (running : is_running k.machine s ≡ true) (ready : waits_for_left k s ≡ false) (within : in_block k.machine s ≡ true) (state : BlockState) (done : is_pending_state state ≡ false) (end clock : ℕ) (words : List ℕ) where
   abbrev t : List Node

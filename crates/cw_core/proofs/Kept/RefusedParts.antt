@@ -1,6 +1,6 @@
 -- The parts of a core after an access that is refused.
 use Rattle.std.proofs.Common.{◌≡◌, ◌≢◌, ℕ, suc, ◌+◌, ◌<◌, ◌≤◌, ◌^◌, List, [], ◌∷◌, ◌++◌, length, refl, ap, sym, ◌∙◌, subst, arith, Bool, true, false, cond, Option, Some, nat_eq, inl, inr, length-append}
-use Rattle.std.specs.Prelude.{◌&&◌, ◌||◌, not, ℤ, slice_get}
+use Rattle.std.specs.Prelude.{◌&&◌, not, ℤ, slice_get}
 use Rattle.std.specs.List.{suffix_len}
 use Rattle.std.proofs.lemmas.Bool.{and_parts, and_left, ne_eqb, eq-eqb, eqb-true, not-true}
 use Rattle.cw_tree.specs.declared.node.Node.{Node}
@@ -12,6 +12,7 @@ use Rattle.cw_tree.specs.Series.{strand_of, children, place}
 use Rattle.cw_tree.specs.Attempts.{tried_cell, same_cell}
 use Rattle.cw_tree.proofs.Walks.There.{node_there}
 use Rattle.cw_tree.proofs.NextNodes.Growing.{get_next, node_grown, number_grown, node_new, length_more}
+use Rattle.cw_tree.proofs.Members.{suffix_same}
 use Rattle.cw_stack.specs.Cells.{CellParts}
 use Rattle.cw_trace.specs.Columns.{used}
 use Rattle.cw_trace.proofs.Keeps.Grow.{fork_column_append}
@@ -26,7 +27,7 @@ use Rattle.cw_core.specs.State.{CoreState, waits_for_left, spent}
 use Rattle.cw_core.specs.Laws.{IsCore}
 use Rattle.cw_core.specs.Kept.{IsTail, IsNow, IsRow, AreRows, AreForks, IsHeld, AreParts, IsVictim, is_counted, changed, with_tail, with_victim, tried_tail, leaf_row}
 use Rattle.cw_core.proofs.Events.Going.{well, at_place}
-use Rattle.cw_core.proofs.Kept.Tails.{suffix_same, suffix_more, child_low, children_here}
+use Rattle.cw_core.proofs.Kept.Tails.{suffix_more, child_low, children_here}
 use Rattle.cw_core.proofs.Events.Places.{place_grown}
 use Rattle.cw_core.proofs.Kept.Changed.{length_changed, was_changed, was_there}
 use Rattle.cw_core.proofs.Kept.RowsGrow.{tried_grown, made_grown, now_grown, new_row, tail_other, waits_same}

@@ -13,13 +13,13 @@ use Rattle.cw_tree.specs.Series.{strand_of, place}
 use Rattle.cw_tree.specs.Refusals.{victim_of, is_victim}
 use Rattle.cw_tree.proofs.Walks.There.{node_there}
 use Rattle.cw_tree.proofs.Walks.Ancestors.{beneath, ancestor_up, ancestor_self}
-use Rattle.cw_tree.proofs.Walks.Strands.{strand_of_other}
+use Rattle.cw_tree.proofs.Walks.Strands.{strand_of_other, strand_itself}
 use Rattle.cw_tree.proofs.NextNodes.Growing.{get_append, get_next, node_grown, number_grown, strand_of_grown, is_above_grown, above_new}
+use Rattle.cw_tree.proofs.NodeKinds.{fork_no_strand, fork_no_block, pending_block}
 use Rattle.cw_open.specs.Machine.{OpenMachine, has_finished, is_running, is_dying, is_free, falls}
 use Rattle.cw_open.specs.Runs.{at_once}
-use Rattle.cw_open.proofs.Open.NodeKinds.{fork_no_strand, fork_no_block_at, pending_block}
 use Rattle.cw_open.proofs.Laws.ListSteps.{none_new}
-use Rattle.cw_open.proofs.Open.Standing.{stands, strand_itself, place_open, open_over}
+use Rattle.cw_open.proofs.Open.Standing.{stands, place_open, open_over}
 use Rattle.cw_open.proofs.Open.TreeSteps.{free_runs}
 use Rattle.cw_open.proofs.Refused.Victims.{IsTold, told_states}
 use Rattle.cw_core.specs.State.{CoreState, waits_for_left}
@@ -107,7 +107,7 @@ module _ (first : List ℤ) (k : CoreState) (core : IsCore first k) (s : ℕ) (f
       let nested = (well first k core).nested in
       let open_g = open_over m tree nested g p there over (place_open m tree nested s running) in
       elim (or_cases (is_strand t g && not (has_finished m g) || is_fork t g && not (has m.joined g)) (is_pending t g) open_g) [
-        | inr e ↦ absurd (let a = pending_block t g e in let b = fork_no_block_at t g fork in cc (a, b))
+        | inr e ↦ absurd (let a = pending_block t g e in let b = fork_no_block t g fork in cc (a, b))
         | inl e ↦ elim (or_cases (is_strand t g && not (has_finished m g)) (is_fork t g && not (has m.joined g)) e) [
           | inl y ↦ absurd (let a = (and_parts (is_strand t g) (not (has_finished m g)) y).0 in let b = fork_no_strand t g fork in cc (a, b))
           | inr y ↦ not-true (has m.joined g) (and_parts (is_fork t g) (not (has m.joined g)) y).1

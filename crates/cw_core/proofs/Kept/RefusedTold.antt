@@ -13,14 +13,14 @@ use Rattle.cw_tree.specs.Series.{children, strand_of, place}
 use Rattle.cw_tree.specs.Attempts.{tried_cell, same_cell, block_attempt, access_attempt, elders}
 use Rattle.cw_tree.specs.Refusals.{refused}
 use Rattle.cw_tree.proofs.Lists.{In}
-use Rattle.cw_tree.proofs.Members.{in_below, below_in}
+use Rattle.cw_tree.proofs.Members.{in_below, below_in, suffix_same, filter_all}
 use Rattle.cw_tree.proofs.Walks.There.{node_there}
 use Rattle.cw_tree.proofs.NextNodes.Growing.{get_next, node_grown, number_grown, number_new, length_more}
 use Rattle.cw_open.specs.Machine.{OpenMachine, is_running, is_free}
 use Rattle.cw_open.specs.Steps.{accesses, refuses, refusal, after_all}
-use Rattle.cw_open.proofs.Open.NodeKinds.{pending_block}
 use Rattle.cw_open.proofs.Open.TreeSteps.{free_runs}
 use Rattle.cw_core.specs.declared.event.Event.TheVariants as event
+use Rattle.cw_tree.proofs.NodeKinds.{pending_block}
 use Rattle.cw_core.specs.declared.row.Row.{Row}
 use Rattle.cw_core.specs.State.{CoreState, waits_for_left, last_refusal, spent}
 use Rattle.cw_core.specs.Events.{is_met, met_by, after_event}
@@ -28,17 +28,13 @@ use Rattle.cw_core.specs.Laws.{IsCore}
 use Rattle.cw_core.specs.Kept.{IsTail, IsRow, tried_again}
 use Rattle.cw_core.specs.declared.row.Tail.{Tail}
 use Rattle.cw_core.proofs.Events.Going.{well, at_place}
-use Rattle.cw_core.proofs.Kept.Tails.{suffix_same, child_low, elders_more}
+use Rattle.cw_core.proofs.Kept.Tails.{child_low, elders_more}
 use Rattle.cw_core.proofs.Kept.RowsGrow.{tried_grown, made_grown}
 
 -- a refused access leads to its state
 pub after_refused : (k : CoreState) (s c : ℕ) (write : Option ℤ) → is_met k s c ≡ true
     → after_event k (event.Access s c write) ≡ record k { machine = record k.machine { tree = k.machine.tree ++ fresh_node (place k.machine.tree s) (Tried c) 0 ∷ []; conflicts = k.machine.conflicts ++ refusal k.machine (place k.machine.tree s) c (met_by k s c) ∷ [] } }
 after_refused k s c write met = ap (λ b. let z : CoreState = record k { machine = after_all k.machine (cond b (refuses s c write (met_by k s c)) (accesses s c write (k.machine.clock + 1)) ∷ []) } in z) met
-
-filter_all : (q : ℕ → Bool) (xs : List ℕ) → ((v : ℕ) → In v xs → q v ≡ true) → filter q xs ≡ xs
-filter_all q [] g = refl
-filter_all q (y ∷ xs) g = ap (λ b. cond b (y ∷ filter q xs) (filter q xs)) (g y (inl refl)) ∙ ap (λ ns. y ∷ ns) (filter_all q xs (λ v i. g v (inr i)))
 
 -- the first that passes of some that pass alike is the one that passes alone
 find_only : (q : ℕ → Bool) (xs : List ℕ) (b : ℕ) → In b xs → q b ≡ true → ((v : ℕ) → In v xs → q v ≡ true → v ≡ b) → find q xs ≡ Some b

@@ -3,7 +3,7 @@ use Rattle.std.proofs.Common.{◌≡◌, ◌≢◌, ℕ, ◌+◌, ◌<◌, ◌�
 use Rattle.std.specs.Prelude.{◌⊎◌, ◌&&◌, ◌||◌, not, min, ℤ, slice_get}
 use Rattle.std.specs.List.{list_all}
 use Rattle.std.proofs.Math.Nat.{min-le_left, min-le_right}
-use Rattle.std.proofs.lemmas.Bool.{and_parts, and_left, and_right, and_cases, or_left, or_right, or_parts, not-true, not_from_true, cases_Bool, cases_eq, eqb-true, eq-eqb, ne_eqb, false_from_ne_true}
+use Rattle.std.proofs.lemmas.Bool.{and_parts, or_left, or_parts, not-true, cases_Bool, cases_eq, eqb-true, eq-eqb, ne_eqb, false_from_ne_true}
 use Rattle.cw_tree.specs.declared.node.Node.{Node}
 use Rattle.cw_tree.specs.declared.conflict.Conflict.{Conflict}
 use Rattle.cw_tree.specs.declared.node.Kind.{Kind}
@@ -15,9 +15,10 @@ use Rattle.cw_tree.specs.Shape.{IsTree}
 use Rattle.cw_tree.proofs.Lists.{In, any_in, all_in}
 use Rattle.cw_tree.proofs.Members.{any_same}
 use Rattle.cw_tree.proofs.Walks.There.{node_there}
-use Rattle.cw_tree.proofs.Walks.Kin.{branch}
+use Rattle.cw_tree.proofs.Walks.Kin.{branch, fork_child}
 use Rattle.cw_tree.proofs.Walks.Ancestors.{ancestor_above, above_ancestor, ancestor_le, ancestor_trans, ancestor_up}
 use Rattle.cw_tree.proofs.Walks.Strands.{strand_over, strand_of_le}
+use Rattle.cw_tree.proofs.InOrder.DepthFirst.{child_is, child_in}
 use Rattle.cw_trace.specs.Columns.{ColumnTable, used}
 use Rattle.cw_trace.specs.Stands.{fork_column}
 use Rattle.cw_open.specs.Machine.{OpenMachine, has_finished, waits, is_running, falls}
@@ -28,8 +29,7 @@ use Rattle.cw_core.specs.State.{CoreState, is_split}
 use Rattle.cw_core.specs.Laws.{IsCore}
 use Rattle.cw_core.specs.Kept.{IsMade, IsRow, AreRows, IsAtStake, IsVictim, is_counted, changed, with_joined, with_back, least}
 use Rattle.cw_core.proofs.Events.Going.{well}
-use Rattle.cw_core.proofs.Events.Ordering.{open_fork, closed_strand, strand_under}
-use Rattle.cw_core.proofs.Events.Forks.{child_in, in_child}
+use Rattle.cw_core.proofs.Events.Ordering.{open_fork, closed_strand}
 use Rattle.cw_core.proofs.Kept.Changed.{length_changed, was_changed}
 use Rattle.cw_core.proofs.Events.OneFork.{one_fork, none_within}
 use Rattle.cw_core.proofs.Kept.SameTree.{with_same_tree, made_same}
@@ -155,8 +155,8 @@ module _ (first : List ℤ) (k : CoreState) (core : IsCore first k) (askers : (i
 
     shut : (c : ℕ) → In c (children t f) → (is_strand t c ≡ true) × (has_finished m c ≡ true)
     shut c i =
-        let w = in_child t f c i in
-        (strand_under t tree c w.some w.there (ap (is_fork t) w.up ∙ fork), all_in (has_finished m) c (children t f) all i)
+        let w = child_is t f c i in
+        (fork_child t tree c w.some w.there (ap (is_fork t) w.parent ∙ fork), all_in (has_finished m) c (children t f) all i)
 
     -- what is at stake for the strand is at stake for one of the two
     stake_half : (v : ℕ) (c : Conflict) → is_tried t c.asker ≡ true → IsAtStake z.machine p c v → ((x : ℕ) × In x (children t f) × IsAtStake m x c v) ⊎ IsAtStake m p c v
@@ -170,7 +170,7 @@ module _ (first : List ℤ) (k : CoreState) (core : IsCore first k) (askers : (i
           })
           | inl over ↦
               (let b = branch t tree.rooted f c.asker low (λ e. absurd (let h = Rattle.cw_tree.proofs.NextNodes.Before.above_less t tree.rooted f c.asker low over in omega arith)) (above_ancestor t f c.asker over) in
-              let i : In b.child (children t f) = child_in t f b.child b.some (let h = ancestor_le t tree.rooted b.child c.asker low b.over in omega arith) b.parent in
+              let i : In b.child (children t f) = child_in t f b.child (record { some = b.some; there = let h = ancestor_le t tree.rooted b.child c.asker low b.over in omega arith; parent = b.parent }) in
               let s = shut b.child i in
               let ne : c.asker ≢ b.child = λ e. (let a = ap (is_strand t) e ∙ s.0 in let x = no_tried t c.asker tried in cc (a, x)) in
               inl (
@@ -233,19 +233,19 @@ module _ (first : List ℤ) (k : CoreState) (core : IsCore first k) (askers : (i
     falls_back : (x h : ℕ) → In h (children t f) → IsVictim m h (Some x) → (i : ℕ) × (c : Conflict) × (slice_get m.conflicts i ≡ Some c) × (is_above t p c.asker ≡ true) × (falls m c x ≡ true)
     falls_back x h j w =
         let s = shut h j in
-        let b = in_child t f h j in
+        let b = child_is t f h j in
         let done : is_counted m h ≡ true =
-        ap (λ b. cond b (not (has m.joined (parent_of t h))) (is_running m h)) s.1 ∙ ap (λ q. not (has m.joined q)) b.up ∙ Rattle.std.proofs.lemmas.Bool.not_from_false (has m.joined f) unjoined in
+        ap (λ b. cond b (not (has m.joined (parent_of t h))) (is_running m h)) s.1 ∙ ap (λ q. not (has m.joined q)) b.parent ∙ Rattle.std.proofs.lemmas.Bool.not_from_false (has m.joined f) unjoined in
         let y = w.1 done in
         let c = y.1 in
         let low : c.asker < length t = node_there (λ y. is_tried_kind y.kind) t c.asker (askers y.0 c y.2) in
         let over : is_ancestor t h c.asker ≡ true = above_ancestor t h c.asker y.3 in
         let up : is_ancestor t p h ≡ true =
-        (let Q : ℕ → Type 0 = λ q. is_ancestor t p q ≡ true in ancestor_up t tree.rooted p h b.some b.there (subst Q (sym b.up) (strand_over t tree.rooted f there))) in
+        (let Q : ℕ → Type 0 = λ q. is_ancestor t p q ≡ true in ancestor_up t tree.rooted p h b.some b.there (subst Q (sym b.parent) (strand_over t tree.rooted f there))) in
         let less : parent_of t h < h = tree.rooted h b.some b.there in
         let le : p ≤ f = strand_of_le t tree.rooted f there in
         let high : h ≤ c.asker = ancestor_le t tree.rooted h c.asker low over in
-        let at = b.up in
+        let at = b.parent in
         let ne : c.asker ≢ p = λ e. omega (arith, less, le, high, at, e) in
         (y.0, c, y.2, sym (ancestor_above t p c.asker ne) ∙ ancestor_trans t tree.rooted p h c.asker low up over, y.4)
 
@@ -301,7 +301,7 @@ module _ (first : List ℤ) (k : CoreState) (core : IsCore first k) (askers : (i
     -- the fork itself
     fork_at : (r : Row) → IsRow k f r → IsRow z f (with_joined r)
     fork_at r w =
-        let other : f ≢ p = λ e. (let a = strand_is t tree.root f in let b = ap (is_strand t) e in let c = Rattle.cw_open.proofs.Open.NodeKinds.fork_no_strand t f fork in cc (a, b, c)) in
+        let other : f ≢ p = λ e. (let a = strand_is t tree.root f in let b = ap (is_strand t) e in let c = Rattle.cw_tree.proofs.NodeKinds.fork_no_strand t f fork in cc (a, b, c)) in
         record {
           made = made_same k m.finished (f ∷ m.joined) m.stopped d k.splits k.halt same room f r.made w.made;
           tail = w.tail;
@@ -329,7 +329,7 @@ module _ (first : List ℤ) (k : CoreState) (core : IsCore first k) (askers : (i
                 (let is : r ≡ cond (nat_eq n p) (with_back o) (λ r. r) b.before = c.is ∙ ap (λ z. cond z (with_joined c.before) c.before) (ne_eqb n f ne) ∙ b.is ∙ either (nat_eq n p) b.before in
                 subst P (sym is) (back_at n b.before (nat_eq n p) refl (w.each n b.before b.there) ne))
             | inl at ↦
-                (let off : nat_eq n p ≡ false = ne_eqb n p (λ q. (let a = strand_is t tree.root f in let g = ap (is_strand t) (sym at ∙ q) in let x = Rattle.cw_open.proofs.Open.NodeKinds.fork_no_strand t f fork in cc (a, g, x))) in
+                (let off : nat_eq n p ≡ false = ne_eqb n p (λ q. (let a = strand_is t tree.root f in let g = ap (is_strand t) (sym at ∙ q) in let x = Rattle.cw_tree.proofs.NodeKinds.fork_no_strand t f fork in cc (a, g, x))) in
                 let is : r ≡ with_joined b.before = c.is ∙ ap (λ z. cond z (with_joined c.before) c.before) (eq-eqb n f at) ∙ ap with_joined (b.is ∙ ap (λ z. cond z (with_back o b.before) b.before) off) in
                 let Q : ℕ → Type 0 = λ n. IsRow z n (with_joined b.before) in
                 let there : slice_get rows f ≡ Some b.before = ap (slice_get rows) (sym at) ∙ b.there in

@@ -2,7 +2,7 @@
 use Rattle.std.proofs.Common.{◌≡◌, ◌≢◌, ℕ, ◌<◌, ◌≤◌, List, [], ◌∷◌, length, refl, ap, sym, ◌∙◌, subst, arith, Bool, true, false, cond, Some, None, nat_eq, inl, inr}
 use Rattle.std.specs.Prelude.{◌⊎◌, ◌&&◌, ◌||◌, not, ℤ, slice_get}
 use Rattle.std.specs.Option.{option_map_or}
-use Rattle.std.proofs.lemmas.Bool.{and_parts, and_from, or_left, or_cases, cases_lt, cases_eq, cases_Bool, eqb-true, not_from_false, not-true, false_from_ne_true}
+use Rattle.std.proofs.lemmas.Bool.{and_parts, and_from, or_left, or_cases, cases_lt, cases_Bool, eqb-true, not_from_false, not-true}
 use Rattle.cw_tree.specs.declared.node.Node.{Node}
 use Rattle.cw_tree.specs.declared.node.BlockState.TheVariants.{Aborted}
 use Rattle.cw_tree.specs.declared.conflict.Conflict.{Conflict}
@@ -11,15 +11,15 @@ use Rattle.cw_tree.specs.Walks.{has, is_ancestor, is_above}
 use Rattle.cw_tree.specs.Series.{strand_of, place}
 use Rattle.cw_tree.specs.Refusals.{victim_of, is_victim}
 use Rattle.cw_tree.specs.Shape.{IsTree}
-use Rattle.cw_tree.proofs.Walks.Ancestors.{ancestor_self, ancestor_above, above_ancestor, ancestor_up, ancestor_le, ancestor_trans, beneath}
+use Rattle.cw_tree.proofs.Walks.Ancestors.{ancestor_self, above_ancestor, ancestor_up, ancestor_le, beneath}
 use Rattle.cw_tree.proofs.Walks.Kin.{branch, ancestor_linear}
-use Rattle.cw_tree.proofs.Walks.Strands.{strand_of_other, strand_over}
+use Rattle.cw_tree.proofs.Walks.Strands.{strand_of_other, strand_over, strand_itself}
 use Rattle.cw_tree.proofs.Walks.There.{node_there}
+use Rattle.cw_tree.proofs.NodeKinds.{strand_no_block, fork_no_strand, fork_no_block, pending_block}
 use Rattle.cw_open.specs.Machine.{OpenMachine, has_finished, is_running, in_block, falls}
 use Rattle.cw_open.specs.Open.{is_open}
 use Rattle.cw_open.specs.Runs.{at_once}
-use Rattle.cw_open.proofs.Open.NodeKinds.{pending_block, strand_no_block, fork_no_strand, fork_no_block_at}
-use Rattle.cw_open.proofs.Open.Standing.{strand_itself, open_over, pending_open, runs, stands, none_open}
+use Rattle.cw_open.proofs.Open.Standing.{open_over, pending_open, runs, stands, none_open}
 use Rattle.cw_core.proofs.Kept.PartsGrow.{all_at}
 use Rattle.cw_open.proofs.Refused.Victims.{IsTold, told_states}
 use Rattle.cw_core.specs.State.{CoreState, waits_for_left}
@@ -61,7 +61,7 @@ module _ (first : List ℤ) (k : CoreState) (core : IsCore first k) (s : ℕ) (r
   fork_shut : (f : ℕ) → is_fork t f ≡ true → is_open m f ≡ true → has m.joined f ≡ false
   fork_shut f fork e =
       elim (or_cases (is_strand t f && not (has_finished m f) || is_fork t f && not (has m.joined f)) (is_pending t f) e) [
-        | inr z ↦ absurd (let x = pending_block t f z in let y = fork_no_block_at t f fork in cc (x, y))
+        | inr z ↦ absurd (let x = pending_block t f z in let y = fork_no_block t f fork in cc (x, y))
         | inl z ↦ elim (or_cases (is_strand t f && not (has_finished m f)) (is_fork t f && not (has m.joined f)) z) [
           | inl y ↦ absurd (let x = (and_parts (is_strand t f) (not (has_finished m f)) y).0 in let y = fork_no_strand t f fork in cc (x, y))
           | inr y ↦ not-true (has m.joined f) (and_parts (is_fork t f) (not (has m.joined f)) y).1
@@ -157,7 +157,7 @@ module _ (first : List ℤ) (k : CoreState) (core : IsCore first k) (s : ℕ) (r
                   let fork = tree.strands n hn some strand in
                   let low : parent_of t n < n = tree.rooted n some hn in
                   let above : is_ancestor t b (parent_of t n) ≡ true = sym (Rattle.cw_tree.proofs.Walks.Ancestors.ancestor_step t tree.rooted b n some hn apart) ∙ down in
-                  let other : parent_of t n ≢ b = λ q. absurd (let x = ap (is_block t) q in let y = fork_no_block_at t (parent_of t n) fork in let w = block_here in cc (x, y, w)) in
+                  let other : parent_of t n ≢ b = λ q. absurd (let x = ap (is_block t) q in let y = fork_no_block t (parent_of t n) fork in let w = block_here in cc (x, y, w)) in
                   let open_fork : is_open m (parent_of t n) ≡ true = or_left (is_strand t (parent_of t n) && not (has_finished m (parent_of t n)) || is_fork t (parent_of t n) && not (has m.joined (parent_of t n))) (is_pending t (parent_of t n))
                   (Rattle.std.proofs.lemmas.Bool.or_right (is_strand t (parent_of t n) && not (has_finished m (parent_of t n))) (is_fork t (parent_of t n) && not (has m.joined (parent_of t n))) (and_from (is_fork t (parent_of t n)) (not (has m.joined (parent_of t n))) fork unjoined)) in
                   none_beneath (parent_of t n) (omega arith) other above open_fork)

@@ -13,10 +13,10 @@ use Rattle.cw_tree.specs.AccessStacks.{stamps, access_at}
 use Rattle.cw_tree.proofs.Lists.{In}
 use Rattle.cw_tree.proofs.Walks.Ancestors.{above_ancestor}
 use Rattle.cw_tree.proofs.ChainLaws.Stamps.{stamps_beneath}
+use Rattle.cw_tree.proofs.Rising.{Rises}
 use Rattle.cw_stack.specs.Cells.{CellParts}
 use Rattle.cw_open.specs.Machine.{OpenMachine, live, is_running, in_block}
 use Rattle.cw_open.proofs.Laws.Listing.{listed}
-use Rattle.cw_open.proofs.Laws.Rising.{Rises}
 use Rattle.cw_open.proofs.Laws.Named.{access_named, none_aborted, live_from}
 use Rattle.cw_core.specs.declared.row.Row.{Row}
 use Rattle.cw_core.specs.State.{CoreState, waits_for_left}
@@ -66,7 +66,7 @@ none_left : (p : ℕ → Bool) (x : ℕ) (ys : List ℕ) → p x ≡ true → x 
 none_left p x ys on e [] f v i =
     elim (cases_Bool (p v)) [
       | inl g ↦ g
-      | inr g ↦ absurd (let h = Rattle.cw_open.proofs.Laws.Filtered.filter_in (λ u. not (p u)) v ys i (ap not g) in let P : List ℕ → Type 0 = λ ns. In v ns in let z = subst P f h in z)
+      | inr g ↦ absurd (let h = Rattle.cw_tree.proofs.Members.filter_in (λ u. not (p u)) v ys i (ap not g) in let P : List ℕ → Type 0 = λ ns. In v ns in let z = subst P f h in z)
     ]
 none_left p x ys on e (z ∷ zs) f v i =
     absurd (let q : x ∷ ys ≡ z ∷ (zs ++ x ∷ filter p ys) = e ∙ ap (λ ns. ns ++ x ∷ filter p ys) f in

@@ -10,7 +10,7 @@ use Rattle.cw_tree.specs.Walks.{is_above}
 use Rattle.cw_tree.specs.Series.{place}
 use Rattle.cw_tree.specs.AccessStacks.{stamps, access_at}
 use Rattle.cw_tree.proofs.Lists.{In}
-use Rattle.cw_tree.proofs.Members.{in_filter}
+use Rattle.cw_tree.proofs.Members.{in_filter, filter_all}
 use Rattle.cw_stack.specs.Cells.{CellParts}
 use Rattle.cw_open.specs.Machine.{rolls_back}
 use Rattle.cw_open.proofs.Laws.Listing.{listed}
@@ -18,7 +18,6 @@ use Rattle.cw_open.proofs.Laws.ListSteps.{listed_here, listed_other}
 use Rattle.cw_core.specs.State.{CoreState, waits_for_left}
 use Rattle.cw_core.specs.Laws.{IsCore}
 use Rattle.cw_core.specs.Undone.{AreUndone}
-use Rattle.cw_core.proofs.Kept.PartsClose.{filter_all}
 use Rattle.cw_core.proofs.Events.Rolling.{filtered, filtered_length, none_beneath, low, cs, ls}
 use Rattle.cw_core.proofs.Kept.Rolled.{lists_of, listed_cell}
 

@@ -12,9 +12,9 @@ use Rattle.cw_tree.specs.Attempts.{block_attempt}
 use Rattle.cw_tree.proofs.NextNodes.Closing.{length_closed, state_closed, is_above_closed}
 use Rattle.cw_stack.specs.Cells.{CellParts}
 use Rattle.cw_open.specs.Machine.{OpenMachine, is_running, in_block, falls, rolls_back}
-use Rattle.cw_open.proofs.Open.NodeKinds.{pending_block}
 use Rattle.cw_open.proofs.Open.TreeSteps.{rolls_runs}
 use Rattle.cw_core.specs.declared.event.Event.TheVariants as event
+use Rattle.cw_tree.proofs.NodeKinds.{pending_block}
 use Rattle.cw_core.specs.declared.row.Row.{Row}
 use Rattle.cw_core.specs.declared.cores.Core.TheInside.{Inside}
 use Rattle.cw_core.specs.InMemory.{state_of, IsCoreInMemory}
@@ -105,9 +105,6 @@ module _ (k : CoreState) (rows : List Row) (forks : List ℕ) (cells : List Cell
 
   pub block_here : is_block t b ≡ true
   block_here = pending_block t b (open_block m.first k w.core s may.running may.ready may.within Aborted refl end (max m.clock end) words)
-
-  pub block_there : b < length t
-  block_there = there m.first k w.core s may.running may.ready may.within Aborted refl end (max m.clock end) words
 
   pub parent_low : q < b
   parent_low = low m.first k w.core s may.running may.ready may.within Aborted refl end (max m.clock end) words

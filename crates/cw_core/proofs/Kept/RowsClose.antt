@@ -13,21 +13,23 @@ use Rattle.cw_tree.specs.Shape.{IsTree}
 use Rattle.cw_tree.specs.Refusals.{is_victim, victim_of}
 use Rattle.cw_tree.specs.ForkCounts.{one_if}
 use Rattle.cw_tree.specs.Attempts.{tried_cell_in, tried_cell, same_cell, elders}
-use Rattle.cw_tree.proofs.Members.{filter_same, any_same, in_filter, in_below, below_last}
+use Rattle.cw_tree.proofs.Members.{filter_same, any_same, in_filter, in_below, below_last, suffix_same}
 use Rattle.cw_tree.proofs.Walks.There.{node_there}
-use Rattle.cw_tree.proofs.Walks.Kin.{before_of}
+use Rattle.cw_tree.proofs.Walks.Kin.{before_of, fork_child}
 use Rattle.cw_tree.proofs.Walks.Ancestors.{ancestor_self, ancestor_above, above_ancestor, above_parent, ancestor_le}
 use Rattle.cw_tree.proofs.Walks.Parting.{series_or_parallel}
-use Rattle.cw_tree.proofs.Walks.Strands.{strand_of_other}
+use Rattle.cw_tree.proofs.Walks.Strands.{strand_of_other, strand_itself}
 use Rattle.cw_tree.proofs.NextNodes.Closing.{length_closed, all_nodes_closed, node_closed, number_closed, node_closed_other, same_closed, state_closed, rooted_closed, strand_of_closed, is_above_closed}
 use Rattle.cw_tree.proofs.NextNodes.Trees.{is_child}
+use Rattle.cw_tree.proofs.LastBelow.{last_same}
+use Rattle.cw_tree.proofs.InOrder.DepthFirst.{child_is}
+use Rattle.cw_tree.proofs.NodeKinds.{strand_no_block, pending_block}
 use Rattle.cw_trace.specs.Columns.{used}
 use Rattle.cw_trace.proofs.Keeps.Ending.{SameShape, fork_column_same, column_same}
 use Rattle.cw_open.specs.Machine.{OpenMachine, has_finished, waits, is_running, in_block, falls}
-use Rattle.cw_open.proofs.Open.Standing.{StandsAt, begun_in, runs, stands, strand_itself}
+use Rattle.cw_open.proofs.Open.Standing.{StandsAt, begun_in, runs, stands}
 use Rattle.cw_open.specs.Runs.{at_once}
 use Rattle.cw_open.proofs.Refused.Victims.{IsTold, told_states}
-use Rattle.cw_open.proofs.Open.NodeKinds.{pending_block, strand_no_block}
 use Rattle.cw_core.specs.declared.row.Made.{Made}
 use Rattle.cw_core.specs.declared.row.Tail.{Tail}
 use Rattle.cw_core.specs.declared.row.Now.{Now}
@@ -35,11 +37,8 @@ use Rattle.cw_core.specs.State.{CoreState, waits_for_left}
 use Rattle.cw_core.specs.Laws.{IsCore}
 use Rattle.cw_core.specs.Kept.{IsMade, IsTail, IsNow, IsAtStake, IsVictim, is_counted}
 use Rattle.cw_core.proofs.Events.Going.{well, at_place}
-use Rattle.cw_core.proofs.Events.Ordering.{strand_under}
-use Rattle.cw_core.proofs.Events.Forks.{in_child}
 use Rattle.cw_core.proofs.Events.Closing.{pending}
-use Rattle.cw_core.proofs.Kept.Tails.{suffix_same}
-use Rattle.cw_core.proofs.Events.Places.{last_same, place_is}
+use Rattle.cw_core.proofs.Events.Places.{place_is}
 use Rattle.cw_core.proofs.Events.OneFork.{not_parallel}
 use Rattle.cw_core.proofs.Kept.PartsGrow.{all_at}
 use Rattle.cw_core.proofs.Fits.Dying.{conflict_any}
@@ -122,7 +121,7 @@ module _ (first : List ℤ) (k : CoreState) (core : IsCore first k) (s : ℕ) (r
 
   -- what hangs above the block is no fork
   up_no_fork : is_fork t q ≡ false
-  up_no_fork = false_from_ne_true (is_fork t q) (λ e. absurd (let a = strand_under t tree b some there e in let x = no_strand in cc (a, x)))
+  up_no_fork = false_from_ne_true (is_fork t q) (λ e. absurd (let a = fork_child t tree b some there e in let x = no_strand in cc (a, x)))
 
   -- nothing comes after the block
   last_child : (n : ℕ) → b < n → n < length t → parent_of t n ≡ q → ⊥
@@ -147,8 +146,8 @@ module _ (first : List ℤ) (k : CoreState) (core : IsCore first k) (s : ℕ) (r
         ∙ ap (λ ns. suffix_len (is_aborted u) (filter (λ l. nat_lt l n) ns) + 1) (children_same (parent_of t n))
         ∙ ap (λ x. x + 1) (suffix_same (is_aborted u) (is_aborted t) (elders t n) (λ v i.
         let j = in_filter (λ l. nat_lt l n) v (children t (parent_of t n)) i in
-        let c = in_child t (parent_of t n) v j.0 in
-        aborted_other v (λ g. last_child n (let l = ltb-true v n j.1 in omega (arith, g)) h (sym c.up ∙ ap (parent_of t) g))))
+        let c = child_is t (parent_of t n) v j.0 in
+        aborted_other v (λ g. last_child n (let l = ltb-true v n j.1 in omega (arith, g)) h (sym c.parent ∙ ap (parent_of t) g))))
         ∙ w.attempt (sym (pending_other n ne) ∙ e));
   }
 
@@ -158,7 +157,7 @@ module _ (first : List ℤ) (k : CoreState) (core : IsCore first k) (s : ℕ) (r
   tail_closed n r ne w = record {
     started = ap (λ ns. nat_eq (length ns) 0) (children_same n) ∙ w.started;
     aborted = ap (suffix_len (is_aborted u)) (children_same n)
-        ∙ suffix_same (is_aborted u) (is_aborted t) (children t n) (λ v i. aborted_other v (λ g. ne (sym (in_child t n v i).up ∙ ap (parent_of t) g)))
+        ∙ suffix_same (is_aborted u) (is_aborted t) (children t n) (λ v i. aborted_other v (λ g. ne (sym (child_is t n v i).parent ∙ ap (parent_of t) g)))
         ∙ w.aborted;
     tried = λ c.
         ap (suffix_len (λ m. same_cell (tried_cell u m) (Some c))) (children_same n)

@@ -1,15 +1,15 @@
 -- Rows stay right as a node comes at the place of a running strand.
-use Rattle.std.proofs.Common.{◌≡◌, ◌≢◌, ℕ, ◌+◌, ◌<◌, List, [], ◌∷◌, ◌++◌, length, refl, ap, sym, ◌∙◌, arith, Bool, true, false, cond, Option, Some, None, nat_eq, nat_lt, inl, inr, length-append}
-use Rattle.std.specs.Prelude.{◌⊎◌, ◌&&◌, ◌||◌, not, ℤ, filter, slice_get}
-use Rattle.std.specs.List.{suffix_len, list_any}
-use Rattle.std.proofs.lemmas.Bool.{and_parts, and_left, cases_eq, false_from_ne_true, ne_eqb, eq-eqb}
+use Rattle.std.proofs.Common.{◌≡◌, ◌≢◌, ℕ, ◌+◌, ◌<◌, List, [], ◌∷◌, ◌++◌, length, refl, ap, sym, ◌∙◌, arith, Bool, true, false, cond, Option, Some, None, nat_eq, nat_lt, length-append}
+use Rattle.std.specs.Prelude.{◌&&◌, ℤ, filter, slice_get}
+use Rattle.std.specs.List.{suffix_len}
+use Rattle.std.proofs.lemmas.Bool.{and_left, false_from_ne_true}
 use Rattle.cw_tree.specs.declared.node.Node.{Node}
 use Rattle.cw_tree.specs.declared.conflict.Conflict.{Conflict}
 use Rattle.cw_tree.specs.Nodes.{is_strand_kind, is_fork_kind, is_block_kind, is_pending_state, is_aborted_state, parent_of, is_strand, is_fork, is_pending, is_aborted}
 use Rattle.cw_tree.specs.Walks.{IsRooted, has}
 use Rattle.cw_tree.specs.Series.{strand_of, children, place}
 use Rattle.cw_tree.specs.Attempts.{tried_cell, same_cell, block_attempt, elders}
-use Rattle.cw_tree.proofs.Members.{in_filter}
+use Rattle.cw_tree.proofs.Members.{in_filter, suffix_same}
 use Rattle.cw_tree.proofs.NextNodes.Growing.{length_more, get_append, node_grown, number_grown, node_new, strand_of_grown, strand_of_new}
 use Rattle.cw_tree.proofs.NextNodes.Trees.{children_none, no_fork}
 use Rattle.cw_trace.specs.Columns.{used}
@@ -17,6 +17,7 @@ use Rattle.cw_trace.specs.Stands.{fork_column}
 use Rattle.cw_trace.proofs.Keeps.Grow.{fork_column_append, column_append}
 use Rattle.cw_open.specs.Machine.{OpenMachine, has_finished, finished_dead, waits, is_running}
 use Rattle.cw_open.proofs.Open.Standing.{stands}
+use Rattle.cw_open.proofs.Refused.Backed.{dead_finished}
 use Rattle.cw_core.specs.declared.row.Made.{Made}
 use Rattle.cw_core.specs.declared.row.Tail.{Tail}
 use Rattle.cw_core.specs.declared.row.Now.{Now}
@@ -24,7 +25,7 @@ use Rattle.cw_core.specs.State.{CoreState, waits_for_left}
 use Rattle.cw_core.specs.Laws.{IsCore}
 use Rattle.cw_core.specs.Kept.{IsMade, IsTail, IsNow, IsRow, IsVictim, leaf_row}
 use Rattle.cw_core.proofs.Events.Going.{well, at_place}
-use Rattle.cw_core.proofs.Kept.Tails.{suffix_same, suffix_more, child_low, children_other, children_here, elders_more}
+use Rattle.cw_core.proofs.Kept.Tails.{suffix_more, child_low, children_other, children_here, elders_more}
 use Rattle.cw_core.proofs.Events.Places.{waits_grown}
 
 -- the cell of a node that was there
@@ -32,17 +33,6 @@ pub tried_grown : (t xs : List Node) (n : ℕ) → n < length t → tried_cell (
 tried_grown t xs n h = by (slice_get t n) refl where
   by : (o : Option Node) → slice_get t n ≡ o → tried_cell (t ++ xs) n ≡ tried_cell t n
   by o e = rw (get_append t xs n h, e) refl
-
--- a dead strand has finished
-pub dead_finished : (m : OpenMachine) (s : ℕ) → finished_dead m s ≡ true → has_finished m s ≡ true
-dead_finished m s e = weaker m.finished e where
-  weaker : (fs : List (ℕ × Bool)) → list_any (λ f. nat_eq f.0 s && f.1) fs ≡ true → list_any (λ f. nat_eq f.0 s) fs ≡ true
-  weaker [] e = absurd (cc e)
-  weaker (f ∷ fs) e =
-      elim (Rattle.std.proofs.lemmas.Bool.or_cases (nat_eq f.0 s && f.1) (list_any (λ f. nat_eq f.0 s && f.1) fs) e) [
-        | inl a ↦ Rattle.std.proofs.lemmas.Bool.or_left (nat_eq f.0 s) (list_any (λ f. nat_eq f.0 s) fs) (and_parts (nat_eq f.0 s) f.1 a).0
-        | inr a ↦ Rattle.std.proofs.lemmas.Bool.or_right (nat_eq f.0 s) (list_any (λ f. nat_eq f.0 s) fs) (weaker fs a)
-      ]
 
 module _ (first : List ℤ) (k : CoreState) (core : IsCore first k) (s : ℕ) (running : is_running k.machine s ≡ true) (ready : waits_for_left k s ≡ false) (x : Node) (up : x.parent ≡ place k.machine.tree s) where
   abbrev t : List Node

@@ -16,11 +16,11 @@ use Rattle.cw_trace.proofs.Keeps.Meaning.{odd_column}
 use Rattle.cw_open.specs.Machine.{OpenMachine}
 use Rattle.cw_open.specs.Open.{is_open}
 use Rattle.cw_core.specs.declared.event.Event.TheVariants as event
+use Rattle.cw_trace.proofs.Marks.Edits.{length_parts}
 use Rattle.cw_core.specs.declared.row.Row.{Row}
 use Rattle.cw_core.specs.State.{CoreState, joined_columns, has_columns, is_split}
 use Rattle.cw_core.specs.Events.{fits, fits_now, is_unstarted, fork_at, after_event}
 use Rattle.cw_core.specs.Kept.{IsRow, AreRows, AreParts, changed, with_split}
-use Rattle.cw_core.proofs.Laws.Alike.{parts_length}
 use Rattle.cw_core.proofs.Events.Kept.{events}
 use Rattle.cw_core.proofs.Events.Going.{well, root_open}
 use Rattle.cw_core.proofs.Events.Ordering.{open_fork, ordered, unjoined}
@@ -61,7 +61,7 @@ module _ (k : CoreState) (f : ℕ) (may : MaySplit k f) where
   col = fork_column m.tree f
 
   pub same_used : used (split_at col k.tier) ≡ used k.tier
-  same_used = parts_length (owner k.tier col) col 0 k.tier.owners
+  same_used = length_parts (owner k.tier col) col 0 k.tier.owners
 
   abbrev z : CoreState
   z = with_same_tree k m.finished m.joined m.stopped (split_at col k.tier) (col ∷ k.splits) k.halt same_used refl

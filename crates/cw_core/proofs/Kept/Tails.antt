@@ -1,6 +1,6 @@
 -- How the children of a node end, as the tree changes.
-use Rattle.std.proofs.Common.{◌≡◌, ◌≢◌, ℕ, ◌+◌, ◌<◌, ◌≤◌, List, [], ◌∷◌, ◌++◌, length, refl, ap, ◌∙◌, subst, arith, Bool, true, false, cond, nat_eq, nat_lt, inl, inr, append-nil}
-use Rattle.std.specs.Prelude.{filter, reverse}
+use Rattle.std.proofs.Common.{◌≡◌, ◌≢◌, ℕ, ◌+◌, ◌<◌, ◌≤◌, List, [], ◌∷◌, ◌++◌, length, refl, ap, ◌∙◌, arith, Bool, true, false, cond, nat_eq, nat_lt, append-nil}
+use Rattle.std.specs.Prelude.{filter}
 use Rattle.std.specs.List.{prefix_len, suffix_len}
 use Rattle.std.proofs.lemmas.List.{reverse-append}
 use Rattle.std.proofs.lemmas.List.Elements.{filter-append}
@@ -9,28 +9,10 @@ use Rattle.cw_tree.specs.declared.node.Node.{Node}
 use Rattle.cw_tree.specs.Nodes.{all_nodes}
 use Rattle.cw_tree.specs.Series.{children}
 use Rattle.cw_tree.proofs.Lists.{In}
-use Rattle.cw_tree.proofs.Members.{in_append, in_filter, in_below}
+use Rattle.cw_tree.proofs.Members.{in_filter, in_below}
 use Rattle.cw_tree.proofs.NextNodes.Trees.{is_child, children_more}
 
 -- ## The end of a list that passes a test
-
-prefix_same : (p q : ℕ → Bool) (xs : List ℕ) → ((v : ℕ) → In v xs → p v ≡ q v) → prefix_len p xs ≡ prefix_len q xs
-prefix_same p q [] f = refl
-prefix_same p q (x ∷ xs) f =
-    ap (λ b. cond b (1 + prefix_len p xs) 0) (f x (inl refl))
-    ∙ ap (λ n. cond (q x) (1 + n) 0) (prefix_same p q xs (λ v i. f v (inr i)))
-
-in_reverse : (v : ℕ) (xs : List ℕ) → In v (reverse xs) → In v xs
-in_reverse v [] i = i
-in_reverse v (x ∷ xs) i =
-    let P : List ℕ → Type 0 = λ ys. In v ys in
-    elim (in_append v (reverse xs) (x ∷ []) (subst P (reverse-append (x ∷ []) xs) i)) [
-      | inl j ↦ inr (in_reverse v xs j)
-      | inr j ↦ elim j [ inl e ↦ inl e | inr n ↦ absurd n ]
-    ]
-
-pub suffix_same : (p q : ℕ → Bool) (xs : List ℕ) → ((v : ℕ) → In v xs → p v ≡ q v) → suffix_len p xs ≡ suffix_len q xs
-suffix_same p q xs f = prefix_same p q (reverse xs) (λ v i. f v (in_reverse v xs i))
 
 pub suffix_more : (p : ℕ → Bool) (xs : List ℕ) (x : ℕ) → suffix_len p (xs ++ x ∷ []) ≡ cond (p x) (1 + suffix_len p xs) 0
 suffix_more p xs x = ap (prefix_len p) (reverse-append xs (x ∷ []))

@@ -1,14 +1,15 @@
 -- Cores that are the same but for what splits change stay so: no step of the open machine looks at the blocks of conflicts.
-use Rattle.std.proofs.Common.{◌≡◌, ℕ, suc, ◌+◌, List, [], ◌∷◌, map, length, refl, ap, sym, ◌∙◌, Bool, true, false, cond, Option, None, nat_le}
+use Rattle.std.proofs.Common.{◌≡◌, ℕ, ◌+◌, List, [], ◌∷◌, map, refl, ap, sym, ◌∙◌, Bool, true, false, cond, Option, None, nat_le}
 use Rattle.std.specs.Prelude.{ℤ, is_none, slice_index}
 use Rattle.std.proofs.lemmas.List.{length-append, length-map, map-append}
 use Rattle.cw_tree.specs.Series.{place}
-use Rattle.cw_trace.specs.Columns.{ColumnTable, used, owner, parts, first_tier, forked, split_at, merged, back_to, around_fork}
+use Rattle.cw_trace.specs.Columns.{ColumnTable, used, owner, first_tier, forked, split_at, merged, back_to, around_fork}
 use Rattle.cw_trace.specs.Stands.{fork_column}
 use Rattle.cw_open.specs.Machine.{OpenMachine}
 use Rattle.cw_open.specs.Steps.{Step, forks, begins, accesses, refuses, outputs, commits, undoes, aborts, finishes, joins, stops, refusal, after_all, after_open_step as after_step}
 use Rattle.cw_core.specs.declared.event.Event.{Event}
 use Rattle.cw_core.specs.declared.event.Event.TheVariants as event
+use Rattle.cw_trace.proofs.Marks.Edits.{length_parts}
 use Rattle.cw_core.specs.State.{CoreState, column_of, gap_of, is_split}
 use Rattle.cw_core.specs.Events.{after_event, steps_of, next, is_met, met_by, is_early, may_fork, tier_after}
 use Rattle.cw_core.specs.Laws.{blockless, without_blocks, AreAlike, AlikeStay}
@@ -93,16 +94,12 @@ abbrev used_after : (columns room : ℕ) → Event → ℕ
 used_after n room (event.Fork s) = cond (nat_le (n + 2) room) (n + 2) n
 used_after n room _ = n
 
-pub parts_length : (t f i : ℕ) (os : List ℕ) → length (parts t f i os) ≡ length os
-parts_length t f i [] = refl
-parts_length t f i (o ∷ os) = ap suc (parts_length t f (suc i) os)
-
 fork_used : (z : Bool) (word p : ℕ) (c : ColumnTable) → used (cond z (forked word p c) c) ≡ cond z (used c + 2) (used c)
 fork_used true word p c = length-append c.owners (owner c p ∷ owner c p ∷ [])
 fork_used false word p c = refl
 
 split_used : (z : Bool) (f : ℕ) (c : ColumnTable) → used (cond z (split_at f c) c) ≡ used c
-split_used true f c = parts_length (owner c f) f 0 c.owners
+split_used true f c = length_parts (owner c f) f 0 c.owners
 split_used false f c = refl
 
 join_used : (z : Bool) (f : ℕ) (c : ColumnTable) → used (cond z (merged f c) c) ≡ used c

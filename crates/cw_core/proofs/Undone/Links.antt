@@ -1,5 +1,5 @@
 -- The links of a tree stay right as a node comes last among the children of another.
-use Rattle.std.proofs.Common.{◌≡◌, ℕ, zero, suc, ◌+◌, ◌<◌, List, [], ◌∷◌, ◌++◌, length, refl, ap, sym, ◌∙◌, subst, arith, Bool, false, cond, Some, None, nat_eq, nat_lt, inl, inr, append_assoc}
+use Rattle.std.proofs.Common.{◌≡◌, ℕ, suc, ◌+◌, ◌<◌, List, [], ◌∷◌, ◌++◌, length, refl, ap, sym, ◌∙◌, subst, arith, cond, Some, None, nat_eq, nat_lt, inl, inr, append_assoc}
 use Rattle.std.specs.Prelude.{◌&&◌, slice_get, slice_set}
 use Rattle.std.proofs.lemmas.Bool.{and_parts, cases_lt, cases_eq, eq-eqb, ne_eqb, eqb-true, ltb-true, lt-ltb, false_from_ne_true}
 use Rattle.std.proofs.lemmas.List.{length-set}
@@ -14,12 +14,8 @@ use Rattle.cw_tree.proofs.NextNodes.Closing.{get_set_same, get_set_other}
 use Rattle.cw_tree.proofs.NextNodes.Trees.{is_child}
 use Rattle.cw_core.specs.declared.linked.Link.{Link}
 use Rattle.cw_tree.specs.Links.{last_child, child_before}
+use Rattle.cw_tree.proofs.LastBelow.{last_same, last_none}
 use Rattle.cw_core.specs.Links.{IsLink, AreLinks, put_link}
-use Rattle.cw_core.proofs.Events.Places.{last_same}
-
-none_below : (p : ℕ → Bool) (k : ℕ) → ((m : ℕ) → m < k → p m ≡ false) → last_below p k ≡ None
-none_below p zero h = refl
-none_below p (suc k) h = ap (λ b. cond b (Some k) (last_below p k)) (h k (omega arith)) ∙ none_below p k (λ m l. h m (omega arith))
 
 -- ## One node more
 
@@ -53,7 +49,7 @@ module _ (t : List Node) (x : Node) (some : 0 < length t) (r : IsRooted t) (ther
   last_new =
       last_grown (length t)
       ∙ ap (λ b. cond b (Some (length t)) (last_child t (length t))) (ne_eqb p (length t) (λ e. omega arith))
-      ∙ none_below (is_child t (length t)) (length t) (λ m l. false_from_ne_true (is_child t (length t) m) (λ e.
+      ∙ last_none (is_child t (length t)) (length t) (λ m l. false_from_ne_true (is_child t (length t) m) (λ e.
       let z = and_parts (nat_lt 0 m) (nat_eq (parent_of t m) (length t)) e in
       let low : parent_of t m < m = r m (ltb-true 0 m z.0) l in
       omega (arith, eqb-true (parent_of t m) (length t) z.1)))

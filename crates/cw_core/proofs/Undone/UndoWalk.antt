@@ -7,13 +7,13 @@ use Rattle.cw_tree.specs.Nodes.{touches_kind, stamp_of, touches}
 use Rattle.cw_tree.specs.Walks.{IsRooted, is_ancestor, is_above}
 use Rattle.cw_tree.proofs.Walks.Ancestors.{ancestor_self, ancestor_above, above_ancestor}
 use Rattle.cw_tree.proofs.Walks.There.{node_there}
-use Rattle.cw_open.proofs.Open.NodeKinds.{pending_block}
 use Rattle.cw_open.proofs.Laws.Named.{live_tells}
 use Rattle.std.proofs.lemmas.Bool.{and_parts, and_from, cases_lt, cases_Bool, lt-ltb, ltb-true, false_from_ne_true}
 use Rattle.std.proofs.lemmas.Option.{slice_get_within, slice_get_cases}
 use Rattle.cw_core.proofs.Undone.Undoing.{get_among, among_stamp, among_was, among_filter, filter_alike, filter_both, filter_true, block_touches}
 use Rattle.cw_tree.specs.Accesses.{is_live}
 use Rattle.cw_tree.specs.AccessStacks.{stamps, access_at}
+use Rattle.cw_tree.proofs.NodeKinds.{pending_block}
 use Rattle.cw_stack.specs.Cells.{CellParts}
 use Rattle.cw_core.specs.Undone.{IsLeftWith, Among, is_beneath, before_stamp, MayCut, AreCut, MayUndo, AreUndone}
 use Rattle.cw_core.proofs.Undone.Walking.{ToCome, IsStep, not_left}

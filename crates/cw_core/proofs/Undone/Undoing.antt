@@ -13,9 +13,9 @@ use Rattle.cw_stack.specs.Cells.{CellParts, newest_entry}
 use Rattle.cw_stack.proofs.Rising.{above_last, earlier_less, filter_front, stamp_at}
 use Rattle.cw_tree.specs.declared.node.Kind.{Kind}
 use Rattle.cw_tree.specs.declared.node.Kind.TheVariants.{Strand, Fork, Block, Read, Write, Out, Tried}
-use Rattle.cw_open.proofs.Open.NodeKinds.{not_at_node}
-use Rattle.cw_tree.specs.Nodes.{passes, is_block, is_block_kind, touches_kind, number_in, stamp_of, touches}
+use Rattle.cw_tree.specs.Nodes.{passes, is_block, is_block_kind, touches_kind, stamp_of, touches}
 use Rattle.cw_tree.proofs.NextNodes.Closing.{get_set_same, get_set_other}
+use Rattle.cw_tree.proofs.NodeKinds.{node_tells}
 use Rattle.cw_core.specs.Undone.{Among, before_stamp, cut_entries, IsLeftWith, AreCut}
 
 pub get_among : (es : List Entry) (i : ℕ) (e : Entry) → slice_get es i ≡ Some e → Among e es
@@ -94,9 +94,6 @@ pub touches_is : (t : List Node) (n : ℕ) (x : Node) (d : ℕ) → slice_get t 
 touches_is t n x d at (inl k) c = ap (passes (λ y. touches_kind c y.kind)) at ∙ ap (touches_kind c) k.1
 touches_is t n x d at (inr k) c = ap (passes (λ y. touches_kind c y.kind)) at ∙ ap (touches_kind c) k.1
 
-pub stamp_is : (t : List Node) (n : ℕ) (x : Node) → slice_get t n ≡ Some x → stamp_of t n ≡ x.stamp
-stamp_is t n x at = ap (number_in (λ y. y.stamp)) at
-
 -- one cell is cut, and the node touches no other
 pub cut_one : (t : List Node) (n d : ℕ) (old : List CellParts) (x y : CellParts) → ((c : ℕ) → touches t c n ≡ nat_eq d c) → slice_get old d ≡ Some x → IsLeftWith x y (before_stamp (stamp_of t n) x.entries) → AreCut t n old (slice_set old d y)
 cut_one t n d old x y is at left = record {
@@ -117,7 +114,7 @@ cut_one t n d old x y is at left = record {
 }
 
 pub block_touches : (t : List Node) (c n : ℕ) → is_block t n ≡ true → touches t c n ≡ false
-block_touches t c n = not_at_node t (λ x. is_block_kind x.kind) (λ x. touches_kind c x.kind) (λ x. by x.kind) n where
+block_touches t c n = node_tells false t (λ x. is_block_kind x.kind) (λ x. touches_kind c x.kind) (λ x. by x.kind) n where
   by : (k : Kind) → is_block_kind k ≡ true → touches_kind c k ≡ false
   by Block e = refl
   by Strand e = absurd (cc e)

@@ -14,8 +14,8 @@ use Rattle.cw_tree.proofs.Walks.Kin.{children_apart, branch}
 use Rattle.cw_tree.proofs.NextNodes.Trees.{is_child}
 use Rattle.cw_tree.specs.Accesses.{is_live}
 use Rattle.cw_open.proofs.Laws.Named.{live_tells, live_from}
-use Rattle.cw_open.proofs.Open.Standing.{last_is, none_is}
 use Rattle.cw_tree.specs.Links.{last_child, child_before}
+use Rattle.cw_tree.proofs.LastBelow.{last_is, none_is}
 use Rattle.cw_core.specs.Links.{next_in_walk}
 
 -- node x stands in an elder sibling of a node in which n stands
@@ -130,9 +130,6 @@ comes t n false x = is_left t n x
 -- so many steps of a walk are left, at most
 abbrev pub walk_left : List Node → ℕ → Bool → ℕ
 walk_left t n down = length (filter (comes t n down) (all_nodes t)) * length t + n
-
-is_other : List Node → ℕ → ℕ → ℕ → Bool
-is_other t x a e = nat_lt 0 e && nat_lt e a && nat_eq (parent_of t a) (parent_of t e) && is_ancestor t e x
 
 left_from : (t : List Node) (n x : ℕ) → is_left t n x ≡ true → IsLeft t n x
 left_from t n x e =

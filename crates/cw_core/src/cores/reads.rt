@@ -6,7 +6,7 @@ ghost use Rattle.cw_core.specs.State.{is_split, spent};
 
 use crate::cores::Core;
 
-// Each looks at one row, however large the tree is.
+// Each looks at one row, or at one thing that is kept beside the rows, however large the tree is.
 impl Core {
     /// The strand in which a node stands.
     pub fn strand_of(&self, node: u32) -> u32
@@ -57,7 +57,7 @@ impl Core {
         self.row(fork).now.split
     }
 
-    /// The strand that has spent its budget, if one has: that of the block or the access that was refused as often as it may be.
+    /// The strand that has spent its budget, if one has: that of the block or the access whose last attempt was refused.
     pub fn spent(&self) -> Option<u32>
         ensures { result ≡ spent self.now }
     {

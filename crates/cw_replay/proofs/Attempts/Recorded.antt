@@ -19,9 +19,9 @@ use Rattle.cw_tree.specs.Histories.{IsHistory}
 use Rattle.cw_tree.specs.Refusals.{IsRecorded, Spent, is_victim, is_refused_in, names_victim, may_be_last, refused, telling, tells, outermost_apart, victim_of}
 use Rattle.cw_tree.specs.Links.{is_child}
 use Rattle.cw_tree.proofs.Lists.{In, any_from, at_or_before}
-use Rattle.cw_tree.proofs.Members.{below_none, filter_same, in_below}
+use Rattle.cw_tree.proofs.Members.{below_none, filter_same, in_below, filter_in}
 use Rattle.cw_tree.proofs.Walks.There.{node_there}
-use Rattle.cw_tree.proofs.InOrder.Visits.{filter_in, child_in}
+use Rattle.cw_tree.proofs.InOrder.DepthFirst.{child_in}
 use Rattle.cw_record.proofs.Lists.{filter_filter}
 use Rattle.cw_replay.specs.Attempts.{IsAttemptOf, IsRefusalOf, HasAttempts, AreRecorded, RecordsAttempts, of_block, of_access}
 use Rattle.cw_replay.proofs.Elders.{elder, members, run_before}
@@ -88,7 +88,7 @@ module _ (t : List Node) (first : List ℤ) (kept : List (List Entry)) (cs : Lis
 
   -- a node other than the root is a child of its parent
   among : (n : ℕ) → 0 < n → n < length t → In n (children t (parent_of t n))
-  among n s l = child_in t h.tree.rooted (parent_of t n) n (record { some = s; there = l; parent = refl })
+  among n s l = child_in t (parent_of t n) n (record { some = s; there = l; parent = refl })
 
   -- one that stands before another in its place has a later one
   has_one_later : (m n : ℕ) → m < n → n < length t → parent_of t m ≡ parent_of t n → has_later t m ≡ true

@@ -15,14 +15,14 @@ use Rattle.cw_tree.specs.Nodes.{parent_of, passes, is_strand, is_fork, is_block,
 use Rattle.cw_tree.specs.Series.{children}
 use Rattle.cw_tree.specs.Shape.{IsTree}
 use Rattle.cw_tree.proofs.Walks.There.{node_there}
+use Rattle.cw_tree.proofs.Lists.{In}
+use Rattle.cw_tree.proofs.InOrder.DepthFirst.{child_is, child_in}
 use Rattle.cw_job.specs.Room.Strands.{strands_of_job}
 use Rattle.cw_serial.proofs.Numbers.{get_some}
 use Rattle.cw_record.specs.Coherent.{InSeries, IsWanted, Follows, entered}
 use Rattle.cw_record.specs.Records.{job_of_record}
 use Rattle.cw_replay.specs.OverSource.{ForksNeedSpawns}
 use Rattle.cw_replay.specs.Spawning.{any_spawns}
-use Rattle.cw_replay.proofs.Lists.{In}
-use Rattle.cw_replay.proofs.Kin.{child_in, in_child}
 use Rattle.cw_replay.proofs.Spawning.ForkCode.{NoFork, code_none}
 use Rattle.cw_replay.proofs.Spawning.NeverForking.{NeverForks, never_forks}
 
@@ -80,9 +80,9 @@ module _ {A : Type 0} (s : Strands A) (never : NeverForks s) (t : List Node) (tr
       let none : is_fork t q ≡ false = false_from_ne_true (is_fork t q) (no_fork q plain) in
       let places : (is_strand t q || is_block t q) ≡ true = by_kinds (is_strand t q) (is_fork t q) (is_block t q) (tree.parents (suc n) h (omega arith)) none in
       let on : (c : ℕ) → In c (children t q) → Plain (before c) → Plain (after c) = λ c i p.
-      let k = child_in t q c i in
+      let k = child_is t q c i in
       behind c k.there (false_from_ne_true (is_strand t c) (λ e. absurd (cc (none, ap (is_fork t) (sym k.parent) ∙ tree.strands c k.there k.some e)))) p in
-      in_series (children t q) (entered s t before after reached q) (reached q) (follows.series q there places) (enter (is_block t q) q plain) on (suc n) (in_child t q (suc n) (record { some = omega arith; there = h; parent = refl }))
+      in_series (children t q) (entered s t before after reached q) (reached q) (follows.series q there places) (enter (is_block t q) q plain) on (suc n) (child_in t q (suc n) (record { some = omega arith; there = h; parent = refl }))
     where
       enter : (b : Bool) (q : ℕ) → Plain (before q) → Plain (if b then s.answer (before q) Nothing else before q)
       enter true q plain = never.answer (before q) Nothing

@@ -59,7 +59,7 @@ local_plain : (o : Option ℤ) (p : ℕ) (vs : List ℤ) (s : State) → Plain (
 local_plain None p vs s = tt
 local_plain (Some v) p vs s = tt
 
-called_plain : (o : Option Func) (p : ℕ) (vs : List ℤ) (s : State) → Plain (coded.called o p vs s)
+called_plain : (o : Option Func) (p : ℕ) (vs : List ℤ) (s : State) → Plain (coded.begins_call o p vs s)
 called_plain None p vs s = tt
 called_plain (Some f) p vs s = by_test (nat_lt (length vs) f.params) _ _ tt (by_test (nat_le 10000 (length s.callers + 1)) _ _ refl tt)
 
@@ -100,7 +100,7 @@ module _ (code : Code) where
   act_plain effect.Jump i p vs s h = tt
   act_plain effect.JumpZero i p [] s h = tt
   act_plain effect.JumpZero i p (v ∷ vs) s h = tt
-  act_plain effect.Call i p vs s h = spends_plain s (λ t. coded.called (slice_get code.funcs (coded.index i.a)) p vs t) (λ t. called_plain (slice_get code.funcs (coded.index i.a)) p vs t)
+  act_plain effect.Call i p vs s h = spends_plain s (λ t. coded.begins_call (slice_get code.funcs (coded.index i.a)) p vs t) (λ t. called_plain (slice_get code.funcs (coded.index i.a)) p vs t)
   act_plain effect.Ret i p [] s h = tt
   act_plain effect.Ret i p (v ∷ vs) s h = returned_plain s.callers v s
   act_plain effect.Drop i p [] s h = tt

@@ -13,7 +13,7 @@ use Rattle.cw_code.specs.declared.effects.Effect.TheVariants as effect
 use Rattle.cw_code.specs.Rules.{onwards, is_target}
 use Rattle.cw_code.proofs.Passes.{no_fault}
 use Rattle.cw_code.proofs.Walk.{at, expected, expected_behind, Walks, further, nothing, one, simply, no_target, named_target, further_on}
-use Rattle.cw_strand.specs.Names.{globals, in_functions, called, count_of, in_terms, returned_from, cells_of, in_term, in_statement, in_block, scope_after, indexed, find, ◌then◌}
+use Rattle.cw_strand.specs.Names.{globals, in_functions, fault_of_call, count_of, in_terms, returned_from, cells_of, in_term, in_statement, in_block, scope_after, indexed, find, ◌then◌}
 use Rattle.cw_strand.specs.Meaning.{cell_of}
 use Rattle.cw_strand.specs.Compilation.{Slots, slots_after, code_of, function_names, calls, terms_code, term_code, statement_code, block_code, most, most_in, stores_at}
 use Rattle.cw_strand.specs.Compilation as instr
@@ -188,7 +188,7 @@ module _ (ds : List Declaration) (f : Func) (all_named : in_functions (globals d
         let long = length-append first tail in
         let q = p + 1 + length first in
         let rest = behind code.instrs (p + 1) first tail has.1 in
-        let parts = standing.no_fault (called (find w.name (scope_of ds g)) (count_of es) w.line) (in_terms (scope_of ds g) es) fine in
+        let parts = standing.no_fault (fault_of_call (find w.name (scope_of ds g)) (count_of es) w.line) (in_terms (scope_of ds g) es) fine in
         let ends : q + 1 + 1 ≡ p + length (instr.tick ∷ (first ++ tail)) = omega (arith, long) in
         subst (λ r. Up p r (at 0 b k)) ends
         (further code f p (p + 1) (q + 1 + 1) (at 0 b k) (at 0 b k) (tick_fits p b k from (omega (arith, long)) has.0 here) (λ z.

@@ -15,7 +15,7 @@ use Rattle.cw_code.specs.declared.effects.Effect.TheVariants as effect
 use Rattle.cw_code.specs.Table.{effect_at}
 use Rattle.cw_code.proofs.Passes.{no_fault}
 use Rattle.cw_code.proofs.Walk.{at, expected, Walks, further, nothing, simply}
-use Rattle.cw_strand.specs.Names.{find, used, indexed, called, count_of, in_terms, in_functions, globals, elements, cells_from, cells_of, in_term}
+use Rattle.cw_strand.specs.Names.{find, used, indexed, fault_of_call, count_of, in_terms, in_functions, globals, elements, cells_from, cells_of, in_term}
 use Rattle.cw_strand.specs.Meaning.{element_of, cell_of, lifted, joining}
 use Rattle.cw_strand.specs.Compilation.{Slots, slot_of, function_names, number_from, calls, terms_code, code_of, elements_in, element, reads, writes, loads_at, stores_at, plain, operator_number, term_code, lift_code, join_code}
 use Rattle.cw_strand.specs.Compilation as instr
@@ -172,7 +172,7 @@ module _ (ds : List Declaration) (f : Func) (all_named : in_functions (globals d
         simply code f p instr.discard (Some effect.Drop) (suc h) b k h refl from is here (ap (λ x. at x b k) one_less) refl (omega arith) refl refl refl to
 
     -- a call, with its arguments
-    pub call_fits : (x : List ℕ) (count line : ℕ) → called (find x (scope_of ds g)) count line ≡ None → slice_get code.instrs p ≡ Some (calls cells function_list x) → Expects p (at (h + count) b k) → Up p (p + 1) (at (suc h) b k)
+    pub call_fits : (x : List ℕ) (count line : ℕ) → fault_of_call (find x (scope_of ds g)) count line ≡ None → slice_get code.instrs p ≡ Some (calls cells function_list x) → Expects p (at (h + count) b k) → Up p (p + 1) (at (suc h) b k)
     call_fits x count line may is here =
         let q = function_there ds g x count line may in
         let c = function_code_there ds x q.function all_named q.found in
@@ -215,7 +215,7 @@ module _ (ds : List Declaration) (f : Func) (all_named : in_functions (globals d
           let first = terms_code cells function_list g es in
           let calls_it = calls cells function_list w.name ∷ [] in
           let q = p + length first in
-          let parts = standing.no_fault (called (find w.name (scope_of ds g)) (count_of es) w.line) (in_terms (scope_of ds g) es) fine in
+          let parts = standing.no_fault (fault_of_call (find w.name (scope_of ds g)) (count_of es) w.line) (in_terms (scope_of ds g) es) fine in
           let ends : q + 1 ≡ p + length (first ++ calls_it) = omega (arith, length-append first calls_it) in
           subst (λ r. Up p r (at (suc h) b k)) ends
           (further code f p q (q + 1) (at (h + count_of es) b k) (at (suc h) b k)

@@ -1,9 +1,9 @@
 -- What a chain gives: its parts, its earlier and later accesses, and the accesses beneath a pending block.
-use Rattle.std.proofs.Common.{◌≡◌, ℕ, ◌<◌, List, [], ◌∷◌, ◌++◌, length, map, refl, ap, sym, ◌∙◌, arith, Bool, true, false, cond, inl, inr, subst}
+use Rattle.std.proofs.Common.{◌≡◌, ℕ, ◌<◌, List, [], ◌∷◌, ◌++◌, length, map, refl, ap, sym, ◌∙◌, Bool, true, false, cond, inl, inr, subst}
 use Rattle.std.specs.Prelude.{not, filter, All}
 use Rattle.std.proofs.lemmas.Bool.{cases_Bool}
 use Rattle.std.proofs.lemmas.List.{map-id}
-use Rattle.std.proofs.lemmas.List.Elements.{All-nil, All-cons, All-head, All-tail}
+use Rattle.std.proofs.lemmas.List.Elements.{All-head, All-tail}
 use Rattle.cw_tree.specs.declared.node.Node.{Node}
 use Rattle.cw_tree.specs.Nodes.{is_pending}
 use Rattle.cw_tree.specs.Walks.{IsRooted, is_above, nua}
@@ -12,15 +12,13 @@ use Rattle.cw_tree.specs.AccessStacks.{AreThere}
 use Rattle.cw_tree.specs.ChainLaws.{EachFollows, SomeAreChains, PartsAreChains, BeneathIsEnd}
 use Rattle.cw_tree.proofs.Lists.{In}
 use Rattle.cw_tree.proofs.ChainLaws.Nearest.{Passes, follows_passes, passes_follows}
+use Rattle.cw_tree.proofs.Members.{all_at, all_of}
 
 pub there_in : (k : ℕ) (us : List ℕ) → All (λ u. u < k) us → (u : ℕ) → In u us → u < k
-there_in k [] h u i = absurd i
-there_in k (x ∷ us) h u (inl e) = let low : x < k = All-head (λ u. u < k) x us h in omega arith
-there_in k (x ∷ us) h u (inr i) = there_in k us (All-tail (λ u. u < k) x us h) u i
+there_in k us h u i = all_at (λ u. u < k) us h u i
 
 pub there_from : (k : ℕ) (us : List ℕ) → ((u : ℕ) → In u us → u < k) → All (λ u. u < k) us
-there_from k [] h = All-nil (λ u. u < k)
-there_from k (x ∷ us) h = All-cons (λ u. u < k) x us (h x (inl refl)) (there_from k us (λ u i. h u (inr i)))
+there_from k us h = all_of (λ u. u < k) us h
 
 -- a chain of one tree is one of another where those follow that followed
 pub chain_kept : (t u : List Node) (us : List ℕ)

@@ -1,8 +1,8 @@
 -- The live accesses of a cell, as the tree grows and nothing is rolled back.
-use Rattle.std.proofs.Common.{◌≡◌, ℕ, suc, ◌<◌, ◌≤◌, List, [], ◌∷◌, ◌++◌, length, refl, ap, sym, ◌∙◌, arith, true, false, cond, inl, inr}
+use Rattle.std.proofs.Common.{Bool, ◌≡◌, ℕ, suc, ◌<◌, ◌≤◌, List, [], ◌∷◌, ◌++◌, length, refl, ap, sym, ◌∙◌, arith, true, false, cond, inl, inr, map}
 use Rattle.std.specs.Prelude.{◌⊎◌, ◌&&◌, not}
 use Rattle.std.specs.List.{filter}
-use Rattle.std.proofs.lemmas.Bool.{not_from_false, cases_lt}
+use Rattle.std.proofs.lemmas.Bool.{not_from_false, cases_lt, and_parts}
 use Rattle.std.proofs.lemmas.Option.{slice_get_past}
 use Rattle.std.proofs.lemmas.List.Elements.{filter-append}
 use Rattle.std.proofs.lemmas.List.{append-nil}
@@ -12,13 +12,17 @@ use Rattle.cw_tree.specs.declared.node.BlockState.{BlockState}
 use Rattle.cw_tree.specs.Nodes.{passes, touches_kind, is_block_kind, is_aborted_state, stamp_of, is_aborted, touches, below, all_nodes, closed}
 use Rattle.cw_tree.specs.Walks.{above}
 use Rattle.cw_tree.specs.Accesses.{is_live, by_key, live_accesses, value_in, written_kind, read_kind}
+use Rattle.cw_tree.specs.Shape.{AreStamps}
 use Rattle.cw_tree.proofs.Lists.{In, all_from, at_or_before}
 use Rattle.cw_tree.proofs.Members.{in_below, in_filter, filter_same}
 use Rattle.cw_tree.proofs.NextNodes.Growing.{get_append, length_more, node_grown, node_new, number_grown}
 use Rattle.cw_tree.proofs.NextNodes.Closing.{node_closed, number_closed, same_closed}
 use Rattle.cw_tree.proofs.Walks.Agreeing.{aborted_closed}
 use Rattle.cw_tree.proofs.ChainLaws.Entries.{SameAccess}
-use Rattle.cw_tree.proofs.InOrder.Keys.{by_key_last, by_key_in, by_key_same}
+use Rattle.cw_tree.proofs.InOrder.Keys.{by_key_last, by_key_in, by_key_same, by_key_rises}
+use Rattle.cw_tree.proofs.Rising.{below_rises, Rises, rises_filter, rises_apart}
+use Rattle.cw_tree.proofs.Ahead.{apart_map}
+use Rattle.cw_tree.proofs.NodeKinds.{access_stamped}
 
 -- the accesses of cell c among the first k nodes
 abbrev pub accesses_below : List Node → ℕ → ℕ → List ℕ
@@ -105,3 +109,16 @@ module _ (t u : List Node) (s : SameAccesses t u) (c : ℕ) where
         let le : stamp_of t n ≤ stamp_of u (length t) = newest n low in
         omega (arith, (s.each n low).stamp))
         ∙ ap (λ ns. ns ++ length t ∷ []) first_keys
+
+-- their stamps rise
+pub live_rises : (t : List Node) (c : ℕ) → AreStamps t → Rises (map (stamp_of t) (live_accesses t c))
+live_rises t c s =
+    let lives : ℕ → Bool = λ n. touches t c n && is_live t n in
+    let ns : List ℕ = filter lives (all_nodes t) in
+    by_key_rises (stamp_of t) ns
+    (apart_map (stamp_of t) ns
+    (λ x y i j e.
+    let a = in_filter lives x (all_nodes t) i in
+    let b = in_filter lives y (all_nodes t) j in
+    s.distinct x y (in_below x (length t) a.0) (in_below y (length t) b.0) (access_stamped t s c x (and_parts (touches t c x) (is_live t x) a.1).0) e)
+    (rises_apart ns (rises_filter lives (all_nodes t) (below_rises (length t)))))

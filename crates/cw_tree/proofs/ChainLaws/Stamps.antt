@@ -13,7 +13,7 @@ use Rattle.cw_tree.specs.Accesses.{HasAccess, IsChain}
 use Rattle.cw_tree.specs.AccessStacks.{newest_conflicts, AreThere, access_at}
 use Rattle.cw_tree.specs.ChainLaws.{StampsGrow, StampsClose, StampsExtend, PartsOfStamps, EachStampFollows, SomeOfStamps, StampsBeneath, StampConflictsGrow, StampConflictsClose}
 use Rattle.cw_tree.proofs.Lists.{In, at_or_before}
-use Rattle.cw_tree.proofs.Members.{in_below, below_in, map_same}
+use Rattle.cw_tree.proofs.Members.{in_below, below_in, map_same, all_at, find_same}
 use Rattle.cw_tree.proofs.NextNodes.Growing.{node_grown, number_grown, number_new, node_new, all_nodes_more}
 use Rattle.cw_tree.proofs.NextNodes.Closing.{node_closed, number_closed, all_nodes_closed}
 use Rattle.cw_tree.proofs.ChainLaws.Chains.{parts_are_chains, each_follows, some_named, beneath_named}
@@ -36,10 +36,6 @@ find_there p (x ∷ xs) n i e =
           let w = find_there p xs n rest e in
           (w.0, ap (λ b. cond b (Some x) (find p xs)) g ∙ w.1, inr w.2))
     ]
-
-find_agree : (p q : ℕ → Bool) (xs : List ℕ) → ((x : ℕ) → In x xs → p x ≡ q x) → find p xs ≡ find q xs
-find_agree p q [] e = refl
-find_agree p q (x ∷ xs) e = ap (λ b. cond b (Some x) (find p xs)) (e x (inl refl)) ∙ ap (cond (q x) (Some x)) (find_agree p q xs (λ y i. e y (inr i)))
 
 find_front : (p : ℕ → Bool) (xs ys : List ℕ) (m : ℕ) → find p xs ≡ Some m → find p (xs ++ ys) ≡ Some m
 find_front p [] ys m e = absurd (cc e)
@@ -71,11 +67,6 @@ named t c s a =
     let P : ℕ → Type 0 = λ n. IsNamed t s n in
     subst P (sym (ap (λ o. unwrap_or o 0) w.1)) (record { there = in_below w.0 (length t) w.2; found = w.1 })
 
-has_in : (P : ℕ → Type 0) (xs : List ℕ) → All P xs → (x : ℕ) → In x xs → P x
-has_in P [] h x i = absurd i
-has_in P (y ∷ xs) h x (inl e) = subst P (sym e) (All-head P y xs h)
-has_in P (y ∷ xs) h x (inr i) = has_in P xs (All-tail P y xs h) x i
-
 all_parts : (P : ℕ → Type 0) (xs ys : List ℕ) → All P (xs ++ ys) → All P xs × All P ys
 all_parts P [] ys h = (All-nil P, h)
 all_parts P (x ∷ xs) ys h = let more = all_parts P xs ys (All-tail P x (xs ++ ys) h) in (All-cons P x xs (All-head P x (xs ++ ys) h) more.0, more.1)
@@ -92,17 +83,17 @@ module _ (t s : List Node) where
   access_grown c x a =
       let n = access_at t x in
       let more = below_more (length t) (length (t ++ s)) (omega (arith, length-append t s)) in
-      let agree = find_agree (λ m. nat_eq (stamp_of (t ++ s) m) x) (λ m. nat_eq (stamp_of t m) x) (all_nodes t) (λ m i. ap (λ k. nat_eq k x) (number_grown t s (λ y. y.stamp) m (in_below m (length t) i))) in
+      let agree = find_same (λ m. nat_eq (stamp_of (t ++ s) m) x) (λ m. nat_eq (stamp_of t m) x) (all_nodes t) (λ m i. ap (λ k. nat_eq k x) (number_grown t s (λ y. y.stamp) m (in_below m (length t) i))) in
       let first = find_front (λ m. nat_eq (stamp_of (t ++ s) m) x) (all_nodes t) more.0 n (agree ∙ (named t c x a).found) in
       ap (λ o. unwrap_or o 0) (ap (find (λ m. nat_eq (stamp_of (t ++ s) m) x)) more.1 ∙ first)
 
-  has_grown : (c x : ℕ) → HasAccess t c x → HasAccess (t ++ s) c x
+  pub has_grown : (c x : ℕ) → HasAccess t c x → HasAccess (t ++ s) c x
   has_grown c x a =
       let there : a.0 < length t = touched_there t c a.0 a.1 in
       (a.0, node_grown t s (λ y. touches_kind c y.kind) a.0 there ∙ a.1, number_grown t s (λ y. y.stamp) a.0 there ∙ a.2)
 
   names_grown : (c : ℕ) (stamps : List ℕ) → All (HasAccess t c) stamps → map (access_at (t ++ s)) stamps ≡ map (access_at t) stamps
-  names_grown c stamps h = map_same (access_at (t ++ s)) (access_at t) stamps (λ x i. access_grown c x (has_in (HasAccess t c) stamps h x i))
+  names_grown c stamps h = map_same (access_at (t ++ s)) (access_at t) stamps (λ x i. access_grown c x (all_at (HasAccess t c) stamps h x i))
 
 pub stamps_grow : StampsGrow
 stamps_grow t s c stamps r h = record {
@@ -121,7 +112,7 @@ module _ (t : List Node) (b : ℕ) (state : BlockState) (end : ℕ) where
   access_closed x =
       ap (λ o. unwrap_or o 0)
       (ap (find (λ m. nat_eq (stamp_of (closed t b state end) m) x)) (all_nodes_closed t b state end)
-      ∙ find_agree (λ m. nat_eq (stamp_of (closed t b state end) m) x) (λ m. nat_eq (stamp_of t m) x) (all_nodes t) (λ m i. ap (λ k. nat_eq k x) (number_closed t b state end (λ y. y.stamp) (λ y. refl) m)))
+      ∙ find_same (λ m. nat_eq (stamp_of (closed t b state end) m) x) (λ m. nat_eq (stamp_of t m) x) (all_nodes t) (λ m i. ap (λ k. nat_eq k x) (number_closed t b state end (λ y. y.stamp) (λ y. refl) m)))
 
 pub stamps_close : StampsClose
 stamps_close t c stamps b state end r done h = record {

@@ -1,10 +1,10 @@
 -- The walk down from a node: how many levels are enough, and how it goes on over a stack.
-use Rattle.std.proofs.Common.{◌≡◌, ℕ, zero, suc, ◌+◌, ◌<◌, ◌≤◌, List, [], ◌∷◌, ◌++◌, length, reverse, refl, ap, sym, ◌∙◌, arith, Bool, true, false, cond, inl, inr, subst, nat_lt, nat_eq, length-append, append_assoc, append-nil}
+use Rattle.std.proofs.Common.{◌≡◌, ℕ, zero, suc, ◌+◌, ◌<◌, ◌≤◌, List, [], ◌∷◌, ◌++◌, length, reverse, refl, ap, sym, ◌∙◌, arith, Bool, true, false, cond, subst, nat_lt, nat_eq, length-append, append_assoc, append-nil}
 use Rattle.std.specs.Prelude.{All}
 use Rattle.std.specs.List.{filter, flat_map}
-use Rattle.std.proofs.lemmas.Bool.{and_parts, ltb-true, eqb-true, false_from_ne_true}
+use Rattle.std.proofs.lemmas.Bool.{and_parts, ltb-true, eqb-true, false_from_ne_true, and_from, lt-ltb, eq-eqb}
 use Rattle.std.proofs.lemmas.List.{reverse-append, reverse-reverse}
-use Rattle.std.proofs.lemmas.List.Elements.{filter-append, All-append, All-cons, All-push}
+use Rattle.std.proofs.lemmas.List.Elements.{filter-append, All-append, All-push}
 use Rattle.std.proofs.lemmas.Grind.{flat_map-append}
 use Rattle.std.proofs.Math.ListN.{get_or-append}
 use Rattle.cw_tree.specs.declared.node.Node.{Node}
@@ -13,7 +13,8 @@ use Rattle.cw_tree.specs.Walks.{IsRooted}
 use Rattle.cw_tree.specs.Series.{children, walk, depth_first}
 use Rattle.cw_tree.specs.Links.{is_child}
 use Rattle.cw_tree.proofs.Lists.{In}
-use Rattle.cw_tree.proofs.Members.{in_filter, in_below}
+use Rattle.cw_tree.proofs.Members.{in_filter, in_below, all_of, filter_in, below_in}
+use Rattle.cw_tree.proofs.Rising.{Rises, rises_filter, below_rises}
 
 -- two functions that agree on the numbers that pass a test
 flat_map_step : (f g : ℕ → List ℕ) (p : ℕ → Bool) (k : ℕ) (b : Bool) → p k ≡ b → (p k ≡ true → f k ≡ g k) → flat_map f (filter p (below k)) ≡ flat_map g (filter p (below k)) → flat_map f (filter p (below k) ++ cond b (k ∷ []) []) ≡ flat_map g (filter p (below k) ++ cond b (k ∷ []) [])
@@ -42,10 +43,6 @@ all_reverse P (x ∷ xs) h =
 all_front : (P : ℕ → Type 0) (xs ys : List ℕ) → All P (xs ++ ys) → All P xs
 all_front P xs ys h = λ k d l. subst P (get_or-append xs ys d k l) (h k d (omega (arith, length-append xs ys)))
 
-all_from_in : (P : ℕ → Type 0) (xs : List ℕ) → ((v : ℕ) → In v xs → P v) → All P xs
-all_from_in P [] h = λ k d l. absurd (omega arith)
-all_from_in P (x ∷ xs) h = All-cons P x xs (h x (inl refl)) (all_from_in P xs (λ v i. h v (inr i)))
-
 -- m is a child of n
 pub record IsChild (t : List Node) (n m : ℕ) : Type 0 where
   pub some : 0 < m
@@ -57,6 +54,12 @@ child_is t n m i =
     let z = in_filter (is_child t n) m (below (length t)) i in
     let y = and_parts (nat_lt 0 m) (nat_eq (parent_of t m) n) z.1 in
     record { some = ltb-true 0 m y.0; there = in_below m (length t) z.0; parent = eqb-true (parent_of t m) n y.1 }
+
+pub child_in : (t : List Node) (n m : ℕ) → IsChild t n m → In m (children t n)
+child_in t n m c = filter_in (is_child t n) m (below (length t)) (below_in m (length t) c.there) (and_from _ _ (lt-ltb 0 m c.some) (eq-eqb (parent_of t m) n c.parent))
+
+pub children_rise : (t : List Node) (n : ℕ) → Rises (children t n)
+children_rise t n = rises_filter (is_child t n) (below (length t)) (below_rises (length t))
 
 module _ (t : List Node) where
   -- the nodes from n down, to all levels
@@ -108,7 +111,7 @@ module _ (t : List Node) (r : IsRooted t) where
       ∙ ap (λ ns. n ∷ flat_map (whole t) ns) (sym (reverse-append rest (reverse (children t n))))
 
   children_there : (n : ℕ) → All (λ m. m < length t) (reverse (children t n))
-  children_there n = all_reverse (λ m. m < length t) (children t n) (all_from_in (λ m. m < length t) (children t n) (λ m i. (child_is t n m i).there))
+  children_there n = all_reverse (λ m. m < length t) (children t n) (all_of (λ m. m < length t) (children t n) (λ m i. (child_is t n m i).there))
 
   -- node n is taken from a stack, and its children are put there
   module _ (order stack rest next : List ℕ) (n : ℕ) (w : Walking t order stack) (taken : stack ≡ rest ++ n ∷ []) (put : next ≡ rest ++ reverse (children t n)) where

@@ -11,8 +11,9 @@ use Rattle.cw_tree.specs.OrderLaws.{TreesStay, NodesStay, NumbersDiffer, Ancesto
 use Rattle.cw_tree.proofs.Walks.Climbs.{by_parent}
 use Rattle.cw_tree.proofs.Walks.Ancestors.{ancestor_self, ancestor_root, ancestor_step, above_parent}
 use Rattle.cw_tree.proofs.Names.Forks.{same_truth}
-use Rattle.cw_tree.proofs.InOrder.Visits.{in_at, as_many, all_come, renamed_is, first_is}
+use Rattle.cw_tree.proofs.InOrder.Visits.{as_many, all_come, renamed_is, first_is}
 use Rattle.cw_tree.proofs.InOrder.Renumbered.{visited, some_node, new_length, new_at, new_parent, old_at, in_order_numbered}
+use Rattle.cw_tree.proofs.Members.{in_at}
 
 module _ (t : List Node) (w : IsNumbered t) where
   -- the new number of a node of t

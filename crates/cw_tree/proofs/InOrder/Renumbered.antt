@@ -1,9 +1,9 @@
 -- The nodes in depth-first order are those of a tree again.
-use Rattle.std.proofs.Common.{◌≡◌, ℕ, ◌+◌, ◌<◌, ◌≤◌, List, [], ◌∷◌, ◌++◌, length, map, get_or, set, take, replicate, refl, ap, sym, ◌∙◌, arith, Bool, inl, inr, nat_eq, Some}
+use Rattle.std.proofs.Common.{◌≡◌, ℕ, ◌+◌, ◌<◌, ◌≤◌, List, [], ◌∷◌, ◌++◌, length, map, get_or, set, take, refl, ap, sym, ◌∙◌, arith, Bool, inl, inr, nat_eq, Some}
 use Rattle.std.specs.Prelude.{◌⊎◌, slice_get, option_map}
 use Rattle.std.proofs.lemmas.Bool.{ne_eqb, cases_eq}
 use Rattle.std.proofs.lemmas.Option.{slice_get-map, slice_get-get_or, get_or_from_slice_get}
-use Rattle.std.proofs.lemmas.List.{length-map, length-set, length-replicate, get_or-set_same, get_or-set_other, get_or_default, map-append, take_more}
+use Rattle.std.proofs.lemmas.List.{length-map, length-set, get_or-set_same, get_or-set_other, get_or_default, map-append, take_more}
 use Rattle.std.proofs.lemmas.List.Sums.{position_or_len_is}
 use Rattle.cw_tree.specs.declared.node.Node.{Node}
 use Rattle.cw_tree.specs.declared.node.Kind.{Kind}
@@ -14,7 +14,9 @@ use Rattle.cw_tree.specs.Series.{depth_first}
 use Rattle.cw_tree.specs.InOrder.{renamed, node_in_order, in_order, with_parent_renamed}
 use Rattle.cw_tree.proofs.Lists.{length_map_below, get_map_below, map_below}
 use Rattle.cw_tree.proofs.Walks.There.{node_there}
-use Rattle.cw_tree.proofs.InOrder.Visits.{at_in, in_at, once, as_many, come_there, all_come, renamed_is, first_is, parent_earlier, apart_at}
+use Rattle.cw_tree.proofs.InOrder.Visits.{once, as_many, come_there, all_come, renamed_is, first_is, parent_earlier}
+use Rattle.cw_tree.proofs.Members.{at_in, in_at}
+use Rattle.cw_tree.proofs.Ahead.{apart_at}
 
 -- a node of t by the code's steps
 pub node_is : (t : List Node) (n : ℕ) (node : Node) (kind : Kind) (parent : ℕ) → slice_get t n ≡ Some node → kind ≡ node.kind → parent ≡ renamed t node.parent
@@ -90,9 +92,6 @@ module _ (t : List Node) (w : IsNumbered t) where
     rooted = new_rooted;
     few = omega (arith, new_length, w.few);
   }
-
-  pub placed_start : (numbers : List ℕ) → numbers ≡ replicate (length t) 0 → Placed t 0 numbers
-  placed_start numbers e = record { len = ap length e ∙ length-replicate (length t) 0; done = λ i l. absurd (omega arith) }
 
   pub placed_step : (place : ℕ) (numbers : List ℕ) → Placed t place numbers → place < length t → Placed t (place + 1) (set numbers (visited t place) place)
   placed_step place numbers p h = record {

@@ -19,11 +19,11 @@ use Rattle.cw_tree.proofs.InOrder.Renumbered.{visited, some_node, visited_there,
 use Rattle.cw_tree.proofs.InOrder.Renaming.{number_of, node_stays, renamed_apart, renamed_some, root_stays, parent_stays, ancestor_stays, above_stays}
 use Rattle.cw_tree.proofs.Walks.Siblings.{rises, siblings}
 
-number_option : (f : Node → ℕ) (g : Node → Node) → ((x : Node) → f (g x) ≡ f x) → (o : Option Node) → number_in f (option_map g o) ≡ number_in f o
+pub number_option : (f : Node → ℕ) (g : Node → Node) → ((x : Node) → f (g x) ≡ f x) → (o : Option Node) → number_in f (option_map g o) ≡ number_in f o
 number_option f g same None = refl
 number_option f g same (Some x) = same x
 
-passes_option : (p : Node → Bool) (g : Node → Node) → ((x : Node) → p (g x) ≡ p x) → (o : Option Node) → passes p (option_map g o) ≡ passes p o
+pub passes_option : (p : Node → Bool) (g : Node → Node) → ((x : Node) → p (g x) ≡ p x) → (o : Option Node) → passes p (option_map g o) ≡ passes p o
 passes_option p g same None = refl
 passes_option p g same (Some x) = same x
 

@@ -1,10 +1,9 @@
 -- A depth-first walk comes to each node once, and to a parent before its children.
-use Rattle.std.proofs.Common.{◌≡◌, ℕ, zero, suc, ◌+◌, ◌<◌, ◌≤◌, List, [], ◌∷◌, ◌++◌, length, get_or, refl, ap, sym, ◌∙◌, arith, Bool, true, false, cond, inl, inr, subst, nat_eq}
+use Rattle.std.proofs.Common.{◌≡◌, ℕ, zero, suc, ◌+◌, ◌<◌, ◌≤◌, List, [], ◌∷◌, ◌++◌, length, get_or, refl, ap, sym, ◌∙◌, arith, true, inl, inr, subst, nat_eq}
 use Rattle.std.specs.Prelude.{◌⊎◌}
-use Rattle.std.specs.List.{filter, flat_map, IsDistinct, AllByRecursion, position_or_len}
-use Rattle.std.proofs.lemmas.Bool.{and_from, lt-ltb, eq-eqb, eqb-true, ne_eqb}
+use Rattle.std.specs.List.{flat_map}
+use Rattle.std.proofs.lemmas.Bool.{eq-eqb, eqb-true}
 use Rattle.std.proofs.lemmas.Map.Steps.{length-le_from_distinct_below, le-length_from_below}
-use Rattle.std.proofs.lemmas.List.Sums.{position_or_len_is}
 use Rattle.cw_tree.specs.declared.node.Node.{Node}
 use Rattle.cw_tree.specs.Nodes.{parent_of, below}
 use Rattle.cw_tree.specs.Walks.{IsRooted, is_ancestor}
@@ -12,95 +11,12 @@ use Rattle.cw_tree.specs.Series.{children, walk, depth_first}
 use Rattle.cw_tree.specs.Links.{is_child}
 use Rattle.cw_tree.specs.InOrder.{renamed}
 use Rattle.cw_tree.proofs.Lists.{In, any_in, any_from}
-use Rattle.cw_tree.proofs.Members.{in_append, append_in, in_below, below_in, in_filter}
+use Rattle.cw_tree.proofs.Members.{in_flat, flat_in}
 use Rattle.cw_tree.proofs.Walks.Climbs.{by_parent}
 use Rattle.cw_tree.proofs.Walks.Ancestors.{ancestor_self, ancestor_up, ancestor_trans, ancestor_le}
 use Rattle.cw_tree.proofs.Walks.Kin.{children_apart}
-use Rattle.cw_tree.proofs.InOrder.DepthFirst.{IsChild, child_is, whole, walk_step}
-
--- ## Members of lists
-
-pub in_flat : (f : ℕ → List ℕ) (v : ℕ) (xs : List ℕ) → In v (flat_map f xs) → (x : ℕ) × In x xs × In v (f x)
-in_flat f v [] h = absurd h
-in_flat f v (x ∷ xs) h = elim (in_append v (f x) (flat_map f xs) h) [ inl a ↦ (x, inl refl, a) | inr b ↦ (let z = in_flat f v xs b in (z.0, inr z.1, z.2)) ]
-
-pub flat_in : (f : ℕ → List ℕ) (v x : ℕ) (xs : List ℕ) → In x xs → In v (f x) → In v (flat_map f xs)
-flat_in f v x [] h g = absurd h
-flat_in f v x (y ∷ xs) (inl e) g = let P : ℕ → Type 0 = λ z. In v (f z) in append_in v (f y) (flat_map f xs) (inl (subst P e g))
-flat_in f v x (y ∷ xs) (inr h) g = append_in v (f y) (flat_map f xs) (inr (flat_in f v x xs h g))
-
-pub filter_in : (p : ℕ → Bool) (v : ℕ) (xs : List ℕ) → In v xs → p v ≡ true → In v (filter p xs)
-filter_in p v [] h e = absurd h
-filter_in p v (x ∷ xs) h e =
-    by (p x) refl (λ i. filter_in p v xs i e) h where
-      by : (b : Bool) → p x ≡ b → (In v xs → In v (filter p xs)) → (v ≡ x) ⊎ In v xs → In v (cond b (x ∷ filter p xs) (filter p xs))
-      by true f more (inl q) = inl q
-      by true f more (inr i) = inr (more i)
-      by false f more (inl q) = absurd (let g : true ≡ false = sym e ∙ ap p q ∙ f in cc)
-      by false f more (inr i) = more i
-
-pub at_in : (xs : List ℕ) (i : ℕ) → i < length xs → In (get_or xs i 0) xs
-at_in [] i h = absurd (omega arith)
-at_in (x ∷ xs) zero h = inl refl
-at_in (x ∷ xs) (suc i) h = inr (at_in xs i (omega arith))
-
-pub in_at : (v : ℕ) (xs : List ℕ) → In v xs → (i : ℕ) × (i < length xs) × (get_or xs i 0 ≡ v)
-in_at v [] h = absurd h
-in_at v (x ∷ xs) (inl e) = (0, omega arith, sym e)
-in_at v (x ∷ xs) (inr h) = let z = in_at v xs h in (suc z.0, omega (arith, z.1), z.2)
-
--- no number stands twice in a list
-abbrev pub Apart : List ℕ → Type 0
-Apart [] = Unit {0}
-Apart (x ∷ xs) = (In x xs → ⊥) × Apart xs
-
-apart_append : (xs ys : List ℕ) → Apart xs → Apart ys → ((v : ℕ) → In v xs → In v ys → ⊥) → Apart (xs ++ ys)
-apart_append [] ys a b n = b
-apart_append (x ∷ xs) ys a b n = ((λ h. elim (in_append x xs ys h) [ inl i ↦ a.0 i | inr j ↦ n x (inl refl) j ]), apart_append xs ys a.1 b (λ v i j. n v (inr i) j))
-
-apart_flat : (f : ℕ → List ℕ) (xs : List ℕ) → Apart xs → ((x : ℕ) → In x xs → Apart (f x)) → ((x y v : ℕ) → In x xs → In y xs → In v (f x) → In v (f y) → x ≡ y) → Apart (flat_map f xs)
-apart_flat f [] a each same = tt
-apart_flat f (x ∷ xs) a each same =
-    apart_append (f x) (flat_map f xs) (each x (inl refl)) (apart_flat f xs a.1 (λ y i. each y (inr i)) (λ y z v i j. same y z v (inr i) (inr j)))
-    (λ v i j.
-    let z = in_flat f v xs j in
-    let e : x ≡ z.0 = same x z.0 v (inl refl) (inr z.1) i z.2 in
-    let P : ℕ → Type 0 = λ y. In y xs in
-    a.0 (subst P (sym e) z.1))
-
-apart_filter : (p : ℕ → Bool) (xs : List ℕ) → Apart xs → Apart (filter p xs)
-apart_filter p [] a = tt
-apart_filter p (x ∷ xs) a =
-    by (p x) (apart_filter p xs a.1) where
-      by : (b : Bool) → Apart (filter p xs) → Apart (cond b (x ∷ filter p xs) (filter p xs))
-      by true h = ((λ i. a.0 (in_filter p x xs i).0), h)
-      by false h = h
-
-apart_below : (k : ℕ) → Apart (below k)
-apart_below zero = tt
-apart_below (suc k) =
-    apart_append (below k) (k ∷ []) (apart_below k) ((λ h. h), tt) (λ v i j. let low : v < k = in_below v k i in elim j [ inl e ↦ omega arith | inr z ↦ z ])
-
-pub apart_at : (xs : List ℕ) (i j : ℕ) → Apart xs → i < j → j < length xs → get_or xs i 0 ≡ get_or xs j 0 → ⊥
-apart_at [] i j a l h e = omega arith
-apart_at (x ∷ xs) i zero a l h e = omega arith
-apart_at (x ∷ xs) zero (suc j) a l h e = let P : ℕ → Type 0 = λ y. In y xs in a.0 (subst P (sym e) (at_in xs j (omega arith)))
-apart_at (x ∷ xs) (suc i) (suc j) a l h e = apart_at xs i j a.1 (omega arith) (omega arith) e
-
-not_equal : (x : ℕ) (ys : List ℕ) → (In x ys → ⊥) → AllByRecursion (λ y. nat_eq x y ≡ false) ys
-not_equal x [] h = tt
-not_equal x (y ∷ ys) h = (ne_eqb x y (λ e. h (inl e)), not_equal x ys (λ i. h (inr i)))
-
-distinct : (xs : List ℕ) → Apart xs → IsDistinct nat_eq xs
-unfolding IsDistinct
-distinct [] a = tt
-distinct (x ∷ xs) a = (not_equal x xs a.0, distinct xs a.1)
-
--- a number's place in a list in which no number stands twice
-pub place_is : (xs : List ℕ) (i : ℕ) → Apart xs → i < length xs → position_or_len (λ m. nat_eq m (get_or xs i 0)) xs ≡ i
-place_is xs i a h =
-    position_or_len_is (λ m. nat_eq m (get_or xs i 0)) xs i 0 (omega arith) (λ k l. ne_eqb (get_or xs k 0) (get_or xs i 0) (λ e. apart_at xs k i a l h e))
-    (λ l. eq-eqb (get_or xs i 0) (get_or xs i 0) refl)
+use Rattle.cw_tree.proofs.InOrder.DepthFirst.{IsChild, child_is, whole, walk_step, child_in}
+use Rattle.cw_tree.proofs.Ahead.{Apart, apart_flat, apart_filter, apart_below, distinct, place_is}
 
 -- ## Parents come first
 
@@ -138,7 +54,7 @@ module _ (t : List Node) where
 -- ## Each node once
 
 module _ (t : List Node) (r : IsRooted t) where
-  child_over : (n m : ℕ) → IsChild t n m → is_ancestor t n m ≡ true
+  pub child_over : (n m : ℕ) → IsChild t n m → is_ancestor t n m ≡ true
   child_over n m c =
       let P : ℕ → Type 0 = λ x. is_ancestor t n x ≡ true in
       ancestor_up t r n m c.some c.there (subst P (sym c.parent) (ancestor_self t n))
@@ -176,15 +92,12 @@ module _ (t : List Node) (r : IsRooted t) where
   walk_self zero n = inl refl
   walk_self (suc k) n = inl refl
 
-  pub child_in : (n m : ℕ) → IsChild t n m → In m (children t n)
-  child_in n m c = filter_in (is_child t n) m (below (length t)) (below_in m (length t) c.there) (and_from _ _ (lt-ltb 0 m c.some) (eq-eqb (parent_of t m) n c.parent))
-
-  walk_child : (k n v m : ℕ) → length t ≤ n + k → In v (walk t k n) → IsChild t v m → In m (walk t k n)
+  pub walk_child : (k n v m : ℕ) → length t ≤ n + k → In v (walk t k n) → IsChild t v m → In m (walk t k n)
   walk_child zero n v m h (inl e) c = let low : parent_of t m < m = r m c.some c.there in absurd (let there = c.there in let same = c.parent in omega arith)
   walk_child zero n v m h (inr z) c = absurd z
   walk_child (suc k) n v m h (inl e) c =
       let P : ℕ → Type 0 = λ x. IsChild t x m in
-      inr (flat_in (walk t k) m m (children t n) (child_in n m (subst P e c)) (walk_self k m))
+      inr (flat_in (walk t k) m m (children t n) (child_in t n m (subst P e c)) (walk_self k m))
   walk_child (suc k) n v m h (inr j) c =
       let z = in_flat (walk t k) v (children t n) j in
       let d = child_is t n z.0 z.1 in

@@ -13,14 +13,14 @@ use Rattle.cw_tree.proofs.Walks.Strands.{strand_of_root, strand_of_strand, stran
 use Rattle.cw_tree.proofs.Names.Turns.{strands_step}
 
 module _ (t : List Node) (r : IsRooted t) where
-  on_strand : (n : ℕ) → 0 < n → n < length t → is_strand t n ≡ true → strands_on t n ≡ n ∷ strands_on t (parent_of t n)
+  pub on_strand : (n : ℕ) → 0 < n → n < length t → is_strand t n ≡ true → strands_on t n ≡ n ∷ strands_on t (parent_of t n)
   on_strand n p h e = strands_step t r n p h ∙ ap (λ b. cond b (n ∷ strands_on t (parent_of t n)) (strands_on t (parent_of t n))) (and_from (nat_lt 0 n) (is_strand t n) (lt-ltb 0 n p) e)
 
-  on_other : (n : ℕ) → 0 < n → n < length t → is_strand t n ≡ false → strands_on t n ≡ strands_on t (parent_of t n)
+  pub on_other : (n : ℕ) → 0 < n → n < length t → is_strand t n ≡ false → strands_on t n ≡ strands_on t (parent_of t n)
   on_other n p h e = strands_step t r n p h ∙ ap (λ b. cond b (n ∷ strands_on t (parent_of t n)) (strands_on t (parent_of t n))) (and_right (nat_lt 0 n) (is_strand t n) e)
 
   -- the strands on the way up from a node are those on the way up from its strand
-  strands_of_strand : (n : ℕ) → n < length t → strands_on t n ≡ strands_on t (strand_of t n)
+  pub strands_of_strand : (n : ℕ) → n < length t → strands_on t n ≡ strands_on t (strand_of t n)
   strands_of_strand =
       by_parent t r (λ n. strands_on t n ≡ strands_on t (strand_of t n)) (sym (ap (strands_on t) (strand_of_root t)))
       (λ n p h more. by_kind n p h more (cases_Bool (is_strand t n))) where

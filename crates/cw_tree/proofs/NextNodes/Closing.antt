@@ -6,9 +6,9 @@ use Rattle.std.proofs.lemmas.List.{length-set}
 use Rattle.cw_tree.specs.declared.node.Node.{Node}
 use Rattle.cw_tree.specs.declared.node.BlockState.{BlockState}
 use Rattle.cw_tree.specs.Nodes.{passes, is_node, is_strand_kind, is_block_kind, number_in, parent_of, end_of, is_block, below, all_nodes, closed}
-use Rattle.cw_tree.specs.Walks.{IsRooted, path, above, is_ancestor, is_above, xparent}
+use Rattle.cw_tree.specs.Walks.{IsRooted, path, is_ancestor, is_above, xparent}
 use Rattle.cw_tree.specs.Series.{strand_of}
-use Rattle.cw_tree.proofs.NextNodes.Kept.{KeepsParents, path_kept, above_kept, ancestor_kept, is_above_kept, strand_of_kept, xparent_kept}
+use Rattle.cw_tree.proofs.NextNodes.Kept.{KeepsParents, path_kept, ancestor_kept, is_above_kept, strand_of_kept, xparent_kept}
 
 pub get_set_other : {A : Type 0} → (xs : List A) (i j : ℕ) (y : A) → j ≢ i → slice_get (slice_set xs i y) j ≡ slice_get xs j
 get_set_other [] i j y ne = refl
@@ -107,9 +107,6 @@ module _ (t : List Node) (b : ℕ) (state : BlockState) (end : ℕ) where
 
     pub path_closed : (n : ℕ) → n < length t → path (closed t b state end) n ≡ path t n
     path_closed = path_kept t (closed t b state end) keeps_closed
-
-    pub above_closed : (n : ℕ) → n < length t → above (closed t b state end) n ≡ above t n
-    above_closed = above_kept t (closed t b state end) keeps_closed
 
     pub ancestor_closed : (a n : ℕ) → n < length t → is_ancestor (closed t b state end) a n ≡ is_ancestor t a n
     ancestor_closed = ancestor_kept t (closed t b state end) keeps_closed

@@ -3,11 +3,11 @@ use Rattle.std.proofs.Common.{◌≡◌, ℕ, zero, suc, ◌<◌, List, [], ◌�
 use Rattle.std.specs.Prelude.{◌||◌, slice_get, unwrap_or}
 use Rattle.std.specs.List.{find}
 use Rattle.cw_tree.specs.declared.node.Node.{Node}
-use Rattle.cw_tree.specs.Nodes.{passes, is_node, is_strand_kind, is_block_kind, number_in, parent_of, is_strand, is_block, below, all_nodes}
+use Rattle.cw_tree.specs.Nodes.{passes, is_node, is_strand_kind, is_block_kind, number_in, parent_of, is_strand, below, all_nodes}
 use Rattle.cw_tree.specs.Walks.{IsRooted, path, above, has, is_ancestor, is_above, xparent}
 use Rattle.cw_tree.specs.Series.{strand_of}
 use Rattle.cw_tree.proofs.Lists.{at_or_before}
-use Rattle.cw_tree.proofs.Walks.Climbs.{path_split, path_step}
+use Rattle.cw_tree.proofs.Walks.Climbs.{path_step}
 use Rattle.cw_tree.proofs.NextNodes.Kept.{KeepsParents, path_kept, above_kept, ancestor_kept, is_above_kept, find_path_kept, strand_of_kept, xparent_kept}
 
 -- a list keeps its members where more come behind
@@ -107,9 +107,3 @@ module _ (t : List Node) (x : Node) where
         ∙ unwrap_cond (is_strand_kind x.kind) (length t) (find (is_strand u) (path t x.parent))
         ∙ ap (λ ns. cond (is_strand_kind x.kind) (length t) (unwrap_or (find (is_strand u) ns) 0)) (sym (path_grown t (x ∷ []) r x.parent there))
         ∙ ap (cond (is_strand_kind x.kind) (length t)) (strand_of_grown t (x ∷ []) r x.parent there)
-
-    -- its innermost block is its parent, or the one around that
-    pub xparent_new : xparent (t ++ x ∷ []) (length t) ≡ cond (is_block t x.parent) (Some x.parent) (xparent t x.parent)
-    xparent_new =
-        find_above_new (is_block (t ++ x ∷ [])) (is_block t) (node_grown t (x ∷ []) (λ y. is_block_kind y.kind))
-        ∙ ap (find (is_block t)) (path_split t x.parent)

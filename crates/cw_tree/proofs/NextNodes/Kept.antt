@@ -1,19 +1,14 @@
 -- A tree that keeps the parents of another's nodes keeps what stands above them.
-use Rattle.std.proofs.Common.{◌≡◌, ℕ, zero, suc, ◌<◌, ◌≤◌, List, [], ◌∷◌, length, drop, refl, ap, ◌∙◌, arith, Bool, cond, Some, inl, inr}
+use Rattle.std.proofs.Common.{◌≡◌, ℕ, zero, suc, ◌<◌, ◌≤◌, List, ◌∷◌, length, drop, refl, ap, ◌∙◌, arith, Bool}
 use Rattle.std.specs.Prelude.{unwrap_or}
 use Rattle.std.specs.List.{find}
 use Rattle.cw_tree.specs.declared.node.Node.{Node}
 use Rattle.cw_tree.specs.Nodes.{parent_of, is_strand, is_block, is_pending}
 use Rattle.cw_tree.specs.Walks.{IsRooted, climb, path, above, has, is_ancestor, is_above, xparent, nua}
 use Rattle.cw_tree.specs.Series.{strand_of}
-use Rattle.cw_tree.proofs.Lists.{In}
 use Rattle.cw_tree.proofs.Walks.Kin.{in_ancestor, in_above}
 use Rattle.cw_tree.proofs.Walks.Ancestors.{above_ancestor, ancestor_le}
-
--- two tests that agree on the members of a list find the same there
-pub find_same : (p q : ℕ → Bool) (ns : List ℕ) → ((m : ℕ) → In m ns → p m ≡ q m) → find p ns ≡ find q ns
-find_same p q [] e = refl
-find_same p q (n ∷ ns) e = ap (λ b. cond b (Some n) (find p ns)) (e n (inl refl)) ∙ ap (cond (q n) (Some n)) (find_same p q ns (λ m h. e m (inr h)))
+use Rattle.cw_tree.proofs.Members.{find_same}
 
 -- in tree u the nodes of tree t have their parents of there
 pub record KeepsParents (t u : List Node) : Type 0 where

@@ -1,23 +1,26 @@
 -- Members of paths, and children of one node.
-use Rattle.std.proofs.Common.{◌≡◌, ◌≢◌, ℕ, ◌<◌, ◌≤◌, List, length, refl, sym, ◌∙◌, arith, true, false, inl, inr, subst, nat_eq, nat_lt}
+use Rattle.std.proofs.Common.{◌≡◌, ◌≢◌, ℕ, ◌<◌, ◌≤◌, List, length, refl, sym, ◌∙◌, arith, true, false, inl, inr, subst, nat_eq, nat_lt, ap}
 use Rattle.std.specs.Prelude.{◌⊎◌, ◌&&◌, not}
 use Rattle.std.specs.List.{list_any}
 use Rattle.std.proofs.lemmas.Bool.{and_parts, and_from, eqb-true, eq-eqb, ltb-true, lt-ltb, not-true, not_from_false, cases_eq, cases_lt}
 use Rattle.cw_tree.specs.declared.node.Node.{Node}
-use Rattle.cw_tree.specs.Nodes.{parent_of, is_fork}
-use Rattle.cw_tree.specs.Walks.{IsRooted, path, above, is_ancestor, is_above}
+use Rattle.cw_tree.specs.Nodes.{parent_of, is_fork, is_strand, all_nodes, is_fork_kind}
+use Rattle.cw_tree.specs.Walks.{IsRooted, path, above, is_ancestor, is_above, has}
 use Rattle.cw_tree.specs.Series.{are_ordered, is_before}
+use Rattle.cw_tree.specs.Shape.{IsTree}
 use Rattle.cw_tree.proofs.Lists.{In, any_in, any_from}
 use Rattle.cw_tree.proofs.Walks.Climbs.{by_parent}
 use Rattle.cw_tree.proofs.Walks.Ancestors.{ancestor_self, ancestor_root, ancestor_step, ancestor_up, ancestor_trans, ancestor_le}
+use Rattle.cw_tree.proofs.Members.{below_in, filter_in}
+use Rattle.cw_tree.proofs.Walks.There.{node_there}
 
-has_in : (ns : List ℕ) (a : ℕ) → list_any (λ m. nat_eq m a) ns ≡ true → In a ns
+pub has_in : (ns : List ℕ) (a : ℕ) → has ns a ≡ true → In a ns
 has_in ns a e =
     let z = any_in (λ m. nat_eq m a) ns e in
     let P : ℕ → Type 0 = λ x. In x ns in
     subst P (eqb-true z.0 a z.2) z.1
 
-in_has : (ns : List ℕ) (a : ℕ) → In a ns → list_any (λ m. nat_eq m a) ns ≡ true
+pub in_has : (ns : List ℕ) (a : ℕ) → In a ns → has ns a ≡ true
 in_has ns a h = any_from (λ m. nat_eq m a) a ns h (eq-eqb a a refl)
 
 pub ancestor_in : (t : List Node) (a n : ℕ) → is_ancestor t a n ≡ true → In a (path t n)
@@ -137,3 +140,16 @@ module _ (t : List Node) (r : IsRooted t) where
         | inr other ↦ (let b = more other up in record { child = b.child; some = b.some; parent = b.parent; over = ancestor_up t r b.child n p h b.over })
       ])
       n h
+
+-- the children of a fork are strands
+pub fork_child : (t : List Node) → IsTree t → (n : ℕ) → 0 < n → n < length t → is_fork t (parent_of t n) ≡ true → is_strand t n ≡ true
+fork_child t tree n some low fork =
+    let f = parent_of t n in
+    let (l, r, these, strands) = tree.forks f (node_there (λ y. is_fork_kind y.kind) t f fork) fork in
+    let both = and_parts (is_strand t l) (is_strand t r) strands in
+    let i = filter_in (λ m. nat_lt 0 m && nat_eq (parent_of t m) f) n (all_nodes t) (below_in n (length t) low) (and_from (nat_lt 0 n) (nat_eq (parent_of t n) f) (lt-ltb 0 n some) (eq-eqb (parent_of t n) f refl)) in
+    let P : List ℕ → Type 0 = λ ns. In n ns in
+    elim (subst P these i) [
+      | inl q ↦ ap (is_strand t) q ∙ both.0
+      | inr z ↦ elim z [ inl q ↦ ap (is_strand t) q ∙ both.1 | inr none ↦ absurd none ]
+    ]

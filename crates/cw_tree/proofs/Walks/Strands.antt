@@ -1,14 +1,15 @@
 -- The strand of a node.
-use Rattle.std.proofs.Common.{◌≡◌, ℕ, zero, ◌<◌, ◌≤◌, List, length, refl, ap, sym, ◌∙◌, arith, Bool, true, false, cond, Some, None, inl, inr, subst}
+use Rattle.std.proofs.Common.{◌≡◌, ℕ, zero, ◌<◌, ◌≤◌, List, length, refl, ap, sym, ◌∙◌, arith, Bool, true, false, cond, Some, None, inl, inr, subst, suc}
 use Rattle.std.specs.Prelude.{◌⊎◌, unwrap_or}
 use Rattle.std.specs.List.{find}
 use Rattle.std.proofs.lemmas.Bool.{cases_Bool, cases_eq}
 use Rattle.cw_tree.specs.declared.node.Node.{Node}
-use Rattle.cw_tree.specs.Nodes.{parent_of, is_strand}
+use Rattle.cw_tree.specs.Nodes.{parent_of, is_strand, is_strand_kind}
 use Rattle.cw_tree.specs.Walks.{IsRooted, path, is_ancestor}
 use Rattle.cw_tree.specs.Series.{strand_of}
 use Rattle.cw_tree.proofs.Walks.Climbs.{path_step, by_parent}
 use Rattle.cw_tree.proofs.Walks.Ancestors.{ancestor_self, ancestor_root, ancestor_step, ancestor_up, ancestor_le}
+use Rattle.cw_tree.proofs.Walks.There.{node_there}
 
 strand_or_root : (b : Bool) → unwrap_or (cond b (Some zero) None) zero ≡ zero
 strand_or_root true = refl
@@ -70,3 +71,7 @@ module _ (t : List Node) (r : IsRooted t) where
         | inl z ↦ ap (λ m. strand_of t (parent_of t m)) z
         | inr ne ↦ more (sym (ancestor_step t r c n p h ne) ∙ e) (λ m a b. f m (ancestor_up t r m n p h a) b)
       ])
+
+pub strand_itself : (t : List Node) → IsRooted t → (s : ℕ) → is_strand t s ≡ true → strand_of t s ≡ s
+strand_itself t r zero e = strand_of_root t
+strand_itself t r (suc s) e = strand_of_strand t r (suc s) (omega arith) (node_there (λ y. is_strand_kind y.kind) t (suc s) e) e

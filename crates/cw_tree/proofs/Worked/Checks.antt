@@ -1,6 +1,6 @@
 -- Claims on all nodes of a tree, by tests that compute.
 use Rattle.std.proofs.Common.{◌≡◌, ℕ, zero, suc, ◌<◌, List, [], ◌∷◌, length, map, refl, sym, arith, Bool, true, false, inl, inr, subst, nat_lt}
-use Rattle.std.specs.Prelude.{◌⊎◌, ◌&&◌, ◌||◌, not, IsTrue, ◌==◌, All}
+use Rattle.std.specs.Prelude.{◌&&◌, ◌||◌, not, IsTrue, ◌==◌, All}
 use Rattle.std.specs.List.{list_any, filter}
 use Rattle.std.proofs.lemmas.Bool.{and_parts, and_from, ltb-true, lt-ltb, eqb-true, eq-eqb, not-true, not_from_false}
 use Rattle.cw_tree.specs.declared.node.Node.{Node}
@@ -10,14 +10,12 @@ use Rattle.cw_tree.specs.Walks.{path, is_above}
 use Rattle.cw_tree.specs.Series.{children, has_later, is_before, depth_first}
 use Rattle.cw_tree.specs.Shape.{IsTree, AreStamps, PendingLast, has_stamp, is_closed}
 use Rattle.cw_tree.specs.Refusals.{IsRecorded, AreRefusals, RollsBack, is_victim, names_victim}
+use Rattle.cw_tree.proofs.Lists.{lt_or}
 
 -- a test holds of each number below a bound
 abbrev pub all_below : (ℕ → Bool) → ℕ → Bool
 all_below p zero = true
 all_below p (suc k) = p k && all_below p k
-
-lt_or : (f g : ℕ) → f < suc g → (f ≡ g) ⊎ (f < g)
-lt_or f g h = grind arith
 
 pub each_below : (p : ℕ → Bool) (k : ℕ) → all_below p k ≡ true → (n : ℕ) → n < k → p n ≡ true
 each_below p zero e n h = absurd (omega arith)
@@ -48,10 +46,10 @@ same_from : (a b : Bool) → same_test a b ≡ true → a ≡ b
 same_from true b e = sym e
 same_from false b e = sym (not-true b e)
 
-differ : (a b : ℕ) → not (a == b) ≡ true → a ≡ b → ⊥
+pub differ : (a b : ℕ) → not (a == b) ≡ true → a ≡ b → ⊥
 differ a b e q = absurd (cc (eq-eqb a b q, not-true (a == b) e))
 
-both_less : (a b c d : ℕ) → (nat_lt a b && nat_lt c d) ≡ true → (a < b) × (c < d)
+pub both_less : (a b c d : ℕ) → (nat_lt a b && nat_lt c d) ≡ true → (a < b) × (c < d)
 both_less a b c d e = let z = and_parts (nat_lt a b) (nat_lt c d) e in (ltb-true a b z.0, ltb-true c d z.1)
 
 module _ (t : List Node) where

@@ -23,7 +23,7 @@ AllBoth P [] [] = Unit {0}
 AllBoth P (x ∷ xs) (y ∷ ys) = P 0 x y × AllBoth (λ n. P (suc n)) xs ys
 AllBoth P xs ys = ⊥
 
-both_at : {X Y : Type 0} (P : ℕ → X → Y → Type 0) (xs : List X) (ys : List Y) → AllBoth P xs ys → (n : ℕ) (x : X) (y : Y) → slice_get xs n ≡ Some x → slice_get ys n ≡ Some y → P n x y
+pub both_at : {X Y : Type 0} (P : ℕ → X → Y → Type 0) (xs : List X) (ys : List Y) → AllBoth P xs ys → (n : ℕ) (x : X) (y : Y) → slice_get xs n ≡ Some x → slice_get ys n ≡ Some y → P n x y
 both_at P [] ys h n x y e f = absurd (cc e)
 both_at P (a ∷ xs) [] h n x y e f = absurd h
 both_at {X} {Y} P (a ∷ xs) (b ∷ ys) h zero x y e f =

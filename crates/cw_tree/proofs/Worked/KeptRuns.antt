@@ -12,9 +12,9 @@ use Rattle.cw_tree.specs.WorkedRun.{two_blocks, refused_write, entry, two_writes
 use Rattle.cw_tree.proofs.Worked.Checks.{each_below, is_tree, are_stamps, pending_last, are_refusals, rolls_back}
 use Rattle.cw_tree.proofs.Worked.KeptParts.{are_journals, is_entry, ended_between, recorded}
 
-ended : (t : List Node) → AllEndedBetween t (live_accesses t 0) → JournalsEnded t 1
-ended t h zero l = h
-ended t h (suc c) l = absurd (omega arith)
+pub ended_one : (t : List Node) → AllEndedBetween t (live_accesses t 0) → JournalsEnded t 1
+ended_one t h zero l = h
+ended_one t h (suc c) l = absurd (omega arith)
 
 none_pending : NonePending two_blocks
 none_pending n h = not-true _ (each_below (λ n. not (is_pending two_blocks n)) 12 refl n h)
@@ -27,7 +27,7 @@ holds = record {
     pending_last = pending_last two_blocks refl refl;
     cells = each_below _ 12 refl;
     journals = are_journals two_blocks (pos 0 ∷ []) (two_writes ∷ []) ((is_entry two_blocks (pos 0) 4 _ refl refl refl refl refl, (is_entry two_blocks (pos 1) 11 _ refl refl refl refl refl, tt)), tt);
-    ended = ended two_blocks (ended_between two_blocks 4 11 refl, tt);
+    ended = ended_one two_blocks (ended_between two_blocks 4 11 refl, tt);
     refusals = are_refusals two_blocks (refused_write ∷ []) refl (recorded two_blocks refused_write 4 3 (refl, refl, refl, refl, refl, refl, refl, refl, refl) (refl, refl, refl)) refl refl;
     rolls_back = rolls_back two_blocks (refused_write ∷ []) refl refl;
   };
@@ -42,7 +42,7 @@ stops = record {
     pending_last = pending_last apart refl refl;
     cells = each_below _ 9 refl;
     journals = are_journals apart (pos 0 ∷ []) ((entry 1 3 (pos 1) (pos 0) ∷ []) ∷ []) ((is_entry apart (pos 0) 4 _ refl refl refl refl refl, tt), tt);
-    ended = ended apart tt;
+    ended = ended_one apart tt;
     refusals = are_refusals apart (refused_write ∷ []) refl (recorded apart refused_write 4 3 (refl, refl, refl, refl, refl, refl, refl, refl, refl) (refl, refl, refl)) refl refl;
     rolls_back = rolls_back apart (refused_write ∷ []) refl refl;
   };

@@ -4,8 +4,9 @@ use Rattle.std.proofs.lemmas.Option.{slice_get_within, get_or_from_slice_get}
 use Rattle.cw_tree.specs.Nodes.{stamp_of, touches}
 use Rattle.cw_stack.specs.Cells.{CellParts}
 use Rattle.cw_core.specs.Undone.{HasIfLater, IsLeftWith, before_stamp}
-use Rattle.cw_core.proofs.Undone.Undoing.{touches_is, stamp_is, cut_one}
+use Rattle.cw_core.proofs.Undone.Undoing.{touches_is, cut_one}
 use Rattle.cw_core.proofs.undo.undo_access.Goals as goal
+use Rattle.cw_tree.proofs.Walks.There.{stamp_is}
 
 pub index_mut-requires : goal.index_mut-requires
 index_mut-requires c =

@@ -13,6 +13,7 @@ use Rattle.cw_tree.specs.Series.{strand_of}
 use Rattle.cw_tree.specs.Names.{name_of, turn}
 use Rattle.cw_tree.specs.Accesses.{by_key}
 use Rattle.cw_tree.proofs.Walks.Ancestors.{ancestor_above, beneath}
+use Rattle.cw_tree.proofs.Lists.{In}
 use Rattle.cw_serial.specs.Machine.{Begun, same_name, is_beneath, may_pick}
 use Rattle.cw_serial.specs.Wants.{blocks_after}
 use Rattle.cw_serial.proofs.Turns.{name_itself, beneath_more}
@@ -22,7 +23,6 @@ use Rattle.cw_record.specs.Items.{is_act, is_act_kind, key, members, open_member
 use Rattle.cw_record.specs.Replay.{doer}
 use Rattle.cw_record.proofs.Orders.Names.{name_strand, name_other, name_of_strand}
 use Rattle.cw_replay.proofs.RecordsReplay.Machine.Acts.{Picks, blocks, wanted_kind, wanted_node}
-use Rattle.cw_replay.proofs.Lists.{In}
 use Rattle.cw_replay.proofs.RecordsReplay.Tasks.Sorts.{act_sort, committed_sort}
 use Rattle.cw_replay.proofs.RecordsReplay.Ordered.Entries.{Laid, Entry, member_entry, member_kind, open_entry, level_over, Segment, Order}
 

@@ -1,5 +1,5 @@
 -- A run that came to a fault: its strand stopped at the fault.
-use Rattle.std.proofs.Common.{◌≡◌, ℕ, ℤ, zero, suc, ◌<◌, ◌≤◌, List, length, refl, ap, sym, ◌∙◌, arith, Bool, true, false, Option, Some, None, inl, inr, subst, nat_eq, nat_lt}
+use Rattle.std.proofs.Common.{◌≡◌, ℕ, ℤ, ◌<◌, ◌≤◌, List, length, refl, ap, sym, ◌∙◌, arith, Bool, true, false, Option, Some, None, inl, inr, subst, nat_eq, nat_lt}
 use Rattle.std.specs.Prelude.{◌⊎◌, ◌&&◌, unwrap_or, IsTrue}
 use Rattle.std.proofs.lemmas.Bool.{and_parts, and_from, cases_eq, eqb-true, eq-eqb, lt-ltb, false_from_ne_true}
 use Rattle.cw_code.specs.declared.FaultKind.{FaultKind}
@@ -9,29 +9,24 @@ use Rattle.cw_tree.specs.declared.node.Node.{Node}
 use Rattle.cw_tree.specs.declared.access.Entry.{Entry}
 use Rattle.cw_tree.specs.declared.conflict.Conflict.{Conflict}
 use Rattle.cw_tree.specs.Nodes.{parent_of, is_strand, is_fork, is_pending, is_aborted, last_below, is_strand_kind, all_nodes}
-use Rattle.cw_tree.specs.Walks.{is_ancestor, IsRooted}
+use Rattle.cw_tree.specs.Walks.{is_ancestor}
 use Rattle.cw_tree.specs.Series.{strand_of, place}
 use Rattle.cw_tree.specs.Accesses.{is_live}
 use Rattle.cw_tree.specs.Histories.{IsHistory}
 use Rattle.cw_tree.specs.Links.{is_child}
 use Rattle.cw_tree.proofs.Walks.There.{node_there}
 use Rattle.cw_tree.proofs.Walks.Ancestors.{ancestor_self}
-use Rattle.cw_tree.proofs.Walks.Strands.{strand_of_root, strand_of_strand, strand_of_other}
-use Rattle.cw_tree.proofs.InOrder.DepthFirst.{IsChild}
+use Rattle.cw_tree.proofs.Walks.Strands.{strand_of_other, strand_itself}
+use Rattle.cw_tree.proofs.InOrder.DepthFirst.{IsChild, child_is}
 use Rattle.cw_tree.proofs.Walks.Children.{last_passes}
+use Rattle.cw_tree.proofs.Members.{filter_in, below_in}
 use Rattle.cw_record.specs.Coherent.{Follows, HasNoOpenFork}
-use Rattle.cw_replay.proofs.Lists.{filter_in, below_in}
 use Rattle.cw_replay.proofs.RecordsReplay.Tasks.Sorts.{strand_sort, pending_sort}
-use Rattle.cw_replay.proofs.Kin.{child_in, parent_low, live_over}
+use Rattle.cw_replay.proofs.Kin.{parent_low, live_over}
 use Rattle.cw_replay.proofs.RecordsReplay.Tasks.Accounts.{Last, last_of_below}
 use Rattle.cw_replay.proofs.RecordsReplay.Tasks.Folds.{plain_child}
 use Rattle.cw_replay.proofs.RecordsReplay.Tasks.Quiet.{Quiet, quiet_before}
 use Rattle.cw_replay.proofs.RecordsReplay.Ends.Stops.{none_true, unstopped, pending_live, Stopped, StoppedAt, stopped_there}
-
--- the strand of a strand
-pub own_strand : (t : List Node) → IsRooted t → (x : ℕ) → is_strand t x ≡ true → strand_of t x ≡ x
-own_strand t r zero e = strand_of_root t
-own_strand t r (suc x) e = strand_of_strand t r (suc x) (omega arith) (node_there (λ y. is_strand_kind y.kind) t (suc x) e) e
 
 module _ {A : Type 0} (s : Strands A) (t : List Node) (first : List ℤ) (kept : List (List Entry)) (cs : List Conflict) (h : IsHistory t first kept cs) (before after reached : ℕ → A) (follows : Follows s t before after reached) where
   -- a test of pending blocks begun in strand x
@@ -55,7 +50,7 @@ module _ {A : Type 0} (s : Strands A) (t : List Node) (first : List ℤ) (kept :
     by None q = record {
       there = node_there (λ y. is_strand_kind y.kind) t x e;
       kind = inl e;
-      strand = own_strand t h.tree.rooted x e;
+      strand = strand_itself t h.tree.rooted x e;
       live = live_over t x live (strand_sort t x e).aborted;
       last = λ c l p z. let y = last_of_below (begun_in x) (length t) c l (test c p z) in absurd (let f : Some y.number ≡ None = sym y.is ∙ q in cc f);
     }
@@ -86,7 +81,7 @@ module _ {A : Type 0} (s : Strands A) (t : List Node) (first : List ℤ) (kept :
       l = last_of_below (is_child t (place t x)) (length t) c k.there (and_from (nat_lt 0 c) (nat_eq (parent_of t c) (place t x)) (lt-ltb 0 c k.some) (eq-eqb (parent_of t c) (place t x) k.parent))
 
       z : IsChild t (place t x) l.number
-      z = child_in t (place t x) l.number (filter_in (is_child t (place t x)) l.number (all_nodes t) (below_in l.number (length t) l.low) l.passes)
+      z = child_is t (place t x) l.number (filter_in (is_child t (place t x)) l.number (all_nodes t) (below_in l.number (length t) l.low) l.passes)
 
       last : Quiet s t (unstopped s t first kept cs h before after reached follows) l.number
       last = record {

@@ -21,25 +21,25 @@ use Rattle.cw_tree.specs.Refusals.{victim_of, is_refused_in, tells, telling, ref
 use Rattle.cw_tree.specs.Histories.{IsHistory}
 use Rattle.cw_tree.proofs.Walks.There.{node_there}
 use Rattle.cw_tree.proofs.Walks.Ancestors.{ancestor_self, ancestor_up, ancestor_le}
-use Rattle.cw_tree.proofs.Walks.Strands.{strand_of_other}
-use Rattle.cw_tree.proofs.InOrder.DepthFirst.{IsChild}
+use Rattle.cw_tree.proofs.Walks.Strands.{strand_of_other, strand_itself}
+use Rattle.cw_tree.proofs.InOrder.DepthFirst.{IsChild, child_is, child_in, children_rise}
 use Rattle.cw_serial.specs.declared.ends.SerialEnd.TheVariants as last
 use Rattle.cw_serial.specs.Machine.{stands_at}
 use Rattle.cw_record.specs.Coherent.{Follows, InSeries}
 use Rattle.cw_record.specs.Items.{place_of_refused}
 use Rattle.cw_record.specs.Replay.{IsAccessOf, IsRefusedBy, WantsAgain}
-use Rattle.cw_record.proofs.NodeKinds.{other_some}
 use Rattle.cw_record.proofs.Lists.{find_passes}
 use Rattle.cw_replay.proofs.Found.{find_contains}
 use Rattle.cw_replay.proofs.RecordsReplay.Tasks.Sorts as sorts
 use Rattle.cw_replay.proofs.RecordsReplay.Tasks.Sorts.{IsSort, pending_sort, tried_sort, kept_block}
-use Rattle.cw_replay.proofs.Kin.{child_in, in_child, children_rise, parent_low, over_child, live_over, fork_child}
+use Rattle.cw_replay.proofs.Kin.{parent_low, live_over, fork_child}
 use Rattle.cw_replay.proofs.RecordsReplay.Tasks.Accounts.{Account, last_state, Last, last_of_below, strand_series, block_series}
 use Rattle.cw_replay.proofs.RecordsReplay.Tasks.Folds.{plain_child}
 use Rattle.cw_replay.proofs.RecordsReplay.Tasks.Quiet.{Quiet, quiet_before, pending_stays, committed_ends, tried_stays}
 use Rattle.cw_replay.proofs.RecordsReplay.Ends.Stops.{none_true, unstopped, Stopped, StoppedAt, stopped_there}
-use Rattle.cw_replay.proofs.RecordsReplay.Ends.Faulting.{own_strand}
 use Rattle.cw_strand.specs.declared.want.Given.TheVariants.{Nothing}
+use Rattle.cw_tree.proofs.InOrder.Visits.{child_over}
+use Rattle.cw_tree.proofs.NodeKinds.{other_some}
 
 tries_tried : (t : List Node) (n cell : ℕ) → tries t cell n ≡ true → is_tried t n ≡ true
 tries_tried t n cell e = by (slice_get t n) e where
@@ -98,7 +98,7 @@ module _ {A : Type 0} (s : Strands A) (t : List Node) (first : List ℤ) (kept :
     no_fork = false_from_ne_true (nodes.is_fork t n) (λ f. absurd (cc (l.plain, fork_child t h.tree n z low f child)))
 
     ends : (a : A) → InSeries before after a (children t n) (reached n) → reached n ≡ before z
-    ends a series = sym (last_state before after a (reached n) (children t n) z series (children_rise t n) (in_child t n z child) (λ c m. l.last c (child_in t n c m))) ∙ l.stays
+    ends a series = sym (last_state before after a (reached n) (children t n) z series (children_rise t n) (child_in t n z child) (λ c m. l.last c (child_is t n c m))) ∙ l.stays
 
     live : (a : ℕ) → is_ancestor t a n ≡ true → is_aborted t a ≡ false
     live a e = l.live a (ancestor_up t h.tree.rooted a z l.some l.there e)
@@ -151,7 +151,7 @@ module _ {A : Type 0} (s : Strands A) (t : List Node) (first : List ℤ) (kept :
 
     -- no node of the strand is later than its last
     last_node : Last test (length t) x
-    last_node = last_of_below test (length t) x there (eq-eqb (strand_of t x) x (own_strand t h.tree.rooted x spent.strand))
+    last_node = last_of_below test (length t) x there (eq-eqb (strand_of t x) x (strand_itself t h.tree.rooted x spent.strand))
 
     last_is : last_of t x ≡ last_node.number
     last_is = ap (λ o. unwrap_or o x) last_node.is
@@ -220,7 +220,7 @@ module _ {A : Type 0} (s : Strands A) (t : List Node) (first : List ℤ) (kept :
         stopped = (let P : ℕ → Type 0 = λ p. Stopped s t first kept cs h before after reached follows x p (s.want (before a)) in
             subst P (sym (ap (λ o. cond (is_some o) (parent_of t (refused t c)) c.asker) none))
             (stopped_there s t first kept cs h before after reached follows (parent_of t a) (s.want (before a)) (λ m. false) (refused_stopped a (λ m. false) asker_last) x a asker_low
-            (over_child t h.tree.rooted (parent_of t a) a (record { some = asker_some; there = asker_low; parent = refl })) (λ b e. absurd (none_true e)) (same_strand a (λ m. false) asker_last ∙ in_strand)));
+            (child_over t h.tree.rooted (parent_of t a) a (record { some = asker_some; there = asker_low; parent = refl })) (λ b e. absurd (none_true e)) (same_strand a (λ m. false) asker_last ∙ in_strand)));
       }
 
     -- the victim of a conflict was begun in the strand, and is pending

@@ -22,6 +22,8 @@ use Rattle.cw_tree.specs.Histories.{IsHistory}
 use Rattle.cw_tree.proofs.Walks.Ancestors.{ancestor_le, root_ancestor}
 use Rattle.cw_serial.specs.declared.ends.SerialEnd.{SerialEnd}
 use Rattle.cw_serial.specs.declared.ends.SerialEnd.TheVariants as last
+use Rattle.cw_tree.proofs.Members.{map_in}
+use Rattle.cw_tree.proofs.Lists.{In}
 use Rattle.cw_serial.specs.StrandTree.{ended, at}
 use Rattle.cw_serial.specs.Machine.{Machine, has_ended, machine_shows, stands_at, end_of_strand, end_of_named, steps_down}
 use Rattle.cw_serial.proofs.Numbers.{get_some}
@@ -39,7 +41,6 @@ use Rattle.cw_replay.proofs.RecordsReplay.Work.Work.{Has}
 use Rattle.cw_replay.proofs.RecordsReplay.Work.Orders.{SeenAfter, all_over}
 use Rattle.cw_replay.proofs.RecordsReplay.Work.Ways.{not_ended}
 use Rattle.cw_replay.proofs.RecordsReplay.Machine.Acts.{Act, item, stop}
-use Rattle.cw_replay.proofs.Lists.{In, in_map}
 use Rattle.cw_replay.proofs.RecordsReplay.Tasks.Sorts.{kept_block}
 use Rattle.cw_replay.proofs.RecordsReplay.Tasks.Fitting.{whole_fits, whole_over}
 use Rattle.cw_replay.proofs.RecordsReplay.Tasks.Places.{Under, whole_has}
@@ -123,7 +124,7 @@ module _ {A : Type 0} (s : Strands A) (deep : IsDeep s) (first : List ℤ) (budg
     all_seen i g = seen_in (λ i. ⊥) (Items s t 0 done_run) i (inl (by i (whole_has s t done_run.account i g))) where
       by : (i : Act) → Under s t done_run.account 0 i → In i (Items s t 0 done_run)
       by (stop n) u = absurd (let e : false ≡ true = u.proper in none_true e)
-      by (item i) u = in_map item i (Order t 0 done_run.laid) (stands t 0 done_run.laid i u.there (of_proper s t 0 done_run i u.proper)
+      by (item i) u = map_in item i (Order t 0 done_run.laid) (stands t 0 done_run.laid i u.there (of_proper s t 0 done_run i u.proper)
           (around (node_of i) u.there (λ a f. let le : a ≤ node_of i = ancestor_le t h.tree.rooted a (node_of i) u.there f in let hi = u.there in (u.kept a (root_ancestor t h.tree.rooted a (omega arith)) f).0)))
 
     strands_ended : (a : A) × (ended s done.strands ≡ Some a)

@@ -9,6 +9,8 @@ use Rattle.cw_tree.specs.declared.access.Entry.{Entry}
 use Rattle.cw_tree.specs.declared.conflict.Conflict.{Conflict}
 use Rattle.cw_tree.specs.Accesses.{live_accesses, cell_value, written}
 use Rattle.cw_tree.specs.Histories.{IsHistory}
+use Rattle.cw_tree.proofs.Lists.{In}
+use Rattle.cw_tree.proofs.Ahead.{Ahead, never_itself}
 use Rattle.cw_serial.specs.StrandTree.{at}
 use Rattle.cw_serial.specs.Machine.{Machine, initial}
 use Rattle.cw_serial.specs.Wants.{outputs_after}
@@ -22,7 +24,6 @@ use Rattle.cw_record.proofs.Replay.ShownItems.{block_shows}
 use Rattle.cw_replay.proofs.RecordsReplay.Work.Orders.{SeenAfter, way_after}
 use Rattle.cw_replay.proofs.RecordsReplay.Work.Ways.{threads}
 use Rattle.cw_replay.proofs.RecordsReplay.Machine.Acts.{stop, act_name, Remembers, machine_after, does_all, threads_after, memory_of, outputs_of, here_at, memory_all, outputs_all, wanted_kind, wanted_node, wanted_item}
-use Rattle.cw_replay.proofs.Lists.{In, Earlier, never_itself}
 use Rattle.cw_replay.proofs.RecordsReplay.Tasks.Sorts.{committed_sort}
 use Rattle.cw_replay.proofs.RecordsReplay.Ordered.Entries.{IsOfNode, placed, Order}
 use Rattle.cw_replay.proofs.RecordsReplay.Blocks.Nesting.{order_picks}
@@ -74,7 +75,7 @@ module _ {A : Type 0} (s : Strands A) (deep : IsDeep s) (t : List Node) (p : ℕ
         sums = ap (λ o. cell_value (unwrap_or o (pos 0)) (map (written t) (live_accesses t c))) (sym v.1);
       }
 
-  no_twice : (c u : ℕ) → Earlier u u (live_accesses t c) → ⊥
+  no_twice : (c u : ℕ) → Ahead u u (live_accesses t c) → ⊥
   no_twice c u e = never_itself u (live_accesses t c) (journal_once s t p r c) e
 
   order_remembers : Remembers t first (Order t p r.laid)

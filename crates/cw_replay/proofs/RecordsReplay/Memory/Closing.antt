@@ -6,7 +6,8 @@ use Rattle.cw_tree.specs.declared.node.Node.{Node}
 use Rattle.cw_tree.specs.Nodes.{stamp_of, is_block}
 use Rattle.cw_tree.specs.Walks.{is_above}
 use Rattle.cw_tree.specs.Journals.{EndedBetween, AllEndedBetween}
-use Rattle.cw_replay.proofs.Lists.{In, Earlier}
+use Rattle.cw_tree.proofs.Lists.{In}
+use Rattle.cw_tree.proofs.Ahead.{Ahead}
 
 module _ (t : List Node) where
   -- stamps rise
@@ -43,7 +44,7 @@ module _ (t : List Node) where
   tail_rises u [] c = tt
   tail_rises u (v ∷ us) c = c.1
 
-  pub ended_between : (us : List ℕ) (u n : ℕ) → AllEndedBetween t us → StampsRise us → Earlier u n us → EndedBetween t u n × (stamp_of t u < stamp_of t n)
+  pub ended_between : (us : List ℕ) (u n : ℕ) → AllEndedBetween t us → StampsRise us → Ahead u n us → EndedBetween t u n × (stamp_of t u < stamp_of t n)
   ended_between [] u n c r e = absurd e
   ended_between (x ∷ us) u n c r (inl z) =
       let P : ℕ → Type 0 = λ y. EndedBetween t y n × (stamp_of t y < stamp_of t n) in

@@ -3,6 +3,7 @@ use Rattle.std.proofs.Common.{◌≡◌, ◌≢◌, ℕ, ◌<◌, ◌≤◌, Lis
 use Rattle.std.specs.Prelude.{◌⊎◌, ◌&&◌, not, slice_get}
 use Rattle.std.specs.List.{filter}
 use Rattle.std.proofs.lemmas.Bool.{and_from, cases_Bool, not_from_false, false_from_ne_true}
+use Rattle.std.proofs.lemmas.List.Elements.{All-head}
 use Rattle.cw_tree.specs.declared.node.Node.{Node}
 use Rattle.cw_tree.specs.declared.node.Kind.{Kind}
 use Rattle.cw_tree.specs.declared.node.Kind.TheVariants.{Read, Write}
@@ -10,7 +11,7 @@ use Rattle.cw_tree.specs.Nodes.{stamp_of, end_of, is_block, is_pending, is_commi
 use Rattle.cw_tree.specs.Walks.{above, is_ancestor, is_above}
 use Rattle.cw_tree.specs.Accesses.{is_live, live_accesses}
 use Rattle.cw_tree.specs.Journals.{FitsCells, JournalsEnded, EndedBetween}
-use Rattle.cw_tree.proofs.Lists.{all_from}
+use Rattle.cw_tree.proofs.Lists.{all_from, In}
 use Rattle.cw_tree.proofs.Walks.Ancestors.{ancestor_above, above_ancestor, ancestor_le}
 use Rattle.cw_tree.proofs.Walks.Kin.{in_above}
 use Rattle.cw_record.specs.declared.items.OrderItem.{OrderItem}
@@ -18,9 +19,7 @@ use Rattle.cw_record.specs.declared.items.OrderItem.TheVariants.{Begins, Does, E
 use Rattle.cw_record.specs.Items.{is_act, is_act_kind, key}
 use Rattle.cw_record.specs.Order.{node_of}
 use Rattle.cw_replay.proofs.RecordsReplay.Work.Orders.{Respects}
-use Rattle.cw_replay.proofs.Lists.{In, in_below, rising_filter, rising_below, Earlier, earlier_first, earlier_second, Distinct}
 use Rattle.cw_replay.proofs.Kin.{live_over}
-use Rattle.cw_replay.proofs.Keys.{Sorted, sorted_by_key, distinct_by_key}
 use Rattle.cw_replay.proofs.RecordsReplay.Tasks.Sorts.{act_sort, committed_sort, pending_sort}
 use Rattle.cw_replay.proofs.RecordsReplay.Memory.Closing.{StampsRise, ended_between}
 use Rattle.cw_replay.proofs.RecordsReplay.Ordered.Entries.{Entry, Stays, leaf_over, one_entry, placed, Order, all_stay}
@@ -28,6 +27,11 @@ use Rattle.cw_replay.proofs.RecordsReplay.Ordered.Ordering.{Over, Leads, earlier
 use Rattle.cw_replay.proofs.RecordsReplay.Ordered.Climbing.{stands}
 use Rattle.cw_replay.proofs.RecordsReplay.Memory.Remembering.{of_journal, Precedes, precedes, There}
 use Rattle.cw_strand.specs.Strands.{Strands}
+use Rattle.cw_tree.proofs.Members.{in_below}
+use Rattle.cw_tree.proofs.Rising.{rises_filter, below_rises, rises_apart}
+use Rattle.cw_tree.proofs.Ahead.{Ahead, first_in, second_in, Apart}
+use Rattle.cw_tree.proofs.Sorts.{Sorted, sorted_by_key}
+use Rattle.cw_tree.proofs.InOrder.Keys.{apart_by_key}
 use Rattle.cw_replay.proofs.RecordsReplay.Ordered.Runs.{Run, stamp_some, act_key, block_key, key_least}
 use Rattle.cw_replay.proofs.RecordsReplay.Ordered.Respecting.{respects_from, order_kept}
 
@@ -56,29 +60,29 @@ module _ {A : Type 0} (s : Strands A) (t : List Node) (p : ℕ) (r : Run s t p) 
         live = live_over t n z.2 (act_sort t n act).aborted;
       }
 
-  strictly : (us : List ℕ) → ((n : ℕ) → In n us → Live n) → Sorted (stamp_of t) us → Distinct us → StampsRise t us
+  strictly : (us : List ℕ) → ((n : ℕ) → In n us → Live n) → Sorted (stamp_of t) us → Apart us → StampsRise t us
   strictly [] l z d = tt
   strictly (u ∷ []) l z d = tt
   strictly (u ∷ v ∷ us) l z d =
       let a = l u (inl refl) in
       let b = l v (inr (inl refl)) in
-      let le : stamp_of t u ≤ stamp_of t v = z.0 v (inl refl) in
+      let le : stamp_of t u ≤ stamp_of t v = All-head (λ n. stamp_of t u ≤ stamp_of t n) v us z.0 in
       let ne : stamp_of t u ≢ stamp_of t v = λ e. d.0 (inl (r.laid.stamps.distinct u v a.there b.there (stamp_some s t p r u a.there (inl a.act)) e)) in
       (omega arith, strictly (v ∷ us) (λ n h. l n (inr h)) z.1 d.1)
 
-  pub journal_once : (c : ℕ) → Distinct (live_accesses t c)
-  journal_once c = distinct_by_key (stamp_of t) (filter (λ n. touches t c n && is_live t n) (all_nodes t)) (rising_filter (λ n. touches t c n && is_live t n) (all_nodes t) (rising_below (length t)))
+  pub journal_once : (c : ℕ) → Apart (live_accesses t c)
+  journal_once c = apart_by_key (stamp_of t) (filter (λ n. touches t c n && is_live t n) (all_nodes t)) (rises_apart (filter (λ n. touches t c n && is_live t n) (all_nodes t)) (rises_filter (λ n. touches t c n && is_live t n) (all_nodes t) (below_rises (length t))))
 
   journal_rises : (c : ℕ) → StampsRise t (live_accesses t c)
   journal_rises c = strictly (live_accesses t c) (live_of c) (sorted_by_key (stamp_of t) (filter (λ n. touches t c n && is_live t n) (all_nodes t))) (journal_once c)
 
   module _ (cells : ℕ) (fits : FitsCells t cells) (ended : JournalsEnded t cells) where
-    module _ (c u n : ℕ) (hc : c < cells) (e : Earlier u n (live_accesses t c)) where
+    module _ (c u n : ℕ) (hc : c < cells) (e : Ahead u n (live_accesses t c)) where
       lu : Live u
-      lu = live_of c u (earlier_first u n (live_accesses t c) e)
+      lu = live_of c u (first_in u n (live_accesses t c) e)
 
       ln : Live n
-      ln = live_of c n (earlier_second u n (live_accesses t c) e)
+      ln = live_of c n (second_in u n (live_accesses t c) e)
 
       between : EndedBetween t u n × (stamp_of t u < stamp_of t n)
       between = ended_between t (live_accesses t c) u n (ended c hc) (journal_rises c) e
@@ -126,7 +130,7 @@ module _ {A : Type 0} (s : Strands A) (t : List Node) (p : ℕ) (r : Run s t p) 
         | inr g ↦ (let le : a ≤ u = ancestor_le t r.laid.tree.rooted a u lu.there f in let low = lu.there in inr (inl (block_ended a (omega arith) b f g).0))
       ])
 
-      journal_earlier : In (Does n) (Order t p r.laid) → Earlier (Does u) (Does n) (Order t p r.laid)
+      journal_earlier : In (Does n) (Order t p r.laid) → Ahead (Does u) (Does n) (Order t p r.laid)
       journal_earlier h = earlier t p r.laid (Does u) (Does n) journal_leads (there_too h) h
 
     -- an earlier access comes earlier, and each act of the order is live
@@ -140,9 +144,9 @@ module _ {A : Type 0} (s : Strands A) (t : List Node) (p : ℕ) (r : Run s t p) 
               let z = placed t p r.laid (length t) None (Does x) h in
               (z.there, z.proper, all_from (λ m. not (is_aborted t m)) (above t x) (λ a g. not_from_false (is_aborted t a) (order_kept s t p r (Does x) h a (above_ancestor t a x (in_above t a x g))).0))
 
-          by : (i j : OrderItem) → In j (Order t p r.laid) → Precedes t cells fits i j → Earlier i j (Order t p r.laid)
+          by : (i j : OrderItem) → In j (Order t p r.laid) → Precedes t cells fits i j → Ahead i j (Order t p r.laid)
           by i j h (precedes c u n hc q f e) =
               let P : OrderItem → Type 0 = λ x. In x (Order t p r.laid) in
-              let X : OrderItem → Type 0 = λ x. Earlier x j (Order t p r.laid) in
-              let Y : OrderItem → Type 0 = λ x. Earlier (Does u) x (Order t p r.laid) in
+              let X : OrderItem → Type 0 = λ x. Ahead x j (Order t p r.laid) in
+              let Y : OrderItem → Type 0 = λ x. Ahead (Does u) x (Order t p r.laid) in
               subst X (sym q) (subst Y (sym f) (journal_earlier c u n hc e (subst P f h)))

@@ -10,6 +10,10 @@ use Rattle.cw_tree.specs.declared.access.Entry.{Entry}
 use Rattle.cw_tree.specs.Nodes.{touches, touches_kind, passes, all_nodes, stamp_of}
 use Rattle.cw_tree.specs.Accesses.{is_live, live_accesses, cell_value, written, read, value_in, written_kind, read_kind}
 use Rattle.cw_tree.specs.Journals.{AreEntries, FitsCells, fits_cells}
+use Rattle.cw_tree.proofs.Members.{in_filter, filter_in, below_in}
+use Rattle.cw_tree.proofs.Lists.{In}
+use Rattle.cw_tree.proofs.Ahead.{Ahead}
+use Rattle.cw_tree.proofs.InOrder.Keys.{by_key_in, in_by_key}
 use Rattle.cw_job.specs.Memory.{value_at}
 use Rattle.cw_serial.specs.Wants.{memory_after}
 use Rattle.cw_serial.proofs.Numbers.{get_some}
@@ -20,8 +24,6 @@ use Rattle.cw_record.specs.Items.{is_act, is_act_kind}
 use Rattle.cw_record.specs.Order.{node_of}
 use Rattle.cw_replay.proofs.RecordsReplay.Machine.Acts.{HasKind, HasNode, HasItem, Remembers, wanted_kind, wanted_node, wanted_item, memory_all}
 use Rattle.cw_replay.proofs.RecordsReplay.Work.Orders.{Respects, SeenAfter}
-use Rattle.cw_replay.proofs.Lists.{In, in_filter, filter_in, below_in, Earlier}
-use Rattle.cw_replay.proofs.Keys.{by_key_in, in_by_key}
 
 -- each read has the value that the accesses before it left
 abbrev pub ReadBack : List Node → ℤ → List ℕ → Type 0
@@ -47,7 +49,7 @@ module _ (t : List Node) where
 module _ (t : List Node) (cells : ℕ) (fits : FitsCells t cells) where
   -- an access earlier than another in a journal
   pub data Precedes (i j : OrderItem) : Type 0 where
-    precedes : (c u n : ℕ) → c < cells → i ≡ Does u → j ≡ Does n → Earlier u n (live_accesses t c) → Precedes i j
+    precedes : (c u n : ℕ) → c < cells → i ≡ Does u → j ≡ Does n → Ahead u n (live_accesses t c) → Precedes i j
 
   -- an act of the order is live
   abbrev pub There : OrderItem → Type 0
@@ -63,7 +65,7 @@ module _ (t : List Node) (cells : ℕ) (fits : FitsCells t cells) where
     pub unseen : (u : ℕ) → In u left → seen (Does u) → ⊥
     pub all : (u : ℕ) → In u (live_accesses t c) → (seen (Does u) → ⊥) → In u left
     pub part : (u : ℕ) → In u left → In u (live_accesses t c)
-    pub order : (u n : ℕ) → Earlier u n left → Earlier u n (live_accesses t c)
+    pub order : (u n : ℕ) → Ahead u n left → Ahead u n (live_accesses t c)
     pub sums : cell_value value (map (written t) left) ≡ total
 
   abbrev pub Tracks : (ℕ → ℤ) → (OrderItem → Type 0) → List ℤ → Type 0
@@ -91,12 +93,12 @@ module _ (t : List Node) (cells : ℕ) (fits : FitsCells t cells) where
     pub rest : List ℕ
     pub is : left ≡ n ∷ rest
 
-  head_of : (c n : ℕ) (seen : OrderItem → Type 0) (left : List ℕ) → c < cells → ((u : ℕ) → In u left → seen (Does u) → ⊥) → ((u m : ℕ) → Earlier u m left → Earlier u m (live_accesses t c)) → In n left → ((i : OrderItem) → Precedes i (Does n) → seen i) → Head left n
+  head_of : (c n : ℕ) (seen : OrderItem → Type 0) (left : List ℕ) → c < cells → ((u : ℕ) → In u left → seen (Does u) → ⊥) → ((u m : ℕ) → Ahead u m left → Ahead u m (live_accesses t c)) → In n left → ((i : OrderItem) → Precedes i (Does n) → seen i) → Head left n
   head_of c n seen [] hc w o h r = absurd h
   head_of c n seen (x ∷ xs) hc w o (inl q) r = record { rest = xs; is = ap (λ y. y ∷ xs) (sym q) }
   head_of c n seen (x ∷ xs) hc w o (inr h) r = absurd (w x (inl refl) (r (Does x) (precedes c x n hc refl refl (o x n (inl (refl, h))))))
 
-  module _ (total : ℕ → ℤ) (never_itself : (c u : ℕ) → Earlier u u (live_accesses t c) → ⊥) where
+  module _ (total : ℕ → ℤ) (never_itself : (c u : ℕ) → Ahead u u (live_accesses t c) → ⊥) where
     -- the cell of an access after it
     accessed : (seen : OrderItem → Type 0) (mem after : List ℤ) (c n : ℕ) (k : Track (total c) seen mem c) (h : Head k.left n) → slice_get after c ≡ Some (unwrap_or (written t n) k.value) → Track (total c) (Also (Does n) seen) after c
     accessed seen mem after c n k h e =
@@ -110,13 +112,13 @@ module _ (t : List Node) (cells : ℕ) (fits : FitsCells t cells) where
           unseen = λ u g s. elim s [
             | inl q ↦
                 (let P : ℕ → Type 0 = λ x. In x h.rest in
-                let Q : List ℕ → Type 0 = λ xs. Earlier n n xs in
+                let Q : List ℕ → Type 0 = λ xs. Ahead n n xs in
                 never_itself c n (k.order n n (subst Q (sym h.is) (inl (refl, subst P (ap node_of q) g)))))
             | inr y ↦ k.unseen u (rest u g) y
           ];
           all = λ u g s. (let Q : List ℕ → Type 0 = λ xs. In u xs in elim (subst Q h.is (k.all u g (λ y. s (inr y)))) [ inl q ↦ absurd (s (inl (ap Does q))) | inr y ↦ y ]);
           part = λ u g. k.part u (rest u g);
-          order = λ a b z. k.order a b (let Q : List ℕ → Type 0 = λ xs. Earlier a b xs in subst Q (sym h.is) (inr z));
+          order = λ a b z. k.order a b (let Q : List ℕ → Type 0 = λ xs. Ahead a b xs in subst Q (sym h.is) (inr z));
           sums = subst S h.is k.sums;
         } where
           rest : (u : ℕ) → In u h.rest → In u k.left

@@ -8,13 +8,14 @@ use Rattle.cw_tree.specs.Nodes.{is_block, is_pending, is_committed, all_nodes}
 use Rattle.cw_tree.specs.Walks.{xparent}
 use Rattle.cw_tree.specs.Accesses.{by_key}
 use Rattle.cw_tree.proofs.Walks.Ancestors.{ancestor_self, ancestor_trans}
+use Rattle.cw_tree.proofs.Members.{filter_in, below_in, in_left, in_right, flat_in}
+use Rattle.cw_tree.proofs.Lists.{In}
+use Rattle.cw_tree.proofs.InOrder.Keys.{in_by_key}
 use Rattle.cw_record.specs.declared.items.OrderItem.{OrderItem}
 use Rattle.cw_record.specs.declared.items.OrderItem.TheVariants.{Begins, Does, Ends}
 use Rattle.cw_record.specs.Items.{is_act, is_right_in, key, members, open_member, as_items, last_open, items_in}
 use Rattle.cw_record.specs.Order.{node_of}
 use Rattle.cw_record.proofs.Orders.Homes.{same_block_self, xparent_is, open_here}
-use Rattle.cw_replay.proofs.Lists.{In, in_left, in_right, flat_in, filter_in, below_in}
-use Rattle.cw_replay.proofs.Keys.{in_by_key}
 use Rattle.cw_replay.proofs.RecordsReplay.Tasks.Sorts.{act_sort, committed_sort}
 use Rattle.cw_replay.proofs.RecordsReplay.Ordered.Entries.{Laid, IsOfNode, Stays, Entry, stays_some, open_entry, Segment, Order, AllStay}
 

@@ -10,14 +10,15 @@ use Rattle.cw_tree.specs.Accesses.{by_key}
 use Rattle.cw_tree.specs.Shape.{IsTree, AreStamps, PendingLast}
 use Rattle.cw_tree.proofs.Walks.Ancestors.{ancestor_self, ancestor_step, ancestor_le, ancestor_root, ancestor_trans}
 use Rattle.cw_tree.proofs.Walks.Climbs.{by_parent}
+use Rattle.cw_tree.proofs.NodeKinds.{other_some}
+use Rattle.cw_tree.proofs.Members.{in_filter, in_below, in_append, in_flat}
+use Rattle.cw_tree.proofs.Lists.{In}
+use Rattle.cw_tree.proofs.InOrder.Keys.{by_key_in}
 use Rattle.cw_record.specs.declared.items.OrderItem.{OrderItem}
 use Rattle.cw_record.specs.declared.items.OrderItem.TheVariants.{Begins, Does, Ends}
 use Rattle.cw_record.specs.Items.{is_act, is_right_in, key, members, open_member, as_items, last_open, items_in}
 use Rattle.cw_record.specs.Order.{node_of}
 use Rattle.cw_record.proofs.Orders.Homes.{same_block_true, xparent_is, xparent_over, open_is}
-use Rattle.cw_record.proofs.NodeKinds.{other_some}
-use Rattle.cw_replay.proofs.Lists.{In, in_append, in_filter, in_below, in_flat}
-use Rattle.cw_replay.proofs.Keys.{by_key_in}
 use Rattle.cw_replay.proofs.RecordsReplay.Tasks.Sorts.{act_sort, committed_sort, pending_sort}
 use Rattle.cw_replay.proofs.Kin.{either_over}
 

@@ -8,12 +8,16 @@ use Rattle.cw_tree.specs.Nodes.{is_block, is_pending, is_committed, all_nodes}
 use Rattle.cw_tree.specs.Walks.{is_ancestor}
 use Rattle.cw_tree.specs.Accesses.{by_key}
 use Rattle.cw_tree.proofs.Walks.Ancestors.{ancestor_self, ancestor_le, ancestor_trans}
+use Rattle.cw_tree.proofs.Members.{in_left, in_right, in_append, in_flat, flat_in}
+use Rattle.cw_tree.proofs.Lists.{In}
+use Rattle.cw_tree.proofs.Rising.{rises_filter, below_rises, rises_apart}
+use Rattle.cw_tree.proofs.Ahead.{Ahead, ahead_left, ahead_right, ahead_both, ahead_pieces, ahead_piece, Apart, apart_append, apart_flat}
+use Rattle.cw_tree.proofs.Sorts.{sorted_by_key, sorted_ahead}
+use Rattle.cw_tree.proofs.InOrder.Keys.{apart_by_key}
 use Rattle.cw_record.specs.declared.items.OrderItem.{OrderItem}
 use Rattle.cw_record.specs.declared.items.OrderItem.TheVariants.{Begins, Does, Ends}
 use Rattle.cw_record.specs.Items.{is_act, is_right_in, key, members, open_member, as_items, last_open, items_in}
 use Rattle.cw_record.specs.Order.{node_of}
-use Rattle.cw_replay.proofs.Lists.{In, in_left, in_right, in_append, in_flat, flat_in, rising_filter, rising_below, Earlier, earlier_left, earlier_right, earlier_across, earlier_flat, earlier_same, Distinct, distinct_append, distinct_flat}
-use Rattle.cw_replay.proofs.Keys.{sorted_by_key, distinct_by_key, earlier_sorted}
 use Rattle.cw_replay.proofs.RecordsReplay.Tasks.Sorts.{pending_sort}
 use Rattle.cw_replay.proofs.RecordsReplay.Ordered.Entries.{Laid, Entry, member_kind, member_entry, open_entry, level_over, one_entry, Segment, Spot, act, begin, inner, end, segment_spot, Inside, of_member, of_open, inside, placed, Order}
 
@@ -59,10 +63,10 @@ module _ (t : List Node) (p : ℕ) (g : Laid t p) where
     pub smaller : (b : Option ℕ) (m n : ℕ) → Entry t p g b m → Entry t p g b n → (m ≡ n → ⊥) → Over m i → Over n j → (is_act t n ≡ true) ⊎ (is_committed t n ≡ true) → (key t m < key t n) × (is_pending t m ≡ true → ⊥)
 
   module _ (i j : OrderItem) (s : Leads i j) where
-    blocked : (m : ℕ) (xs : List OrderItem) → is_block t m ≡ true → Earlier i j (Begins m ∷ xs ++ Ends m ∷ []) → Earlier i j (as_items (is_block t m) m xs)
-    blocked m xs e h = let P : Bool → Type 0 = λ b. Earlier i j (as_items b m xs) in subst P (sym e) h
+    blocked : (m : ℕ) (xs : List OrderItem) → is_block t m ≡ true → Ahead i j (Begins m ∷ xs ++ Ends m ∷ []) → Ahead i j (as_items (is_block t m) m xs)
+    blocked m xs e h = let P : Bool → Type 0 = λ b. Ahead i j (as_items b m xs) in subst P (sym e) h
 
-    in_segment : (k m : ℕ) → m < length t → (In i (items_in t p k (Some m)) → In j (items_in t p k (Some m)) → Earlier i j (items_in t p k (Some m))) → Spot t p g k m i → Spot t p g k m j → Earlier i j (Segment t p g k m)
+    in_segment : (k m : ℕ) → m < length t → (In i (items_in t p k (Some m)) → In j (items_in t p k (Some m)) → Ahead i j (items_in t p k (Some m))) → Spot t p g k m i → Spot t p g k m j → Ahead i j (Segment t p g k m)
     in_segment k m h more (act q e) (act r f) = absurd (s.not_same m h q r)
     in_segment k m h more (act q e) (begin r f) = absurd (cc (e, f))
     in_segment k m h more (act q e) (inner r f) = absurd (cc (e, f))
@@ -73,30 +77,30 @@ module _ (t : List Node) (p : ℕ) (g : Laid t p) where
     in_segment k m h more (begin q e) (end r f) = blocked m (items_in t p k (Some m)) e (inl (q, in_right j (items_in t p k (Some m)) (Ends m ∷ []) (inl r)))
     in_segment k m h more (inner q e) (act r f) = absurd (cc (e, f))
     in_segment k m h more (inner q e) (begin r f) = absurd (s.no_begin m h (spot_over k m i h (inner q e)) r)
-    in_segment k m h more (inner q e) (inner r f) = blocked m (items_in t p k (Some m)) e (inr (earlier_left i j (items_in t p k (Some m)) (Ends m ∷ []) (more q r)))
-    in_segment k m h more (inner q e) (end r f) = blocked m (items_in t p k (Some m)) e (inr (earlier_across i j (items_in t p k (Some m)) (Ends m ∷ []) q (inl r)))
+    in_segment k m h more (inner q e) (inner r f) = blocked m (items_in t p k (Some m)) e (inr (ahead_left i j (items_in t p k (Some m)) (Ends m ∷ []) (more q r)))
+    in_segment k m h more (inner q e) (end r f) = blocked m (items_in t p k (Some m)) e (inr (ahead_both i j (items_in t p k (Some m)) (Ends m ∷ []) q (inl r)))
     in_segment k m h more (end q e) r = absurd (s.no_end m h (spot_over k m j h r) q)
 
     abbrev Rest : ℕ → Option ℕ → List OrderItem
     Rest k b = last_open (open_member t p b) (items_in t p k (open_member t p b))
 
-    by_inside : (k : ℕ) (b : Option ℕ) → ((m : ℕ) → In i (items_in t p k (Some m)) → In j (items_in t p k (Some m)) → Earlier i j (items_in t p k (Some m))) → Inside t p g k b i → Inside t p g k b j → Earlier i j (items_in t p (suc k) b)
+    by_inside : (k : ℕ) (b : Option ℕ) → ((m : ℕ) → In i (items_in t p k (Some m)) → In j (items_in t p k (Some m)) → Ahead i j (items_in t p k (Some m))) → Inside t p g k b i → Inside t p g k b j → Ahead i j (items_in t p (suc k) b)
     by_inside k b more (of_member m hm gm sm) (of_member n hn gn sn) =
-        earlier_left i j (flat_map (Segment t p g k) (by_key (key t) (members t b))) (Rest k b) (
+        ahead_left i j (flat_map (Segment t p g k) (by_key (key t) (members t b))) (Rest k b) (
         let em = member_entry t p g b m hm in
         let en = member_entry t p g b n hn in
         elim (cases_eq m n) [
           | inl q ↦
               (let P : ℕ → Type 0 = λ x. Spot t p g k x j in
-              earlier_same (Segment t p g k) i j m (by_key (key t) (members t b)) hm (in_segment k m em.there (more m) sm (subst P (sym q) sn)))
+              ahead_piece (Segment t p g k) i j m (by_key (key t) (members t b)) hm (in_segment k m em.there (more m) sm (subst P (sym q) sn)))
           | inr ne ↦
-              earlier_flat (Segment t p g k) i j m n (by_key (key t) (members t b))
-              (earlier_sorted (key t) m n (by_key (key t) (members t b)) (sorted_by_key (key t) (members t b)) hm hn
+              ahead_pieces (Segment t p g k) i j m n (by_key (key t) (members t b))
+              (sorted_ahead (key t) m n (by_key (key t) (members t b)) (sorted_by_key (key t) (members t b)) hm hn
               (s.smaller b m n em en ne (spot_over k m i em.there sm) (spot_over k n j en.there sn) (member_kind t p g b n hn)).0)
               gm gn
         ])
     by_inside k b more (of_member m hm gm sm) (of_open n on gn) =
-        earlier_across i j (flat_map (Segment t p g k) (by_key (key t) (members t b))) (Rest k b) (flat_in (Segment t p g k) i m (by_key (key t) (members t b)) hm gm)
+        ahead_both i j (flat_map (Segment t p g k) (by_key (key t) (members t b))) (Rest k b) (flat_in (Segment t p g k) i m (by_key (key t) (members t b)) hm gm)
         (let P : Option ℕ → Type 0 = λ o. In j (last_open o (items_in t p k o)) in subst P (sym on) gn)
     by_inside k b more (of_open m om gm) (of_member n hn gn sn) =
         let em = open_entry t p g b m om in
@@ -104,24 +108,24 @@ module _ (t : List Node) (p : ℕ) (g : Laid t p) where
         let ne : m ≡ n → ⊥ = λ q. (let P : ℕ → Type 0 = λ x. is_pending t x ≡ true in member_not_open b n hn (subst P q em.pending)) in
         absurd ((s.smaller b m n em.entry en ne (open_over k m i em.entry.there gm) (spot_over k n j en.there sn) (member_kind t p g b n hn)).1 em.pending)
     by_inside k b more (of_open m om gm) (of_open n on gn) =
-        earlier_right i j (flat_map (Segment t p g k) (by_key (key t) (members t b))) (Rest k b)
-        (let P : Option ℕ → Type 0 = λ o. Earlier i j (last_open o (items_in t p k o)) in
+        ahead_right i j (flat_map (Segment t p g k) (by_key (key t) (members t b))) (Rest k b)
+        (let P : Option ℕ → Type 0 = λ o. Ahead i j (last_open o (items_in t p k o)) in
         let Q : ℕ → Type 0 = λ x. (j ≡ Begins x) ⊎ In j (items_in t p k (Some x)) in
         let same : n ≡ m = (let q : Some n ≡ Some m = sym on ∙ om in cc q) in
         subst P (sym om) (both gm (subst Q same gn))) where
           low : m < length t
           low = (open_entry t p g b m om).entry.there
 
-          both : (i ≡ Begins m) ⊎ In i (items_in t p k (Some m)) → (j ≡ Begins m) ⊎ In j (items_in t p k (Some m)) → Earlier i j (Begins m ∷ items_in t p k (Some m))
+          both : (i ≡ Begins m) ⊎ In i (items_in t p k (Some m)) → (j ≡ Begins m) ⊎ In j (items_in t p k (Some m)) → Ahead i j (Begins m ∷ items_in t p k (Some m))
           both a (inl r) = absurd (s.no_begin m low (open_over k m i low a) r)
           both (inl q) (inr r) = inl (q, r)
           both (inr q) (inr r) = inr (more m q r)
 
-    earlier_in : (k : ℕ) (b : Option ℕ) → In i (items_in t p k b) → In j (items_in t p k b) → Earlier i j (items_in t p k b)
+    earlier_in : (k : ℕ) (b : Option ℕ) → In i (items_in t p k b) → In j (items_in t p k b) → Ahead i j (items_in t p k b)
     earlier_in zero b h x = absurd h
     earlier_in (suc k) b h x = by_inside k b (λ m. earlier_in k (Some m)) (inside t p g k b i h) (inside t p g k b j x)
 
-    pub earlier : In i (Order t p g) → In j (Order t p g) → Earlier i j (Order t p g)
+    pub earlier : In i (Order t p g) → In j (Order t p g) → Ahead i j (Order t p g)
     earlier = earlier_in (length t) None
 
   -- ## Once
@@ -132,22 +136,22 @@ module _ (t : List Node) (p : ℕ) (g : Laid t p) where
   deeper_end : (k m : ℕ) → In (Ends m) (items_in t p k (Some m)) → ⊥
   deeper_end k m h = let z = (beneath k m (Ends m) h).1 in let l : m < m = z in omega arith
 
-  segment_once : (k m : ℕ) → Distinct (items_in t p k (Some m)) → (b : Bool) → Distinct (as_items b m (items_in t p k (Some m)))
+  segment_once : (k m : ℕ) → Apart (items_in t p k (Some m)) → (b : Bool) → Apart (as_items b m (items_in t p k (Some m)))
   segment_once k m d true = (
     (λ x. elim (in_append (Begins m) (items_in t p k (Some m)) (Ends m ∷ []) x) [ inl y ↦ deeper_begin k m y | inr y ↦ elim y [ inl q ↦ absurd (cc q) | inr z ↦ z ] ]),
-    distinct_append (items_in t p k (Some m)) (Ends m ∷ []) d ((λ x. x), tt) (λ x a c. elim c [ inl q ↦ (let P : OrderItem → Type 0 = λ v. In v (items_in t p k (Some m)) in deeper_end k m (subst P q a)) | inr z ↦ z ]),
+    apart_append (items_in t p k (Some m)) (Ends m ∷ []) d ((λ x. x), tt) (λ x a c. elim c [ inl q ↦ (let P : OrderItem → Type 0 = λ v. In v (items_in t p k (Some m)) in deeper_end k m (subst P q a)) | inr z ↦ z ]),
   )
   segment_once k m d false = ((λ x. x), tt)
 
-  once_in : (k : ℕ) (b : Option ℕ) → Distinct (items_in t p k b)
+  once_in : (k : ℕ) (b : Option ℕ) → Apart (items_in t p k b)
   once_in zero b = tt
   once_in (suc k) b =
-      distinct_append (flat_map (Segment t p g k) (by_key (key t) (members t b))) (last_open (open_member t p b) (items_in t p k (open_member t p b)))
-      (distinct_flat (Segment t p g k) (by_key (key t) (members t b)) (distinct_by_key (key t) (members t b) (rising_filter (λ n. (is_act t n || is_committed t n) && is_right_in t b n) (all_nodes t) (rising_below (length t))))
+      apart_append (flat_map (Segment t p g k) (by_key (key t) (members t b))) (last_open (open_member t p b) (items_in t p k (open_member t p b)))
+      (apart_flat (Segment t p g k) (by_key (key t) (members t b)) (apart_by_key (key t) (members t b) (rises_apart (members t b) (rises_filter (λ n. (is_act t n || is_committed t n) && is_right_in t b n) (all_nodes t) (below_rises (length t)))))
       (λ n h. segment_once k n (once_in k (Some n)) (is_block t n)) (same_entry k b))
       (open_once k (open_member t p b) (λ m. once_in k (Some m)))
       (apart k b) where
-        open_once : (k : ℕ) (o : Option ℕ) → ((m : ℕ) → Distinct (items_in t p k (Some m))) → Distinct (last_open o (items_in t p k o))
+        open_once : (k : ℕ) (o : Option ℕ) → ((m : ℕ) → Apart (items_in t p k (Some m))) → Apart (last_open o (items_in t p k o))
         open_once k None d = tt
         open_once k (Some m) d = (deeper_begin k m, d m)
 
@@ -174,5 +178,5 @@ module _ (t : List Node) (p : ℕ) (g : Laid t p) where
               member_not_open b z.0 z.1 (subst P same em.pending)
 
   -- no item stands twice
-  pub order_once : Distinct (Order t p g)
+  pub order_once : Apart (Order t p g)
   order_once = once_in (length t) None

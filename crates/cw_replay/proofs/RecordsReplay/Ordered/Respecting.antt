@@ -8,6 +8,9 @@ use Rattle.cw_tree.specs.Nodes.{is_block, is_pending, is_aborted}
 use Rattle.cw_tree.specs.Walks.{is_ancestor, is_above}
 use Rattle.cw_tree.proofs.Walks.Ancestors.{ancestor_self, ancestor_above, ancestor_step, ancestor_up, ancestor_le, ancestor_trans, root_ancestor}
 use Rattle.cw_tree.proofs.Walks.Kin.{before_of}
+use Rattle.cw_tree.proofs.Ahead.{apart_map, Ahead, second_in, ahead_map, Apart}
+use Rattle.cw_tree.proofs.Members.{in_map, map_in}
+use Rattle.cw_tree.proofs.Lists.{In}
 use Rattle.cw_record.specs.declared.items.OrderItem.{OrderItem}
 use Rattle.cw_record.specs.declared.items.OrderItem.TheVariants.{Begins, Does, Ends}
 use Rattle.cw_record.specs.Order.{node_of}
@@ -15,7 +18,6 @@ use Rattle.cw_replay.proofs.RecordsReplay.Work.Work.{Has, Before, Doing, Way, ru
 use Rattle.cw_replay.proofs.RecordsReplay.Work.Next.{Next}
 use Rattle.cw_replay.proofs.RecordsReplay.Work.Orders.{Respects, SeenAfter, Plays, way_after, plays, left_first, left_after, next_left}
 use Rattle.cw_replay.proofs.RecordsReplay.Machine.Acts.{Act, item, stop, place}
-use Rattle.cw_replay.proofs.Lists.{In, in_map, of_map, Earlier, earlier_second, earlier_map, Distinct, distinct_map}
 use Rattle.cw_replay.proofs.RecordsReplay.Tasks.Sorts.{aborted_sort, committed_sort, pending_sort, kept_block}
 use Rattle.cw_replay.proofs.Kin.{either_over}
 use Rattle.cw_replay.proofs.RecordsReplay.Tasks.Tasks.{whole, of_account}
@@ -31,13 +33,13 @@ use Rattle.cw_replay.proofs.RecordsReplay.Ordered.Runs.{Run, Soon, nothing_behin
 use Rattle.cw_replay.proofs.RecordsReplay.Tasks.Accounts.{IsStop}
 
 -- a list in which all that is before a member comes earlier
-pub respects_from : {I : Type 0} (R : I → I → Type 0) (there seen : I → Type 0) (js : List I) → ((j : I) → In j js → there j) → ((i j : I) → In j js → R i j → seen i ⊎ Earlier i j js) → ((j : I) → In j js → seen j → ⊥) → Distinct js → Respects R there seen js
+pub respects_from : {I : Type 0} (R : I → I → Type 0) (there seen : I → Type 0) (js : List I) → ((j : I) → In j js → there j) → ((i j : I) → In j js → R i j → seen i ⊎ Ahead i j js) → ((j : I) → In j js → seen j → ⊥) → Apart js → Respects R there seen js
 respects_from R there seen [] a r n d = tt
 respects_from {I = I} R there seen (j ∷ js) a r n d = (
   a j (inl refl),
   (λ i h. elim (r i j (inl refl) h) [
     | inl s ↦ s
-    | inr e ↦ elim e [ inl z ↦ absurd (d.0 z.1) | inr y ↦ absurd (d.0 (earlier_second i j js y)) ]
+    | inr e ↦ elim e [ inl z ↦ absurd (d.0 z.1) | inr y ↦ absurd (d.0 (second_in i j js y)) ]
   ]),
   n j (inl refl),
   respects_from R there (λ i. (i ≡ j) ⊎ seen i) js (λ k h. a k (inr h))
@@ -155,28 +157,28 @@ module _ {A : Type 0} (s : Strands A) (t : List Node) (p : ℕ) (r : Run s t p) 
   order_there j h = let z = placed t p r.laid (length t) None j h in whole_in s t r.account (item j) z.there (proper_item j z.proper) (order_kept j h)
 
   -- what is sooner than an item comes earlier
-  sooner_earlier : (i j : Act) → In j Items → Soon s t p r i j → Under s t r.account 0 i → Earlier i j Items
+  sooner_earlier : (i j : Act) → In j Items → Soon s t p r i j → Under s t r.account 0 i → Ahead i j Items
   sooner_earlier (stop n) j h x u =
-      let y = of_map item j (Order t p r.laid) h in
-      let z = placed t p r.laid (length t) None y.0 y.2 in
+      let y = in_map item j (Order t p r.laid) h in
+      let z = placed t p r.laid (length t) None y.0 y.1 in
       let P : Act → Type 0 = λ v. Soon s t p r (stop n) v in
-      absurd (nothing_behind s t p r n u.proper (item y.0) z.there (proper_item y.0 z.proper) (subst P y.1 x))
+      absurd (nothing_behind s t p r n u.proper (item y.0) z.there (proper_item y.0 z.proper) (subst P y.2 x))
   sooner_earlier (item i) j h x u =
-      let y = of_map item j (Order t p r.laid) h in
-      let z = placed t p r.laid (length t) None y.0 y.2 in
+      let y = in_map item j (Order t p r.laid) h in
+      let z = placed t p r.laid (length t) None y.0 y.1 in
       let P : Act → Type 0 = λ v. Soon s t p r (item i) v in
-      let Q : Act → Type 0 = λ v. Earlier (item i) v Items in
-      let soon = subst P y.1 x in
-      let there = reaches i (item y.0) z.there (proper_item y.0 z.proper) (λ a q f. all_stay t p r.laid y.0 y.2 a (pending_sort t a q).block f) soon u in
-      subst Q (sym y.1) (earlier_map item i y.0 (Order t p r.laid) (earlier t p r.laid i y.0 (series_leads s t p r i y.0 soon) there y.2))
+      let Q : Act → Type 0 = λ v. Ahead (item i) v Items in
+      let soon = subst P y.2 x in
+      let there = reaches i (item y.0) z.there (proper_item y.0 z.proper) (λ a q f. all_stay t p r.laid y.0 y.1 a (pending_sort t a q).block f) soon u in
+      subst Q (sym y.2) (ahead_map item i y.0 (Order t p r.laid) (earlier t p r.laid i y.0 (series_leads s t p r i y.0 soon) there y.1))
 
   pub respects : Respects (λ i j. Before i j (whole r.account.stop t)) (λ j. Has j (whole r.account.stop t)) (λ i. ⊥) Items
   respects =
       respects_from (λ i j. Before i j (whole r.account.stop t)) (λ j. Has j (whole r.account.stop t)) (λ i. ⊥) Items
-      (λ j h. let z = of_map item j (Order t p r.laid) h in let P : Act → Type 0 = λ x. Has x (whole r.account.stop t) in subst P (sym z.1) (order_there z.0 z.2))
+      (λ j h. let z = in_map item j (Order t p r.laid) h in let P : Act → Type 0 = λ x. Has x (whole r.account.stop t) in subst P (sym z.2) (order_there z.0 z.1))
       (λ i j h b. inr (sooner_earlier i j h (whole_before s t r.account i j b) (whole_has s t r.account i (before_has i j (whole r.account.stop t) b))))
       (λ j h e. e)
-      (distinct_map item (λ x y e. let q : x ≡ y = cc e in q) (Order t p r.laid) (order_once t p r.laid))
+      (apart_map item (Order t p r.laid) (λ x y i j e. let q : x ≡ y = cc e in q) (order_once t p r.laid))
 
   module _ (deep : IsDeep s) where
     abbrev pub deeds : Doing Act A
@@ -198,7 +200,7 @@ module _ {A : Type 0} (s : Strands A) (t : List Node) (p : ℕ) (r : Run s t p) 
         (left_after deeds deep (whole r.account.stop t) Items (λ i. ⊥) start (left_first deeds deep (whole r.account.stop t) s.start (whole_once s t r.account) (whole_fits s t r.account)) order_plays)
         (whole_in s t r.account (stop n) z.there e (λ a f. (z.live a f, not_out a f)))
         (λ i b. seen_in (λ i. ⊥) Items i (inl (seen i (whole_before s t r.account i (stop n) b) (whole_has s t r.account i (before_has i (stop n) (whole r.account.stop t) b)))))
-        (λ h. elim (in_seen (λ i. ⊥) Items (stop n) h) [ inl x ↦ (let y = of_map item (stop n) (Order t p r.laid) x in let q = y.1 in absurd (cc q)) | inr x ↦ x ]) where
+        (λ h. elim (in_seen (λ i. ⊥) Items (stop n) h) [ inl x ↦ (let y = in_map item (stop n) (Order t p r.laid) x in let q = y.2 in absurd (cc q)) | inr x ↦ x ]) where
           z : IsStop s t r.account.before r.account.after r.account.reached r.account.stop n
           z = r.account.stops n e
 
@@ -207,4 +209,4 @@ module _ {A : Type 0} (s : Strands A) (t : List Node) (p : ℕ) (r : Run s t p) 
 
           seen : (i : Act) → Soon s t p r i (stop n) → Under s t r.account 0 i → In i Items
           seen (stop m) x u = absurd (nothing_behind s t p r m u.proper (stop n) z.there e x)
-          seen (item i) x u = in_map item i (Order t p r.laid) (reaches i (stop n) z.there e (λ a q f. inr (inr (q, ancestor_trans t r.laid.tree.rooted a n p r.laid.there f (r.toward n e)))) x u)
+          seen (item i) x u = map_in item i (Order t p r.laid) (reaches i (stop n) z.there e (λ a q f. inr (inr (q, ancestor_trans t r.laid.tree.rooted a n p r.laid.there f (r.toward n e)))) x u)

@@ -11,8 +11,9 @@ use Rattle.cw_tree.specs.Walks.{is_ancestor}
 use Rattle.cw_tree.specs.Series.{children}
 use Rattle.cw_tree.specs.Shape.{IsTree, PendingLast}
 use Rattle.cw_tree.proofs.InOrder.DepthFirst.{IsChild}
+use Rattle.cw_tree.proofs.Lists.{In}
+use Rattle.cw_tree.proofs.Rising.{Rises}
 use Rattle.cw_record.specs.Coherent.{InSeries, Follows, IsJoined}
-use Rattle.cw_replay.proofs.Lists.{In, Rising}
 use Rattle.cw_replay.proofs.RecordsReplay.Tasks.Sorts.{strand_sort}
 
 -- where a strand stopped: what it wants there, the node in which it stands, and a pending block in that which is left out, since it was refused
@@ -55,7 +56,7 @@ module _ {A : Type 0} (s : Strands A) (t : List Node) where
 -- ## Series
 
 -- the last of nodes in series comes to the state behind them all
-pub last_state : {A : Type 0} (before after : ℕ → A) (a b : A) (ns : List ℕ) (z : ℕ) → InSeries before after a ns b → Rising ns → In z ns → ((c : ℕ) → In c ns → c ≤ z) → after z ≡ b
+pub last_state : {A : Type 0} (before after : ℕ → A) (a b : A) (ns : List ℕ) (z : ℕ) → InSeries before after a ns b → Rises ns → In z ns → ((c : ℕ) → In c ns → c ≤ z) → after z ≡ b
 last_state before after a b [] z l r h m = absurd h
 last_state before after a b (c ∷ []) z l r (inl q) m = ap after q ∙ l.1
 last_state before after a b (c ∷ []) z l r (inr h) m = absurd h

@@ -13,23 +13,25 @@ use Rattle.cw_tree.proofs.Walks.Ancestors.{ancestor_self}
 use Rattle.cw_tree.proofs.Walks.Kin.{children_apart}
 use Rattle.cw_tree.proofs.Walks.Strands.{strand_of_strand, strand_of_other, strand_of_root}
 use Rattle.cw_tree.proofs.Names.Naming.{name_step}
-use Rattle.cw_tree.proofs.InOrder.DepthFirst.{IsChild}
+use Rattle.cw_tree.proofs.InOrder.DepthFirst.{IsChild, child_is, children_rise}
 use Rattle.cw_serial.specs.Spots.{turn_to}
 use Rattle.cw_record.specs.declared.items.OrderItem.TheVariants.{Ends}
 use Rattle.cw_record.specs.Coherent.{InSeries}
 use Rattle.cw_replay.proofs.RecordsReplay.Work.Work as task
 use Rattle.cw_replay.proofs.RecordsReplay.Work.Work.{Work, nil, act, More}
 use Rattle.cw_replay.proofs.RecordsReplay.Machine.Acts.{Act, item, stop}
-use Rattle.cw_replay.proofs.Lists.{In, Rising}
 use Rattle.cw_replay.proofs.RecordsReplay.Tasks.Sorts as sorts
+use Rattle.cw_tree.proofs.InOrder.Visits.{child_over}
+use Rattle.cw_tree.proofs.NodeKinds.{block_some}
+use Rattle.cw_tree.proofs.Lists.{In}
+use Rattle.cw_tree.proofs.Rising.{Rises}
 use Rattle.cw_replay.proofs.RecordsReplay.Tasks.Sorts.{strand_sort}
-use Rattle.cw_replay.proofs.Kin.{child_in, children_rise, left_child, right_child, left_is_left, right_is_right, parent_low, over_child}
+use Rattle.cw_replay.proofs.Kin.{left_child, right_child, left_is_left, right_is_right, parent_low}
 use Rattle.cw_replay.proofs.ForkNumbers.{forks_before_node, forks_behind, forks_reached, forks_in_series, none_first, one_more, none_more, none_kept, all_kept}
 use Rattle.cw_replay.proofs.RecordsReplay.Tasks.Accounts.{Account, block_series, strand_series}
 use Rattle.cw_replay.proofs.RecordsReplay.Tasks.Quiet.{Ended, Quiet, quiet_before, quiet_in_block}
 use Rattle.cw_replay.proofs.RecordsReplay.Tasks.Tasks.{works, stopping, work, inside, whole, of_account, Skipped, rolled_back, refused, left_out, View, strand, acts, skipped, opens, block, fork, view}
 use Rattle.cw_replay.proofs.RecordsReplay.Tasks.Folds.{Fold, IsOver, Good, good_child, no_stop_block, Sides, sides, joined_state, both_over, ended_over}
-use Rattle.cw_record.proofs.NodeKinds.{block_some}
 
 module _ {A : Type 0} (s : Strands A) (t : List Node) (w : Account s t) where
   abbrev pub Fit : List Turn → ℕ → A → Work Act → Type 0
@@ -64,7 +66,7 @@ module _ {A : Type 0} (s : Strands A) (t : List Node) (w : Account s t) where
     abbrev AllGo : List ℕ → Work Act → Type 0
     AllGo ns v = ((c : ℕ) → In c ns → Goes c) ⊎ (v ≡ nil)
 
-    first_goes : (c : ℕ) (ns : List ℕ) (v : Work Act) → ((d : ℕ) → In d (c ∷ ns) → IsChild t p d) → Rising (c ∷ ns) → AllGo (c ∷ ns) v → Goes c ⊎ (works (work w.stop t k) ns v ≡ nil)
+    first_goes : (c : ℕ) (ns : List ℕ) (v : Work Act) → ((d : ℕ) → In d (c ∷ ns) → IsChild t p d) → Rises (c ∷ ns) → AllGo (c ∷ ns) v → Goes c ⊎ (works (work w.stop t k) ns v ≡ nil)
     first_goes c [] v kids r (inl o) = inl (o c (inl refl))
     first_goes c [] v kids r (inr e) = inr e
     first_goes c (d ∷ ns) v kids r o = inl (inl (quiet_before s t w p c d (kids c (inl refl)) (kids d (inr (inl refl))) no_fork (r.0 d (inl refl))))
@@ -73,14 +75,14 @@ module _ {A : Type 0} (s : Strands A) (t : List Node) (w : Account s t) where
     fewer c ns v (inl o) = inl (λ d h. o d (inr h))
     fewer c ns v (inr e) = inr e
 
-    behind_fit : (c : ℕ) (ns : List ℕ) (b : A) (cb : ℕ) → InSeries w.before w.after (w.after c) ns b → ((d : ℕ) → In d (c ∷ ns) → IsChild t p d) → Rising (c ∷ ns) → (v : Work Act) → ((j : ℕ) → Refuses p ⊎ (j ≡ cb) → Fit q j b v)
+    behind_fit : (c : ℕ) (ns : List ℕ) (b : A) (cb : ℕ) → InSeries w.before w.after (w.after c) ns b → ((d : ℕ) → In d (c ∷ ns) → IsChild t p d) → Rises (c ∷ ns) → (v : Work Act) → ((j : ℕ) → Refuses p ⊎ (j ≡ cb) → Fit q j b v)
         → Fit q (forks_behind t c) (w.after c) (works (work w.stop t k) ns v) → (j : ℕ) → (w.stop.out c ≡ true) ⊎ (j ≡ forks_behind t c) → Fit q j (w.after c) (works (work w.stop t k) ns v)
     behind_fit c [] b cb l kids r v g more j (inl e) = let P : A → Type 0 = λ x. Fit q j x v in subst P (sym l) (g j (inl (record { child = c; is_child = kids c (inl refl); out = e })))
     behind_fit c (d ∷ ns) b cb l kids r v g more j (inl e) =
         absurd (cc ((w.left_out c e).0, (quiet_before s t w p c d (kids c (inl refl)) (kids d (inr (inl refl))) no_fork (r.0 d (inl refl))).none))
     behind_fit c ns b cb l kids r v g more j (inr e) = let P : ℕ → Type 0 = λ i. Fit q i (w.after c) (works (work w.stop t k) ns v) in subst P (sym e) more
 
-    works_fit : (ns : List ℕ) (a b : A) (ca cb : ℕ) → InSeries w.before w.after a ns b → InSeries (forks_before_node t) (forks_behind t) ca ns cb → ((c : ℕ) → In c ns → IsChild t p c) → Rising ns
+    works_fit : (ns : List ℕ) (a b : A) (ca cb : ℕ) → InSeries w.before w.after a ns b → InSeries (forks_before_node t) (forks_behind t) ca ns cb → ((c : ℕ) → In c ns → IsChild t p c) → Rises ns
         → (v : Work Act) → AllGo ns v → ((j : ℕ) → Refuses p ⊎ (j ≡ cb) → Fit q j b v) → Fit q ca a (works (work w.stop t k) ns v)
     works_fit [] a b ca cb l m kids r v o g = let P : A → Type 0 = λ x. Fit q ca x v in subst P (sym l) (g ca (inr m))
     works_fit (c ∷ ns) a b ca cb l m kids r v o g =
@@ -99,7 +101,7 @@ module _ {A : Type 0} (s : Strands A) (t : List Node) (w : Account s t) where
         let z = w.stops p e in
         let low = parent_low t w.tree.rooted p c m in
         elim (cases_Bool (is_pending t c)) [
-          | inl x ↦ elim (z.shut c x (over_child t w.tree.rooted p c m)) [
+          | inl x ↦ elim (z.shut c x (child_over t w.tree.rooted p c m)) [
             | inl y ↦ absurd (omega (arith, y))
             | inr y ↦
                 (let o = y.is_child in
@@ -112,7 +114,7 @@ module _ {A : Type 0} (s : Strands A) (t : List Node) (w : Account s t) where
     inside_fit : (a : A) → InSeries w.before w.after a (children t p) (w.reached p) → (v : Work Act) → AllGo (children t p) v → (w.stop.at p ≡ true → v ≡ nil) → (w.stop.at p ≡ false → Fit q (forks_reached t p) (w.reached p) v)
         → Fit q (forks_before_node t p) a (inside w.stop t k p v)
     inside_fit a l v o n g = elim (cases_Bool (w.stop.at p)) [
-      | inl e ↦ to (act (stop p) v) (ap (λ b. cond b (act (stop p) v) v) e) (inl (λ c h. stopped_goes e c (child_in t p c h))) (λ j x. ((w.stops p e).wants, sym name, nothing_fits q j (s.answer (w.reached p) Nothing) v (n e)))
+      | inl e ↦ to (act (stop p) v) (ap (λ b. cond b (act (stop p) v) v) e) (inl (λ c h. stopped_goes e c (child_is t p c h))) (λ j x. ((w.stops p e).wants, sym name, nothing_fits q j (s.answer (w.reached p) Nothing) v (n e)))
       | inr e ↦ to v (ap (λ b. cond b (act (stop p) v) v) e) o (λ j x. elim x [
         | inl y ↦ (let P : ℕ → Type 0 = λ i. w.stop.at i ≡ true in absurd (cc (e, subst P y.is_child.parent (w.left_out y.child y.out).1)))
         | inr y ↦ (let P : ℕ → Type 0 = λ i. Fit q i (w.reached p) v in subst P (sym y) (g e))
@@ -121,7 +123,7 @@ module _ {A : Type 0} (s : Strands A) (t : List Node) (w : Account s t) where
       to : (x : Work Act) → stopping w.stop p v ≡ x → AllGo (children t p) x → ((j : ℕ) → Refuses p ⊎ (j ≡ forks_reached t p) → Fit q j (w.reached p) x) → Fit q (forks_before_node t p) a (inside w.stop t k p v)
       to x e o g =
           let P : Work Act → Type 0 = λ y. Fit q (forks_before_node t p) a (works (work w.stop t k) (children t p) y) in
-          subst P (sym e) (works_fit (children t p) a (w.reached p) (forks_before_node t p) (forks_reached t p) l (forks_in_series t w.tree p no_fork) (child_in t p) (children_rise t p) x o g)
+          subst P (sym e) (works_fit (children t p) a (w.reached p) (forks_before_node t p) (forks_reached t p) l (forks_in_series t w.tree p no_fork) (child_is t p) (children_rise t p) x o g)
 
   -- ## Each node
 
@@ -173,7 +175,7 @@ module _ {A : Type 0} (s : Strands A) (t : List Node) (w : Account s t) where
         x,
         sym h,
         inside_fit k c f g.levels z.fork q h (s.answer (w.before c) Nothing) (block_series s t w c g.there z.block) (act (item (Ends c)) v)
-            (inl (λ d m. inl (quiet_in_block s t w c d g.there z.committed (child_in t c d m))))
+            (inl (λ d m. inl (quiet_in_block s t w c d g.there z.committed (child_is t c d m))))
             (λ i. absurd (cc (i, no_stop_block s t w c z.committed)))
             (λ i. (u, sym h, subst Q y (rest_fits q c (forks_reached t c) v b (inr (sym (all_kept t w.tree c (block_some t w.tree.root c z.block) g.there z)))))),
       )

@@ -6,15 +6,15 @@ use Rattle.cw_strand.specs.Strands.{Strands, is_over}
 use Rattle.cw_tree.specs.declared.node.Node.{Node}
 use Rattle.cw_tree.specs.Nodes.{is_strand, is_fork, is_committed}
 use Rattle.cw_tree.specs.Series.{children}
-use Rattle.cw_tree.proofs.InOrder.DepthFirst.{IsChild}
+use Rattle.cw_tree.proofs.InOrder.DepthFirst.{IsChild, child_is}
 use Rattle.cw_record.specs.declared.items.OrderItem.TheVariants.{Ends}
 use Rattle.cw_record.specs.Coherent.{InSeries}
 use Rattle.cw_replay.proofs.RecordsReplay.Work.Work as task
+use Rattle.cw_tree.proofs.Lists.{In}
 use Rattle.cw_replay.proofs.RecordsReplay.Work.Work.{Work, nil, act}
 use Rattle.cw_replay.proofs.RecordsReplay.Machine.Acts.{Act, item, stop}
-use Rattle.cw_replay.proofs.Lists.{In}
 use Rattle.cw_replay.proofs.RecordsReplay.Tasks.Sorts.{strand_sort, committed_sort}
-use Rattle.cw_replay.proofs.Kin.{child_in, left_child, right_child, parent_low}
+use Rattle.cw_replay.proofs.Kin.{left_child, right_child, parent_low}
 use Rattle.cw_replay.proofs.RecordsReplay.Tasks.Accounts.{Account, block_series, strand_series}
 use Rattle.cw_replay.proofs.RecordsReplay.Tasks.Quiet.{Ended, Joined, Quiet, over_of, quiet_in_block, quiet_in_ended}
 use Rattle.cw_replay.proofs.RecordsReplay.Tasks.Tasks.{works, stopping, work, inside, of_account, Forked, View, strand, acts, skipped, opens, block, fork, view}
@@ -62,10 +62,10 @@ module _ {A : Type 0} (s : Strands A) (t : List Node) (w : Account s t) where
       ap (λ x. Fold x (work w.stop t k c (works (work w.stop t k) ns v))) (sym l.0) ∙ f c (g c (inl refl)).0 (g c (inl refl)).1 (works (work w.stop t k) ns v) ∙ works_fold k f ns (w.after c) b l.1 (λ d h. g d (inr h)) v
 
   ended_children : (k x : ℕ) → x < length t → length t ≤ suc k + x → is_strand t x ≡ true → Ended s t w x → (c : ℕ) → In c (children t x) → Good k c × Quiet s t w c
-  ended_children k x h l e o c m = (good_child k x c l (strand_sort t x e).fork (child_in t x c m), quiet_in_ended s t w x c h e o (child_in t x c m))
+  ended_children k x h l e o c m = (good_child k x c l (strand_sort t x e).fork (child_is t x c m), quiet_in_ended s t w x c h e o (child_is t x c m))
 
   block_children : (k c : ℕ) → c < length t → length t ≤ suc k + c → is_committed t c ≡ true → (d : ℕ) → In d (children t c) → Good k d × Quiet s t w d
-  block_children k c h l e d m = (good_child k c d l (committed_sort t c e).fork (child_in t c d m), quiet_in_block s t w c d h e (child_in t c d m))
+  block_children k c h l e d m = (good_child k c d l (committed_sort t c e).fork (child_is t c d m), quiet_in_block s t w c d h e (child_is t c d m))
 
   strand_fold : (k : ℕ) → ((c : ℕ) → FoldsTo k c) → (x : ℕ) → x < length t → length t ≤ suc k + x → is_strand t x ≡ true → Ended s t w x → Fold (w.before x) (inside w.stop t k x nil) ≡ w.reached x
   strand_fold k f x h l e o =

@@ -9,15 +9,15 @@ use Rattle.cw_tree.specs.Walks.{is_ancestor}
 use Rattle.cw_tree.specs.Series.{children}
 use Rattle.cw_tree.proofs.Walks.Ancestors.{ancestor_self, ancestor_step, ancestor_le}
 use Rattle.cw_tree.proofs.Walks.Kin.{AreOrdered}
-use Rattle.cw_tree.proofs.InOrder.DepthFirst.{IsChild}
+use Rattle.cw_tree.proofs.InOrder.DepthFirst.{IsChild, child_is}
 use Rattle.cw_record.specs.declared.items.OrderItem.TheVariants.{Begins, Does, Ends}
 use Rattle.cw_record.specs.Items.{is_act}
 use Rattle.cw_replay.proofs.RecordsReplay.Work.Work.{Work, nil, act, Has}
 use Rattle.cw_replay.proofs.RecordsReplay.Machine.Acts.{Act, item, stop, place}
-use Rattle.cw_replay.proofs.Lists.{In}
 use Rattle.cw_replay.proofs.RecordsReplay.Tasks.Sorts as sorts
+use Rattle.cw_tree.proofs.Lists.{In}
 use Rattle.cw_replay.proofs.RecordsReplay.Tasks.Sorts.{IsSort, Sort, of_aborted, of_pending, strand_sort}
-use Rattle.cw_replay.proofs.Kin.{child_in, left_child, right_child, parent_low, over_parent, either_over, both_over}
+use Rattle.cw_replay.proofs.Kin.{left_child, right_child, parent_low, over_parent, either_over, both_over}
 use Rattle.cw_replay.proofs.RecordsReplay.Tasks.Accounts.{Account}
 use Rattle.cw_replay.proofs.RecordsReplay.Tasks.Tasks.{works, stopping, work, inside, whole, View, strand, acts, skipped, opens, block, fork, view}
 
@@ -97,13 +97,13 @@ module _ {A : Type 0} (s : Strands A) (t : List Node) (w : Account s t) where
     stopped : i ≡ stop c → w.stop.at c ≡ true → Inner c i
 
   pub inner_under : (c : ℕ) (i : Act) → c < length t → Kept c → Inner c i → Under c i
-  inner_under c i h a (in_child z) = under_up c z.which i (child_in t c z.which z.member) a z.under
+  inner_under c i h a (in_child z) = under_up c z.which i (child_is t c z.which z.member) a z.under
   inner_under c i h a (stopped e at) = let P : Act → Type 0 = λ x. Under c x in subst P (sym e) (own c (stop c) h refl at a)
 
   -- an act in a child is none of the node itself
   pub deeper : (c : ℕ) (i : Act) → Among (children t c) i → place i ≡ c → ⊥
   deeper c i z e =
-      let low = parent_low t w.tree.rooted c z.which (child_in t c z.which z.member) in
+      let low = parent_low t w.tree.rooted c z.which (child_is t c z.which z.member) in
       let le : z.which ≤ place i = ancestor_le t w.tree.rooted z.which (place i) z.under.there z.under.over in
       omega (arith, e)
 
@@ -136,7 +136,7 @@ module _ {A : Type 0} (s : Strands A) (t : List Node) (w : Account s t) where
     by false e g = inr g
 
   inside_has_by : (k c : ℕ) → ((d : ℕ) → HasUnder k d) → (v : Work Act) (i : Act) → Has i (inside w.stop t k c v) → Inner c i ⊎ Has i v
-  inside_has_by k c g v i h = elim (works_has k g (children t c) (λ d m. (child_in t c d m).there) (stopping w.stop c v) i h) [
+  inside_has_by k c g v i h = elim (works_has k g (children t c) (λ d m. (child_is t c d m).there) (stopping w.stop c v) i h) [
     | inl z ↦ inl (in_child z)
     | inr r ↦ elim (stopping_has c v i r) [ inl z ↦ inl (stopped z.0 z.1) | inr z ↦ inr z ]
   ]

@@ -14,16 +14,16 @@ use Rattle.cw_tree.specs.Walks.{is_ancestor}
 use Rattle.cw_tree.specs.Series.{children, has_later}
 use Rattle.cw_tree.specs.Links.{is_child}
 use Rattle.cw_tree.proofs.Walks.There.{node_there}
-use Rattle.cw_tree.proofs.Lists.{any_from}
+use Rattle.cw_tree.proofs.Lists.{any_from, In}
 use Rattle.cw_tree.proofs.Walks.Ancestors.{ancestor_self, ancestor_up, above_parent, beneath}
 use Rattle.cw_tree.proofs.Walks.Kin.{before_of}
-use Rattle.cw_tree.proofs.InOrder.DepthFirst.{IsChild}
+use Rattle.cw_tree.proofs.InOrder.DepthFirst.{IsChild, child_is, child_in, children_rise}
+use Rattle.cw_tree.proofs.Members.{filter_in, below_in}
 use Rattle.cw_serial.proofs.Numbers.{get_some}
 use Rattle.cw_record.specs.Coherent.{IsWanted, StrandEnded, alone, joined, IsJoined}
 use Rattle.cw_record.specs.Replay.{IsAccessOf}
-use Rattle.cw_replay.proofs.Lists.{In, to_number, filter_in, below_in}
 use Rattle.cw_replay.proofs.RecordsReplay.Tasks.Sorts.{strand_sort, committed_sort, kept_block}
-use Rattle.cw_replay.proofs.Kin.{child_in, in_child, children_rise, left_or_right, fork_child}
+use Rattle.cw_replay.proofs.Kin.{left_or_right, fork_child}
 use Rattle.cw_replay.proofs.RecordsReplay.Tasks.Accounts.{Account, last_state, Last, last_of_below, strand_series}
 
 module _ {A : Type 0} (s : Strands A) (t : List Node) (w : Account s t) where
@@ -84,7 +84,7 @@ module _ {A : Type 0} (s : Strands A) (t : List Node) (w : Account s t) where
       }),
     )));
     joined = λ e. w.follows.joined c k.there (and_from (is_fork t c) (has_later t c || is_committed t (parent_of t c)) e (or_left (has_later t c) (is_committed t (parent_of t c))
-        (any_from (λ m. nat_lt c m) d (children t (parent_of t c)) (to_number d (children t (parent_of t c)) (in_child t (parent_of t c) d (record { some = m.some; there = m.there; parent = m.parent ∙ sym k.parent }))) (lt-ltb c d less))));
+        (any_from (λ m. nat_lt c m) d (children t (parent_of t c)) (child_in t (parent_of t c) d (record { some = m.some; there = m.there; parent = m.parent ∙ sym k.parent })) (lt-ltb c d less))));
   }
 
   pub quiet_in_block : (n c : ℕ) → n < length t → is_committed t n ≡ true → IsChild t n c → Quiet c
@@ -105,13 +105,13 @@ module _ {A : Type 0} (s : Strands A) (t : List Node) (w : Account s t) where
     l = last_of_below (is_child t x) (length t) c k.there (test c k)
 
     z : IsChild t x l.number
-    z = child_in t x l.number (filter_in (is_child t x) l.number (all_nodes t) (below_in l.number (length t) l.low) l.passes)
+    z = child_is t x l.number (filter_in (is_child t x) l.number (all_nodes t) (below_in l.number (length t) l.low) l.passes)
 
     most : (m : ℕ) → In m (children t x) → m ≤ l.number
-    most m i = let y = child_in t x m i in let a = last_of_below (is_child t x) (length t) m y.there (test m y) in let same : a.number ≡ l.number = (let e : Some a.number ≡ Some l.number = sym a.is ∙ l.is in cc) in let le = a.last in omega (arith, same)
+    most m i = let y = child_is t x m i in let a = last_of_below (is_child t x) (length t) m y.there (test m y) in let same : a.number ≡ l.number = (let e : Some a.number ≡ Some l.number = sym a.is ∙ l.is in cc) in let le = a.last in omega (arith, same)
 
     ends : w.after l.number ≡ w.reached x
-    ends = last_state w.before w.after (w.before x) (w.reached x) (children t x) l.number (strand_series s t w x h strand) (children_rise t x) (in_child t x l.number z) most
+    ends = last_state w.before w.after (w.before x) (w.reached x) (children t x) l.number (strand_series s t w x h strand) (children_rise t x) (child_in t x l.number z) most
 
     at_last : Ended x → (is_fork t l.number ≡ true → Joined l.number)
     at_last (alone o f) g = absurd (cc (g, not-true (is_fork t l.number) (f l.number l.is)))

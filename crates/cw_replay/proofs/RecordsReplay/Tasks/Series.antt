@@ -7,14 +7,15 @@ use Rattle.cw_tree.specs.Nodes.{is_strand, is_fork}
 use Rattle.cw_tree.specs.Walks.{is_ancestor}
 use Rattle.cw_tree.specs.Series.{children}
 use Rattle.cw_tree.proofs.Walks.Ancestors.{ancestor_self}
-use Rattle.cw_tree.proofs.InOrder.DepthFirst.{IsChild}
+use Rattle.cw_tree.proofs.InOrder.DepthFirst.{IsChild, child_is, children_rise}
 use Rattle.cw_record.specs.declared.items.OrderItem.TheVariants.{Begins, Does, Ends}
 use Rattle.cw_replay.proofs.RecordsReplay.Work.Work.{Work, nil, act, Has, Before}
 use Rattle.cw_replay.proofs.RecordsReplay.Machine.Acts.{Act, item, stop, place}
-use Rattle.cw_replay.proofs.Lists.{In, Rising}
 use Rattle.cw_replay.proofs.RecordsReplay.Tasks.Sorts as sorts
+use Rattle.cw_tree.proofs.Lists.{In}
+use Rattle.cw_tree.proofs.Rising.{Rises}
 use Rattle.cw_replay.proofs.RecordsReplay.Tasks.Sorts.{strand_sort}
-use Rattle.cw_replay.proofs.Kin.{child_in, children_rise, left_child, right_child}
+use Rattle.cw_replay.proofs.Kin.{left_child, right_child}
 use Rattle.cw_replay.proofs.RecordsReplay.Tasks.Accounts.{Account}
 use Rattle.cw_replay.proofs.RecordsReplay.Tasks.Tasks.{works, stopping, work, inside, whole, View, strand, acts, skipped, opens, block, fork, view}
 use Rattle.cw_replay.proofs.RecordsReplay.Tasks.Places.{Kept, kept_sort, kept_strand, Under, own, deeper, Among, Inner, in_child, stopped, inner_under, inner_no_begin, inner_no_end, inside_has, works_among, strand_has, Sooner, in_series, from_begin, to_end, to_stop}
@@ -24,7 +25,7 @@ module _ {A : Type 0} (s : Strands A) (t : List Node) (w : Account s t) where
   abbrev Told : ℕ → ℕ → Type 0
   Told k c = c < length t → (v : Work Act) (i j : Act) → Before i j (work w.stop t k c v) → Sooner s t w i j ⊎ ((Under s t w c i × Has j v) ⊎ Before i j v)
 
-  works_before : (k p : ℕ) → is_fork t p ≡ false → ((c : ℕ) → Told k c) → (ns : List ℕ) → ((c : ℕ) → In c ns → IsChild t p c) → Rising ns → (v : Work Act) (i j : Act) → Before i j (works (work w.stop t k) ns v)
+  works_before : (k p : ℕ) → is_fork t p ≡ false → ((c : ℕ) → Told k c) → (ns : List ℕ) → ((c : ℕ) → In c ns → IsChild t p c) → Rises ns → (v : Work Act) (i j : Act) → Before i j (works (work w.stop t k) ns v)
       → Sooner s t w i j ⊎ ((Among s t w ns i × Has j v) ⊎ Before i j v)
   works_before k p nf b [] l r v i j h = inr (inr h)
   works_before k p nf b (c ∷ ns) l r v i j h =
@@ -46,7 +47,7 @@ module _ {A : Type 0} (s : Strands A) (t : List Node) (w : Account s t) where
       ]
 
   inside_before : (k c : ℕ) → is_fork t c ≡ false → c < length t → Kept s t w c → ((d : ℕ) → Told k d) → (v : Work Act) (i j : Act) → Before i j (inside w.stop t k c v) → Sooner s t w i j ⊎ ((Inner s t w c i × Has j v) ⊎ Before i j v)
-  inside_before k c nf h a f v i j g = elim (works_before k c nf f (children t c) (child_in t c) (children_rise t c) (stopping w.stop c v) i j g) [
+  inside_before k c nf h a f v i j g = elim (works_before k c nf f (children t c) (child_is t c) (children_rise t c) (stopping w.stop c v) i j g) [
     | inl x ↦ inl x
     | inr x ↦ elim x [ inl y ↦ to (w.stop.at c) refl y.0 y.1 | inr y ↦ behind (w.stop.at c) refl y ]
   ] where

@@ -9,14 +9,15 @@ use Rattle.cw_tree.specs.Series.{children}
 use Rattle.cw_tree.proofs.Walks.Climbs.{by_parent}
 use Rattle.cw_tree.proofs.Walks.Ancestors.{ancestor_self, ancestor_up, ancestor_le}
 use Rattle.cw_tree.proofs.Walks.Kin.{children_apart}
-use Rattle.cw_tree.proofs.InOrder.DepthFirst.{IsChild}
+use Rattle.cw_tree.proofs.InOrder.DepthFirst.{IsChild, child_is, child_in, children_rise}
 use Rattle.cw_record.specs.declared.items.OrderItem.TheVariants.{Begins, Does, Ends}
 use Rattle.cw_replay.proofs.RecordsReplay.Work.Work.{Work, nil, act, Has, Once}
 use Rattle.cw_replay.proofs.RecordsReplay.Machine.Acts.{Act, item, stop, place}
-use Rattle.cw_replay.proofs.Lists.{In, Rising}
 use Rattle.cw_replay.proofs.RecordsReplay.Tasks.Sorts as sorts
+use Rattle.cw_tree.proofs.Lists.{In}
+use Rattle.cw_tree.proofs.Rising.{Rises}
 use Rattle.cw_replay.proofs.RecordsReplay.Tasks.Sorts.{strand_sort}
-use Rattle.cw_replay.proofs.Kin.{child_in, in_child, children_rise, left_child, right_child, left_less, left_or_right, parent_low, over_parent}
+use Rattle.cw_replay.proofs.Kin.{left_child, right_child, left_less, left_or_right, parent_low, over_parent}
 use Rattle.cw_replay.proofs.RecordsReplay.Tasks.Accounts.{Account}
 use Rattle.cw_replay.proofs.RecordsReplay.Tasks.Tasks.{works, stopping, work, inside, whole, rolled_back, refused, left_out, View, strand, acts, skipped, opens, block, fork, view}
 use Rattle.cw_replay.proofs.RecordsReplay.Tasks.Folds.{plain_child, no_stop, no_stop_block}
@@ -35,7 +36,7 @@ module _ {A : Type 0} (s : Strands A) (t : List Node) (w : Account s t) where
   abbrev KeepsOnce : ℕ → ℕ → Type 0
   KeepsOnce k c = c < length t → (v : Work Act) → Once v → Far c v → Once (work w.stop t k c v)
 
-  works_once : (k p : ℕ) → ((c : ℕ) → KeepsOnce k c) → (ns : List ℕ) → ((c : ℕ) → In c ns → IsChild t p c) → Rising ns → (v : Work Act) → Once v → ((c : ℕ) → In c ns → Far c v) → Once (works (work w.stop t k) ns v)
+  works_once : (k p : ℕ) → ((c : ℕ) → KeepsOnce k c) → (ns : List ℕ) → ((c : ℕ) → In c ns → IsChild t p c) → Rises ns → (v : Work Act) → Once v → ((c : ℕ) → In c ns → Far c v) → Once (works (work w.stop t k) ns v)
   works_once k p o [] l r v u q = u
   works_once k p o (c ∷ ns) l r v u q =
       let m = l c (inl refl) in
@@ -48,7 +49,7 @@ module _ {A : Type 0} (s : Strands A) (t : List Node) (w : Account s t) where
       ])
 
   inside_once : (k c : ℕ) → ((d : ℕ) → KeepsOnce k d) → c < length t → (v : Work Act) → Once v → Far c v → Once (inside w.stop t k c v)
-  inside_once k c o h v u q = works_once k c o (children t c) (child_in t c) (children_rise t c) (stopping w.stop c v) (by_once (w.stop.at c)) (λ d m. by_far d (child_in t c d m) (w.stop.at c)) where
+  inside_once k c o h v u q = works_once k c o (children t c) (child_is t c) (children_rise t c) (stopping w.stop c v) (by_once (w.stop.at c)) (λ d m. by_far d (child_is t c d m) (w.stop.at c)) where
     by_once : (b : Bool) → Once (cond b (act (stop c) v) v)
     by_once true = ((λ g. (q (stop c) g).1 (ancestor_self t c)), u)
     by_once false = u
@@ -82,13 +83,13 @@ module _ {A : Type 0} (s : Strands A) (t : List Node) (w : Account s t) where
             let P : Work Act → Type 0 = λ v. Once v in
             let plain : stopping w.stop c (act (item (Ends c)) v) ≡ act (item (Ends c)) v = no_stop s t w c (act (item (Ends c)) v) (no_stop_block s t w c z.committed) in
             let Q : Work Act → Type 0 = λ x. Once (works (work w.stop t k) (children t c) x) in
-            subst Q (sym plain) (works_once k c f (children t c) (child_in t c) (children_rise t c) (act (item (Ends c)) v) ((λ g. (q (item (Ends c)) g).1 (ancestor_self t c)), u) (λ d n i g. elim g [
+            subst Q (sym plain) (works_once k c f (children t c) (child_is t c) (children_rise t c) (act (item (Ends c)) v) ((λ g. (q (item (Ends c)) g).1 (ancestor_self t c)), u) (λ d n i g. elim g [
               | inl y ↦
-                  (let m = child_in t c d n in
+                  (let m = child_is t c d n in
                   let low = parent_low t w.tree.rooted c d m in
                   let there : place i < length t = omega (arith, ap place y, h) in
                   (there, λ a. let le : d ≤ place i = ancestor_le t w.tree.rooted d (place i) there a in omega (arith, ap place y)))
-              | inr y ↦ far_child c d v (child_in t c d n) q i y
+              | inr y ↦ far_child c d v (child_is t c d n) q i y
             ]))
   once_view k c f (fork z l r y e) h v u q =
       let P : Work Act → Type 0 = λ v. Once v in
@@ -141,7 +142,7 @@ module _ {A : Type 0} (s : Strands A) (t : List Node) (w : Account s t) where
       by false = h
 
     pub inside_keeps : (k c : ℕ) → ((d : ℕ) → Keeps k d) → (v : Work Act) → Has i v → Has i (inside w.stop t k c v)
-    inside_keeps k c f v h = works_keep k f (children t c) (λ d m. (child_in t c d m).there) (stopping w.stop c v) (stopping_keeps c v h)
+    inside_keeps k c f v h = works_keep k f (children t c) (λ d m. (child_is t c d m).there) (stopping w.stop c v) (stopping_keeps c v h)
 
     keep_view : (k c : ℕ) → ((d : ℕ) → Keeps k d) → View s t w k c → (v : Work Act) → Has i v → Has i (work w.stop t (suc k) c v)
     keep_view k c f (strand z e) v h = let P : Work Act → Type 0 = λ v. Has i v in subst P (sym (e v)) h
@@ -161,7 +162,7 @@ module _ {A : Type 0} (s : Strands A) (t : List Node) (w : Account s t) where
     works_in k (c ∷ ns) l d (inr m) h v = keep k c (l c (inl refl)) (works (work w.stop t k) ns v) (works_in k ns (λ x y. l x (inr y)) d m h v)
 
     inside_in : (k c d : ℕ) → IsChild t c d → ((v : Work Act) → Has i (work w.stop t k d v)) → (v : Work Act) → Has i (inside w.stop t k c v)
-    inside_in k c d m h v = works_in k (children t c) (λ x y. (child_in t c x y).there) d (in_child t c d m) h (stopping w.stop c v)
+    inside_in k c d m h v = works_in k (children t c) (λ x y. (child_is t c x y).there) d (child_in t c d m) h (stopping w.stop c v)
 
     -- the act stands in the work of node x, or of strand x
     pub record StandsIn (x : ℕ) : Type 0 where

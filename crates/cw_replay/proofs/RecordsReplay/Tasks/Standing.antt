@@ -6,12 +6,12 @@ use Rattle.cw_tree.specs.Nodes.{is_strand, is_pending}
 use Rattle.cw_tree.specs.Walks.{is_ancestor}
 use Rattle.cw_tree.specs.Series.{children}
 use Rattle.cw_tree.proofs.Walks.Ancestors.{ancestor_self}
+use Rattle.cw_tree.proofs.NodeKinds.{block_no_strand}
+use Rattle.cw_tree.proofs.InOrder.DepthFirst.{child_is}
 use Rattle.cw_record.specs.declared.items.OrderItem.TheVariants.{Begins, Does, Ends}
-use Rattle.cw_record.proofs.NodeKinds.{block_other}
 use Rattle.cw_replay.proofs.RecordsReplay.Work.Work.{Work, nil, act, Has}
 use Rattle.cw_replay.proofs.RecordsReplay.Machine.Acts.{Act, item, stop, place}
 use Rattle.cw_replay.proofs.RecordsReplay.Tasks.Sorts.{act_sort, committed_sort, pending_sort}
-use Rattle.cw_replay.proofs.Kin.{child_in}
 use Rattle.cw_replay.proofs.RecordsReplay.Tasks.Accounts.{Account}
 use Rattle.cw_replay.proofs.RecordsReplay.Tasks.Tasks.{stopping, work, inside, whole, rolled_back, refused, left_out, View, strand, acts, skipped, opens, block, fork, view}
 use Rattle.cw_replay.proofs.RecordsReplay.Tasks.Places.{Kept, IsOf}
@@ -53,7 +53,7 @@ module _ {A : Type 0} (s : Strands A) (t : List Node) (w : Account s t) where
   stop_inside : (k c : ℕ) → w.stop.at c ≡ true → (v : Work Act) → Has (stop c) (inside w.stop t k c v)
   stop_inside k c e v =
       let P : Work Act → Type 0 = λ x. Has (stop c) x in
-      works_keep s t w (stop c) k (keep s t w (stop c) k) (children t c) (λ d m. (child_in t c d m).there) (stopping w.stop c v) (subst P (sym (ap (λ b. cond b (act (stop c) v) v) e)) (inl refl))
+      works_keep s t w (stop c) k (keep s t w (stop c) k) (children t c) (λ d m. (child_is t c d m).there) (stopping w.stop c v) (subst P (sym (ap (λ b. cond b (act (stop c) v) v) e)) (inl refl))
 
   stop_here : (k c : ℕ) → View s t w k c → w.stop.at c ≡ true → is_strand t c ≡ false → Kept s t w c → (v : Work Act) → Has (stop c) (work w.stop t (suc k) c v)
   stop_here k c x e n a v = elim (w.stops c e).kind [ inl y ↦ absurd (cc (n, y)) | inr y ↦ by x (pending_sort t c y).pending ] where
@@ -76,7 +76,7 @@ module _ {A : Type 0} (s : Strands A) (t : List Node) (w : Account s t) where
   here (stop c) h o n a (suc k) le v = stop_here k c (view s t w k c h) o n a v
 
   in_strand : (i : Act) → IsOf s t w i → is_strand t (place i) ≡ true → (k : ℕ) → Has i (inside w.stop t k (place i) nil)
-  in_strand (item (Begins c)) o e k = absurd (cc (e, block_other t c o))
+  in_strand (item (Begins c)) o e k = absurd (cc (e, block_no_strand t c o))
   in_strand (item (Does c)) o e k = absurd (cc (e, (act_sort t c o).strand))
   in_strand (item (Ends c)) o e k = absurd (cc (e, (committed_sort t c o).strand))
   in_strand (stop c) o e k = stop_inside k c o nil

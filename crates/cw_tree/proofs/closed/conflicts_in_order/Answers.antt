@@ -1,10 +1,10 @@
-use Rattle.std.proofs.Common.{arith, ap, ◌∙◌, ◌≡◌, map, rules}
+use Rattle.std.proofs.Common.{[], arith, ap, ◌∙◌, ◌≡◌, map, refl, rules}
 use Rattle.std.specs.List.Sorted.{IsNonDecreasingBy, IsStableByKey}
 use Rattle.std.specs.Ordering.{nat_cmp}
 use Rattle.std.proofs.lemmas.List.{take_all}
 use Rattle.std.proofs.lemmas.List.Sorted.{IsNonDecreasingBy-from_sort_by_key, answers_always}
-use Rattle.cw_tree.specs.InOrder.{conflict_in_order, by_asker}
-use Rattle.cw_tree.proofs.InOrder.Askers.{asker_of, sorted_is}
+use Rattle.cw_tree.specs.InOrder.{conflict_in_order, asker_of, by_asker}
+use Rattle.cw_tree.proofs.Sorts.{stable_is}
 use Rattle.cw_tree.proofs.closed.conflicts_in_order.Goals as goal
 
 pub returns : goal.returns
@@ -17,4 +17,4 @@ returns c =
     let all : cs ≡ map (conflict_in_order t) c.args.conflicts.now =
     c.loop-conflict.invariant ∙ ap (map (conflict_in_order t)) (take_all c.loop-conflict.conflict-index c.args.conflicts.now (omega arith))
     in
-    c.from_vec.ensures ∙ sorted_is cs ds up stays ∙ ap by_asker all
+    c.from_vec.ensures ∙ stable_is asker_of (λ k. record { cell = 0; last = 0; asker = k; block = 0; victim = 0; attempt = 0; chain = [] }) (λ k. refl) cs ds up stays ∙ ap by_asker all
