@@ -17,10 +17,9 @@ pub struct Standing {
 
 #[tactic(auto, unfolding(crate::specs::Room::Strands::strands_of_job, crate::specs::Room::Strands::state_of, crate::specs::Room::Strands::IsOf))]
 impl Standing {
-    ghost use Rattle.cw_code.specs.declared.program.Program.{Program};
     ghost use Rattle.cw_job.specs.Jobs.{Job, TakesWords, bare};
-    ghost use Rattle.cw_job.specs.Room.Saves.{IsSavedOf, MayRollBack, StandsAs};
-    ghost use Rattle.cw_job.specs.Room.Strands.{StrandState, IsOf, state_of, strands_of_job};
+    ghost use Rattle.cw_job.specs.Room.Saves.{IsSavedOf, MayRollBack};
+    ghost use Rattle.cw_job.specs.Room.Strands.{IsOf, state_of, strands_of_job};
 
     /// The strand of main, at its first want.
     pub fn start(
@@ -85,14 +84,6 @@ impl Standing {
         self.strand.joined(left.strand);
         self.want = self.strand.next(program, Given::Nothing)?;
         Ok(())
-    }
-
-    /// As the right strand of a fork of which a strand was given up: it stands where it stood, as the strand that forked. Takes no memory.
-    pub fn join_given_up(&mut self, left: Standing)
-        ensures like { (there : StrandState) → StandsAs (state_of self.old) there → StandsAs (state_of self.new) there }
-        ensures stands { (program : Program) → IsOf program self.old → IsOf program self.new }
-    {
-        self.strand.joined(left.strand);
     }
 
     /// Keeps what it needs to stand here again, at the begin of a block that it wants.

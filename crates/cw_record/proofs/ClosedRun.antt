@@ -1,3 +1,4 @@
+pub mod LeftEnds
 pub mod LeftMemory
 pub mod LeftRuns
 pub mod NumberedTrees

@@ -1,5 +1,5 @@
 pub mod Lists
-pub mod NodeKinds
+pub mod Members
 pub mod StrandIs
 pub mod ClosedRun
 pub mod Coherent

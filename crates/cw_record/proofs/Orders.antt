@@ -12,7 +12,6 @@ pub mod Outside
 pub mod Rising
 pub mod SameOrders
 pub mod Scans
-pub mod Sorts
 pub mod Steps
 pub mod Tells
 pub mod There

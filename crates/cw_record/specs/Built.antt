@@ -41,6 +41,11 @@ memory_left (v ∷ vs) (es ∷ kept) = value_left v es ∷ memory_left vs kept
 abbrev pub outputs_left : List Node → List Conflict → (budget : ℕ) → List ℤ
 outputs_left t cs budget = outputs_shown t (items t cs budget (Finished [] []))
 
+-- an end, with this memory and these outputs where the run finished
+abbrev pub with_left : RecordEnd → (memory outputs : List ℤ) → RecordEnd
+with_left (Finished m o) memory outputs = Finished memory outputs
+with_left e memory outputs = e
+
 -- how a closed run ended, and what it left where it finished
 abbrev pub end_left : (first : List ℤ) → (budget : ℕ) → Closed → (spent : Bool) → RecordEnd
 end_left first budget c spent = end_after c.halt spent (memory_left first c.journals) (outputs_left c.tree c.conflicts budget)

@@ -37,12 +37,13 @@ module _ {A : Type 0} (s : Strands A) (m : OpenMachine) (before after reached : 
 
   -- ## How it ended
 
-  -- a fault is what its strand wants, which may go on; where nothing stopped the run its moves were spent, or the root finished
+  -- a fault is what its strand wants, which may go on; where nothing stopped the run its moves were spent before the root had finished, or
+  -- it finished
   abbrev pub EndsSo : (budget : ℕ) → Option Halt → (spent : Bool) → Type 0
   EndsSo budget (Some (halt.Fault x kind)) spent = IsTrue (is_free (unstopped m) x) × (s.want (reached (place m.tree x)) ≡ want.Fault kind)
   EndsSo budget (Some (halt.Budget x)) spent = HasSpent m budget x
   EndsSo budget (Some halt.Memory) spent = ⊥
-  EndsSo budget None true = Unit {0}
+  EndsSo budget None true = IsTrue (not (has_finished m 0))
   EndsSo budget None false = IsTrue (has_finished m 0 && not (finished_dead m 0))
 
 -- ## A closed run

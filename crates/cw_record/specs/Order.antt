@@ -26,9 +26,9 @@ ending_strand _ = 0
 abbrev pub pick_of : List Node → OrderItem → ℕ
 pick_of t i = strand_number t (strand_of t (node_of i))
 
+-- the order of a run of these items
+abbrev pub order_through : List Node → List OrderItem → RecordEnd → Picks
+order_through t is e = record { names = listed_names t; list = map (pick_of t) is; last = strand_number t (ending_strand e) }
+
 abbrev pub order_of : List Node → List Conflict → ℕ → RecordEnd → Picks
-order_of t cs budget e = record {
-  names = listed_names t;
-  list = map (pick_of t) (items t cs budget e);
-  last = strand_number t (ending_strand e);
-}
+order_of t cs budget e = order_through t (items t cs budget e) e

@@ -1,35 +1,56 @@
-ghost use Rattle.std.specs.Prelude.{◌≡◌, IfOk};
+ghost use Rattle.std.specs.Prelude.{◌≡◌, ◌<◌, [], All, IfOk, length};
 ghost use Rattle.cw_strand.specs.Names.{first_memory};
-ghost use Rattle.cw_record.specs.Built.{HasRecord, end_left, memory_left, outputs_left, value_left};
+ghost use Rattle.cw_record.specs.Built.{HasRecord, memory_left, value_left, with_left};
+ghost use Rattle.cw_record.specs.ClosedRun.{end_after};
+ghost use Rattle.cw_record.specs.Coherent.{outputs_shown};
+ghost use Rattle.cw_record.specs.Order.{node_of};
 
 use crate::RecordEnd;
-use crate::items::items;
+use crate::items::OrderItem;
 use cw_base::{OutOfMemory, Seq};
 use cw_code::Program;
 use cw_job::first_memory;
-use cw_tree::{Closed, Conflict, Entry, Halt, Kind, Tree};
+use cw_tree::{Closed, Entry, Halt, Kind, Tree};
 use std::alloc::Global;
 
-/// How a closed run ended, whose budget is `aborts` attempts: as it was stopped, or else its moves were spent, or else it finished.
+/// How a closed run ended: as it was stopped, or else its moves were spent, or else it finished. What it left is still to come: the order
+/// of a run that finished does not hang on it.
+pub(crate) fn end_told(alloc: Global, closed: &Closed, spent: bool) -> RecordEnd
+    requires { HasRecord closed.now.tree closed.now.halt }
+    ensures { result ≡ end_after closed.now.halt spent [] [] }
+{
+    match closed.halt {
+        Some(Halt::Fault { strand, kind }) => RecordEnd::Fault { strand, kind },
+        Some(Halt::Budget { strand }) => RecordEnd::Budget { strand },
+        Some(Halt::Memory) => unreachable!(),
+        None if spent => RecordEnd::Moves,
+        None => RecordEnd::Finished {
+            memory: Seq::new(alloc),
+            outputs: Seq::new(alloc),
+        },
+    }
+}
+
+/// This end of a closed run with these items, with what the run left where it finished.
 pub(crate) fn end_left(
     alloc: Global,
     program: &Program,
-    aborts: u32,
     closed: &Closed,
-    spent: bool,
+    told: RecordEnd,
+    items: &[OrderItem],
 ) -> Result<RecordEnd, OutOfMemory>
-    requires { HasRecord closed.now.tree closed.now.halt }
-    ensures { IfOk result (λ e. e ≡ end_left (first_memory program.now.cells) aborts closed.now spent) }
+    requires { All (λ i. node_of i < length closed.now.tree) items.now }
+    ensures { IfOk result (λ e. e ≡ with_left told
+        (memory_left (first_memory program.now.cells) closed.now.journals) (outputs_shown closed.now.tree items.now)) }
 {
-    match closed.halt {
-        Some(Halt::Fault { strand, kind }) => Ok(RecordEnd::Fault { strand, kind }),
-        Some(Halt::Budget { strand }) => Ok(RecordEnd::Budget { strand }),
-        Some(Halt::Memory) => unreachable!(),
-        None if spent => Ok(RecordEnd::Moves),
-        None => Ok(RecordEnd::Finished {
+    match told {
+        RecordEnd::Finished { .. } => Ok(RecordEnd::Finished {
             memory: memory_left(alloc, program, closed.journals.as_slice())?,
-            outputs: outputs_left(alloc, &closed.tree, closed.conflicts.as_slice(), aborts)?,
+            outputs: outputs_left(alloc, &closed.tree, items)?,
         }),
+        RecordEnd::Fault { strand, kind } => Ok(RecordEnd::Fault { strand, kind }),
+        RecordEnd::Budget { strand } => Ok(RecordEnd::Budget { strand }),
+        RecordEnd::Moves => Ok(RecordEnd::Moves),
     }
 }
 
@@ -60,23 +81,13 @@ fn value_left(first: i64, journal: &[Entry]) -> i64
     }
 }
 
-/// The outputs of a run that finished, in its order.
-fn outputs_left(
-    alloc: Global,
-    tree: &Tree,
-    conflicts: &[Conflict],
-    aborts: u32,
-) -> Result<Seq<i64>, OutOfMemory>
-    ensures { IfOk result (λ vs. vs ≡ outputs_left tree.now conflicts.now aborts) }
+/// The outputs among the items of a run, in their order.
+fn outputs_left(alloc: Global, tree: &Tree, items: &[OrderItem]) -> Result<Seq<i64>, OutOfMemory>
+    requires { All (λ i. node_of i < length tree.now) items.now }
+    ensures { IfOk result (λ vs. vs ≡ outputs_shown tree.now items.now) }
 {
-    // what stands in the order of a run that finished does not hang on what it left
-    let finished = RecordEnd::Finished {
-        memory: Seq::new(alloc),
-        outputs: Seq::new(alloc),
-    };
-    let items = items(alloc, tree, conflicts, aborts, &finished)?;
     let mut outputs = Seq::new(alloc);
-    for item in items.as_slice() {
+    for item in items {
         if let Kind::Out { value } = tree.node(item.node()).kind {
             outputs.push(value)?;
         }

@@ -2,7 +2,7 @@ ghost use Rattle.std.specs.Prelude.{◌≡◌, ◌<◌, All, IfOk, IsTrue, lengt
 ghost use Rattle.cw_tree.specs.Nodes.{all_nodes, is_strand};
 ghost use Rattle.cw_tree.specs.Series.{strand_of};
 ghost use Rattle.cw_record.specs.Listed.{strand_number};
-ghost use Rattle.cw_record.specs.Order.{ending_strand, node_of, order_of, pick_of};
+ghost use Rattle.cw_record.specs.Order.{ending_strand, node_of, order_of, order_through, pick_of};
 
 use crate::RecordEnd;
 use crate::items::{OrderItem, items};
@@ -25,11 +25,25 @@ pub fn order_of(
     requires { IsTrue (is_strand tree.now (ending_strand end.now)) }
     ensures { IfOk result (λ p. p ≡ order_of tree.now conflicts.now aborts end.now) }
 {
+    let items = items(alloc, tree, conflicts, aborts, end)?;
+    order_through(alloc, tree, items.as_slice(), end)
+}
+
+/// The order of a run of these items.
+pub(crate) fn order_through(
+    alloc: Global,
+    tree: &Tree,
+    items: &[OrderItem],
+    end: &RecordEnd,
+) -> Result<Picks, OutOfMemory>
+    requires strand { IsTrue (is_strand tree.now (ending_strand end.now)) }
+    requires there { All (λ i. node_of i < length tree.now) items.now }
+    ensures { IfOk result (λ p. p ≡ order_through tree.now items.now end.now) }
+{
     // a hint to the prover: each node but the root has a smaller parent
     let _ = tree.nodes();
     let listed = Listed::of_tree(alloc, tree)?;
-    let items = items(alloc, tree, conflicts, aborts, end)?;
-    let list = picks(alloc, tree, &listed, items.as_slice())?;
+    let list = picks(alloc, tree, &listed, items)?;
     let last = listed.numbers[ending_strand(end) as usize];
     Ok(Picks {
         names: Seq::from_vec(listed.names),

@@ -11,7 +11,9 @@ ghost use Rattle.cw_record.specs.Built.{HasRecord, IsLeftBy, end_left};
 ghost use Rattle.cw_record.specs.Order.{order_of};
 ghost use Rattle.cw_record.specs.Records.{BlocksEnded, HasEnded, HasItsOutputs, IsCoherentRun, IsReplayed, IsDepthFirst, IsNumberedDepthFirst};
 
-use crate::left::end_left;
+use crate::items::items;
+use crate::left::{end_left, end_told};
+use crate::order::order_through;
 use crate::worker::Worker;
 use crate::{RecordEnd, order_of};
 use cw_base::{OutOfMemory, Seq};
@@ -77,8 +79,8 @@ pub fn depth_first(
 }
 
 /// The record of a run that was closed, of a job that it was a run of: what was run, what is left of it, and beside that its order
-/// and its end. `spent` says that the moves of the run were used up; where it was stopped it ended so all the same. A run that
-/// finished has the memory that its journals leave, and the outputs of its output nodes, in its order.
+/// and its end. `spent` says that the moves of the run were used up before main had ended; where it was stopped it ended so all the
+/// same. A run that finished has the memory that its journals leave, and the outputs of its output nodes, in its order.
 ///
 /// A run that was stopped for want of memory has no record, and a strand at which one was stopped has to be one of the tree. The
 /// only error is want of memory.
@@ -109,14 +111,11 @@ pub fn build(
 {
     // a hint to the prover: the root is a strand
     let _ = closed.tree.nodes();
-    let end = end_left(alloc, &program, limits.aborts, &closed, spent)?;
-    let order = order_of(
-        alloc,
-        &closed.tree,
-        closed.conflicts.as_slice(),
-        limits.aborts,
-        &end,
-    )?;
+    let told = end_told(alloc, &closed, spent);
+    let conflicts = closed.conflicts.as_slice();
+    let items = items(alloc, &closed.tree, conflicts, limits.aborts, &told)?;
+    let end = end_left(alloc, &program, &closed, told, items.as_slice())?;
+    let order = order_through(alloc, &closed.tree, items.as_slice(), &end)?;
     Ok(Record {
         program,
         words,

@@ -1,13 +1,11 @@
 -- Which strand stands where another one does, and which may go back to the begin of a block.
-use Rattle.std.proofs.Common.{◌≡◌, ◌∙◌, refl, ap, sym, subst, arith}
-use Rattle.cw_code.specs.declared.instruction.Code.{Code}
+use Rattle.std.proofs.Common.{◌≡◌, ◌∙◌, refl, ap, sym, subst}
 use Rattle.cw_code.specs.declared.program.Program.{Program}
 use Rattle.cw_strand.specs.declared.want.Want.{Want}
 use Rattle.cw_strand.specs.declared.want.Want.TheVariants.{Begin}
-use Rattle.cw_strand.specs.Coded.{State, joined, left}
-use Rattle.cw_strand.specs.Saving.{Kept, kept_of, StandsLike, MayGoBack as MayGo}
+use Rattle.cw_strand.specs.Coded.{State}
+use Rattle.cw_strand.specs.Saving.{Kept, kept_of, MayGoBack as MayGo}
 use Rattle.cw_strand.specs.Standing.{StandsWanting}
-use Rattle.cw_strand.proofs.Standing.{grown_stands, joined_stands}
 use Rattle.cw_job.specs.declared.standing.Standing.{Standing}
 use Rattle.cw_job.specs.Room.Strands.{StrandState, state_of, strands_of_job}
 use Rattle.cw_job.specs.Room.Saves.{IsSavedOf, StandsAs, MayRollBack}
@@ -15,18 +13,6 @@ use Rattle.cw_job.specs.Room.Saves.{IsSavedOf, StandsAs, MayRollBack}
 pub stands_as_it : (a : StrandState) → StandsAs a a
 unfolding StandsAs
 stands_as_it a = refl
-
--- a strand to which another one was joined stands where it stood
-pub joined_like : (s t there : State) → StandsLike s there → StandsLike (joined s t) there
-joined_like s t there e = ap (λ (x : State). record x { fuel = (joined s t).fuel; size = (joined s t).size }) e
-
--- and so it does in its code
-pub joined_wanting : (code : Code) (w : Want) (s t : State) → StandsWanting code w s → StandsWanting code w (joined s t)
-joined_wanting code w s t h = record {
-  stands = joined_stands code s t h.stands;
-  beside = λ e. grown_stands code (left s) (joined s t).fuel 0 (omega arith) (h.beside e);
-  begun = λ e. (let b = h.begun e in record { operands = b.operands; scopes = b.scopes; opened = b.opened; current = b.current; within = b.within });
-}
 
 pub may_go : (saved : Kept) (x : StrandState) → MayRollBack saved x → MayGo saved x.state
 unfolding strands_of_job IsSavedOf StandsAs

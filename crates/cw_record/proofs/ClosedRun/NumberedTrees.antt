@@ -8,10 +8,11 @@ use Rattle.cw_tree.specs.Walks.{IsNumbered, IsRooted, is_ancestor}
 use Rattle.cw_tree.specs.Series.{children, walk, depth_first}
 use Rattle.cw_tree.specs.InOrder.{in_order}
 use Rattle.cw_tree.proofs.Lists.{In, length_map_below, get_map_below}
-use Rattle.cw_tree.proofs.Walks.Ancestors.{ancestor_self, ancestor_up, ancestor_trans}
+use Rattle.cw_tree.proofs.Walks.Ancestors.{ancestor_self, ancestor_trans}
 use Rattle.cw_tree.proofs.InOrder.DepthFirst.{IsChild, child_is, whole, walk_step}
 use Rattle.cw_tree.proofs.InOrder.Renumbered.{some_node, in_order_numbered}
 use Rattle.cw_tree.proofs.Walks.Siblings.{numbered_depth_first}
+use Rattle.cw_tree.proofs.InOrder.Visits.{child_over}
 use Rattle.cw_record.specs.Records.{IsNumberedDepthFirst}
 
 module _ (t : List Node) where
@@ -30,9 +31,6 @@ module _ (t : List Node) where
   hangs_at a (x ∷ xs) (suc k) h l = hangs_at x xs k h.1 (omega arith)
 
   module _ (r : IsRooted t) where
-    child_over : (n x : ℕ) → IsChild t n x → is_ancestor t n x ≡ true
-    child_over n x c = let P : ℕ → Type 0 = λ y. is_ancestor t n y ≡ true in ancestor_up t r n x c.some c.there (subst P (sym c.parent) (ancestor_self t n))
-
     -- the walks from children of n hang behind what is beneath n, where each walk does behind what its node may hang behind
     walks_hang : (k n : ℕ) → ((x a : ℕ) (ys : List ℕ) → x < length t → is_ancestor t (parent_of t x) a ≡ true → HangsBeneath x ys → Hangs a (walk t k x ++ ys))
         → (xs ys : List ℕ) → ((x : ℕ) → In x xs → IsChild t n x) → HangsBeneath n ys → HangsBeneath n (flat_map (walk t k) xs ++ ys)
@@ -43,7 +41,7 @@ module _ (t : List Node) where
         let Q : List ℕ → Type 0 = Hangs a in
         let rest = flat_map (walk t k) xs in
         subst Q (sym (append_assoc (walk t k x) rest ys))
-        (one x a (rest ++ ys) c.there (subst P (sym c.parent) over) (λ b h under. walks_hang k n one xs ys (λ y i. each y (inr i)) more b h (ancestor_trans t r n x b h (child_over n x c) under)))
+        (one x a (rest ++ ys) c.there (subst P (sym c.parent) over) (λ b h under. walks_hang k n one xs ys (λ y i. each y (inr i)) more b h (ancestor_trans t r n x b h (child_over t r n x c) under)))
 
     -- the walk from n, and behind it what hangs behind all that is beneath n
     walk_hangs : (k n a : ℕ) (ys : List ℕ) → n < length t → is_ancestor t (parent_of t n) a ≡ true → HangsBeneath n ys → Hangs a (walk t k n ++ ys)

@@ -21,10 +21,10 @@ use Rattle.cw_tree.proofs.Walks.Children.{last_passes}
 use Rattle.cw_tree.proofs.InOrder.Renumbered.{visited, some_node}
 use Rattle.cw_tree.proofs.InOrder.Renaming.{number_of, node_stays, root_stays, parent_stays}
 use Rattle.cw_tree.proofs.Walks.Siblings.{siblings}
-use Rattle.cw_open.proofs.Open.NodeKinds.{fork_no_strand}
 use Rattle.cw_open.proofs.Reordered.Renamed.{each_number, block_kept, strand_kept, fork_kept, committed_kept, later_renamed}
 use Rattle.cw_record.specs.Replay.{IsAccessOf}
 use Rattle.cw_tree.specs.Links.{is_child, last_child}
+use Rattle.cw_tree.proofs.NodeKinds.{fork_no_strand}
 use Rattle.cw_record.specs.Coherent.{InSeries, entered, IsForkOf, IsClosed, IsWanted, StrandEnded, alone, joined, IsJoined, Follows}
 
 -- ## The last child

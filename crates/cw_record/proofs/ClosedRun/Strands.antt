@@ -15,23 +15,23 @@ use Rattle.cw_tree.proofs.Walks.There.{node_there}
 use Rattle.cw_tree.proofs.InOrder.DepthFirst.{IsChild, child_is}
 use Rattle.cw_tree.proofs.Walks.Children.{last_passes}
 use Rattle.cw_tree.proofs.Walks.Ancestors.{root_ancestor, above_parent}
-use Rattle.cw_tree.proofs.Walks.Kin.{in_ancestor}
+use Rattle.cw_tree.proofs.Walks.Kin.{in_ancestor, fork_child}
 use Rattle.cw_tree.proofs.Walks.Strands.{strand_of_other}
 use Rattle.cw_open.specs.Machine.{OpenMachine, has_finished, finished_dead, is_running, is_dying, is_free}
 use Rattle.cw_open.specs.Open.{is_open}
 use Rattle.cw_open.specs.Runs.{IsReachedBy, at_any_time}
 use Rattle.cw_open.specs.Refused.{unstopped, DiedBeneathVictim}
-use Rattle.cw_open.proofs.Open.NodeKinds.{pending_block, strand_no_block, fork_no_strand, fork_no_block_at}
 use Rattle.cw_open.proofs.Open.Standing.{open_over, open_block, pending_open, runs, stands}
 use Rattle.cw_open.proofs.Open.Trees.{IsWell}
 use Rattle.cw_open.proofs.Laws.Named.{live_tells}
 use Rattle.cw_open.proofs.Open.Staying.{later_is}
-use Rattle.cw_open.proofs.Refused.Backed.{fork_child, not_both, committed_block}
+use Rattle.cw_open.proofs.Refused.Backed.{not_both}
 use Rattle.cw_open.proofs.Laws.ChainSteps.{only_committed}
 use Rattle.cw_open.proofs.Refused.GoingBack.{committed_safe, dead_back}
 use Rattle.cw_open.proofs.Runs.Unstopped.{stops_left_out}
 use Rattle.cw_open.proofs.Runs.States.{states}
 use Rattle.cw_tree.specs.Links.{is_child, last_child}
+use Rattle.cw_tree.proofs.NodeKinds.{strand_no_block, fork_no_strand, fork_no_block, pending_block, committed_block}
 use Rattle.cw_record.specs.Coherent.{StrandEnded, alone, joined, IsJoined, HasNoOpenFork, Follows}
 use Rattle.cw_record.specs.ClosedRun.{AreStates}
 
@@ -82,7 +82,7 @@ module _ {A : Type 0} (s : Strands A) (asked : List Node → List ℕ → Option
   joined_shut f is done =
       false_from_ne_true (is_open m f) (λ e.
       elim (or_cases (is_strand t f && not (has_finished m f) || is_fork t f && not (has m.joined f)) (is_pending t f) e) [
-        | inr q ↦ absurd (cc (pending_block t f q, fork_no_block_at t f is))
+        | inr q ↦ absurd (cc (pending_block t f q, fork_no_block t f is))
         | inl q ↦ elim (or_cases (is_strand t f && not (has_finished m f)) (is_fork t f && not (has m.joined f)) q) [
           | inl y ↦ absurd (cc (fork_no_strand t f is, (and_parts (is_strand t f) (not (has_finished m f)) y).0))
           | inr y ↦ absurd (cc (done, not-true (has m.joined f) (and_parts (is_fork t f) (not (has m.joined f)) y).1))

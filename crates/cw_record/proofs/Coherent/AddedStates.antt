@@ -14,10 +14,10 @@ use Rattle.cw_tree.specs.Links.{is_child, last_child}
 use Rattle.cw_tree.proofs.Walks.Ancestors.{ancestor_self, ancestor_step}
 use Rattle.cw_tree.proofs.NextNodes.Growing.{get_append, get_next, length_more, node_grown, number_grown, node_new, number_new, ancestor_grown, rooted_more}
 use Rattle.cw_tree.proofs.Walks.Children.{last_passes}
+use Rattle.cw_tree.proofs.LastBelow.{last_none}
 use Rattle.cw_job.specs.Room.Strands.{StrandState}
 use Rattle.cw_record.specs.declared.worker.Branch.{Branch}
 use Rattle.cw_record.specs.Drawn.{added}
-use Rattle.cw_record.proofs.OneWorker.Faults.{last_none}
 use Rattle.cw_record.proofs.Coherent.States.{States, behind, reached, side, begins_in, begins, DoesAs, Does, AreStates, IsOver, JoinsAt}
 use Rattle.cw_record.proofs.Coherent.KeptStates.{does_same, Keeps, below_same, behind_same, states_kept, does_kept}
 use Rattle.cw_record.proofs.OneWorker.KnownStates.{Known, Knows, Moves, Waits, over_kept, joins_kept, waits_kept}

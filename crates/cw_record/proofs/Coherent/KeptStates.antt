@@ -1,5 +1,5 @@
 -- The states of a tree that grows: what stays where a node came behind all that is right in one node, or one state was reached anew.
-use Rattle.std.proofs.Common.{◌≡◌, ◌≢◌, ℕ, zero, suc, ◌<◌, ◌≤◌, List, length, refl, ap, sym, ◌∙◌, subst, arith, Bool, true, false, cond, inl, inr, Option, Some, None, nat_lt, nat_eq}
+use Rattle.std.proofs.Common.{◌≡◌, ◌≢◌, ℕ, ◌<◌, ◌≤◌, List, length, refl, ap, sym, ◌∙◌, subst, arith, Bool, true, false, cond, inl, inr, Option, Some, None, nat_lt, nat_eq}
 use Rattle.std.specs.Prelude.{◌&&◌, slice_get}
 use Rattle.std.proofs.lemmas.Bool.{and_parts, cases_eq, cases_lt, eqb-true, false_from_ne_true}
 use Rattle.std.proofs.lemmas.Option.{slice_get_within}
@@ -14,17 +14,8 @@ use Rattle.cw_tree.specs.Nodes.{parent_of, passes, last_below, is_fork, is_block
 use Rattle.cw_tree.specs.Walks.{IsRooted}
 use Rattle.cw_tree.specs.Links.{is_child, last_child, child_before}
 use Rattle.cw_tree.proofs.Walks.Children.{last_passes}
-use Rattle.cw_record.proofs.OneWorker.Faults.{last_same}
+use Rattle.cw_tree.proofs.LastBelow.{last_same, last_past}
 use Rattle.cw_record.proofs.Coherent.States.{States, enters, behind, reached, side, begins_in, begins, DoesAs, Does, AreStates}
-
--- where none passes from k on
-last_past : (p : ℕ → Bool) (k j : ℕ) → k ≤ j → ((n : ℕ) → k ≤ n → n < j → p n ≡ false) → last_below p j ≡ last_below p k
-last_past p k zero le h = let same : zero ≡ k = omega arith in ap (last_below p) same
-last_past p k (suc j) le h =
-    elim (cases_lt j k) [
-      | inl l ↦ (let same : suc j ≡ k = omega arith in ap (last_below p) same)
-      | inr past ↦ ap (λ b. cond b (Some j) (last_below p j)) (h j past (omega arith)) ∙ last_past p k j past (λ n le l. h n le (omega arith))
-    ]
 
 -- ## What a node does, of the same states
 

@@ -8,6 +8,7 @@ use Rattle.cw_tree.specs.Walks.{IsRooted, is_ancestor}
 use Rattle.cw_tree.proofs.Lists.{at_or_before}
 use Rattle.cw_tree.proofs.Walks.Ancestors.{ancestor_self, ancestor_up, ancestor_le, ancestor_trans}
 use Rattle.cw_tree.proofs.NextNodes.Growing.{length_more, number_grown, number_new, rooted_more, ancestor_grown, ancestor_new}
+use Rattle.cw_tree.proofs.NodeKinds.{block_some, fork_some}
 use Rattle.cw_job.specs.Room.Strands.{StrandState}
 use Rattle.cw_serial.proofs.Branches.{Branch, on_left, on_right}
 use Rattle.cw_record.specs.declared.worker.Branch.{Branch as Held}
@@ -17,7 +18,6 @@ use Rattle.cw_record.specs.Records.{IsNumberedDepthFirst}
 use Rattle.cw_record.specs.OneWorker.{unstarted}
 use Rattle.cw_record.proofs.OneWorker.Building.{IsBuilt}
 use Rattle.cw_record.proofs.OneWorker.Descending.{Crossing, Descends}
-use Rattle.cw_record.proofs.NodeKinds.{block_some, fork_some}
 use Rattle.cw_record.proofs.OneWorker.Running.{HoldsBranches, crossings}
 use Rattle.cw_record.proofs.OneWorker.Unstarted.{with_strands}
 use Rattle.cw_record.proofs.OneWorker.Waiting.{one_unstarted}

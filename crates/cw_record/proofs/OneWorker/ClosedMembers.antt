@@ -11,15 +11,14 @@ use Rattle.cw_tree.specs.Accesses.{by_key}
 use Rattle.cw_tree.proofs.Walks.Climbs.{path_step}
 use Rattle.cw_tree.proofs.Walks.Ancestors.{ancestor_self, ancestor_le}
 use Rattle.cw_tree.proofs.Walks.Kin.{in_ancestor}
-use Rattle.cw_tree.proofs.Members.{in_below, filter_same, below_none, below_last}
-use Rattle.cw_tree.proofs.NextNodes.Kept.{find_same}
+use Rattle.cw_tree.proofs.Members.{in_below, filter_same, below_none, below_last, find_same}
 use Rattle.cw_tree.proofs.NextNodes.Closing.{all_nodes_closed, node_closed, node_closed_other, number_closed, number_closed_other, state_closed, end_closed, path_closed, xparent_closed}
 use Rattle.cw_record.specs.Items.{is_act, is_act_kind, same_block, is_right_in, key, members, open_member}
 use Rattle.cw_tree.proofs.InOrder.Keys.{by_key_same, by_key_last}
 use Rattle.cw_record.proofs.Orders.Homes.{home, same_block_self, same_block_false, home_step, xparent_home, xparent_is, xparent_over, open_home, open_here}
 use Rattle.cw_record.proofs.OneWorker.Moves.{IsGrowing}
 use Rattle.cw_record.proofs.Orders.Alike.{sorted, IsMember, member_is}
-use Rattle.cw_record.proofs.NodeKinds.{pending_no_member}
+use Rattle.cw_record.proofs.Members.{pending_no_member}
 use Rattle.cw_record.proofs.OneWorker.Tails.{SameBut}
 
 -- no key is above the clock

@@ -15,7 +15,8 @@ use Rattle.cw_tree.proofs.Walks.Ancestors.{ancestor_self, ancestor_step, ancesto
 use Rattle.cw_tree.proofs.NextNodes.Growing.{length_more}
 use Rattle.cw_tree.proofs.Lists.{In}
 use Rattle.cw_tree.proofs.Walks.Children.{last_passes}
-use Rattle.cw_tree.proofs.InOrder.Visits.{child_in}
+use Rattle.cw_tree.proofs.NodeKinds.{fork_some, strand_no_fork}
+use Rattle.cw_tree.proofs.InOrder.DepthFirst.{child_in}
 use Rattle.cw_job.specs.Room.Strands.{StrandState, state_of}
 use Rattle.cw_job.specs.declared.standing.Standing.{Standing as Written}
 use Rattle.cw_record.specs.declared.worker.Branch.{Branch}
@@ -25,7 +26,6 @@ use Rattle.cw_record.proofs.Coherent.AddedStates.{StartsAt, with_node, state_sam
 use Rattle.cw_record.proofs.OneWorker.Building.{IsBuilt}
 use Rattle.cw_record.proofs.Coherent.KeptStates.{reached_same}
 use Rattle.cw_record.proofs.OneWorker.KnownStates.{Known, Knows, HasWaited}
-use Rattle.cw_record.proofs.NodeKinds.{strand_alone, fork_some}
 use Rattle.cw_record.proofs.OneWorker.ReachedStates.{same_itself, with_after, last_right_in, still, knows_up, joins_up}
 use Rattle.cw_record.proofs.Coherent.States.{States, reached, DoesAs, Does, IsOver, JoinsAt, two_below}
 use Rattle.cw_record.proofs.OneWorker.StepStates.{undone_way}
@@ -82,7 +82,7 @@ module _ (s : Strands StrandState) where
       begun =
           knows_down s t b.rooted x f there_f Strand 0 (s.right (x.before f)) (s.right (x.before f)) k.states undone starts tt rest p (λ n l e. above_p n e) k.waits.1
           (λ n l strand off. over_off (Left f right ∷ rest) k n l strand (λ ne. over_p n ne ∙ off))
-          (λ g l forks off. k.joins g l forks (over_p g (λ q. (let P : ℕ → Type 0 = λ i. is_fork t i ≡ false in absurd (let no = subst P q (strand_alone t p strand).1 in cc (no, forks)))) ∙ off))
+          (λ g l forks off. k.joins g l forks (over_p g (λ q. (let P : ℕ → Type 0 = λ i. is_fork t i ≡ false in absurd (let no = subst P q (strand_no_fork t p strand) in cc (no, forks)))) ∙ off))
 
       waited : HasWaited s (added t f Strand 0) (length t) right_begins f (state_of left)
       waited =
@@ -166,7 +166,7 @@ module _ (s : Strands StrandState) where
 
       joined_here : JoinsAt s t joins f
       joined_here l r child before =
-          let z = are_two l r (sym (ap (λ n. last_below (is_child t n) r) child.parent) ∙ before) (children t f) refl few (child_in t b.rooted f p (record { some = some; there = b.there; parent = up })) (child_in t b.rooted f l0 k.waits.0.child) (child_in t b.rooted f r child) in
+          let z = are_two l r (sym (ap (λ n. last_below (is_child t n) r) child.parent) ∙ before) (children t f) refl few (child_in t f p (record { some = some; there = b.there; parent = up })) (child_in t f l0 k.waits.0.child) (child_in t f r child) in
           let w = k.waits.0 in
           let under = outer in
           let lower = low_f in
@@ -182,10 +182,10 @@ module _ (s : Strands StrandState) where
       off_f n np nf off = over_p n np ∙ (ancestor_step t b.rooted n f some_f there_f nf ∙ off)
 
       not_fork : (n : ℕ) → is_strand t n ≡ true → f ≢ n
-      not_fork n on q = (let P : ℕ → Type 0 = λ i. is_fork t i ≡ true in absurd (let no = (strand_alone t n on).1 in let yes = subst P q fork in cc (no, yes)))
+      not_fork n on q = (let P : ℕ → Type 0 = λ i. is_fork t i ≡ true in absurd (let no = (strand_no_fork t n on) in let yes = subst P q fork in cc (no, yes)))
 
       not_strand : (n : ℕ) → is_fork t n ≡ true → p ≢ n
-      not_strand n on q = (let P : ℕ → Type 0 = λ i. is_fork t i ≡ false in absurd (let no = subst P q (strand_alone t p strand).1 in cc (no, on)))
+      not_strand n on q = (let P : ℕ → Type 0 = λ i. is_fork t i ≡ false in absurd (let no = subst P q (strand_no_fork t p strand) in cc (no, on)))
 
       does_fork : (z : Node) → slice_get t f ≡ Some z → Does s t joins f z.kind z.state
       does_fork z is = fork_any z.kind z.state (x.before f) (x.after f) (reached s t x f) (joins.after f) (reached s t joins f) (sym (ap (passes (λ w. is_fork_kind w.kind)) is) ∙ fork) (k.states.does f z is)

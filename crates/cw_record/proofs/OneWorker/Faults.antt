@@ -1,5 +1,5 @@
 -- Where a run of one worker comes to its end: the place of its strand, and right strands that never started.
-use Rattle.std.proofs.Common.{◌≡◌, ℕ, zero, suc, ◌<◌, ◌≤◌, List, [], ◌∷◌, length, refl, ap, sym, ◌∙◌, arith, Bool, true, false, cond, Some, None, inl, inr, nat_eq, subst}
+use Rattle.std.proofs.Common.{◌≡◌, ℕ, zero, suc, ◌<◌, ◌≤◌, List, [], ◌∷◌, length, refl, ap, sym, ◌∙◌, arith, Bool, true, false, cond, Some, None, inl, inr, nat_eq}
 use Rattle.std.specs.Prelude.{◌⊎◌, ◌&&◌, unwrap_or}
 use Rattle.std.proofs.lemmas.Bool.{and_parts, and_from, and_left, or_cases, or_parts, cases_Bool, cases_lt, eq-eqb, eqb-true, false_from_ne_true}
 use Rattle.cw_tree.specs.declared.node.Node.{Node}
@@ -8,37 +8,22 @@ use Rattle.cw_tree.specs.declared.conflict.Conflict.{Conflict}
 use Rattle.cw_tree.specs.Nodes.{is_strand, is_block, is_pending, is_committed, is_block_kind, is_pending_state, first_state, last_below, fresh_node}
 use Rattle.cw_tree.specs.Walks.{IsRooted, is_ancestor}
 use Rattle.cw_tree.specs.Series.{strand_of, place}
-use Rattle.cw_tree.proofs.Lists.{at_or_before}
 use Rattle.cw_tree.proofs.Walks.Ancestors.{ancestor_self, ancestor_le}
 use Rattle.cw_tree.proofs.Walks.Strands.{strand_of_strand, strand_of_le}
 use Rattle.cw_tree.proofs.NextNodes.Growing.{length_more, node_grown, node_new, strand_of_grown}
 use Rattle.cw_code.specs.declared.FaultKind.{FaultKind}
+use Rattle.cw_tree.proofs.LastBelow.{last_none, last_same, last_from}
+use Rattle.cw_tree.proofs.NodeKinds.{pending_block, strand_no_block}
 use Rattle.cw_record.specs.declared.record_end.RecordEnd.TheVariants.{Fault}
 use Rattle.cw_record.specs.Items.{is_act, is_act_kind, items_in, items}
 use Rattle.cw_record.proofs.OneWorker.Building.{IsBuilt, open_items}
 use Rattle.cw_record.specs.Drawn.{added}
-use Rattle.cw_record.proofs.NodeKinds.{strand_alone, pending_block, pending_no_member}
+use Rattle.cw_record.proofs.Members.{pending_no_member}
 use Rattle.cw_record.proofs.OneWorker.Moves.{IsGrowing, of_built}
 use Rattle.cw_record.proofs.Orders.Alike.{levels_more}
 use Rattle.cw_record.proofs.OneWorker.NewMembers.{items_stay}
 
 -- ## The last that passes
-
-pub last_none : (p : ℕ → Bool) (n : ℕ) → ((m : ℕ) → m < n → p m ≡ false) → last_below p n ≡ None
-last_none p zero h = refl
-last_none p (suc n) h = ap (λ b. cond b (Some n) (last_below p n)) (h n (omega arith)) ∙ last_none p n (λ m l. h m (omega arith))
-
-pub last_is : (p : ℕ → Bool) (k n : ℕ) → k < n → p k ≡ true → ((m : ℕ) → k < m → m < n → p m ≡ false) → last_below p n ≡ Some k
-last_is p k zero h e none = absurd (omega arith)
-last_is p k (suc n) h e none =
-    elim (at_or_before k n h) [
-      | inl l ↦ ap (λ b. cond b (Some n) (last_below p n)) (none n l (omega arith)) ∙ last_is p k n l e (λ m a b. none m a (omega arith))
-      | inr same ↦ (let P : ℕ → Type 0 = λ m. last_below p (suc m) ≡ Some k in subst P (sym same) (ap (λ b. cond b (Some k) (last_below p k)) e))
-    ]
-
-pub last_same : (p q : ℕ → Bool) (n : ℕ) → ((m : ℕ) → m < n → p m ≡ q m) → last_below p n ≡ last_below q n
-last_same p q zero h = refl
-last_same p q (suc n) h = ap (λ b. cond b (Some n) (last_below p n)) (h n (omega arith)) ∙ ap (cond (q n) (Some n)) (last_same p q n (λ m l. h m (omega arith)))
 
 last_within : (p : ℕ → Bool) (n x bound : ℕ) → x < bound → n ≤ bound → unwrap_or (last_below p n) x < bound
 last_within p zero x bound h le = h
@@ -81,7 +66,7 @@ module _ (t : List Node) (p c : ℕ) (b : IsBuilt t p c) where
     by : (is_strand t p ≡ true) ⊎ (is_block t p ≡ true) → place t (strand_of t p) ≡ p
     by (inr block) =
         ap (λ o. unwrap_or o (strand_of t p))
-        (last_is (stands_in t (strand_of t p)) p (length t) b.there
+        (last_from (stands_in t (strand_of t p)) p (length t) b.there
         (and_from (is_pending t p) (nat_eq (strand_of t p) (strand_of t p)) (g.pending p block (ancestor_self t p)) (eq-eqb (strand_of t p) (strand_of t p) refl))
         (λ m less l. and_left (is_pending t m) (nat_eq (strand_of t m) (strand_of t p)) (false_from_ne_true (is_pending t m) (λ e. let le = pending_le m e in omega arith))))
     by (inl strand) =
@@ -92,7 +77,7 @@ module _ (t : List Node) (p c : ℕ) (b : IsBuilt t p c) where
         let own = own_strand strand in
         let low : strand_of t m ≤ m = strand_of_le t b.rooted m l in
         let same : m ≡ p = omega (arith, own, eqb-true (strand_of t m) (strand_of t p) z.1) in
-        absurd (let no = (strand_alone t p strand).0 in let yes = sym (ap (is_block t) same) ∙ pending_block t m z.0 in cc))))
+        absurd (let no = (strand_no_block t p strand) in let yes = sym (ap (is_block t) same) ∙ pending_block t m z.0 in cc))))
         ∙ own_strand strand
 
   -- a run that comes to its end by a fault of this strand has the items so far

@@ -19,6 +19,7 @@ use Rattle.cw_tree.proofs.Members.{in_below, in_filter}
 use Rattle.cw_tree.proofs.Walks.There.{node_there}
 use Rattle.cw_tree.proofs.Walks.Children.{last_passes}
 use Rattle.cw_tree.proofs.NextNodes.Trees.{no_fork}
+use Rattle.cw_tree.proofs.NodeKinds.{pending_block, fork_some, fork_no_block, fork_no_strand, committed_block, strand_no_block, strand_no_fork}
 use Rattle.cw_job.specs.Room.Strands.{StrandState}
 use Rattle.cw_record.specs.declared.worker.Branch.{Branch}
 use Rattle.cw_record.specs.Drawn.{added}
@@ -29,10 +30,10 @@ use Rattle.cw_record.proofs.OneWorker.Behind.{Over, over_lower}
 use Rattle.cw_record.proofs.OneWorker.Building.{IsBuilt}
 use Rattle.cw_record.proofs.Coherent.KeptStates.{reached_same}
 use Rattle.cw_record.proofs.OneWorker.KnownStates.{Knows, Moves, over_old, joins_kept}
-use Rattle.cw_record.proofs.NodeKinds.{strand_alone, fork_other, fork_no_block, fork_some, pending_block, pending_no_member}
+use Rattle.cw_record.proofs.Members.{pending_no_member}
 use Rattle.cw_record.proofs.OneWorker.Shaped.{IsShaped, tree_of_shape}
 use Rattle.cw_record.proofs.Coherent.States.{States, reached, AreStates, AreShut, IsOver, JoinsAt, all_follow, strand_ended, fork_joined}
-use Rattle.cw_record.proofs.OneWorker.StepStates.{undone_way, committed_block}
+use Rattle.cw_record.proofs.OneWorker.StepStates.{undone_way}
 use Rattle.cw_record.proofs.OneWorker.Unstarted.{with_strands}
 use Rattle.cw_record.proofs.OneWorker.Waiting.{one_unstarted}
 use Rattle.cw_record.specs.Items.{is_act}
@@ -42,7 +43,7 @@ pub none_pending : (t : List Node) → is_strand t 0 ≡ true → BlocksAround t
 none_pending t root b n l =
     false_from_ne_true (is_pending t n) (λ e.
     let block = pending_block t n e in
-    let done = b.committed n block (λ over. (let P : ℕ → Type 0 = λ i. is_block t i ≡ true in absurd (let yes = subst P (ancestor_root t n over) block in let no = (strand_alone t 0 root).0 in cc (no, yes)))) in
+    let done = b.committed n block (λ over. (let P : ℕ → Type 0 = λ i. is_block t i ≡ true in absurd (let yes = subst P (ancestor_root t n over) block in let no = (strand_no_block t 0 root) in cc (no, yes)))) in
     absurd (let no = pending_no_member t n e in let yes = or_right (is_act t n) (is_committed t n) done in cc (no, yes)))
 
 module _ (s : Strands StrandState) where
@@ -64,7 +65,7 @@ module _ (s : Strands StrandState) where
       beneath = λ n m e some low up. refl;
       over = λ n l strand e. over_all n l strand;
       joins = λ f l fork e.
-          k.joins f l fork (off_root f (λ q. (let P : ℕ → Type 0 = λ i. is_fork t i ≡ true in absurd (let no = (strand_alone t 0 tree.root).1 in let yes = subst P q fork in cc (no, yes)))));
+          k.joins f l fork (off_root f (λ q. (let P : ℕ → Type 0 = λ i. is_fork t i ≡ true in absurd (let no = (strand_no_fork t 0 tree.root) in let yes = subst P q fork in cc (no, yes)))));
     }
 
     pub finished_follows : Follows s t x.before x.after (reached s t x)
@@ -226,7 +227,7 @@ module _ (s : Strands StrandState) where
     fork_old f l fork =
         elim (cases_lt f (length t)) [
           | inl old ↦ old
-          | inr past ↦ absurd (let strand = (h.fresh f past l).0 in let no = fork_other u f fork in cc (strand, no))
+          | inr past ↦ absurd (let strand = (h.fresh f past l).0 in let no = fork_no_strand u f fork in cc (strand, no))
         ]
 
     -- behind a node on the way comes no other one
@@ -255,7 +256,7 @@ module _ (s : Strands StrandState) where
               let strand = (h.fresh m past low).0 in
               let fork_up : is_fork u (parent_of u f) ≡ true = ap (is_fork u) (sym up) ∙ (sym (shape.strands m low (omega arith)) ∙ strand) in
               let is : is_strand u f ≡ true = shape.strands f l some ∙ fork_up in
-              absurd (let no = fork_other u f fork in cc (is, no)))
+              absurd (let no = fork_no_strand u f fork in cc (is, no)))
         ])
 
     went_on : (f : ℕ) → f < length u → (is_fork u f && (has_later u f || is_committed u (parent_of u f))) ≡ true → shut f ≡ true

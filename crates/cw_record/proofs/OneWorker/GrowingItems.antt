@@ -9,12 +9,13 @@ use Rattle.cw_tree.specs.declared.node.BlockState.TheVariants.{Committed}
 use Rattle.cw_tree.specs.Nodes.{parent_of, is_strand, is_fork, is_block, is_strand_kind, is_fork_kind, is_block_kind, fresh_node, closed}
 use Rattle.cw_tree.proofs.NextNodes.Growing.{length_more, node_new, number_new}
 use Rattle.cw_tree.proofs.NextNodes.Closing.{node_closed, number_closed}
+use Rattle.cw_tree.proofs.NodeKinds.{block_some, fork_some, fork_no_block, strand_no_block, strand_no_fork}
 use Rattle.cw_record.specs.declared.items.OrderItem.TheVariants.{Begins, Does, Ends}
 use Rattle.cw_record.specs.Items.{is_act_kind, items_in}
 use Rattle.cw_record.proofs.OneWorker.Building.{IsBuilt, open_items}
 use Rattle.cw_record.specs.Drawn.{added}
 use Rattle.cw_record.proofs.OneWorker.Moves.{IsGrowing, of_built, to_built, root_no_block, place_kept, growing_root, growing_down, growing_up, growing_closed}
-use Rattle.cw_record.proofs.NodeKinds.{strand_alone, fork_no_block, block_some, fork_some, act_no_block}
+use Rattle.cw_record.proofs.Members.{act_no_block}
 use Rattle.cw_record.proofs.Orders.Alike.{levels_more}
 use Rattle.cw_record.proofs.OneWorker.NewMembers.{items_down, items_up}
 use Rattle.cw_record.proofs.OneWorker.LastItems.{levels_added, leaf_last, begin_last, end_last}
@@ -54,7 +55,7 @@ module _ (t : List Node) (p c : ℕ) (g : IsGrowing t p c) where
 
   -- a child of a fork is not the root
   forked_some : (n : ℕ) → is_fork t (parent_of t n) ≡ true → 0 < n
-  forked_some zero e = absurd (let no = (strand_alone t 0 g.root).1 in let yes = sym (ap (is_fork t) g.top) ∙ e in cc)
+  forked_some zero e = absurd (let no = (strand_no_fork t 0 g.root) in let yes = sym (ap (is_fork t) g.top) ∙ e in cc)
   forked_some (suc n) e = omega arith
 
 module _ (t : List Node) (p c : ℕ) (b : IsBuilt t p c) where
@@ -121,7 +122,7 @@ module _ (t : List Node) (p c : ℕ) (b : IsBuilt t p c) where
 
   module _ (strand : is_strand t p ≡ true) (fork : is_fork t (parent_of t p) ≡ true) where
     no_block : is_block t p ≡ false
-    no_block = (strand_alone t p strand).0
+    no_block = (strand_no_block t p strand)
 
     some : 0 < p
     some = forked_some t p c g p fork

@@ -14,9 +14,10 @@ use Rattle.cw_tree.proofs.NextNodes.Closing.{length_closed}
 use Rattle.cw_tree.proofs.ChainLaws.Entries.{Notes}
 use Rattle.cw_tree.proofs.ChainLaws.LiveAccesses.{SameAccesses, accesses_grown, accesses_closed, live_same, live_stays}
 use Rattle.cw_tree.proofs.ChainLaws.CellJournals.{HasJournals, journals_stay, journals_read, journals_write}
+use Rattle.cw_tree.proofs.NodeKinds.{new_stands}
 use Rattle.cw_record.proofs.OneWorker.Building.{IsBuilt}
 use Rattle.cw_record.specs.Drawn.{added}
-use Rattle.cw_record.proofs.OneWorker.NoneAborted.{not_aborted, new_stands}
+use Rattle.cw_record.proofs.OneWorker.NoneAborted.{not_aborted}
 
 -- a node more, where nothing was rolled back
 module _ (t : List Node) (none : (n : ℕ) → is_aborted t n ≡ false) (f : ℕ) (kind : Kind) (st : ℕ) where

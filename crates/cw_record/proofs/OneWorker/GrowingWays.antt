@@ -16,10 +16,10 @@ use Rattle.cw_tree.proofs.Walks.Strands.{strand_of_root, strand_of_strand, stran
 use Rattle.cw_tree.proofs.NextNodes.Growing.{length_more, node_new, number_new, node_grown, number_grown}
 use Rattle.cw_tree.proofs.NextNodes.Closing.{node_closed, number_closed}
 use Rattle.cw_tree.proofs.Walks.StrandForks.{forks_of}
+use Rattle.cw_tree.proofs.NodeKinds.{other_some, block_no_strand, fork_no_strand}
 use Rattle.cw_record.specs.Items.{is_act_kind}
 use Rattle.cw_record.proofs.OneWorker.Building.{IsBuilt}
 use Rattle.cw_record.specs.Drawn.{added, forked}
-use Rattle.cw_record.proofs.NodeKinds.{block_other, fork_other, other_some}
 use Rattle.cw_record.proofs.OneWorker.GrowingNames.{name_beside, fork_number_beside, forks_beside, forks_new, name_closed, fork_number_closed, forks_closed, name_forked, fork_number_forked, forks_forked_here, forks_forked_elsewhere, fork_number_forked_next, name_left, forks_left, name_right}
 use Rattle.cw_record.proofs.OneWorker.Descending.{Crossing, way_of, Descends}
 
@@ -40,7 +40,7 @@ module _ (t : List Node) (r : IsRooted t) (root : is_strand t 0 ≡ true) where
   -- the strand of the place has the name of the way, and made so many forks
   strand_of_way : (p : ℕ) (c : List Crossing) (b k : ℕ) → p < length t → Descends t p c b k → (name_of t (strand_of t p) ≡ way_of c) × (forks_of t (strand_of t p) ≡ k)
   strand_of_way p c (suc b) k h d =
-      let e : is_strand t p ≡ false = block_other t p d.0 in
+      let e : is_strand t p ≡ false = block_no_strand t p d.0 in
       let low : parent_of t p < p = other_low p h e in
       let same : strand_of t p ≡ strand_of t (parent_of t p) = other_strand p h e in
       let more = strand_of_way (parent_of t p) c b k (omega arith) d.1 in
@@ -57,11 +57,11 @@ module _ (t : List Node) (r : IsRooted t) (root : is_strand t 0 ≡ true) where
   crossed_low p x c k h d =
       let low : parent_of t p < p = r p d.0 h in
       let under : x.node < p = let up : parent_of t p ≡ x.node = d.2 in omega arith in
-      (other_low x.node (omega arith) (fork_other t x.node d.3), under)
+      (other_low x.node (omega arith) (fork_no_strand t x.node d.3), under)
 
   nodes_there : (p : ℕ) (c : List Crossing) (b k : ℕ) → p < length t → Descends t p c b k → All (λ x. x.node < length t) c
   nodes_there p c (suc b) k h d =
-      let low : parent_of t p < p = other_low p h (block_other t p d.0) in
+      let low : parent_of t p < p = other_low p h (block_no_strand t p d.0) in
       nodes_there (parent_of t p) c b k (omega arith) d.1
   nodes_there p [] zero k h d = All-nil (λ x. x.node < length t)
   nodes_there p (x ∷ c) zero k h d =
@@ -81,7 +81,7 @@ module _ (t : List Node) (r : IsRooted t) (root : is_strand t 0 ≡ true) (u : L
   -- also where the strand of the place forked
   way_forks : (p : ℕ) (c : List Crossing) (b k j : ℕ) → p < length t → ((n : ℕ) → n < strand_of t p → forks_of u n ≡ forks_of t n) → forks_of u (strand_of t p) ≡ j → Descends t p c b k → Descends u p c b j
   way_forks p c (suc b) k j h out here d =
-      let e : is_strand t p ≡ false = block_other t p d.0 in
+      let e : is_strand t p ≡ false = block_no_strand t p d.0 in
       let low : parent_of t p < p = other_low t r root p h e in
       let same : strand_of t p ≡ strand_of t (parent_of t p) = other_strand t r root p h e in
       let P : ℕ → Type 0 = λ n. Descends u n c b j in
@@ -151,7 +151,7 @@ module _ (t : List Node) (p clock : ℕ) (built : IsBuilt t p clock) where
   way_end st c b k d =
       let pending = built.pending p d.0 (ancestor_self t p) in
       let there = built.there in
-      let low : parent_of t p < p = other_low t built.rooted built.root p there (block_other t p d.0) in
+      let low : parent_of t p < p = other_low t built.rooted built.root p there (block_no_strand t p d.0) in
       way_kept t built.rooted built.root (closed t p Committed st)
       (record {
         kinds = λ g n h. node_closed t p Committed st (λ x. g x.kind) (λ x. refl) n;
@@ -223,7 +223,7 @@ module _ (t : List Node) (p clock : ℕ) (built : IsBuilt t p clock) where
         let up : parent_of t x.node < length t = omega arith in
         let some : 0 < p = d.0 in
         let outer = strand_of_way t built.rooted built.root (parent_of t x.node) c x.blocks x.turn.fork up d.7 in
-        let same : strand_of t x.node ≡ strand_of t (parent_of t x.node) = other_strand t built.rooted built.root x.node there (fork_other t x.node d.3) in
+        let same : strand_of t x.node ≡ strand_of t (parent_of t x.node) = other_strand t built.rooted built.root x.node there (fork_no_strand t x.node d.3) in
         let P : ℕ → Type 0 = λ n. Descends u n c x.blocks x.turn.fork in (
           omega arith,
           node_new t (fresh_node x.node Strand 0) (λ y. is_strand_kind y.kind),

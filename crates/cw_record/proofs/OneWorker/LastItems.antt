@@ -25,7 +25,7 @@ use Rattle.cw_record.proofs.Orders.Homes.{home, number, home_is, xparent_is, ope
 use Rattle.cw_record.proofs.OneWorker.Moves.{IsGrowing}
 use Rattle.cw_record.proofs.Orders.Alike.{sorted}
 use Rattle.cw_record.proofs.OneWorker.Tails.{SameBut, items_shut, members_stay, Lengthens, around_less, lengthens_all, lengthens_more}
-use Rattle.cw_record.proofs.NodeKinds.{act_no_block}
+use Rattle.cw_record.proofs.Members.{act_no_block}
 use Rattle.cw_record.proofs.OneWorker.NewMembers.{sorted_old, sorted_new, open_old, open_new, blocks_old}
 use Rattle.cw_record.proofs.OneWorker.ClosedMembers.{key_low, blocks_same, sorted_more, was_open, none_open, none_inside, around_other, closed_same}
 

@@ -1,15 +1,15 @@
 -- In a tree that one worker builds stamps rise with the numbers, also past the ends of blocks; so what ended between two accesses of a cell
 -- ended before the later one.
-use Rattle.std.proofs.Common.{◌≡◌, ℕ, zero, suc, ◌<◌, ◌≤◌, List, [], ◌∷◌, ◌++◌, length, refl, ap, sym, ◌∙◌, subst, arith, Bool, true, false, cond, inl, inr, Option, Some, None}
-use Rattle.std.specs.Prelude.{◌&&◌, ◌||◌, not, slice_get}
-use Rattle.std.proofs.lemmas.Bool.{and_parts, cases_eq, not-true, ltb-true}
+use Rattle.std.proofs.Common.{◌≡◌, ℕ, zero, suc, ◌<◌, ◌≤◌, List, [], ◌∷◌, ◌++◌, length, refl, ap, sym, ◌∙◌, subst, arith, Bool, true, false, cond, inl, inr}
+use Rattle.std.specs.Prelude.{◌&&◌, not}
+use Rattle.std.proofs.lemmas.Bool.{and_parts, cases_eq, not-true}
 use Rattle.std.proofs.lemmas.List.{append-nil}
 use Rattle.std.proofs.lemmas.List.Elements.{filter-append}
 use Rattle.cw_tree.specs.declared.node.Node.{Node}
 use Rattle.cw_tree.specs.declared.node.Kind.{Kind}
-use Rattle.cw_tree.specs.declared.node.Kind.TheVariants.{Strand, Fork, Read, Write}
+use Rattle.cw_tree.specs.declared.node.Kind.TheVariants.{Strand, Fork}
 use Rattle.cw_tree.specs.declared.node.BlockState.TheVariants.{Committed}
-use Rattle.cw_tree.specs.Nodes.{stamp_of, end_of, is_block, is_committed, passes, is_strand_kind, is_tried_kind, touches, touches_kind, below, fresh_node, closed}
+use Rattle.cw_tree.specs.Nodes.{stamp_of, end_of, is_block, is_committed, touches, touches_kind, below, fresh_node, closed}
 use Rattle.cw_tree.specs.Walks.{IsRooted, is_above, is_ancestor}
 use Rattle.cw_tree.specs.Accesses.{by_key}
 use Rattle.cw_tree.specs.Shape.{AreStamps}
@@ -26,6 +26,7 @@ use Rattle.cw_record.specs.Drawn.{added, forked}
 use Rattle.cw_record.proofs.OneWorker.Building.{IsBuilt}
 use Rattle.cw_tree.proofs.NextNodes.Before.{above_less}
 use Rattle.cw_tree.proofs.NextNodes.Stamps.{each_two}
+use Rattle.cw_tree.proofs.NodeKinds.{access_stamped}
 use Rattle.cw_record.proofs.OneWorker.NoneAborted.{not_aborted}
 
 pub record IsRising (t : List Node) : Type 0 where
@@ -156,24 +157,10 @@ module _ (t : List Node) (g : IsRising t) (stamps : AreStamps t) (c : ℕ) where
           by false e old = (let P : List ℕ → Type 0 = AllEndedBetween t in subst P (sym (append-nil (accesses_below t c k))) old)
           by true e old = ended_more t (accesses_below t c k) k old (λ u i. between u k (in_below u k (in_filter (touches t c) u (below k) i).0) e)
 
--- an access has a stamp
-access_stamp : (k : Kind) (c : ℕ) → touches_kind c k ≡ true → (is_strand_kind k || is_tried_kind k) ≡ false
-access_stamp (Read d v) c e = refl
-access_stamp (Write d v) c e = refl
-access_stamp _ c e = absurd (cc e)
-
-has_one : (t : List Node) → AreStamps t → (c n : ℕ) → touches t c n ≡ true → 0 < stamp_of t n
-has_one t stamps c n e =
-    let there = node_there (λ x. touches_kind c x.kind) t n e in
-    ltb-true 0 (stamp_of t n) (stamps.there n there ∙ ap not (by (slice_get t n) e)) where
-      by : (o : Option Node) → passes (λ x. touches_kind c x.kind) o ≡ true → (passes (λ x. is_strand_kind x.kind) o || passes (λ x. is_tried_kind x.kind) o) ≡ false
-      by None e = absurd (cc e)
-      by (Some x) e = access_stamp x.kind c e
-
 -- what ended in the tree that one worker built, of so many cells
 pub journals_ended : (t : List Node) (p clock : ℕ) → IsBuilt t p clock → IsRising t → AreStamps t → (k : ℕ) → JournalsEnded t k
 journals_ended t p clock b g stamps k c h =
-    let some = has_one t stamps c in
+    let some = access_stamped t stamps c in
     let P : List ℕ → Type 0 = AllEndedBetween t in
     subst P (sym (all_live t (not_aborted t p clock b) c ∙ in_order t g stamps c some (length t) (omega arith)))
     (all_between t g stamps c b.rooted some (λ n m block less there apart.

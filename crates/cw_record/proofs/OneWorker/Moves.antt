@@ -16,8 +16,8 @@ use Rattle.cw_tree.proofs.NextNodes.Closing.{length_closed, node_closed, node_cl
 use Rattle.cw_record.proofs.OneWorker.Building.{IsBuilt}
 use Rattle.cw_record.specs.Drawn.{added}
 use Rattle.cw_tree.proofs.NextNodes.Trees.{each_more}
-use Rattle.cw_record.proofs.NodeKinds.{strand_alone, new_open}
 use Rattle.cw_tree.proofs.Walks.There.{node_there}
+use Rattle.cw_tree.proofs.NodeKinds.{new_open, strand_no_block}
 
 -- what is true of such a tree wherever the place is, also where it is a fork, an access or an output
 pub record IsGrowing (t : List Node) (p clock : ℕ) : Type 0 where
@@ -68,7 +68,7 @@ to_built t p c g place = record {
 }
 
 pub root_no_block : (t : List Node) (p c : ℕ) → IsGrowing t p c → is_block t 0 ≡ false
-root_no_block t p c g = (strand_alone t 0 g.root).0
+root_no_block t p c g = (strand_no_block t 0 g.root)
 
 -- ## Down
 

@@ -16,8 +16,9 @@ use Rattle.cw_tree.proofs.NextNodes.Kept.{find_path_kept}
 use Rattle.cw_tree.proofs.NextNodes.Growing.{keeps_grown, node_grown, number_grown, xparent_grown, path_grown, all_nodes_more, node_new, number_new, path_new, find_above_new}
 use Rattle.cw_record.specs.Items.{is_act, is_act_kind, same_block, is_right_in, key, members, open_member, items_in}
 use Rattle.cw_record.specs.Drawn.{added}
-use Rattle.cw_record.proofs.NodeKinds.{pending_block, new_member, new_open, act_no_block}
+use Rattle.cw_record.proofs.Members.{new_member, act_no_block}
 use Rattle.cw_tree.proofs.InOrder.Keys.{by_key_same, by_key_last}
+use Rattle.cw_tree.proofs.NodeKinds.{pending_block, new_open}
 use Rattle.cw_record.proofs.Orders.Homes.{home, same_block_self}
 use Rattle.cw_record.proofs.Orders.Alike.{sorted, member_is, items_alike}
 

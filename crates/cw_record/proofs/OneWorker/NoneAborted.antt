@@ -1,14 +1,13 @@
 -- In a tree that one worker builds nothing is rolled back.
 use Rattle.std.proofs.Common.{◌≡◌, ℕ, List, refl, Bool, true, false, inl, inr, Option, Some, None}
 use Rattle.std.specs.Prelude.{◌⊎◌, ◌&&◌, slice_get}
-use Rattle.std.proofs.lemmas.Bool.{and_parts, cases_Bool, false_from_ne_true}
+use Rattle.std.proofs.lemmas.Bool.{cases_Bool, false_from_ne_true}
 use Rattle.cw_tree.specs.declared.node.Node.{Node}
-use Rattle.cw_tree.specs.declared.node.Kind.{Kind}
-use Rattle.cw_tree.specs.declared.node.Kind.TheVariants.{Block}
 use Rattle.cw_tree.specs.declared.node.BlockState.{BlockState}
 use Rattle.cw_tree.specs.declared.node.BlockState.TheVariants.{Pending, Committed, Aborted}
-use Rattle.cw_tree.specs.Nodes.{is_block, is_pending, is_committed, is_aborted, is_block_kind, is_pending_state, is_committed_state, is_aborted_state, first_state, passes}
+use Rattle.cw_tree.specs.Nodes.{is_block, is_pending, is_committed, is_aborted, is_block_kind, is_pending_state, is_committed_state, is_aborted_state, passes}
 use Rattle.cw_tree.specs.Walks.{is_ancestor}
+use Rattle.cw_tree.proofs.NodeKinds.{aborted_block}
 use Rattle.cw_record.specs.Records.{BlocksAround}
 use Rattle.cw_record.proofs.OneWorker.Building.{IsBuilt}
 
@@ -26,14 +25,6 @@ not_aborted_from t n =
       by_node None h = refl
       by_node (Some x) h = one_state (is_block_kind x.kind) x.state h
 
--- what was rolled back is a block
-aborted_block : (t : List Node) (n : ℕ) → is_aborted t n ≡ true → is_block t n ≡ true
-aborted_block t n =
-    by_node (slice_get t n) where
-      by_node : (o : Option Node) → passes (λ x. is_block_kind x.kind && is_aborted_state x.state) o ≡ true → passes (λ x. is_block_kind x.kind) o ≡ true
-      by_node None e = absurd (cc e)
-      by_node (Some x) e = (and_parts (is_block_kind x.kind) (is_aborted_state x.state) e).0
-
 -- nothing was rolled back where each block is pending or committed
 pub none_aborted : (t : List Node) (q : ℕ) → BlocksAround t q → (n : ℕ) → is_aborted t n ≡ false
 none_aborted t q b n =
@@ -45,8 +36,3 @@ none_aborted t q b n =
 
 pub not_aborted : (t : List Node) (p clock : ℕ) → IsBuilt t p clock → (n : ℕ) → is_aborted t n ≡ false
 not_aborted t p clock b = none_aborted t p (record { pending = b.pending; committed = b.committed })
-
--- a new node was not rolled back
-pub new_stands : (k : Kind) → (is_block_kind k && is_aborted_state (first_state k)) ≡ false
-new_stands Block = refl
-new_stands _ = refl

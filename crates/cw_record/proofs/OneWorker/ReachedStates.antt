@@ -9,10 +9,10 @@ use Rattle.cw_tree.specs.Walks.{IsRooted, is_ancestor}
 use Rattle.cw_tree.specs.Links.{is_child, last_child}
 use Rattle.cw_tree.proofs.Walks.Ancestors.{ancestor_self, ancestor_step, ancestor_le}
 use Rattle.cw_tree.proofs.Walks.Children.{last_passes}
+use Rattle.cw_tree.proofs.LastBelow.{last_from}
 use Rattle.cw_job.specs.Room.Strands.{StrandState}
 use Rattle.cw_record.specs.declared.worker.Branch.{Branch}
 use Rattle.cw_record.proofs.Coherent.AddedStates.{with_state, state_same, state_other}
-use Rattle.cw_record.proofs.OneWorker.Faults.{last_is}
 use Rattle.cw_record.proofs.Coherent.KeptStates.{Keeps, below_same, reached_same, states_kept, does_kept}
 use Rattle.cw_record.proofs.OneWorker.KnownStates.{Knows, Moves, Waits, over_kept, joins_kept, waits_kept}
 use Rattle.cw_record.proofs.Coherent.States.{States, behind, reached, Does, AreStates, IsOver, JoinsAt}
@@ -79,7 +79,7 @@ module _ (s : Strands StrandState) (t u : List Node) (r : IsRooted t) (x : State
 
   pub last_right_in : last_child t o ≡ Some e
   last_right_in =
-      last_is (is_child t o) e (length t) there (and_from (nat_lt 0 e) (nat_eq o o) (lt-ltb 0 e some) (eq-eqb o o refl))
+      last_from (is_child t o) e (length t) there (and_from (nat_lt 0 e) (nat_eq o o) (lt-ltb 0 e some) (eq-eqb o o refl))
       (λ m more low. false_from_ne_true (is_child t o m) (λ q. none_behind m more low (eqb-true (parent_of t m) o (and_parts (nat_lt 0 m) (nat_eq (parent_of t m) o) q).1)))
 
   pub reached_outer : reached s u y o ≡ b

@@ -1,7 +1,7 @@
 -- What one worker knows of the states of its strands, after each step: a want that it does, and a fork.
 use Rattle.std.proofs.Common.{◌≡◌, ◌≢◌, ℕ, suc, ◌<◌, ◌≤◌, List, ◌∷◌, length, refl, ap, sym, ◌∙◌, subst, arith, true, false, Option, Some, None}
 use Rattle.std.specs.Prelude.{◌&&◌, ◌||◌, slice_get}
-use Rattle.std.proofs.lemmas.Bool.{and_parts, or_right, false_from_ne_true}
+use Rattle.std.proofs.lemmas.Bool.{or_right, false_from_ne_true}
 use Rattle.std.proofs.lemmas.Option.{same_Some}
 use Rattle.cw_strand.specs.declared.want.Want.TheVariants as want
 use Rattle.cw_strand.specs.declared.want.Given.TheVariants.{Nothing}
@@ -17,6 +17,7 @@ use Rattle.cw_tree.proofs.Walks.Ancestors.{ancestor_self, ancestor_step, ancesto
 use Rattle.cw_tree.proofs.NextNodes.Closing.{shut, length_closed, node_closed, number_closed, closed_here, closed_other, rooted_closed, ancestor_closed}
 use Rattle.cw_tree.proofs.NextNodes.Growing.{length_more, node_new, rooted_more}
 use Rattle.cw_tree.proofs.NextNodes.Trees.{no_fork}
+use Rattle.cw_tree.proofs.NodeKinds.{block_some, fork_no_block, committed_block, strand_no_block}
 use Rattle.cw_job.specs.Room.Strands.{StrandState, state_of}
 use Rattle.cw_job.specs.declared.standing.Standing.{Standing as Written}
 use Rattle.cw_record.specs.declared.worker.Branch.{Branch}
@@ -25,17 +26,10 @@ use Rattle.cw_record.specs.Drawn.{added, forked}
 use Rattle.cw_record.proofs.Coherent.AddedStates.{with_node, state_other, state_same, none_in_new, reached_new, starts_in, starts_left, knows_leaf, knows_down}
 use Rattle.cw_record.proofs.OneWorker.Building.{IsBuilt}
 use Rattle.cw_record.proofs.OneWorker.KnownStates.{Known, Knows}
-use Rattle.cw_record.proofs.NodeKinds.{strand_alone, block_some, fork_no_block, pending_no_member}
+use Rattle.cw_record.proofs.Members.{pending_no_member}
 use Rattle.cw_record.proofs.OneWorker.ReachedStates.{SameNodesBut, with_after, reached_here, knows_up, joins_up}
 use Rattle.cw_record.proofs.Coherent.States.{States, reached, DoesAs, Does}
 use Rattle.cw_record.specs.Items.{is_act}
-
-pub committed_block : (t : List Node) (n : ℕ) → is_committed t n ≡ true → is_block t n ≡ true
-committed_block t n =
-    by (slice_get t n) where
-      by : (o : Option Node) → passes (λ x. is_block_kind x.kind && is_committed_state x.state) o ≡ true → passes (λ x. is_block_kind x.kind) o ≡ true
-      by None e = absurd (cc e)
-      by (Some x) e = (and_parts (is_block_kind x.kind) (is_committed_state x.state) e).0
 
 module _ (t : List Node) (p clock : ℕ) (b : IsBuilt t p clock) where
   -- what is on the way is not committed
@@ -167,7 +161,7 @@ module _ (s : Strands StrandState) where
       knows_end : Knows s w (parent_of t p) xs (s.answer a Nothing) after
       knows_end =
           knows_up s t w b.rooted x p some_p b.there lastly same (s.answer a Nothing) p above xs k.states (undone_way t p clock b (parent_of t p) (above (parent_of t p) (ancestor_self t (parent_of t p)))) (ends (slice_get t p) refl) k.waits
-          (λ n l strand off. k.over n l strand (off_place n (not_block n (strand_alone t n strand).0) off))
+          (λ n l strand off. k.over n l strand (off_place n (not_block n (strand_no_block t n strand)) off))
           (λ f l fork off.
           let ne : p ≢ f = not_block f (fork_no_block t f fork) in
           joins_up s t w b.rooted x p some_p b.there lastly same (s.answer a Nothing) p above f l off (λ q. ne (sym q)) (k.joins f l fork (off_place f ne off)))

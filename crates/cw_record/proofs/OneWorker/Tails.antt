@@ -6,10 +6,11 @@ use Rattle.cw_tree.specs.declared.node.Node.{Node}
 use Rattle.cw_tree.specs.Nodes.{is_block, is_pending}
 use Rattle.cw_tree.specs.Walks.{is_ancestor, xparent}
 use Rattle.cw_tree.proofs.Walks.Ancestors.{ancestor_le, ancestor_trans}
+use Rattle.cw_tree.proofs.NodeKinds.{block_some}
 use Rattle.cw_record.specs.declared.items.OrderItem.{OrderItem}
 use Rattle.cw_record.specs.declared.items.OrderItem.TheVariants.{Begins}
 use Rattle.cw_record.specs.Items.{open_member, as_items, last_open, items_in}
-use Rattle.cw_record.proofs.NodeKinds.{block_some, pending_no_member}
+use Rattle.cw_record.proofs.Members.{pending_no_member}
 use Rattle.cw_record.proofs.Orders.Homes.{number, xparent_is, open_aside, open_here}
 use Rattle.cw_record.proofs.OneWorker.Moves.{IsGrowing, root_no_block}
 use Rattle.cw_record.proofs.Orders.Alike.{sorted, IsMember, AreAlike, members_alike, items_alike, levels_more}

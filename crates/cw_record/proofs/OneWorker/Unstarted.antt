@@ -11,10 +11,10 @@ use Rattle.cw_tree.specs.Series.{strand_of}
 use Rattle.cw_tree.specs.Names.{name_of}
 use Rattle.cw_tree.proofs.NextNodes.Growing.{length_more, get_append, node_grown, strand_of_grown, rooted_more}
 use Rattle.cw_code.specs.declared.FaultKind.{FaultKind}
+use Rattle.cw_tree.proofs.NodeKinds.{strand_no_block}
 use Rattle.cw_record.specs.declared.record_end.RecordEnd.TheVariants.{Fault}
 use Rattle.cw_record.specs.Items.{items}
 use Rattle.cw_record.specs.Drawn.{added}
-use Rattle.cw_record.proofs.NodeKinds.{strand_alone}
 use Rattle.cw_record.proofs.OneWorker.GrowingNames.{name_beside}
 use Rattle.cw_record.proofs.OneWorker.Faults.{fault_stays}
 
@@ -42,7 +42,7 @@ module _ (t : List Node) (r : IsRooted t) (fs : List ℕ) (low : All (λ f. f < 
       (by_strand (λ u. (is_strand u 0 ≡ true) × (items u cs budget (Fault x fault) ≡ items t cs budget (Fault x fault))) (length t)
       (λ u ru le f l e. (
         node_grown u (fresh_node f Strand 0 ∷ []) (λ y. is_strand_kind y.kind) 0 (omega arith) ∙ e.0,
-        fault_stays u ru f (omega arith) Strand 0 refl refl (strand_alone u 0 e.0).0 cs budget x fault (omega arith) ∙ e.1,
+        fault_stays u ru f (omega arith) Strand 0 refl refl (strand_no_block u 0 e.0) cs budget x fault (omega arith) ∙ e.1,
       ))
       fs t r (omega arith) low (root, refl)).1
 

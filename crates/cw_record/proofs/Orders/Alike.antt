@@ -13,7 +13,7 @@ use Rattle.cw_tree.proofs.Members.{in_below, in_filter}
 use Rattle.cw_record.specs.declared.items.OrderItem.{OrderItem}
 use Rattle.cw_record.specs.Items.{is_act, is_right_in, key, members, open_member, as_items, last_open, items_in}
 use Rattle.cw_tree.proofs.InOrder.Keys.{by_key_in}
-use Rattle.cw_record.proofs.NodeKinds.{pending_block}
+use Rattle.cw_tree.proofs.NodeKinds.{pending_block}
 use Rattle.cw_record.proofs.Orders.Homes.{same_block_true, number, xparent_is, open_is}
 
 -- the members of a block, or of the root, as they stand in the order

@@ -10,7 +10,7 @@ use Rattle.cw_tree.proofs.Lists.{In}
 use Rattle.cw_tree.proofs.Walks.Climbs.{path_step, above_step, path_split}
 use Rattle.cw_tree.proofs.Walks.Ancestors.{ancestor_self, ancestor_root, ancestor_step, ancestor_up, ancestor_trans, ancestor_le, beneath}
 use Rattle.cw_tree.proofs.Walks.Kin.{in_ancestor}
-use Rattle.cw_record.proofs.NodeKinds.{pending_block}
+use Rattle.cw_tree.proofs.NodeKinds.{pending_block}
 use Rattle.cw_record.specs.Items.{same_block, is_right_in, open_member}
 
 -- ## Searches

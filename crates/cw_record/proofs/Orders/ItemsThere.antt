@@ -12,9 +12,9 @@ use Rattle.cw_record.specs.declared.items.OrderItem.{OrderItem}
 use Rattle.cw_record.specs.declared.items.OrderItem.TheVariants.{Begins, Does, Ends}
 use Rattle.cw_record.specs.Order.{node_of}
 use Rattle.cw_record.specs.Items.{is_right_in, key, members, open_member, as_items, last_open, items_in}
-use Rattle.cw_record.proofs.Orders.Sorts.{all_by_key}
 use Rattle.cw_record.proofs.Lists.{find_passes}
 use Rattle.cw_tree.proofs.Walks.There.{node_there}
+use Rattle.cw_tree.proofs.Sorts.{all_by_key}
 use Rattle.cw_record.proofs.Orders.There.{all_below}
 
 module _ (t : List Node) where

@@ -11,7 +11,7 @@ use Rattle.std.proofs.lemmas.List.Sums.{sum_by-set}
 use Rattle.cw_tree.specs.declared.node.Node.{Node}
 use Rattle.cw_tree.specs.declared.picks.Name.{Name}
 use Rattle.cw_tree.specs.declared.picks.Turn.{Turn}
-use Rattle.cw_tree.specs.Nodes.{parent_of, below, all_nodes, is_strand, is_strand_kind}
+use Rattle.cw_tree.specs.Nodes.{parent_of, below, all_nodes, is_strand}
 use Rattle.cw_tree.specs.Series.{strand_of, depth_first}
 use Rattle.cw_tree.specs.Walks.{IsRooted}
 use Rattle.cw_tree.specs.Names.{name_of, turn}
@@ -21,7 +21,7 @@ use Rattle.cw_serial.proofs.Turns.{name_itself}
 use Rattle.cw_serial.specs.Machine.{same_name}
 use Rattle.cw_record.specs.Listed.{once, index_of, without_last, last_turn, names, listed_name, listed_names, strand_number}
 use Rattle.cw_record.specs.Walked.{first_named, place_in, AreFirsts}
-use Rattle.cw_tree.proofs.Walks.There.{node_there}
+use Rattle.cw_tree.proofs.Walks.There.{strand_there}
 use Rattle.cw_record.proofs.Orders.Names.{names_differ, name_strand, name_of_strand, root_strand, without_added, last_added}
 use Rattle.cw_record.proofs.Walked.Found.{first_le, first_same, names_same, place_push, place_index, once_push}
 
@@ -139,10 +139,6 @@ module _ (t : List Node) (order : List ℕ) where
         listing_new grown after k e count f strand =
             let P : List (Option ℕ) → Type 0 = Listing t order (i + 1) grown in
             subst P (sym (f ∙ ap (λ j. set places first (Some j)) count)) (listed_new grown e strand)
-
--- the strands in an order are there
-pub strand_there : (t : List Node) (n : ℕ) → is_strand t n ≡ true → n < length t
-strand_there t n e = node_there (λ x. is_strand_kind x.kind) t n e
 
 pub order_strand : (t : List Node) (order : List ℕ) → order ≡ filter (is_strand t) (depth_first t) → (i : ℕ) → i < length order → is_strand t (get_or order i 0) ≡ true
 order_strand t order e i h =

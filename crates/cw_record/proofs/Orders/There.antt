@@ -9,9 +9,9 @@ use Rattle.cw_tree.specs.Walks.{IsRooted, path}
 use Rattle.cw_tree.proofs.Walks.Climbs.{path_step, by_parent}
 use Rattle.cw_tree.proofs.Members.{in_below}
 use Rattle.cw_tree.proofs.ChainLaws.Chains.{there_from}
+use Rattle.cw_tree.proofs.Sorts.{all_by_key}
 use Rattle.cw_record.specs.Items.{key}
 use Rattle.cw_record.specs.Levels.{is_member, sorted_members, listed}
-use Rattle.cw_record.proofs.Orders.Sorts.{all_by_key}
 
 pub all_below : (k : ℕ) → All (λ n. n < k) (below k)
 all_below k = there_from k (below k) (λ n i. in_below n k i)

@@ -14,6 +14,7 @@ use Rattle.cw_tree.specs.declared.picks.Turn.{Turn}
 use Rattle.cw_tree.specs.Nodes.{passes, is_block, is_block_kind, is_pending}
 use Rattle.cw_tree.specs.Walks.{path}
 use Rattle.cw_tree.specs.Accesses.{by_key}
+use Rattle.cw_tree.proofs.NodeKinds.{pending_block}
 use Rattle.cw_serial.specs.StrandTree.{at, put}
 use Rattle.cw_serial.specs.Machine.{Machine, Begun, may_pick, same_name, pick_at, pick}
 use Rattle.cw_serial.specs.Wants.{answer_to, memory_after, outputs_after, blocks_after}
@@ -24,7 +25,6 @@ use Rattle.cw_record.specs.Items.{is_right_in, key, members, open_member, as_ite
 use Rattle.cw_record.specs.Order.{node_of}
 use Rattle.cw_record.specs.Replay.{doer, IsAct, IsActOf, IsItemDone, DoesAll}
 use Rattle.cw_record.proofs.Lists.{find_passes}
-use Rattle.cw_record.proofs.NodeKinds.{pending_block}
 
 -- ## What begins and ends is a block
 

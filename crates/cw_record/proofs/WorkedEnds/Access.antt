@@ -11,9 +11,10 @@ use Rattle.cw_tree.specs.declared.conflict.Conflict.{Conflict}
 use Rattle.cw_tree.specs.Histories.{IsHistory}
 use Rattle.cw_tree.proofs.Worked.Checks.{each_below, implies, implied, is_tree, are_stamps, pending_last, are_refusals, rolls_back}
 use Rattle.cw_tree.proofs.Worked.KeptParts.{are_journals, is_entry, recorded}
+use Rattle.cw_tree.proofs.Worked.KeptRuns.{ended_one}
 use Rattle.cw_record.specs.Coherent.{Follows}
 use Rattle.cw_record.specs.Scripts.{Script, done, sync, act, after_answer, scripted}
-use Rattle.cw_record.proofs.WorkedEnds.Parts.{state_in, follows, ended_one}
+use Rattle.cw_record.proofs.WorkedEnds.Parts.{state_in, follows}
 use Rattle.cw_record.specs.WorkedEnds.{entry, writes, written, refused_alone, AtAccess}
 
 abbrev writes_one : Script

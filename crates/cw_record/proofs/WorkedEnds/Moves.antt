@@ -7,9 +7,10 @@ use Rattle.cw_tree.specs.declared.node.Node.{Node}
 use Rattle.cw_tree.specs.Histories.{IsHistory}
 use Rattle.cw_tree.proofs.Worked.Checks.{each_below, is_tree, are_stamps, pending_last, are_refusals, rolls_back}
 use Rattle.cw_tree.proofs.Worked.KeptParts.{are_journals, is_entry, ended_between}
+use Rattle.cw_tree.proofs.Worked.KeptRuns.{ended_one}
 use Rattle.cw_record.specs.Coherent.{Follows}
 use Rattle.cw_record.specs.Scripts.{Script, done, after_answer, wants_of, scripted}
-use Rattle.cw_record.proofs.WorkedEnds.Parts.{state_in, follows, ended_one}
+use Rattle.cw_record.proofs.WorkedEnds.Parts.{state_in, follows}
 use Rattle.cw_record.specs.WorkedEnds.{entry, met, counts, counted, shown_otherwise, with_fork, AtMoves}
 
 abbrev t : List Node

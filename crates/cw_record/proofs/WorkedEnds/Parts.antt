@@ -64,11 +64,6 @@ module _ {A : Type 0} (s : Strands A) (t : List Node) (before after reached : �
     joined = λ f h e. absurd (cc (implied _ _ (each_below waits_test (length t) waits f h) e));
   }
 
--- what ended between the accesses of each of one or two cells
-pub ended_one : (t : List Node) → AllEndedBetween t (live_accesses t 0) → JournalsEnded t 1
-ended_one t h zero l = h
-ended_one t h (suc c) l = absurd (omega arith)
-
 pub ended_two : (t : List Node) → AllEndedBetween t (live_accesses t 0) → AllEndedBetween t (live_accesses t 1) → JournalsEnded t 2
 ended_two t h g zero l = h
 ended_two t h g (suc zero) l = g

@@ -4,9 +4,10 @@ use Rattle.cw_strand.specs.declared.want.Want.TheVariants.{Store, Begin, End}
 use Rattle.cw_tree.specs.Histories.{IsHistory}
 use Rattle.cw_tree.proofs.Worked.Checks.{each_below, is_tree, are_stamps, pending_last, are_refusals, rolls_back}
 use Rattle.cw_tree.proofs.Worked.KeptParts.{are_journals, is_entry, recorded}
+use Rattle.cw_tree.proofs.Worked.KeptRuns.{ended_one}
 use Rattle.cw_record.specs.Coherent.{Follows}
 use Rattle.cw_record.specs.Scripts.{Script, done, sync, act, fork, after_answer, scripted}
-use Rattle.cw_record.proofs.WorkedEnds.Parts.{state_in, follows, ended_one}
+use Rattle.cw_record.proofs.WorkedEnds.Parts.{state_in, follows}
 use Rattle.cw_record.specs.WorkedEnds.{entry, refused_in_block, spawns, spawned, AtVictim}
 
 abbrev writes_one : Script

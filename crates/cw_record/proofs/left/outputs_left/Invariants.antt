@@ -4,4 +4,4 @@ use Rattle.cw_record.proofs.left.outputs_left.Given as goal
 
 -- the outputs among the items so far
 abbrev pub invariant-loop-item : goal.invariant-loop-item
-invariant-loop-item l = l.outputs ≡ outputs_shown l.tree (take l.item-index l.item-items)
+invariant-loop-item l = l.outputs ≡ outputs_shown l.tree (take l.item-index l.items)

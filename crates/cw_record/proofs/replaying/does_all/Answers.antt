@@ -24,7 +24,7 @@ pick-requires c = subst (λ m. Runs c.args.kept.now.program m) (sym c.in_ok-want
 pub is_item-requires : goal.is_item-requires
 is_item-requires c =
     let r = c.args.kept.now in
-    let there = listed_at r c.loop-place.place c.at-in-loop-place.result.now (all_listed r c.from_vec-items.ensures c.in_ok-items.ensures c.as_slice.ensures) c.at-in-loop-place.ensures in
+    let there = listed_at r c.loop-place.place c.at-in-loop-place.result.now (all_listed r c.from_vec-items.ensures c.in_ok-items.ensures.items c.as_slice.ensures) c.at-in-loop-place.ensures in
     item_there r c.loop-place.place c.at-in-loop-place.result.now there
 
 pub returns-then-not-is_item : goal.returns-then-not-is_item
@@ -32,7 +32,7 @@ returns-then-not-is_item c =
     let r = c.args.kept.now in
     let stands = c.loop-place.invariant.0 in
     let item = c.at-in-loop-place.result.now in
-    let there = listed_at r c.loop-place.place c.at-in-loop-place.result.now (all_listed r c.from_vec-items.ensures c.in_ok-items.ensures c.as_slice.ensures) c.at-in-loop-place.ensures in
+    let there = listed_at r c.loop-place.place c.at-in-loop-place.result.now (all_listed r c.from_vec-items.ensures c.in_ok-items.ensures.items c.as_slice.ensures) c.at-in-loop-place.ensures in
     let memory : c.memory.result.now ≡ stands.machine.memory = sym (c.memory.ensures (job_of_record r) r.order.names stands.machine (c.in_ok-want.ensures.same (job_of_record r) r.order.names stands.machine stands.is)) in (
       λ h. absurd (cc h),
       λ h. absurd (other_want r c.nodes.ensures.numbered c.requires.order c.loop-place.play c.at.new.self c.loop-place.place item there c.at-name.result.now c.at-name.ensures stands c.in_ok-want.want (c.in_ok-want.ensures.want (job_of_record r) r.order.names stands.machine stands.is)
@@ -44,7 +44,7 @@ returns-then-not-branch c =
     let r = c.args.kept.now in
     let stands = c.loop-place.invariant.0 in
     let item = c.at-in-loop-place.result.now in
-    let there = listed_at r c.loop-place.place c.at-in-loop-place.result.now (all_listed r c.from_vec-items.ensures c.in_ok-items.ensures c.as_slice.ensures) c.at-in-loop-place.ensures in
+    let there = listed_at r c.loop-place.place c.at-in-loop-place.result.now (all_listed r c.from_vec-items.ensures c.in_ok-items.ensures.items c.as_slice.ensures) c.at-in-loop-place.ensures in
     let is = c.in_ok-want.ensures.same (job_of_record r) r.order.names stands.machine stands.is in (
       λ h. absurd (cc h),
       λ h. absurd (no_pick r c.nodes.ensures.numbered c.requires.order c.loop-place.play c.pick.new.self c.loop-place.place item there c.at-name.result.now c.at-name.ensures stands
@@ -56,7 +56,7 @@ loop-place-preserved c =
     let r = c.args.kept.now in
     let stands = c.loop-place.invariant.0 in
     let item = c.at-in-loop-place.result.now in
-    let there = listed_at r c.loop-place.place c.at-in-loop-place.result.now (all_listed r c.from_vec-items.ensures c.in_ok-items.ensures c.as_slice.ensures) c.at-in-loop-place.ensures in
+    let there = listed_at r c.loop-place.place c.at-in-loop-place.result.now (all_listed r c.from_vec-items.ensures c.in_ok-items.ensures.items c.as_slice.ensures) c.at-in-loop-place.ensures in
     let is = c.in_ok-want.ensures.same (job_of_record r) r.order.names stands.machine stands.is in
     let memory : c.memory.result.now ≡ stands.machine.memory = sym (c.memory.ensures (job_of_record r) r.order.names stands.machine is) in
     let here = (c.is_item.ensures stands.machine (sym memory)).0 c.if-not-is_item.false in (
@@ -69,7 +69,7 @@ pub returns : goal.returns
 returns c =
     let r = c.args.kept.now in
     let stands = c.loop-place.invariant.0 in
-    let listed = all_listed r c.from_vec-items.ensures c.in_ok-items.ensures c.as_slice.ensures in
+    let listed = all_listed r c.from_vec-items.ensures c.in_ok-items.ensures.items c.as_slice.ensures in
     let past : length (all r) ≤ c.loop-place.place = omega (arith, ap length listed, c.len-place-end.ensures) in
     let ends = all_done r c.nodes.ensures.numbered c.requires.order c.requires.strand c.loop-place.play c.loop-place.place past stands c.in_ok-want-2.want (c.in_ok-want-2.ensures.want (job_of_record r) r.order.names stands.machine stands.is) in
     IfOk-weaker c.is_spent.result (λ b. IsTrue b ↔ WantsRefused r r.end c.in_ok-want-2.want) (λ b. IsTrue b ↔ ItemsAreDone r) (λ b e. (λ h. ends.0 (e.0 h), λ h. e.1 (ends.1 h))) c.is_spent.ensures

@@ -1,6 +1,7 @@
 use Rattle.std.proofs.Common.{arith, ap, ◌∙◌, ◌<◌, refl, length, get_or, rules}
-use Rattle.cw_record.proofs.Orders.Listing.{listing_start, listing_known, listing_new, strand_there, order_strand, first_met, same_at, same_length}
+use Rattle.cw_record.proofs.Orders.Listing.{listing_start, listing_known, listing_new, order_strand, first_met, same_at, same_length}
 use Rattle.cw_record.proofs.listed.Firsts.of_tree.Goals as goal
+use Rattle.cw_tree.proofs.Walks.There.{strand_there}
 use Rattle.cw_record.proofs.listed.Firsts.of_tree.Goals.{then-is_none+in_ok-push, else-is_none}
 
 pub loop-strand-init : goal.loop-strand-init

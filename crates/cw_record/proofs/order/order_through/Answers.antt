@@ -1,29 +1,19 @@
-use Rattle.std.proofs.Common.{◌≡◌, ℕ, ◌<◌, List, length, get_or, map, subst, ap, sym, ◌∙◌, arith, None}
-use Rattle.std.specs.Prelude.{All}
+use Rattle.std.proofs.Common.{◌≡◌, ℕ, ◌<◌, List, length, get_or, map, ap, sym, ◌∙◌, arith}
 use Rattle.cw_tree.specs.declared.picks.Name.{Name}
 use Rattle.cw_tree.specs.declared.picks.Picks.{Picks}
 use Rattle.cw_tree.specs.Nodes.{is_strand_kind}
 use Rattle.cw_tree.specs.Series.{strand_of}
 use Rattle.cw_tree.proofs.Lists.{get_map_below}
-use Rattle.cw_record.specs.declared.items.OrderItem.{OrderItem}
-use Rattle.cw_record.specs.Items.{items, place_of_end}
 use Rattle.cw_record.specs.Listed.{listed_names, strand_number}
 use Rattle.cw_record.specs.Order.{ending_strand, pick_of}
 use Rattle.cw_tree.proofs.Walks.There.{node_there}
-use Rattle.cw_record.proofs.Orders.ItemsThere.{OfTree, items_there}
 use Rattle.cw_record.proofs.Orders.Listing.{numbers_length, number_is}
-use Rattle.cw_record.proofs.order.order_of.Goals as goal
-
-pub picks-requires-clause-there : goal.picks-requires-clause-there
-picks-requires-clause-there c =
-    let t = c.args.tree.now in
-    let P : List OrderItem → Type 0 = All (OfTree t) in
-    subst P (sym (c.as_slice.ensures.value ∙ c.in_ok-items.ensures)) (items_there t (place_of_end t c.args.conflicts.now c.args.aborts c.args.end.now) (length t) None)
+use Rattle.cw_record.proofs.order.order_through.Goals as goal
 
 pub index-last-requires : goal.index-last-requires
 index-last-requires c =
     let t = c.args.tree.now in
-    let there : ending_strand c.args.end.now < length t = node_there (λ x. is_strand_kind x.kind) t (ending_strand c.args.end.now) c.requires in
+    let there : ending_strand c.args.end.now < length t = node_there (λ x. is_strand_kind x.kind) t (ending_strand c.args.end.now) c.requires.strand in
     omega (arith, numbers_length t c.in_ok-listed.listed.numbers.items c.in_ok-listed.ensures.numbers, c.ending_strand.ensures)
 
 pub returns : goal.returns
@@ -31,7 +21,7 @@ returns c =
     let t = c.args.tree.now in
     let s = c.ending_strand.result in
     let value = c.index-last.result.now in
-    let last_there : ending_strand c.args.end.now < length t = node_there (λ x. is_strand_kind x.kind) t (ending_strand c.args.end.now) c.requires in
+    let last_there : ending_strand c.args.end.now < length t = node_there (λ x. is_strand_kind x.kind) t (ending_strand c.args.end.now) c.requires.strand in
     let there : s < length t = omega (arith, c.ending_strand.ensures) in
     let last : value ≡ strand_number t (ending_strand c.args.end.now) =
     c.index-last.ensures
@@ -40,8 +30,7 @@ returns c =
     ∙ sym (number_is t c.nodes.ensures.numbered.rooted s there)
     ∙ ap (strand_number t) c.ending_strand.ensures
     in
-    let list = c.in_ok-list.ensures ∙ ap (map (pick_of t)) (c.as_slice.ensures.value ∙ c.in_ok-items.ensures) in
     let names = c.from_vec.ensures ∙ c.in_ok-listed.ensures.names in
     ap (λ (x : List Name). let p : Picks = record { names = x; list = c.in_ok-list.list; last = value } in p) names
-    ∙ ap (λ (x : List ℕ). let p : Picks = record { names = listed_names t; list = x; last = value } in p) list
-    ∙ ap (λ (x : ℕ). let p : Picks = record { names = listed_names t; list = map (pick_of t) (items t c.args.conflicts.now c.args.aborts c.args.end.now); last = x } in p) last
+    ∙ ap (λ (x : List ℕ). let p : Picks = record { names = listed_names t; list = x; last = value } in p) c.in_ok-list.ensures
+    ∙ ap (λ (x : ℕ). let p : Picks = record { names = listed_names t; list = map (pick_of t) c.args.items.now; last = x } in p) last
