@@ -8,7 +8,7 @@ use Rattle.cw_core.specs.State.{CoreState, is_split}
 use Rattle.cw_core.specs.Events.{is_early, all_fit, after_events}
 use Rattle.cw_tree.specs.Nodes.{is_fork}
 use Rattle.cw_sim.specs.Workers.{Worker, Simulation, waiting, left_node, tree, worker, first_simulation}
-use Rattle.cw_sim.specs.Moves.{is_over, move}
+use Rattle.cw_sim.specs.Moves.{is_run_over, move}
 use Rattle.cw_sim.specs.Kept.{IsKept}
 
 -- a want names only cells that are there
@@ -38,8 +38,8 @@ module _ {A : Type 0} (s : Strands A) where
   -- Every event that a move makes fits, and while the run is not over all is kept.
   abbrev pub MovesFit : Type 0
   MovesFit =
-      (first : List ℤ) (m : Simulation A) (w : ℕ) → AreStrands s (length first) → w < length m.workers → IsKept s first m → is_over m ≡ false
-      → ComesByEvents m.core (move s w m).core × (is_over (move s w m) ≡ false → IsKept s first (move s w m))
+      (first : List ℤ) (m : Simulation A) (w : ℕ) → AreStrands s (length first) → w < length m.workers → IsKept s first m → is_run_over m ≡ false
+      → ComesByEvents m.core (move s w m).core × (is_run_over (move s w m) ≡ false → IsKept s first (move s w m))
 
   -- ## Deques
 

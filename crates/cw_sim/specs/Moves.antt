@@ -29,8 +29,8 @@ module _ {A : Type 0} where
   does e m = record m { core = after_event m.core e }
 
   -- a halt, or the end of main
-  abbrev pub is_over : Simulation A → Bool
-  is_over m = is_some m.core.halt || has_finished m.core.machine 0
+  abbrev pub is_run_over : Simulation A → Bool
+  is_run_over m = is_some m.core.halt || has_finished m.core.machine 0
 
   -- ## An idle worker takes the oldest fork of the next worker that has one
 
@@ -142,4 +142,4 @@ module _ {A : Type 0} where
     -- at most k moves from the n-th on: none is made once the run is over
     abbrev pub after_moves : (turn : ℕ → ℕ) → (k n : ℕ) → Simulation A → Simulation A
     after_moves turn zero n m = m
-    after_moves turn (suc k) n m = elim (is_over m) [ true ↦ m | false ↦ after_moves turn k (suc n) (move (turn n) m) ]
+    after_moves turn (suc k) n m = elim (is_run_over m) [ true ↦ m | false ↦ after_moves turn k (suc n) (move (turn n) m) ]

@@ -16,7 +16,7 @@ use Rattle.cw_record.specs.ClosedRun.{IsClosedRun}
 use Rattle.cw_record.specs.Built.{end_left}
 use Rattle.cw_sim.specs.Workers.{Simulation, first_simulation}
 use Rattle.cw_sim.specs.Turns.{worker_at, ListsWorkers}
-use Rattle.cw_sim.specs.Moves.{is_over, after_moves}
+use Rattle.cw_sim.specs.Moves.{is_run_over, after_moves}
 use Rattle.cw_sim.specs.Laws.{AreStrands}
 
 -- what the moves of so many workers come to, in the turns of a schedule, where the run ends, or at the limit of moves
@@ -39,13 +39,13 @@ pub record IsRecordOf {A : Type 0} (m : Simulation A) (r : Record) : Type 0 wher
   pub journals : r.journals ≡ (closed_of m).journals
   pub conflicts : r.conflicts ≡ (closed_of m).conflicts
   pub order : r.order ≡ order_of r.tree r.conflicts r.limits.aborts r.end
-  pub end : r.end ≡ end_left (first_memory r.program.cells) r.limits.aborts (closed_of m) (not (is_over m))
+  pub end : r.end ≡ end_left (first_memory r.program.cells) r.limits.aborts (closed_of m) (not (is_run_over m))
 
 -- What the moves of workers come to is a closed run, whoever makes which move.
 abbrev pub RunsAreClosed : {A : Type 0} → Strands A → Type 0
 RunsAreClosed s =
     (first : List ℤ) (room budget workers limit : ℕ) (turn : ℕ → ℕ) → AreStrands s (length first) → 0 < room → ((n : ℕ) → turn n < workers)
-    → (let m = after_moves s turn limit 0 (first_simulation first room budget workers s.start) in IsClosedRun s first budget m.core.machine (journals_of m.core) m.core.halt (not (is_over m)))
+    → (let m = after_moves s turn limit 0 (first_simulation first room budget workers s.start) in IsClosedRun s first budget m.core.machine (journals_of m.core) m.core.halt (not (is_run_over m)))
 
 -- The record of the moves of any workers, of a compiled program with its words, is coherent for the program's strands; its outputs are those
 -- of its output nodes, in its order; and its nodes are numbered depth first.

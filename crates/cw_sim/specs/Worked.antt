@@ -21,7 +21,7 @@ use Rattle.cw_record.specs.Items.{items}
 use Rattle.cw_record.specs.Coherent.{outputs_shown}
 use Rattle.cw_sim.specs.Workers.{Simulation, tree, first_simulation}
 use Rattle.cw_sim.specs.Turns.{worker_at}
-use Rattle.cw_sim.specs.Moves.{is_over, after_moves}
+use Rattle.cw_sim.specs.Moves.{is_run_over, after_moves}
 
 -- ## Runs of sources
 
@@ -99,8 +99,8 @@ pub record Blocks : Type 0 where
   pub order : items (tree (blocks (up_to 1))) (refused_block ∷ []) 1 (ends.Budget 3) ≡ []
   pub twice : seen (blocks (up_to 2)) ≡ ended (pos 2 ∷ []) [] 13 (refused_block ∷ [])
   -- so many moves it takes, idle ones among them
-  pub one_less : is_over (blocks (limits 1000 100 24)) ≡ false
-  pub enough : is_over (blocks (limits 1000 100 25)) ≡ true
+  pub one_less : is_run_over (blocks (limits 1000 100 24)) ≡ false
+  pub enough : is_run_over (blocks (limits 1000 100 25)) ≡ true
 
 -- ## A write in a stolen strand that was joined before a block began, and inside a block
 
@@ -187,10 +187,10 @@ abbrev pub spawns : Simulation (Standing coded.State)
 spawns = ran (codes "fn f() { spawn { f(); } f(); } fn main() { f(); }") 4 [] (limits 1 100 10)
 
 pub record Spent : Type 0 where
-  pub two : is_over (counts 2) ≡ false
-  pub four : is_over (counts 4) ≡ false
+  pub two : is_run_over (counts 2) ≡ false
+  pub four : is_run_over (counts 4) ≡ false
   pub five : seen (counts 5) ≡ ended (pos 1 ∷ []) (pos 1 ∷ []) 4 []
-  pub goes_on : is_over spawns ≡ false
+  pub goes_on : is_run_over spawns ≡ false
   pub clock : spawns.core.machine.clock ≡ 5
 
 -- ## Few columns: forks wait inline

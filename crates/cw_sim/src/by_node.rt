@@ -1,4 +1,4 @@
-ghost use Rattle.std.specs.Prelude.{◌≡◌, ◌<◌, ℕ, [], length, OnOk, IsSome, is_some, Some, None};
+ghost use Rattle.std.specs.Prelude.{◌≡◌, ◌<◌, ◌≤◌, ◌+◌, ◌⊎◌, ℕ, [], length, OnOk, IsSome, is_some, Some, None};
 ghost use Rattle.cw_sim.specs.ThingsInMemory.{thing_at, Puts};
 
 use cw_base::OutOfMemory;
@@ -71,6 +71,7 @@ impl<T: Drop> ByNode<T> {
     fn grow(&mut self, node: u32) -> Result<(), OutOfMemory>
         ensures there { OnOk result (node < length self.new) }
         ensures same { OnOk result ((m : ℕ) → thing_at self.new m ≡ thing_at self.old m) }
+        ensures few { OnOk result ((length self.new ≤ length self.old) ⊎ (length self.new ≤ node + 1)) }
     {
         let count = node as usize + 1;
         if self.keys.len() < count {

@@ -4,7 +4,7 @@ ghost use Rattle.cw_strand.specs.declared.want.Given.TheVariants as given;
 ghost use Rattle.cw_strand.specs.Programs.{IsCompiled};
 ghost use Rattle.cw_job.specs.Jobs.{TakesWords, job_of_task};
 ghost use Rattle.cw_sim.specs.Workers.{left_node, right_node, tree, with_strand, worker};
-ghost use Rattle.cw_sim.specs.Moves.{accesses, acts, answers, begins, dies, does, finishes, follows, forks, given_for, is_over, joins, meets, move, others, steals, stops_if_spent, takes, goes_to_right};
+ghost use Rattle.cw_sim.specs.Moves.{accesses, acts, answers, begins, dies, does, finishes, follows, forks, given_for, is_run_over, joins, meets, move, others, steals, stops_if_spent, takes, goes_to_right};
 ghost use Rattle.cw_sim.specs.Runs.{closed_of, simulation_of};
 ghost use Rattle.cw_sim.specs.Turns.{ListsWorkers};
 ghost use Rattle.cw_open.specs.Machine.{has_finished};
@@ -16,9 +16,9 @@ use crate::by_node::ByNode;
 use crate::turns::Turns;
 use crate::worker::{Worker, opening, robbed, take_newest, take_oldest, with_fork, with_run};
 use cw_base::OutOfMemory;
+use cw_code::{Limits, Program};
 use cw_core::{Core, Event, Reply};
 use cw_io::Schedule;
-use cw_code::{Limits, Program};
 use cw_job::{Standing, Task, first_memory};
 use cw_strand::{Given, Saved, Want};
 use cw_tree::{Closed, Halt};
@@ -49,6 +49,7 @@ fn given_for(write: Option<i64>, value: i64) -> Given
 
 // Each rule is the definition of its name.
 impl<'a> Driver<'a> {
+    ghost use Rattle.cw_sim.specs.ThingsInMemory.{thing_at};
     ghost use Rattle.cw_sim.specs.TurnsInMemory.{AreAt};
     ghost use Rattle.cw_sim.specs.InMemory.{Comes, Ends, HasFinished, MayAct, MayAnswer, MayDie, MayDo, MayFinish, MayFork, MayJoin, MayMeet, MayMove, MayRoll, MayTake, MayTurn, Seen, StandsFor, access_of, answered, law_of, opened};
 
@@ -90,7 +91,7 @@ impl<'a> Driver<'a> {
     /// A halt, or the end of main.
     fn is_over(&self) -> bool
         requires { (z : Seen) × StandsFor self.now z }
-        ensures { (z : Seen) → StandsFor self.now z → result ≡ is_over z.m }
+        ensures { (z : Seen) → StandsFor self.now z → result ≡ is_run_over z.m }
     {
         // nothing has stopped where the core may still stop
         let goes_on = self.core.fits(&Event::Stop { halt: Halt::Memory });
@@ -133,9 +134,7 @@ impl<'a> Driver<'a> {
         let left = self.bodies.take(fork + 1);
         let mut right = self.bodies.take(fork + 2);
         self.core.step(Event::Join { fork })?;
-        if self.core.is_dying(parent) {
-            right.join_given_up(left);
-        } else {
+        if !self.core.is_dying(parent) {
             right.join(left, self.task.program)?;
         }
         self.bodies.put(parent, right)?;
@@ -227,7 +226,8 @@ impl<'a> Driver<'a> {
     /// A strand goes on to its next want, once this one is answered.
     fn answers(&mut self, strand: u32, given: Given) -> Result<(), OutOfMemory>
         requires { (z : Seen) × MayAnswer self.old strand z }
-        ensures { OnOk result ((z : Seen) → MayAnswer self.old strand z → StandsFor self.new (answered strand given z)) }
+        ensures stands { OnOk result ((z : Seen) → MayAnswer self.old strand z → StandsFor self.new (answered strand given z)) }
+        ensures saves { self.new.saved ≡ self.old.saved }
     {
         let mut body = self.bodies.take(strand);
         body.answer(given, self.task.program)?;
@@ -293,7 +293,8 @@ impl<'a> Driver<'a> {
     /// The innermost block of a strand ends.
     fn ends(&mut self, strand: u32) -> Result<(), OutOfMemory>
         requires { (z : Seen) × MayDo self.old strand Want.End z }
-        ensures { OnOk result ((z : Seen) → MayDo self.old strand Want.End z → Comes self.new z (answers (law_of z) strand given.Nothing (does (event.Commit strand) z.m))) }
+        ensures comes { OnOk result ((z : Seen) → MayDo self.old strand Want.End z → Comes self.new z (answers (law_of z) strand given.Nothing (does (event.Commit strand) z.m))) }
+        ensures saves { OnOk result (thing_at self.new.saved (place self.old.core.machine.tree strand) ≡ None) }
     {
         let block = self.core.place(strand);
         let _ = self.saved.take(block);
@@ -371,7 +372,6 @@ impl<'a> Driver<'a> {
     }
 }
 
-
 /// What the moves of so many workers leave, in the turns of a schedule, and whether they were used up.
 pub(crate) fn moved(
     alloc: Global,
@@ -385,7 +385,7 @@ pub(crate) fn moved(
     requires workers { 0 < workers }
     requires listed { ListsWorkers schedule.now workers }
     ensures closed { IfOk result (λ r. r.0 ≡ closed_of (simulation_of (job_of_task task.entry) workers schedule.now)) }
-    ensures spent { IfOk result (λ r. r.1 ≡ not (is_over (simulation_of (job_of_task task.entry) workers schedule.now))) }
+    ensures spent { IfOk result (λ r. r.1 ≡ not (is_run_over (simulation_of (job_of_task task.entry) workers schedule.now))) }
     ensures few { OnOk result (length (tree (simulation_of (job_of_task task.entry) workers schedule.now)) < 2 ^ 32) }
 {
     let mut simulation = Driver::opening(alloc, task, workers)?;

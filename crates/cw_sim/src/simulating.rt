@@ -4,15 +4,15 @@ ghost use Rattle.cw_job.specs.Jobs.{TakesWords};
 ghost use Rattle.cw_record.specs.Records.{HasItsOutputs, IsCoherentRun, IsNumberedDepthFirst, IsReplayed, job_of_record};
 ghost use Rattle.cw_sim.specs.Turns.{ListsWorkers};
 ghost use Rattle.cw_record.specs.declared.record_end.RecordEnd.TheVariants.{Moves};
-ghost use Rattle.cw_sim.specs.Moves.{is_over};
+ghost use Rattle.cw_sim.specs.Moves.{is_run_over};
 ghost use Rattle.cw_sim.specs.Runs.{IsRecordOf, simulation_of};
 
 use crate::moves::moved;
 use cw_base::{OutOfMemory, Seq};
+use cw_code::{Limits, Program};
 use cw_io::Schedule;
 use cw_job::Task;
 use cw_record::{Record, build};
-use cw_code::{Limits, Program};
 use std::alloc::Global;
 
 /// The run of so many virtual workers over one core, each of which makes a move when its turn comes, by a schedule. It ends by itself, at the
@@ -35,7 +35,7 @@ pub fn simulate(
     ensures words { IfOk result (λ r. r.words ≡ words) }
     ensures limits { IfOk result (λ r. r.limits ≡ limits) }
     ensures moves { IfOk result (λ r. IsRecordOf (simulation_of (job_of_record r) workers schedule.now) r) }
-    ensures spent { IfOk result (λ r. r.end ≡ Moves ↔ (is_over (simulation_of (job_of_record r) workers schedule.now) ≡ false)) }
+    ensures spent { IfOk result (λ r. r.end ≡ Moves ↔ (is_run_over (simulation_of (job_of_record r) workers schedule.now) ≡ false)) }
     ensures coherent { IfOk result (λ r. IsCoherentRun r) }
     ensures outputs { IfOk result (λ r. HasItsOutputs r) }
     ensures replays { IfOk result (λ r. IsReplayed r) }

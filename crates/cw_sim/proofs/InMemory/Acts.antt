@@ -67,9 +67,6 @@ module _ (c : Driver) (x : ℕ) (z : Seen) (step : MayStep c x z) where
 -- ## An output
 
 module _ (c : Driver) (x : ℕ) (v : ℤ) (z : Seen) (may : MayDo c x (want.Out v) z) where
-  pub out_fits_there : fits c.core (event.Out x v) ≡ true
-  out_fits_there = fits_there c x z may.step (event.Out x v) (out_fits (first c x z may.step) z.m.core may.step.steady.core x may.step.running may.step.ready v may.alive)
-
   -- the strand may be answered then
   pub out_may : (k : CoreState) → k ≡ after_event c.core (event.Out x v) → IsCore k.machine.first k → MayAnswer (record c { core = k }) x (record z { m = does (event.Out x v) z.m })
   out_may k is core =

@@ -3,8 +3,8 @@ use Rattle.std.proofs.Common.{◌≡◌, ◌+◌, ℕ, zero, suc, ◌<◌, lengt
 use Rattle.std.specs.Prelude.{◌&&◌, not, slice_set}
 use Rattle.std.proofs.lemmas.Bool.{and_from, and_left, and_right, eq-eqb, ne_eqb, not_from_true, not_from_false}
 use Rattle.cw_tree.specs.Nodes.{parent_of}
-use Rattle.cw_trace.proofs.Stands.InRange.{strand_low}
 use Rattle.cw_strand.specs.Strands.{Strands}
+use Rattle.cw_tree.proofs.Walks.There.{strand_there as strand_low}
 use Rattle.cw_open.specs.Machine.{has_finished}
 use Rattle.cw_core.specs.State.{CoreState, is_split}
 use Rattle.cw_job.specs.Room.Strands.{StrandState}

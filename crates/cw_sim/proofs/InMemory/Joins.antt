@@ -8,9 +8,9 @@ use Rattle.cw_tree.specs.Series.{strand_of}
 use Rattle.cw_tree.specs.Shape.{IsTree}
 use Rattle.cw_open.specs.Machine.{has_finished, finished_dead, is_running, is_dying}
 use Rattle.cw_core.specs.declared.event.Event.TheVariants as event
+use Rattle.cw_tree.proofs.InOrder.DepthFirst.{IsChild}
 use Rattle.cw_core.specs.State.{CoreState}
 use Rattle.cw_core.specs.Events.{fits, after_event}
-use Rattle.cw_core.proofs.Events.Forks.{IsChild}
 use Rattle.cw_core.proofs.Events.Going.{well}
 use Rattle.cw_job.specs.declared.standing.Standing.{Standing}
 use Rattle.cw_job.specs.Jobs.{Job, job_of_task}
@@ -135,12 +135,12 @@ module _ (c : Driver) (w f : ℕ) (z : Seen) (may : MayJoin c w f z) where
     right_stands = let P : Program → Type 0 = λ x. IsOf x b in subst P (sym program_is) is_right.program
 
     -- where it is dying it is the right one's
-    pub given_up : (body : Standing) → is_dying k.machine p ≡ true → ((there : StrandState) → StandsAs (state_of b) there → StandsAs (state_of body) there) → ((program : Program) → IsOf program b → IsOf program body) → IsParent body
-    given_up body dying like stands = record {
+    pub given_up : is_dying k.machine p ≡ true → IsParent b
+    given_up dying = record {
       here = z.there (right_node f);
-      program = stands z.job.program is_right.program;
+      program = is_right.program;
       at = λ e. absurd (cc (e, dying));
-      like = like (z.there (right_node f)) is_right.like;
+      like = is_right.like;
       goes = λ e. refl;
       lives = λ e. absurd (cc (e, dying));
     }

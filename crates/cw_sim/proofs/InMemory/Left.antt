@@ -1,8 +1,8 @@
 -- Which strands have bodies, which go back, and which blocks are pending, as a running strand makes a step that leaves all strands and forks.
 use Rattle.std.proofs.Common.{◌≡◌, ◌≢◌, ℕ, zero, suc, ◌<◌, List, [], ◌∷◌, ◌++◌, length, refl, ap, sym, ◌∙◌, subst, arith, Bool, true, false, inl, inr}
-use Rattle.std.specs.Prelude.{◌&&◌, ◌||◌, not, ℤ}
+use Rattle.std.specs.Prelude.{◌&&◌, not, ℤ}
 use Rattle.std.specs.List.{list_any}
-use Rattle.std.proofs.lemmas.Bool.{and_parts, and_from, or_cases, or_left, or_right, not_from_false, not-true, false_from_ne_true}
+use Rattle.std.proofs.lemmas.Bool.{and_parts, and_from, or_cases, or_left, or_right, not_from_false, not-true, false_from_ne_true, or_parts, or_from}
 use Rattle.cw_tree.specs.declared.node.Node.{Node}
 use Rattle.cw_tree.specs.declared.node.BlockState.{BlockState}
 use Rattle.cw_tree.specs.declared.node.BlockState.TheVariants.{Committed, Aborted}
@@ -14,7 +14,6 @@ use Rattle.cw_tree.specs.Series.{place}
 use Rattle.cw_tree.specs.Shape.{IsTree}
 use Rattle.cw_tree.specs.Walks.{has}
 use Rattle.cw_tree.proofs.NextNodes.Pending.{pending_closed, pending_stays}
-use Rattle.cw_trace.proofs.Stands.InRange.{strand_low}
 use Rattle.cw_open.specs.Machine.{OpenMachine, finished_dead, waits, is_running, is_dying, is_free, in_block, rolls_back}
 use Rattle.cw_open.specs.Open.{is_open, AreNested}
 use Rattle.cw_open.specs.Runs.{at_once}
@@ -25,6 +24,7 @@ use Rattle.cw_open.proofs.Open.TreeSteps.{place_pending}
 use Rattle.cw_open.proofs.Refused.Victims.{IsTold, IsToldState, told_states, free_are_safe}
 use Rattle.cw_core.specs.declared.event.Event.{Event}
 use Rattle.cw_core.specs.declared.event.Event.TheVariants as event
+use Rattle.cw_tree.proofs.Walks.There.{strand_there}
 use Rattle.cw_core.specs.State.{CoreState, waits_for_left}
 use Rattle.cw_core.specs.Events.{fits, after_event, next}
 use Rattle.cw_core.proofs.Events.Kept.{events}
@@ -55,7 +55,7 @@ module _ (k z : CoreState) (left : IsLeft k.machine z.machine) where
   current_stays zero e = refl
   current_stays (suc x) e =
       let (strand, apart) = and_parts (is_strand k.machine.tree (suc x)) (not (has k.machine.joined (parent_of k.machine.tree (suc x)))) e in
-      let low = strand_low k.machine.tree (suc x) strand in
+      let low = strand_there k.machine.tree (suc x) strand in
       and_from (is_strand z.machine.tree (suc x)) (not (has z.machine.joined (parent_of z.machine.tree (suc x)))) (left.stays.strands (suc x) low ∙ strand)
       (ap (λ js. not (has js (parent_of z.machine.tree (suc x)))) left.joined ∙ ap (λ p. not (has k.machine.joined p)) (left.stays.parents (suc x) low) ∙ apart)
 
@@ -73,29 +73,22 @@ module _ (k z : CoreState) (left : IsLeft k.machine z.machine) where
 
 -- ## Strands that go back
 
-or_none : (a b : Bool) → (a || b) ≡ false → (a ≡ false) × (b ≡ false)
-or_none false b e = (refl, e)
-or_none true b e = absurd (cc e)
-
-or_false : (a b : Bool) → a ≡ false → b ≡ false → (a || b) ≡ false
-or_false a b e f = ap (λ c. c || b) e ∙ f
-
 module _ (m z : OpenMachine) (left : IsLeft m z) where
   -- a strand that goes back still does, while it is dying if it was
   pub back_was : (x : ℕ) → (is_dying z x ≡ false → is_dying m x ≡ false) → goes_back z x ≡ false → goes_back m x ≡ false
   back_was x dying e =
-      let (live, undead) = or_none (is_dying z x) (finished_dead z x) e in
-      or_false (is_dying m x) (finished_dead m x) (dying live) (sym (dead_as m z left x) ∙ undead)
+      let (live, undead) = or_parts (is_dying z x) (finished_dead z x) e in
+      or_from (is_dying m x) (finished_dead m x) (dying live) (sym (dead_as m z left x) ∙ undead)
 
   pub back_stays : (x : ℕ) → is_dying z x ≡ is_dying m x → goes_back m x ≡ false → goes_back z x ≡ false
   back_stays x dying e =
-      let (live, undead) = or_none (is_dying m x) (finished_dead m x) e in
-      or_false (is_dying z x) (finished_dead z x) (dying ∙ live) (dead_as m z left x ∙ undead)
+      let (live, undead) = or_parts (is_dying m x) (finished_dead m x) e in
+      or_from (is_dying z x) (finished_dead z x) (dying ∙ live) (dead_as m z left x ∙ undead)
 
 -- a running strand goes back where it is dying
 pub running_back : (m : OpenMachine) (x : ℕ) → is_running m x ≡ true → is_dying m x ≡ false → goes_back m x ≡ false
 running_back m x running free =
-    or_false (is_dying m x) (finished_dead m x) free
+    or_from (is_dying m x) (finished_dead m x) free
     (false_from_ne_true (finished_dead m x) (λ e. absurd (let d = dead_finished m x e in let g = (going m x running).unfinished in cc (d, g))))
 
 -- ## The events of a running strand

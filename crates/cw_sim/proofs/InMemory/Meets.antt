@@ -2,9 +2,9 @@
 use Rattle.std.proofs.Common.{◌≡◌, ℕ, ◌<◌, length, ap, sym, ◌∙◌, subst, arith, Bool, true, false, None}
 use Rattle.std.specs.Prelude.{◌&&◌, slice_set}
 use Rattle.std.proofs.lemmas.Bool.{and_from}
+use Rattle.cw_tree.proofs.InOrder.DepthFirst.{IsChild}
 use Rattle.cw_open.specs.Machine.{has_finished}
 use Rattle.cw_core.specs.State.{CoreState}
-use Rattle.cw_core.proofs.Events.Forks.{IsChild}
 use Rattle.cw_core.proofs.Events.Going.{well}
 use Rattle.cw_sim.specs.Workers.{left_node, right_node, worker_in}
 use Rattle.cw_sim.specs.Moves.{joins, meets}

@@ -23,23 +23,23 @@ use Rattle.cw_record.proofs.ClosedRun.LeftRuns.{left_has_record}
 use Rattle.cw_replay.proofs.RecordsReplay.Kept.{kept_records_replay}
 use Rattle.cw_sim.specs.Workers.{Simulation, tree}
 use Rattle.cw_sim.specs.Turns.{ListsWorkers}
-use Rattle.cw_sim.specs.Moves.{is_over}
+use Rattle.cw_sim.specs.Moves.{is_run_over}
 use Rattle.cw_sim.specs.Runs.{IsRecordOf, closed_of, simulation_of}
 use Rattle.cw_sim.proofs.Runs.Closing.{job_left}
 use Rattle.cw_sim.proofs.Runs.Unstopped.{left_told}
 
 -- whether it is over is so of the same job, workers and schedule
-pub over_same : (j k : Job) (v w : ℕ) (s t : Schedule) (b : Bool) → b ≡ is_over (simulation_of j v s) → j ≡ k → v ≡ w → s ≡ t → not b ≡ not (is_over (simulation_of k w t))
+pub over_same : (j k : Job) (v w : ℕ) (s t : Schedule) (b : Bool) → b ≡ is_run_over (simulation_of j v s) → j ≡ k → v ≡ w → s ≡ t → not b ≡ not (is_run_over (simulation_of k w t))
 over_same j k v w s t b e jobs workers schedules =
     ap not e
-    ∙ ap (λ (i : Job). not (is_over (simulation_of i v s))) jobs
-    ∙ ap (λ n. not (is_over (simulation_of k n s))) workers
-    ∙ ap (λ u. not (is_over (simulation_of k w u))) schedules
+    ∙ ap (λ (i : Job). not (is_run_over (simulation_of i v s))) jobs
+    ∙ ap (λ n. not (is_run_over (simulation_of k n s))) workers
+    ∙ ap (λ u. not (is_run_over (simulation_of k w u))) schedules
 
 -- This is what the moves of a job come to, closed, and whether they were spent.
 pub record IsMoved (job : Job) (workers : ℕ) (schedule : Schedule) (c : Closed) (spent : Bool) : Type 0 where
   pub closed : c ≡ closed_of (simulation_of job workers schedule)
-  pub spends : spent ≡ not (is_over (simulation_of job workers schedule))
+  pub spends : spent ≡ not (is_run_over (simulation_of job workers schedule))
   pub few : length (tree (simulation_of job workers schedule)) < 2 ^ 32
 
 -- it is so of the same words
@@ -86,5 +86,5 @@ module _ (p : Program) (words : List ℤ) (compiled : IsCompiled p) (takes : Tak
 
 -- and the record of the moves tells whether they were spent
 pub built_spent : {E : Type 0} (workers : ℕ) (schedule : Schedule) (o : Result Record E) → IfOk o (λ r. IsRecordOf (simulation_of (job_of_record r) workers schedule) r)
-    → IfOk o (λ r. r.end ≡ Moves ↔ (is_over (simulation_of (job_of_record r) workers schedule) ≡ false))
-built_spent workers schedule o is = IfOk-weaker o (λ r. IsRecordOf (simulation_of (job_of_record r) workers schedule) r) (λ r. r.end ≡ Moves ↔ (is_over (simulation_of (job_of_record r) workers schedule) ≡ false)) (λ r z. left_told (job_of_record r) workers schedule r z) is
+    → IfOk o (λ r. r.end ≡ Moves ↔ (is_run_over (simulation_of (job_of_record r) workers schedule) ≡ false))
+built_spent workers schedule o is = IfOk-weaker o (λ r. IsRecordOf (simulation_of (job_of_record r) workers schedule) r) (λ r. r.end ≡ Moves ↔ (is_run_over (simulation_of (job_of_record r) workers schedule) ≡ false)) (λ r z. left_told (job_of_record r) workers schedule r z) is

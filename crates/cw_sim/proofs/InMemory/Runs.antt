@@ -11,7 +11,7 @@ use Rattle.cw_job.specs.Jobs.{Job, TakesWords}
 use Rattle.cw_job.specs.Room.Strands.{StrandState, strands_of_job}
 use Rattle.cw_sim.specs.Workers.{Simulation, idle}
 use Rattle.cw_sim.specs.Turns.{worker_at}
-use Rattle.cw_sim.specs.Moves.{is_over, move, after_moves}
+use Rattle.cw_sim.specs.Moves.{is_run_over, move, after_moves}
 use Rattle.cw_sim.specs.Runs.{simulation_of}
 use Rattle.cw_sim.specs.Kept.{CoreGoesOn, IsKept}
 use Rattle.cw_sim.specs.Laws.{AreStrands}
@@ -50,7 +50,7 @@ module _ (job : Job) (workers : ℕ) (schedule : Schedule) where
     pub stands : StandsFor c (record { job = job; m = m; there = there })
     pub inside : HasInside s m there
     pub many : length m.workers ≡ workers
-    pub kept : is_over m ≡ false → IsKept s first m
+    pub kept : is_run_over m ≡ false → IsKept s first m
     pub left : after_moves s turn (limit - n) n m ≡ simulation_of job workers schedule
 
   -- those who take turns stand there, too
@@ -86,9 +86,9 @@ module _ (job : Job) (workers : ℕ) (schedule : Schedule) where
     abbrev pub z : Seen
     z = record { job = job; m = is.m; there = is.there }
 
-    module _ (b : Bool) (tells : (y : Seen) → StandsFor c y → b ≡ is_over y.m) where
+    module _ (b : Bool) (tells : (y : Seen) → StandsFor c y → b ≡ is_run_over y.m) where
       -- whether it is over
-      over_is : (v : Bool) → b ≡ v → is_over is.m ≡ v
+      over_is : (v : Bool) → b ≡ v → is_run_over is.m ≡ v
       over_is v e = sym (tells z is.stands) ∙ e
 
       -- once it is all moves came to it
@@ -142,7 +142,7 @@ module _ (job : Job) (workers : ℕ) (schedule : Schedule) where
           left =
               ap (λ v. after_moves s turn (limit - (n + 1)) (n + 1) (move s v is.m)) (along_worker t n w along who)
               ∙ ap (λ i. after_moves s turn (limit - (n + 1)) i (move s (turn n) is.m)) (let e : n + 1 ≡ suc n = omega arith in e)
-              ∙ sym (one (limit - (n + 1)) (is_over is.m) (over_is false off))
+              ∙ sym (one (limit - (n + 1)) (is_run_over is.m) (over_is false off))
               ∙ ap (λ k. after_moves s turn k n is.m) (let e : suc (limit - (n + 1)) ≡ limit - n = omega (arith, more) in e)
               ∙ is.left;
         }

@@ -11,18 +11,18 @@ use Rattle.cw_tree.proofs.Walks.Ancestors.{above_ancestor, above_parent}
 use Rattle.cw_tree.proofs.Lists.{any_in, any_from}
 use Rattle.cw_tree.proofs.NextNodes.Before.{above_down}
 use Rattle.cw_tree.proofs.Walks.Strands.{strand_over}
-use Rattle.cw_trace.proofs.Stands.InRange.{fork_low}
 use Rattle.cw_open.specs.Machine.{OpenMachine, has_finished, finished_dead, waits, is_dying}
 use Rattle.cw_open.specs.Runs.{at_once}
 use Rattle.cw_open.proofs.Refused.BackedStates.{IsBackedState, backed_states}
 use Rattle.cw_open.proofs.Refused.Fell.{any_one}
 use Rattle.cw_open.proofs.Refused.Victims.{IsTold}
 use Rattle.cw_core.specs.declared.event.Event.TheVariants as event
+use Rattle.cw_tree.proofs.Walks.There.{fork_there}
+use Rattle.cw_tree.proofs.Walks.Kin.{fork_child}
+use Rattle.cw_tree.proofs.InOrder.DepthFirst.{IsChild}
 use Rattle.cw_core.specs.State.{CoreState}
 use Rattle.cw_core.specs.Events.{after_event}
-use Rattle.cw_core.proofs.Events.Forks.{IsChild}
 use Rattle.cw_core.proofs.Events.Going.{well}
-use Rattle.cw_core.proofs.Events.Ordering.{strand_under}
 use Rattle.cw_sim.specs.Kept.{CoreGoesOn}
 use Rattle.cw_sim.specs.Inside.{HasOneOpenFork as IsThere, goes_back}
 use Rattle.cw_sim.specs.InMemory.{has_body}
@@ -71,21 +71,21 @@ module _ (first : List ℤ) (k : CoreState) (on : CoreGoesOn first k) (f : ℕ) 
 
   module _ (y : ℕ) (child : IsChild t f y) where
     strand : is_strand t y ≡ true
-    strand = let P : ℕ → Type 0 = λ g. is_fork t g ≡ true in strand_under t tree y child.some child.there (subst P (sym child.up) fork)
+    strand = let P : ℕ → Type 0 = λ g. is_fork t g ≡ true in fork_child t tree y child.some child.there (subst P (sym child.parent) fork)
 
     -- one that has finished has a body
     pub side_body : has_finished m y ≡ true → has_body k y ≡ true
-    side_body done = stands_body k y (record { strand = strand; apart = λ some. ap (has m.joined) child.up ∙ apart; alone = finished_alone m tree (well first k on.core).nested y strand done })
+    side_body done = stands_body k y (record { strand = strand; apart = λ some. ap (has m.joined) child.parent ∙ apart; alone = finished_alone m tree (well first k on.core).nested y strand done })
 
     -- where it goes back, so does the strand that forked
     pub side_dies : goes_back m y ≡ true → is_dying m p ≡ true
     side_dies e = elim (or_cases (is_dying m y) (finished_dead m y) e) [
-      | inr d ↦ dead_dies first m backed f y fork apart child.some child.up d
+      | inr d ↦ dead_dies first m backed f y fork apart child.some child.parent d
       | inl d ↦
           (let o = any_one (IsTold t) (dies_by m y) m.conflicts backed.told.told d in
           let (v, dies) = died_by m y o.one o.passes in
-          let low = fork_low t f fork in
-          let over = above_parent t tree.rooted p y child.some child.there ∙ ap (is_ancestor t p) child.up ∙ strand_over t tree.rooted f low in
+          let low = fork_there t f fork in
+          let over = above_parent t tree.rooted p y child.some child.there ∙ ap (is_ancestor t p) child.parent ∙ strand_over t tree.rooted f low in
           o.among (dies_by m p) (by_dies m p o.one v (record {
             over = above_down t tree.rooted p y o.one.asker o.holds.asker over (above_ancestor t y o.one.asker dies.over);
             pending = dies.pending;
@@ -100,7 +100,7 @@ module _ (first : List ℤ) (k : CoreState) (on : CoreGoesOn first k) (f : ℕ) 
     pub side_gone : has_body z y ≡ true → ⊥
     side_gone e =
         let off = (body_stands z tree.root y e).apart child.some in
-        let on : has z.machine.joined (parent_of t y) ≡ true = ap (has z.machine.joined) child.up ∙ or_left (nat_eq f f) (has m.joined f) (eq-eqb f f refl) in
+        let on : has z.machine.joined (parent_of t y) ≡ true = ap (has z.machine.joined) child.parent ∙ or_left (nat_eq f f) (has m.joined f) (eq-eqb f f refl) in
         absurd (cc (off, on))
 
   -- each other strand but the one that forked has one where it had one

@@ -1,5 +1,5 @@
 -- What things of nodes are once one is put or taken.
-use Rattle.std.proofs.Common.{◌≡◌, ◌≢◌, ℕ, zero, suc, ◌<◌, List, [], ◌∷◌, ◌++◌, length, get_or, set, replicate, take, refl, ap, sym, ◌∙◌, subst, arith, cond, Option, Some, None, is_some, inl, inr, nat_eq}
+use Rattle.std.proofs.Common.{◌≡◌, ◌≢◌, ℕ, zero, suc, ◌<◌, List, [], ◌∷◌, ◌++◌, length, get_or, set, replicate, take, refl, ap, sym, ◌∙◌, subst, arith, cond, Option, Some, None, is_some, inl, inr}
 use Rattle.std.specs.Prelude.{IsSome}
 use Rattle.std.proofs.Math.ListN.{get_or-map}
 use Rattle.std.proofs.lemmas.List.{get_or-set_same, get_or-set_other, get_or_read, length-map}
@@ -146,9 +146,6 @@ module _ {T : Type 0} where
         ∙ take m ∙ ap (λ e. cond e None (thing_at b m)) w.0 ∙ same m
         ∙ sym (ap (λ e. cond e thing (thing_at a m)) w.0)
   ]
-
-  pub puts_once : (a b d : List (Option T)) (n : ℕ) (thing : Option T) → ((m : ℕ) → thing_at b m ≡ thing_at a m) → Puts b n thing d → Puts a n thing d
-  puts_once a b d n thing same put m = put m ∙ ap (λ o. cond (nat_eq m n) thing o) (same m)
 
   pub things_length : (slab : Slab T) (keys : List (Option ℕ)) → length (things_of slab keys) ≡ length keys
   things_length slab keys = length-map keys (under slab)

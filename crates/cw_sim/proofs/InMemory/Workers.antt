@@ -1,8 +1,8 @@
 -- What a list of workers is once one of them changed.
 use Rattle.std.proofs.Common.{◌≡◌, ℕ, zero, suc, ◌+◌, ◌-◌, ◌%◌, ◌<◌, ◌≤◌, List, [], ◌∷◌, ◌++◌, length, get_or, set, drop, refl, ap, sym, ◌∙◌, arith, Bool, true, false, cond, nat_eq, deque_len, add-one, sub-one, append_assoc, length-append, append-nil, Some, None}
-use Rattle.std.specs.Prelude.{◌==◌, ◌||◌, not, filter, Option, is_some, replicate}
+use Rattle.std.specs.Prelude.{◌==◌, not, filter, Option, is_some, replicate}
 use Rattle.std.specs.Option.{option_to_list}
-use Rattle.std.proofs.lemmas.Bool.{eq-eqb, eqb-true, eqb-false}
+use Rattle.std.proofs.lemmas.Bool.{eq-eqb, eqb-true, eqb-false, or_parts}
 use Rattle.std.proofs.lemmas.List.{same_from_push, length-map, map-append, replicate-append-replicate, map-set, drop_more, drop_all}
 use Rattle.std.proofs.lemmas.List.Folds.{list_any-append}
 use Rattle.cw_tree.specs.Nodes.{below}
@@ -12,27 +12,23 @@ use Rattle.cw_sim.specs.Workers.{Worker, idle, worker_in}
 use Rattle.cw_sim.specs.WorkersInMemory.{IsLast, without, worker_of, workers_of, first_with_forks, workers_next}
 use Rattle.cw_sim.specs.declared.worker.Worker.{Worker as InMemory}
 
-or_none : (a b : Bool) → (a || b) ≡ false → (a ≡ false) × (b ≡ false)
-or_none false b e = (refl, e)
-or_none true b e = absurd (cc e)
-
 -- ## One fork less
 
 -- without a number that it has not, a list is as it was
 pub without_none : (f : ℕ) (xs : List ℕ) → has xs f ≡ false → filter (λ g. not (g == f)) xs ≡ xs
 without_none f [] e = refl
 without_none f (x ∷ xs) e =
-    let w = or_none (nat_eq x f) (has xs f) e in
+    let w = or_parts (nat_eq x f) (has xs f) e in
     ap (λ b. cond (not b) (x ∷ filter (λ g. not (g == f)) xs) (filter (λ g. not (g == f)) xs)) w.0 ∙ ap (λ ys. x ∷ ys) (without_none f xs w.1)
 
 pub without_last : (f : ℕ) (xs : List ℕ) → has xs f ≡ false → filter (λ g. not (g == f)) (xs ++ f ∷ []) ≡ xs
 without_last f [] e = ap (λ b. cond (not b) (f ∷ []) []) (eq-eqb f f refl)
 without_last f (x ∷ xs) e =
-    let w = or_none (nat_eq x f) (has xs f) e in
+    let w = or_parts (nat_eq x f) (has xs f) e in
     ap (λ b. cond (not b) (x ∷ filter (λ g. not (g == f)) (xs ++ f ∷ [])) (filter (λ g. not (g == f)) (xs ++ f ∷ []))) w.0 ∙ ap (λ ys. x ∷ ys) (without_last f xs w.1)
 
 has_none : (xs ys : List ℕ) (f : ℕ) → has (xs ++ ys) f ≡ false → (has xs f ≡ false) × (has ys f ≡ false)
-has_none xs ys f e = let both = sym (list_any-append (λ m. m == f) xs ys) ∙ e in or_none (has xs f) (has ys f) both
+has_none xs ys f e = let both = sym (list_any-append (λ m. m == f) xs ys) ∙ e in or_parts (has xs f) (has ys f) both
 
 -- the fork that waits last is last in the inline ones, or where there are none in the deque
 pub last_inline : (w : Worker) (f g : ℕ) (rest : List ℕ) → IsLast w f → w.inline ≡ rest ++ g ∷ [] → without f w ≡ record w { inline = rest }

@@ -1,7 +1,7 @@
 -- Strands stay inside their blocks, as a strand acts: an access, an output, a begin or an end, and as it rolls a block back.
 use Rattle.std.proofs.Common.{◌≡◌, ◌≢◌, ℕ, zero, suc, ◌<◌, List, length, refl, ap, sym, ◌∙◌, subst, arith, Bool, true, false, inl, inr}
 use Rattle.std.specs.Prelude.{◌⊎◌, ◌&&◌, ◌||◌, ℤ}
-use Rattle.std.proofs.lemmas.Bool.{cases_eq, cases_Bool, and_parts, false_from_ne_true}
+use Rattle.std.proofs.lemmas.Bool.{cases_eq, false_from_ne_true}
 use Rattle.cw_strand.specs.declared.want.Want.TheVariants.{Begin, End}
 use Rattle.cw_strand.specs.declared.want.Given.{Given}
 use Rattle.cw_strand.specs.declared.want.Given.TheVariants.{Nothing}
@@ -25,7 +25,7 @@ use Rattle.cw_sim.specs.Inside.{HasOneOpenFork, IsRightOf, goes_back, GoesBackIn
 use Rattle.cw_sim.proofs.Inside.Kept.{changed_here, changed_other}
 use Rattle.cw_sim.proofs.Inside.Law.{stays_other, goes_on}
 use Rattle.cw_sim.proofs.Inside.Quiet.{IsLeft, WasPending, IsBegun, Pends, steps, inside_to}
-use Rattle.cw_sim.proofs.Inside.Waits.{going, running_stands, over_waits}
+use Rattle.cw_sim.proofs.Inside.Waits.{going, running_stands}
 
 -- a running strand of a core, before a step to another core, that leaves all strands and forks
 module _ {A : Type 0} (s : Strands A) (first : List ℤ) (k z : CoreState) (on : CoreGoesOn first k) (core : IsCore first z) (left : IsLeft k.machine z.machine) (x : ℕ) (running : is_running k.machine x ≡ true)
@@ -167,7 +167,7 @@ module _ {A : Type 0} (s : Strands A) (first : List ℤ) (k z : CoreState) (on :
     no_forks zero e = refl
     no_forks (suc n) e = absurd (
         let g = going m x running in
-        let low = Rattle.cw_trace.proofs.Stands.InRange.strand_low m.tree x g.strand in
+        let low = Rattle.cw_tree.proofs.Walks.There.strand_there m.tree x g.strand in
         let over = Rattle.cw_sim.proofs.Inside.Waits.right_above m tree nested on.forks n x x low e in
         let waits_x = Rattle.cw_sim.proofs.Inside.Waits.stands_waits m tree nested x x_stands x g.strand over in
         let alone = g.alone in

@@ -15,14 +15,13 @@ use Rattle.cw_tree.proofs.Lists.{any_in, any_from}
 use Rattle.cw_tree.proofs.Members.{below_in}
 use Rattle.cw_tree.proofs.NextNodes.Before.{above_down}
 use Rattle.cw_tree.proofs.Walks.Strands.{strand_over}
-use Rattle.cw_tree.proofs.Walks.There.{node_there}
-use Rattle.cw_trace.proofs.Stands.InRange.{fork_low, strand_low}
+use Rattle.cw_tree.proofs.Walks.There.{node_there, fork_there, strand_there}
+use Rattle.cw_tree.proofs.NodeKinds.{fork_no_strand}
 use Rattle.cw_open.specs.Machine.{OpenMachine, finished_dead, is_running, is_dying, falls}
 use Rattle.cw_open.specs.Open.{is_open, AreNested}
 use Rattle.cw_open.proofs.Refused.BackedStates.{IsBackedState}
 use Rattle.cw_open.proofs.Refused.Fell.{fell, any_one, of_fell, one_fell, names_block, victim_stays}
 use Rattle.cw_open.proofs.Laws.Named.{strand_is}
-use Rattle.cw_open.proofs.Open.NodeKinds.{fork_no_strand}
 use Rattle.cw_open.proofs.Open.Standing.{open_over, open_block, stands}
 use Rattle.cw_open.proofs.Open.Staying.{Stays, above_stays}
 use Rattle.cw_open.proofs.Refused.Victims.{IsTold, IsToldState, victim_above}
@@ -133,7 +132,7 @@ module _ (first : List ℤ) (m : OpenMachine) (w : IsToldState first m) (x : ℕ
       let x_over_p : is_ancestor t x p ≡ true = (let Q : ℕ → Type 0 = λ n. is_ancestor t n p ≡ true in subst Q here.strand (strand_over t r p here.there)) in
       elim (cases_lt p y) [
         | inl less ↦
-            (let down = ancestor_trans t r x p y (strand_low t y st.strand) x_over_p (ancestor_linear t r p y c.asker asker over_p over_y (omega arith)) in
+            (let down = ancestor_trans t r x p y (strand_there t y st.strand) x_over_p (ancestor_linear t r p y c.asker asker over_p over_y (omega arith)) in
             let waits_x = stands_waits m tree nested y st x x_is (sym (ancestor_above t x y ne) ∙ down) in
             cc (waits_x, x_alone))
         | inr le ↦
@@ -151,7 +150,7 @@ dead_dies first m w f y fork apart some up dead =
     let r = tree.rooted in
     let nested = w.told.state.well.nested in
     let told = w.told.told in
-    let low = fork_low t f fork in
+    let low = fork_there t f fork in
     let died = w.backed.died y some dead in
     let P : ℕ → Type 0 = λ g. fell t m.conflicts g g ≡ true in
     let o = one_fell t r m.conflicts told f f (subst P up died.fell) in

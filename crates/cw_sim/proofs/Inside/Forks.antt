@@ -1,5 +1,5 @@
 -- Strands stay inside their blocks, as one of them forks.
-use Rattle.std.proofs.Common.{◌≡◌, ◌≢◌, ℕ, zero, suc, ◌+◌, ◌<◌, ◌≤◌, List, [], ◌∷◌, ◌++◌, length, refl, ap, sym, ◌∙◌, subst, arith, Bool, true, false, inl, inr, nat_eq, length-append}
+use Rattle.std.proofs.Common.{◌≡◌, ◌≢◌, ℕ, zero, suc, ◌+◌, ◌<◌, ◌≤◌, List, [], ◌∷◌, ◌++◌, length, refl, ap, sym, ◌∙◌, subst, arith, true, false, inl, inr, nat_eq, length-append}
 use Rattle.std.specs.Prelude.{◌⊎◌, ◌&&◌, ◌||◌, ℤ}
 use Rattle.std.proofs.lemmas.Bool.{cases_eq, cases_lt, and_left, and_right, or_from, ne_eqb, false_from_ne_true}
 use Rattle.cw_strand.specs.declared.want.Want.TheVariants.{Fork as ForkWant}
@@ -15,20 +15,19 @@ use Rattle.cw_tree.specs.NextNodes.{fork_nodes}
 use Rattle.cw_tree.proofs.Walks.Ancestors.{above_ancestor, ancestor_le}
 use Rattle.cw_tree.proofs.NextNodes.Growing.{get_next, node_grown, length_more}
 use Rattle.cw_tree.proofs.Walks.Strands.{strand_of_le, strand_of_other}
-use Rattle.cw_tree.proofs.Walks.There.{node_there}
-use Rattle.cw_trace.proofs.Stands.InRange.{strand_low}
+use Rattle.cw_tree.proofs.Walks.There.{node_there, strand_there}
 use Rattle.cw_open.specs.Machine.{OpenMachine, has_finished, finished_dead, waits, is_running, is_dying}
 use Rattle.cw_open.specs.Runs.{at_once}
 use Rattle.cw_open.proofs.Refused.Backed.{dead_finished}
 use Rattle.cw_open.proofs.Refused.Fell.{any_one}
 use Rattle.cw_open.proofs.Open.Growth.{growth_fork}
 use Rattle.cw_open.proofs.Laws.ListSteps.{none_new}
-use Rattle.cw_open.proofs.Open.NodeKinds.{fork_no_strand}
 use Rattle.cw_open.proofs.Open.Standing.{stands}
 use Rattle.cw_open.proofs.Open.Staying.{Stays, grown_stays, strand_stays}
 use Rattle.cw_open.proofs.Open.Trees.{stands_well}
 use Rattle.cw_open.proofs.Refused.Victims.{IsTold, IsToldState, told_states}
 use Rattle.cw_core.specs.declared.event.Event.TheVariants as event
+use Rattle.cw_tree.proofs.NodeKinds.{fork_no_strand}
 use Rattle.cw_core.specs.State.{CoreState}
 use Rattle.cw_core.specs.Events.{after_event, next}
 use Rattle.cw_core.specs.Laws.{IsCore}
@@ -84,7 +83,7 @@ module _ {A : Type 0} (s : Strands A) (first : List ℤ) (k : CoreState) (on : C
   x_is = (going m x running).strand
 
   x_low : x < n
-  x_low = strand_low t x x_is
+  x_low = strand_there t x x_is
 
   fork_here : is_fork u n ≡ true
   fork_here = ap (passes (λ y. is_fork_kind y.kind)) (get_next t (fresh_node p Fork (next k)) (fresh_node n Strand 0 ∷ fresh_node n Strand 0 ∷ []))
@@ -143,7 +142,7 @@ module _ {A : Type 0} (s : Strands A) (first : List ℤ) (k : CoreState) (on : C
   which y st = elim (cases_lt y n) [
     | inl low ↦ inl (low, λ e. (let alone = st.alone in let w = x_waits in cc (alone, w, ap (waits z) e)))
     | inr le ↦
-        (let there_y = strand_low u y st.strand in
+        (let there_y = strand_there u y st.strand in
         let other : y ≢ n = λ e. (let strand = st.strand in cc (strand, ap (is_strand u) e, fork_no_strand u n fork_here)) in
         elim (cases_eq y (left_node n)) [ inl e ↦ inr (inl e) | inr ne ↦ inr (inr (omega (arith, len, other, ne))) ])
   ]

@@ -13,7 +13,7 @@ use Rattle.cw_tree.proofs.Walks.Ancestors.{above_ancestor, above_parent}
 use Rattle.cw_tree.proofs.Lists.{any_in, any_from}
 use Rattle.cw_tree.proofs.NextNodes.Before.{above_down}
 use Rattle.cw_tree.proofs.Walks.Strands.{strand_over}
-use Rattle.cw_trace.proofs.Stands.InRange.{fork_low}
+use Rattle.cw_tree.proofs.Walks.There.{fork_there}
 use Rattle.cw_open.specs.Machine.{OpenMachine, has_finished, finished_dead, waits, is_dying}
 use Rattle.cw_open.specs.Open.{is_open, AreNested}
 use Rattle.cw_open.proofs.Refused.Backed.{dead_finished}
@@ -57,7 +57,7 @@ module _ {A : Type 0} (s : Strands A) (first : List ℤ) (m : OpenMachine) (w : 
   nested = w.told.state.well.nested
 
   p_open : is_open m p ≡ true
-  p_open = let low = fork_low t f fork in open_over m tree nested p f low (strand_over t tree.rooted f low) (unjoined_open m f fork apart)
+  p_open = let low = fork_there t f fork in open_over m tree nested p f low (strand_over t tree.rooted f low) (unjoined_open m f fork apart)
 
   unfinished : has_finished m p ≡ false
   unfinished = false_from_ne_true (has_finished m p) (λ e. absurd (let c = closed_strand m p (strand_is t tree.root f) e in let o = p_open in cc (c, o)))
@@ -71,19 +71,19 @@ module _ {A : Type 0} (s : Strands A) (first : List ℤ) (m : OpenMachine) (w : 
   right_stands =
       let c = right_child t tree made f fork in
       let strand = right_strand t tree made f fork in
-      record { strand = strand; apart = λ some. ap (has m.joined) c.up ∙ apart; alone = finished_alone m tree nested y strand done }
+      record { strand = strand; apart = λ some. ap (has m.joined) c.parent ∙ apart; alone = finished_alone m tree nested y strand done }
 
   -- where it goes back, so does the strand that forked
   right_dies : goes_back m y ≡ true → is_dying m p ≡ true
   right_dies e =
       let c = right_child t tree made f fork in
       elim (or_cases (is_dying m y) (finished_dead m y) e) [
-        | inr d ↦ dead_dies first m w f y fork apart c.some c.up d
+        | inr d ↦ dead_dies first m w f y fork apart c.some c.parent d
         | inl d ↦
             (let o = any_one (IsTold t) (dies_by m y) m.conflicts w.told.told d in
             let (v, dies) = died_by m y o.one o.passes in
-            let low = fork_low t f fork in
-            let over = above_parent t tree.rooted p y c.some c.there ∙ ap (is_ancestor t p) c.up ∙ strand_over t tree.rooted f low in
+            let low = fork_there t f fork in
+            let over = above_parent t tree.rooted p y c.some c.there ∙ ap (is_ancestor t p) c.parent ∙ strand_over t tree.rooted f low in
             o.among (dies_by m p) (by_dies m p o.one v (record {
               over = above_down t tree.rooted p y o.one.asker o.holds.asker over (above_ancestor t y o.one.asker dies.over);
               pending = dies.pending;

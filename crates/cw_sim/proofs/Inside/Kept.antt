@@ -10,8 +10,8 @@ use Rattle.cw_tree.specs.Nodes.{is_strand_kind, is_fork_kind, is_block_kind, is_
 use Rattle.cw_tree.specs.Shape.{IsTree}
 use Rattle.cw_tree.proofs.NextNodes.Closing.{length_closed}
 use Rattle.cw_tree.proofs.NextNodes.Growing.{length_more, node_grown, number_grown, node_new}
-use Rattle.cw_tree.proofs.Walks.There.{node_there}
-use Rattle.cw_trace.proofs.Stands.InRange.{strand_low}
+use Rattle.cw_tree.proofs.Walks.There.{node_there, strand_there}
+use Rattle.cw_tree.proofs.Names.Forks.{same_truth}
 use Rattle.cw_open.specs.Machine.{OpenMachine, is_dying}
 use Rattle.cw_open.proofs.Open.Staying.{Stays, closed_stays}
 use Rattle.cw_open.proofs.Refused.Victims.{IsTold, IsToldState}
@@ -27,12 +27,6 @@ changed_here x a f = ap (λ b. cond b a (f x)) (eq-eqb x x refl)
 
 pub changed_other : {A : Type 0} (x : ℕ) (a : A) (f : ℕ → A) (y : ℕ) → y ≢ x → changed x a f y ≡ f y
 changed_other x a f y ne = ap (λ b. cond b a (f y)) (ne_eqb y x ne)
-
-both_same : (a b : Bool) → (a ≡ true → b ≡ true) → (b ≡ true → a ≡ true) → a ≡ b
-both_same true true f g = refl
-both_same false false f g = refl
-both_same true false f g = absurd (let e = f refl in cc e)
-both_same false true f g = absurd (let e = g refl in cc e)
 
 -- ## Strands and forks
 
@@ -53,7 +47,7 @@ more_left k z tree x is =
       };
       strands = λ y e.
           (let f = sym (ap (λ v. is_strand v y) is.tree) ∙ e in
-          let low = strand_low (t ++ x ∷ []) y f in
+          let low = strand_there (t ++ x ∷ []) y f in
           elim (cases_eq y (length t)) [
             | inl q ↦ absurd (cc (f, ap (is_strand (t ++ x ∷ [])) q, node_new t x (λ y. is_strand_kind y.kind), is.strand))
             | inr ne ↦ (let len = length_more t x in omega (arith, ne))
@@ -70,7 +64,7 @@ shut_left k z tree b state end is =
     let P : List Node → Type 0 = λ u. Stays t u in
     record {
       stays = subst P (sym is.tree) (closed_stays t tree.rooted b state end);
-      strands = λ y e. (let low = strand_low z.machine.tree y e in omega (arith, low, ap length is.tree, length_closed t b state end));
+      strands = λ y e. (let low = strand_there z.machine.tree y e in omega (arith, low, ap length is.tree, length_closed t b state end));
       waits = shut_waits k z tree b state end is;
       joined = is.joined;
       finished = is.finished;
@@ -101,7 +95,7 @@ module _ (first : List ℤ) (m z : OpenMachine) (w : IsToldState first m) (v : I
   -- without a new conflict
   pub dying_same : z.conflicts ≡ m.conflicts → is_dying z y ≡ is_dying m y
   dying_same same =
-      both_same (is_dying z y) (is_dying m y)
+      same_truth (is_dying z y) (is_dying m y)
       (λ e. dies_back m z w.told stays y first v pend (sym (ap (list_any (dies_by z y)) same) ∙ e))
       (λ e. dies_on m z w.told stays y (λ q f. ap (list_any q) same ∙ f) keep e)
 
@@ -119,7 +113,7 @@ module _ (first : List ℤ) (m z : OpenMachine) (w : IsToldState first m) (v : I
   -- with one that is not beneath the strand
   pub dying_beside : (d : Conflict) → z.conflicts ≡ m.conflicts ++ d ∷ [] → (dies_by z y d ≡ true → ⊥) → is_dying z y ≡ is_dying m y
   dying_beside d same off =
-      both_same (is_dying z y) (is_dying m y)
+      same_truth (is_dying z y) (is_dying m y)
       (λ e. elim (any_split (dies_by z y) m.conflicts d (sym (ap (list_any (dies_by z y)) same) ∙ e)) [
         | inl f ↦ dies_back m z w.told stays y first v pend f
         | inr f ↦ absurd (off f)

@@ -12,7 +12,7 @@ use Rattle.cw_tree.specs.Walks.{has}
 use Rattle.cw_tree.specs.Series.{strand_of}
 use Rattle.cw_tree.specs.Shape.{IsTree}
 use Rattle.cw_tree.proofs.Walks.Strands.{strand_of_le}
-use Rattle.cw_trace.proofs.Stands.InRange.{strand_low}
+use Rattle.cw_tree.proofs.Walks.There.{strand_there}
 use Rattle.cw_open.specs.Machine.{OpenMachine, has_finished, finished_dead, waits, is_running, is_dying}
 use Rattle.cw_open.specs.Open.{is_open, AreNested}
 use Rattle.cw_open.proofs.Open.Staying.{Stays, strand_stays}
@@ -109,7 +109,7 @@ module _ {A : Type 0} (s : Strands A) (m z : OpenMachine) (tree : IsTree m.tree)
   x_alone = (going m x running).alone
 
   x_low : x < length m.tree
-  x_low = strand_low m.tree x (going m x running).strand
+  x_low = strand_there m.tree x (going m x running).strand
 
   -- it has not finished
   x_going : has_finished z x ≡ false

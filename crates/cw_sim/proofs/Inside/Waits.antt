@@ -11,12 +11,12 @@ use Rattle.cw_tree.proofs.Walks.Ancestors.{ancestor_self, above_ancestor, ancest
 use Rattle.cw_tree.proofs.Walks.Climbs.{by_parent}
 use Rattle.cw_tree.proofs.Walks.Kin.{ancestor_linear}
 use Rattle.cw_tree.proofs.Lists.{any_in}
-use Rattle.cw_tree.proofs.Walks.Strands.{strand_of_other, strand_over, strand_innermost, strand_of_le}
-use Rattle.cw_trace.proofs.Stands.InRange.{fork_low, strand_low}
+use Rattle.cw_tree.proofs.Walks.Strands.{strand_of_other, strand_over, strand_innermost, strand_of_le, strand_itself}
+use Rattle.cw_tree.proofs.Walks.There.{fork_there, strand_there}
+use Rattle.cw_tree.proofs.NodeKinds.{fork_no_strand}
 use Rattle.cw_open.specs.Machine.{OpenMachine, has_finished, waits, is_running}
 use Rattle.cw_open.specs.Open.{is_open, AreNested}
-use Rattle.cw_open.proofs.Open.NodeKinds.{fork_no_strand}
-use Rattle.cw_open.proofs.Open.Standing.{strand_itself, open_over, pending_open}
+use Rattle.cw_open.proofs.Open.Standing.{open_over, pending_open}
 use Rattle.cw_core.proofs.Events.Ordering.{closed_strand}
 use Rattle.cw_core.proofs.Events.Places.{waits_for}
 use Rattle.cw_sim.specs.Workers.{right_node}
@@ -81,7 +81,7 @@ module _ (m : OpenMachine) (tree : IsTree m.tree) (nested : AreNested m.tree (is
 
   module _ (y : ℕ) (stands : HasOneOpenFork m y) where
     low_y : y < length t
-    low_y = strand_low t y stands.strand
+    low_y = strand_there t y stands.strand
 
     pub stands_waits : (z : ℕ) → is_strand t z ≡ true → is_above t z y ≡ true → waits m z ≡ true
     stands_waits z is over = elim (cases_eq y 0) [
@@ -108,13 +108,13 @@ module _ (m : OpenMachine) (tree : IsTree m.tree) (nested : AreNested m.tree (is
   module _ (made : AsMade t) where
     right_step : (f y z : ℕ) → is_fork t f ≡ true → y ≡ right_node f → y < length t → is_ancestor t z (strand_of t f) ≡ true → is_above t z y ≡ true
     right_step f y z fork at h over =
-        let low = fork_low t f fork in
+        let low = fork_there t f fork in
         let c = right_child t tree made f fork in
-        let up : parent_of t y ≡ f = ap (parent_of t) at ∙ c.up in
+        let up : parent_of t y ≡ f = ap (parent_of t) at ∙ c.parent in
         above_parent t r z y (omega (arith, at)) h ∙ ap (is_ancestor t z) up ∙ ancestor_trans t r z (strand_of t f) f low over (strand_over t r f low)
 
     strand_under_fork : (f : ℕ) → is_fork t f ≡ true → strand_of t f < length t
-    strand_under_fork f fork = let low = fork_low t f fork in let le = strand_of_le t r f low in omega arith
+    strand_under_fork f fork = let low = fork_there t f fork in let le = strand_of_le t r f low in omega arith
 
     pub right_over : (n y z : ℕ) → y < length t → IsRightOf t n y z → is_ancestor t z y ≡ true
     right_over zero y z h e = ap (is_ancestor t z) e ∙ ancestor_self t z
@@ -129,7 +129,7 @@ module _ (m : OpenMachine) (tree : IsTree m.tree) (nested : AreNested m.tree (is
     pub running_stands : HasOneOpenFork m x
     running_stands =
         let g = going m x running in
-        let h = strand_low t x g.strand in
+        let h = strand_there t x g.strand in
         record {
           strand = g.strand;
           apart = λ some. open_unjoined m (parent_of t x) (tree.strands x h some g.strand) (nested.outer x some h (strand_open m x g.strand g.unfinished));
@@ -142,7 +142,7 @@ module _ (m : OpenMachine) (tree : IsTree m.tree) (nested : AreNested m.tree (is
     none_right made y (suc n) st e =
         absurd (
         let g = going m x running in
-        let w = stands_waits y st x g.strand (right_above made n y x (strand_low t y st.strand) e) in
+        let w = stands_waits y st x g.strand (right_above made n y x (strand_there t y st.strand) e) in
         let a = g.alone in
         cc (w, a))
 
@@ -180,7 +180,7 @@ module _ (m : OpenMachine) (tree : IsTree m.tree) (nested : AreNested m.tree (is
       let a = any_in (λ f. is_fork t f && nat_eq (strand_of t f) y && not (has m.joined f)) (all_nodes t) e in
       let b = and_parts (is_fork t a.0 && nat_eq (strand_of t a.0) y) (not (has m.joined a.0)) a.2 in
       let c = and_parts (is_fork t a.0) (nat_eq (strand_of t a.0) y) b.0 in
-      let low = fork_low t a.0 c.0 in
+      let low = fork_there t a.0 c.0 in
       let P : ℕ → Type 0 = λ n. is_ancestor t n a.0 ≡ true in
       let over = subst P (eqb-true (strand_of t a.0) y c.1) (strand_over t r a.0 low) in
       let open_y = open_over m tree nested y a.0 low over (unjoined_open m a.0 c.0 (not-true (has m.joined a.0) b.1)) in

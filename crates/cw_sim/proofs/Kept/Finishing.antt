@@ -1,5 +1,5 @@
 -- A strand finishes: what follows of the core, of the other workers, and of the right strand that is taken back.
-use Rattle.std.proofs.Common.{◌≡◌, ◌≢◌, ℕ, ◌+◌, ◌<◌, List, [], ◌∷◌, ◌++◌, length, refl, ap, sym, ◌∙◌, subst, arith, Bool, true, false, cond, Option, Some, None, inl, inr, nat_eq}
+use Rattle.std.proofs.Common.{◌≡◌, ◌≢◌, ℕ, ◌<◌, List, [], ◌∷◌, ◌++◌, length, refl, ap, sym, ◌∙◌, subst, arith, Bool, true, false, cond, Option, Some, None, inl, inr, nat_eq}
 use Rattle.std.specs.Prelude.{◌&&◌, ◌||◌, not, ℤ, filter}
 use Rattle.std.proofs.lemmas.List.Elements.{filter-append}
 use Rattle.std.proofs.lemmas.Bool.{and_parts, and_from, or_cases, or_left, or_right, ne_eqb, eq-eqb, eqb-true, not_from_false, false_from_ne_true}
@@ -11,12 +11,12 @@ use Rattle.cw_tree.specs.Shape.{IsTree}
 use Rattle.cw_tree.proofs.Walks.Ancestors.{ancestor_le}
 use Rattle.cw_tree.proofs.Lists.{any_in}
 use Rattle.cw_tree.proofs.Walks.Strands.{strand_over, strand_of_le}
-use Rattle.cw_trace.proofs.Stands.InRange.{fork_low}
 use Rattle.cw_open.specs.Machine.{OpenMachine, has_finished, is_running, waits}
 use Rattle.cw_open.specs.Open.{is_open}
-use Rattle.cw_open.proofs.Open.NodeKinds.{fork_no_strand}
 use Rattle.cw_open.proofs.Open.Standing.{runs}
 use Rattle.cw_core.specs.declared.event.Event.TheVariants as event
+use Rattle.cw_tree.proofs.Walks.There.{fork_there}
+use Rattle.cw_tree.proofs.NodeKinds.{fork_no_strand}
 use Rattle.cw_core.specs.State.{CoreState, is_split, waits_for_left}
 use Rattle.cw_core.specs.Events.{fits, after_event}
 use Rattle.cw_core.specs.Laws.{IsCore}
@@ -86,7 +86,7 @@ module _ (first : List ℤ) (k : CoreState) (on : CoreGoesOn first k) (x : ℕ) 
   not_to_come : (y f : ℕ) (fs : List ℕ) → is_running m y ≡ true → Waits k y f fs → right_node f ≢ x
   not_to_come y f fs runs_y w q =
       let open_left = left_open first k on y f fs runs_y w in
-      let up = (right_child t tree on.forks f w.fork).up in
+      let up = (right_child t tree on.forks f w.fork).parent in
       let P : ℕ → Type 0 = λ n. parent_of t n ≡ f in
       let Q : ℕ → Type 0 = λ n. waits_for_left k n ≡ false in
       let finished = left_done k on.forks (right_node f) f up w.fork refl (subst Q (sym q) ready) w.split in
@@ -113,7 +113,7 @@ module _ (first : List ℤ) (k : CoreState) (on : CoreGoesOn first k) (x : ℕ) 
   others w None ne idle = idle
   others w (Some y) ne at =
       still_runs first k z on core same goes.forks more (λ f h. refl) w y at (still_running y (ne y refl) at.running)
-      (λ f e. let a = around w y at f e in fork_low t f a.1.fork)
+      (λ f e. let a = around w y at f e in fork_there t f a.1.fork)
       (still_to_come w y at)
 
   -- ## The right strand of a fork that is not split, once its left one has finished
@@ -137,7 +137,7 @@ module _ (first : List ℤ) (k : CoreState) (on : CoreGoesOn first k) (x : ℕ) 
     not_around = false_from_ne_true (has (forks_around k (strand_of t f)) f) (λ e.
         let p = has_parts (forks_around k (strand_of t f)) f e in
         let s = strand_of t f in
-        let low = fork_low t f fork in
+        let low = fork_there t f fork in
         let le = strand_of_le t tree.rooted f low in
         let a = waits_around k tree on.forks s (Rattle.cw_open.proofs.Laws.Named.strand_is t tree.root f) p.0 p.1 f p.2 in
         let up = ancestor_le t tree.rooted (left_node f) s (omega arith) a.over in
@@ -152,9 +152,6 @@ module _ (first : List ℤ) (k : CoreState) (on : CoreGoesOn first k) (x : ℕ) 
         ∙ Rattle.std.proofs.Common.append-nil (without (forks_around k (strand_of t f)))
         ∙ filter_none f (forks_around k (strand_of t f)) not_around
 
-    right_low : right_node f < length t
-    right_low = (right_child t tree on.forks f fork).there
-
     -- nothing was made in it
     pub none_beneath : (n : ℕ) → n < length t → is_ancestor t (right_node f) n ≡ true → n ≡ right_node f
     none_beneath = let here = runs m tree (well first k on.core).nested x running in none_made first k on f fork off (ap (is_open m) (sym left) ∙ strand_open m x here.strand here.unfinished)
@@ -164,7 +161,7 @@ module _ (first : List ℤ) (k : CoreState) (on : CoreGoesOn first k) (x : ℕ) 
         let a = any_in (λ g. is_fork t g && nat_eq (strand_of t g) (right_node f) && not (has m.joined g)) (all_nodes t) e in
         let b = and_parts (is_fork t a.0 && nat_eq (strand_of t a.0) (right_node f)) (not (has m.joined a.0)) a.2 in
         let c = and_parts (is_fork t a.0) (nat_eq (strand_of t a.0) (right_node f)) b.0 in
-        let low = fork_low t a.0 c.0 in
+        let low = fork_there t a.0 c.0 in
         let P : ℕ → Type 0 = λ n. is_ancestor t n a.0 ≡ true in
         let it = none_beneath a.0 low (subst P (eqb-true (strand_of t a.0) (right_node f) c.1) (strand_over t tree.rooted a.0 low)) in
         let strand = right_strand t tree on.forks f fork in
@@ -183,8 +180,8 @@ module _ (first : List ℤ) (k : CoreState) (on : CoreGoesOn first k) (x : ℕ) 
           running = and_from (is_strand t (right_node f) && not (has_finished z.machine (right_node f)) && not (waits m (right_node f))) (not (has m.stopped (right_node f)))
               (and_from (is_strand t (right_node f) && not (has_finished z.machine (right_node f))) (not (waits m (right_node f))) (and_from (is_strand t (right_node f)) (not (has_finished z.machine (right_node f))) strand (not_from_false (has_finished z.machine (right_node f)) off_right)) (not_from_false (waits m (right_node f)) right_waits))
               (ap (λ ss. not (has ss (right_node f))) on.stopped);
-          ready = right_ready z goes.forks (right_node f) f rc.up fork refl (ap (has_finished z.machine) (sym left) ∙ done);
-          forks = left_behind ∙ sym (around_right k tree.rooted (right_node f) rc.some rc.there strand (ap (is_split k) rc.up ∙ off) (λ q. (let u = rc.up in omega (arith, q, u))) ∙ ap (λ g. forks_around k (strand_of t g)) rc.up);
+          ready = right_ready z goes.forks (right_node f) f rc.parent fork refl (ap (has_finished z.machine) (sym left) ∙ done);
+          forks = left_behind ∙ sym (around_right k tree.rooted (right_node f) rc.some rc.there strand (ap (is_split k) rc.parent ∙ off) (λ q. (let u = rc.parent in omega (arith, q, u))) ∙ ap (λ g. forks_around k (strand_of t g)) rc.parent);
           deque = λ g e. at.deque g (filter_has (λ g. not (nat_eq g f)) w.deque g e);
           inline = λ g e. at.inline g (filter_has (λ g. not (nat_eq g f)) w.inline g e);
           to_come = λ g e. still_to_come w x at g (kept g e);

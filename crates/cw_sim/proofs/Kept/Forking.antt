@@ -17,13 +17,13 @@ use Rattle.cw_trace.specs.Columns.{used, left_column_of as left_column}
 use Rattle.cw_trace.specs.Stands.{fork_column}
 use Rattle.cw_trace.proofs.Stands.Counting.{fork_column_lt}
 use Rattle.cw_trace.proofs.Keeps.Grow.{fork_column_append}
-use Rattle.cw_trace.proofs.Stands.InRange.{fork_low, strand_low}
 use Rattle.cw_trace.proofs.Keeps.Meaning.{odd_column}
 use Rattle.cw_open.specs.Machine.{OpenMachine, has_finished, is_running, waits}
 use Rattle.cw_open.proofs.Laws.ListSteps.{none_new}
-use Rattle.cw_open.proofs.Open.NodeKinds.{fork_no_strand}
 use Rattle.cw_open.proofs.Open.Standing.{runs, stands}
 use Rattle.cw_core.specs.declared.event.Event.TheVariants as event
+use Rattle.cw_tree.proofs.Walks.There.{fork_there, strand_there}
+use Rattle.cw_tree.proofs.NodeKinds.{fork_no_strand}
 use Rattle.cw_core.specs.State.{CoreState, has_columns, is_split, waits_for_left}
 use Rattle.cw_core.specs.Events.{fits, after_event, may_fork, next}
 use Rattle.cw_core.specs.Laws.{IsCore}
@@ -91,7 +91,7 @@ module _ (first : List ℤ) (k : CoreState) (on : CoreGoesOn first k) (x : ℕ) 
       odd_some c e = omega arith
     by_used (suc (suc c)) e all =
         let g = all (suc c) (omega arith) (omega arith) in
-        let l = fork_column_lt t g.0 n (fork_low t g.0 g.1) g.1 in
+        let l = fork_column_lt t g.0 n (fork_there t g.0 g.1) g.1 in
         let at : left_column (suc c) ≡ c = even_left c e in
         omega (arith, l, g.2, at) where
           even_left : (c : ℕ) → suc (suc c) % 2 ≡ 1 → left_column (suc c) ≡ c
@@ -200,13 +200,13 @@ module _ (first : List ℤ) (k : CoreState) (on : CoreGoesOn first k) (x : ℕ) 
   low_waiting w y at f e =
       let here = runs m tree (well first k on.core).nested y at.running in
       let q = has_parts (waiting w) f e in
-      fork_low t f (waits_around k tree on.forks y here.strand q.0 q.1 f (sym at.forks ∙ q.2)).fork
+      fork_there t f (waits_around k tree on.forks y here.strand q.0 q.1 f (sym at.forks ∙ q.2)).fork
 
   pub others : (w : Worker) (r : Option ℕ) → ((y : ℕ) → r ≡ Some y → y ≢ x) → Fits k w r → Fits z w r
   others w None ne idle = idle
   others w (Some y) ne at =
       let here = runs m tree (well first k on.core).nested y at.running in
-      still_runs first k z on core same made (λ s e. e) columns w y at (still_running y (strand_low t y here.strand) (ne y refl) at.running) (low_waiting w y at) at.to_come
+      still_runs first k z on core same made (λ s e. e) columns w y at (still_running y (strand_there t y here.strand) (ne y refl) at.running) (low_waiting w y at) at.to_come
 
   -- ## The worker goes on with the left strand
 
@@ -227,7 +227,7 @@ module _ (first : List ℤ) (k : CoreState) (on : CoreGoesOn first k) (x : ℕ) 
           let all = Rattle.cw_sim.proofs.Kept.Workers.has_back w.deque w.inline g here in
           let parts = has_parts (waiting w) g all in
           let fork = (waits_around k tree on.forks x run.strand parts.0 parts.1 g (sym at.forks ∙ parts.2)).fork in
-          let less = fork_column_lt t g n (fork_low t g fork) fork in
+          let less = fork_column_lt t g n (fork_there t g fork) fork in
           let room = leb-true (used k.tier + 2) k.tier.room e in
           let size = on.core.stands.all_forks room in
           absurd (let yes = le-leb (fork_column t g + 2) k.tier.room (omega (arith, less, room, size)) in cc (yes, off))
@@ -237,7 +237,7 @@ module _ (first : List ℤ) (k : CoreState) (on : CoreGoesOn first k) (x : ℕ) 
     waits_now false e = sym (append_assoc w.deque w.inline (n ∷ []))
 
     x_low : x < n
-    x_low = strand_low t x (runs m tree (well first k on.core).nested x running).strand
+    x_low = strand_there t x (runs m tree (well first k on.core).nested x running).strand
 
     -- what waits in a list and one more
     pub one_more : (ds : List ℕ) (g : ℕ) → has (ds ++ n ∷ []) g ≡ true → (has ds g ≡ true) ⊎ (g ≡ n)
@@ -284,9 +284,9 @@ module _ (first : List ℤ) (k : CoreState) (on : CoreGoesOn first k) (x : ℕ) 
           running = and_from (is_strand u (left_node n) && not (has_finished m (left_node n)) && not (waits z.machine (left_node n))) (not (has m.stopped (left_node n)))
               (and_from (is_strand u (left_node n) && not (has_finished m (left_node n))) (not (waits z.machine (left_node n))) (and_from (is_strand u (left_node n)) (not (has_finished m (left_node n))) strand (not_from_false (has_finished m (left_node n)) (not_yet (left_node n) (omega arith)))) (not_from_false (waits z.machine (left_node n)) left_waits))
               (ap (λ ss. not (has ss (left_node n))) on.stopped);
-          ready = left_ready z made (left_node n) n lc.up fork_here refl;
+          ready = left_ready z made (left_node n) n lc.parent fork_here refl;
           forks = waits_now (may_fork k) refl ∙ ap (λ ds. ds ++ n ∷ []) (at.forks ∙ sym (same_around k z tree.rooted tree_after.rooted same x x_low) ∙ sym (ap (forks_around z) fork_strand))
-              ∙ sym (around_left z tree_after.rooted (left_node n) lc.some lc.there strand (ap (is_split z) lc.up ∙ unsplit) (ap left_node (sym lc.up)) ∙ ap (λ g. forks_around z (strand_of u g) ++ g ∷ []) lc.up);
+              ∙ sym (around_left z tree_after.rooted (left_node n) lc.some lc.there strand (ap (is_split z) lc.parent ∙ unsplit) (ap left_node (sym lc.parent)) ∙ ap (λ g. forks_around z (strand_of u g) ++ g ∷ []) lc.parent);
           deque = in_deque (may_fork k) refl;
           inline = in_inline (may_fork k) refl;
           to_come = λ g e. (let h : has (waiting w ++ n ∷ []) g ≡ true = sym (ap (λ ds. has ds g) (waits_now (may_fork k) refl)) ∙ e in

@@ -1,5 +1,5 @@
 -- A core that goes on after an event which leaves its strands and forks.
-use Rattle.std.proofs.Common.{◌≡◌, ℕ, ◌+◌, ◌<◌, ◌≤◌, List, [], ◌∷◌, ◌++◌, length, refl, ap, sym, ◌∙◌, arith, Bool, true, false, cond, Option, Some, None, inl, inr, nat_eq}
+use Rattle.std.proofs.Common.{◌≡◌, ℕ, ◌<◌, List, [], ◌∷◌, ◌++◌, length, refl, ap, sym, ◌∙◌, arith, Bool, true, false, cond, None, inl, inr, nat_eq}
 use Rattle.std.specs.Prelude.{◌⊎◌, ℤ}
 use Rattle.std.proofs.lemmas.Bool.{cases_Bool}
 use Rattle.cw_tree.specs.declared.node.Node.{Node}
@@ -8,7 +8,7 @@ use Rattle.cw_tree.specs.Walks.{has}
 use Rattle.cw_tree.specs.Series.{children, strand_of}
 use Rattle.cw_tree.specs.Shape.{IsTree}
 use Rattle.cw_tree.proofs.Walks.Strands.{strand_of_le}
-use Rattle.cw_trace.proofs.Stands.InRange.{fork_low, strand_low}
+use Rattle.cw_tree.proofs.Walks.There.{fork_there, strand_there}
 use Rattle.cw_open.specs.Machine.{has_finished, is_running}
 use Rattle.cw_open.proofs.Open.Standing.{runs}
 use Rattle.cw_core.specs.State.{CoreState, is_split, has_columns, waits_for_left, spent}
@@ -64,7 +64,7 @@ module _ (first : List ℤ) (k z : CoreState) (on : CoreGoesOn first k) (core : 
     forks = λ f e. (forks f e).1 ∙ on.forks f (forks f e).0;
     outside = λ f e apart split.
         (let fork = (forks f e).0 in
-        let low = fork_low t f fork in
+        let low = fork_there t f fork in
         let le = strand_of_le t tree.rooted f low in
         ap (forks_around z) (same_strand k z tree.rooted tree_after.rooted same f low)
         ∙ same_around k z tree.rooted tree_after.rooted same (strand_of t f) (omega arith)
@@ -76,12 +76,12 @@ module _ (first : List ℤ) (k z : CoreState) (on : CoreGoesOn first k) (core : 
   module _ (made : AsMade u) (more : (s : ℕ) → has_finished k.machine s ≡ true → has_finished z.machine s ≡ true) (columns : (f : ℕ) → f < length t → has_columns z f ≡ has_columns k f) where
     -- a strand that waited for no left one waits for none
     pub still_ready : (y : ℕ) → is_strand t y ≡ true → waits_for_left k y ≡ false → waits_for_left z y ≡ false
-    still_ready y strand ready = elim (Rattle.cw_trace.proofs.Segments.Lines.same_or y 0) [
+    still_ready y strand ready = elim (Rattle.std.proofs.lemmas.Bool.cases_eq y 0) [
       | inl e ↦ (let P : ℕ → Type 0 = λ n. waits_for_left z n ≡ false in Rattle.std.proofs.Common.subst P (sym e) (main_ready z))
       | inr ne ↦ by_side (which t tree on.forks (parent_of t y) (fork ne) y (some ne) there refl) (some ne) (fork ne)
     ] where
       there : y < length t
-      there = strand_low t y strand
+      there = strand_there t y strand
 
       some : (y ≡ 0 → ⊥) → 0 < y
       some ne = omega (arith, ne)
@@ -114,7 +114,7 @@ module _ (first : List ℤ) (k z : CoreState) (on : CoreGoesOn first k) (core : 
         record {
           running = running;
           ready = still_ready y here.strand at.ready;
-          forks = at.forks ∙ sym (same_around k z tree.rooted tree_after.rooted same y (strand_low t y here.strand));
+          forks = at.forks ∙ sym (same_around k z tree.rooted tree_after.rooted same y (strand_there t y here.strand));
           deque = λ f e. columns f (low f (has_front w.deque w.inline f e)) ∙ at.deque f e;
           inline = λ f e. columns f (low f (has_back w.deque w.inline f e)) ∙ at.inline f e;
           to_come = to_come;

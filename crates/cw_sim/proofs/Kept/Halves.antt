@@ -1,7 +1,7 @@
 -- The two strands of a fork.
 use Rattle.std.proofs.Common.{◌≡◌, ℕ, ◌<◌, List, [], ◌∷◌, length, refl, sym, ◌∙◌, subst, arith, true, false, inl, inr}
 use Rattle.std.specs.Prelude.{◌⊎◌, ◌&&◌, ◌||◌, not}
-use Rattle.std.proofs.lemmas.Bool.{and_parts, and_from, or_cases, or_left, not-true, not_from_false, false_from_ne_true}
+use Rattle.std.proofs.lemmas.Bool.{and_parts, and_from, or_cases, or_left, not-true, not_from_false}
 use Rattle.cw_tree.specs.declared.node.Node.{Node}
 use Rattle.cw_tree.specs.Nodes.{parent_of, is_strand, is_fork}
 use Rattle.cw_tree.specs.Walks.{has}
@@ -9,12 +9,12 @@ use Rattle.cw_tree.specs.Series.{children}
 use Rattle.cw_tree.specs.Names.{is_right}
 use Rattle.cw_tree.specs.Shape.{IsTree}
 use Rattle.cw_tree.proofs.Lists.{In}
-use Rattle.cw_trace.proofs.Keeps.Sides.{right_of as is_right_of, is_left}
+use Rattle.cw_tree.proofs.Walks.Kin.{fork_child}
+use Rattle.cw_tree.proofs.InOrder.DepthFirst.{child_is, IsChild, child_in}
+use Rattle.cw_tree.proofs.NodeKinds.{fork_no_strand, fork_no_block, pending_block}
+use Rattle.cw_trace.proofs.Keeps.Sides.{right_of as is_right_of}
 use Rattle.cw_open.specs.Machine.{OpenMachine, has_finished}
 use Rattle.cw_open.specs.Open.{is_open}
-use Rattle.cw_open.proofs.Open.NodeKinds.{fork_no_strand, fork_no_block_at, pending_block}
-use Rattle.cw_core.proofs.Events.Forks.{child_in, IsChild, in_child}
-use Rattle.cw_core.proofs.Events.Ordering.{strand_under}
 use Rattle.cw_sim.specs.Workers.{left_node, right_node}
 
 -- forks are as they were made
@@ -26,16 +26,16 @@ module _ (t : List Node) (tree : IsTree t) (made : AsMade t) (f : ℕ) (fork : i
   pub which : (y : ℕ) → 0 < y → y < length t → parent_of t y ≡ f → (y ≡ left_node f) ⊎ (y ≡ right_node f)
   which y some there up =
       let P : List ℕ → Type 0 = λ ns. In y ns in
-      elim (subst P (made f fork) (child_in t f y some there up)) [ inl e ↦ inl e | inr z ↦ elim z [ inl e ↦ inr e | inr n ↦ absurd n ] ]
+      elim (subst P (made f fork) (child_in t f y (record { some = some; there = there; parent = up }))) [ inl e ↦ inl e | inr z ↦ elim z [ inl e ↦ inr e | inr n ↦ absurd n ] ]
 
   pub left_child : IsChild t f (left_node f)
-  left_child = let P : List ℕ → Type 0 = λ ns. In (left_node f) ns in in_child t f (left_node f) (subst P (sym (made f fork)) (inl refl))
+  left_child = let P : List ℕ → Type 0 = λ ns. In (left_node f) ns in child_is t f (left_node f) (subst P (sym (made f fork)) (inl refl))
 
   pub right_child : IsChild t f (right_node f)
-  right_child = let P : List ℕ → Type 0 = λ ns. In (right_node f) ns in in_child t f (right_node f) (subst P (sym (made f fork)) (inr (inl refl)))
+  right_child = let P : List ℕ → Type 0 = λ ns. In (right_node f) ns in child_is t f (right_node f) (subst P (sym (made f fork)) (inr (inl refl)))
 
   under : (y : ℕ) → IsChild t f y → is_strand t y ≡ true
-  under y c = let P : ℕ → Type 0 = λ g. is_fork t g ≡ true in strand_under t tree y c.some c.there (subst P (sym c.up) fork)
+  under y c = let P : ℕ → Type 0 = λ g. is_fork t g ≡ true in fork_child t tree y c.some c.there (subst P (sym c.parent) fork)
 
   pub left_strand : is_strand t (left_node f) ≡ true
   left_strand = under (left_node f) left_child
@@ -44,10 +44,7 @@ module _ (t : List Node) (tree : IsTree t) (made : AsMade t) (f : ℕ) (fork : i
   right_strand = under (right_node f) right_child
 
   pub right_is : is_right t (right_node f) ≡ true
-  right_is = is_right_of t tree (left_node f) (right_node f) left_child.some (omega arith) left_strand (left_child.up ∙ sym right_child.up)
-
-  pub left_is : is_right t (left_node f) ≡ false
-  left_is = false_from_ne_true (is_right t (left_node f)) (λ e. is_left t tree (left_node f) (right_node f) f fork (omega arith) right_child.there left_child.up right_child.up e)
+  right_is = is_right_of t tree (left_node f) (right_node f) left_child.some (omega arith) left_strand (left_child.parent ∙ sym right_child.parent)
 
 -- a fork that is open was not joined
 pub open_unjoined : (m : OpenMachine) (f : ℕ) → is_fork m.tree f ≡ true → is_open m f ≡ true → has m.joined f ≡ false
@@ -55,7 +52,7 @@ open_unjoined m f fork e =
     let t = m.tree in
     let pending = Rattle.cw_tree.specs.Nodes.is_pending t f in
     elim (or_cases (is_strand t f && not (has_finished m f) || is_fork t f && not (has m.joined f)) pending e) [
-      | inr z ↦ absurd (cc (pending_block t f z, fork_no_block_at t f fork))
+      | inr z ↦ absurd (cc (pending_block t f z, fork_no_block t f fork))
       | inl z ↦ elim (or_cases (is_strand t f && not (has_finished m f)) (is_fork t f && not (has m.joined f)) z) [
         | inl y ↦ absurd (cc ((and_parts (is_strand t f) (not (has_finished m f)) y).0, fork_no_strand t f fork))
         | inr y ↦ not-true (has m.joined f) (and_parts (is_fork t f) (not (has m.joined f)) y).1

@@ -1,5 +1,5 @@
 -- The strands of a fork have finished and are joined: the core, the other workers, and the strand that forked.
-use Rattle.std.proofs.Common.{◌≡◌, ◌≢◌, ℕ, ◌<◌, ◌≤◌, List, length, refl, ap, sym, ◌∙◌, subst, arith, true, false, Option, Some, None, inl, inr, nat_eq}
+use Rattle.std.proofs.Common.{◌≡◌, ◌≢◌, ℕ, ◌<◌, List, length, refl, ap, sym, ◌∙◌, subst, arith, true, false, Option, Some, None, inl, inr, nat_eq}
 use Rattle.std.specs.Prelude.{◌⊎◌, ◌&&◌, not, ℤ, is_none}
 use Rattle.std.proofs.lemmas.Bool.{cases_Bool, cases_eq, and_parts, and_from, or_left, or_right, eq-eqb, eqb-true, not-true, not_from_false, false_from_ne_true}
 use Rattle.cw_tree.specs.declared.node.Node.{Node}
@@ -8,14 +8,14 @@ use Rattle.cw_tree.specs.Walks.{has, is_ancestor}
 use Rattle.cw_tree.specs.Series.{strand_of}
 use Rattle.cw_tree.specs.Shape.{IsTree}
 use Rattle.cw_tree.proofs.Lists.{any_in, any_from}
-use Rattle.cw_tree.proofs.Walks.Strands.{strand_over, strand_of_le}
-use Rattle.cw_trace.proofs.Stands.InRange.{fork_low, strand_low}
+use Rattle.cw_tree.proofs.Walks.Strands.{strand_over}
 use Rattle.cw_open.specs.Machine.{OpenMachine, has_finished, is_running, waits}
 use Rattle.cw_open.specs.Open.{is_open}
 use Rattle.cw_open.proofs.Laws.Named.{strand_is}
-use Rattle.cw_open.proofs.Open.NodeKinds.{fork_no_strand}
 use Rattle.cw_open.proofs.Open.Standing.{runs, open_over}
 use Rattle.cw_core.specs.declared.event.Event.TheVariants as event
+use Rattle.cw_tree.proofs.Walks.There.{fork_there, strand_there}
+use Rattle.cw_tree.proofs.NodeKinds.{fork_no_strand}
 use Rattle.cw_core.specs.State.{CoreState, has_columns, is_split, waits_for_left}
 use Rattle.cw_core.specs.Events.{fits, after_event}
 use Rattle.cw_core.specs.Laws.{IsCore}
@@ -89,15 +89,12 @@ module _ (first : List ℤ) (k : CoreState) (on : CoreGoesOn first k) (f : ℕ) 
   others w (Some y) at =
       let here = runs m tree (well first k on.core).nested y at.running in
       still_runs first k z on core same goes.forks (λ s e. e) columns w y at (still_running y at.running)
-      (λ g e. let q = has_parts (waiting w) g e in fork_low t g (waits_around k tree on.forks y here.strand q.0 q.1 g (sym at.forks ∙ q.2)).fork) at.to_come
+      (λ g e. let q = has_parts (waiting w) g e in fork_there t g (waits_around k tree on.forks y here.strand q.0 q.1 g (sym at.forks ∙ q.2)).fork) at.to_come
 
   -- ## The strand that forked
 
   f_low : f < length t
-  f_low = fork_low t f fork
-
-  p_low : p ≤ f
-  p_low = strand_of_le t tree.rooted f f_low
+  f_low = fork_there t f fork
 
   p_strand : is_strand t p ≡ true
   p_strand = strand_is t tree.root f
@@ -137,7 +134,7 @@ module _ (first : List ℤ) (k : CoreState) (on : CoreGoesOn first k) (f : ℕ) 
   ] where
     by_side : 0 < p → (is_split k (parent_of t p) ≡ true) ⊎ (is_split k (parent_of t p) ≡ false) → waits_for_left k p ≡ false
     by_side some split =
-        let low = strand_low t p p_strand in
+        let low = strand_there t p p_strand in
         let h = parent_of t p in
         let ff : is_fork t h ≡ true = tree.strands p low some p_strand in
         elim split [
@@ -155,11 +152,11 @@ module _ (first : List ℤ) (k : CoreState) (on : CoreGoesOn first k) (f : ℕ) 
   pub takes_parent : (w : Worker) → waiting w ≡ forks_around k p → ((g : ℕ) → has w.deque g ≡ true → has_columns k g ≡ true) → ((g : ℕ) → has w.inline g ≡ true → has_columns k g ≡ false) → ((g : ℕ) → has (waiting w) g ≡ true → has_finished m (right_node g) ≡ false)
       → Runs z (record w { runs = Some p }) p
   takes_parent w waits deque inline to_come =
-      let low : (g : ℕ) → has (waiting w) g ≡ true → g < length t = λ g e. (let q = has_parts (waiting w) g e in fork_low t g (waits_around k tree on.forks p p_strand q.0 q.1 g (sym waits ∙ q.2)).fork) in
+      let low : (g : ℕ) → has (waiting w) g ≡ true → g < length t = λ g e. (let q = has_parts (waiting w) g e in fork_there t g (waits_around k tree on.forks p p_strand q.0 q.1 g (sym waits ∙ q.2)).fork) in
       record {
         running = parent_runs;
         ready = still_ready first k z on core same goes.forks (λ s e. e) columns p p_strand parent_ready;
-        forks = waits ∙ sym (same_around k z tree.rooted tree.rooted same p (strand_low t p p_strand));
+        forks = waits ∙ sym (same_around k z tree.rooted tree.rooted same p (strand_there t p p_strand));
         deque = λ g e. columns g (low g (Rattle.cw_sim.proofs.Kept.Workers.has_front w.deque w.inline g e)) ∙ deque g e;
         inline = λ g e. columns g (low g (Rattle.cw_sim.proofs.Kept.Workers.has_back w.deque w.inline g e)) ∙ inline g e;
         to_come = to_come;

@@ -8,8 +8,8 @@ use Rattle.cw_tree.specs.Walks.{has}
 use Rattle.cw_tree.specs.Series.{children, strand_of}
 use Rattle.cw_tree.specs.Shape.{IsTree}
 use Rattle.cw_tree.proofs.NextNodes.Growing.{length_more, node_grown, number_grown, node_new}
+use Rattle.cw_tree.proofs.Walks.There.{fork_there}
 use Rattle.cw_trace.proofs.Keeps.Grow.{fork_column_append}
-use Rattle.cw_trace.proofs.Stands.InRange.{fork_low}
 use Rattle.cw_trace.specs.Columns.{used}
 use Rattle.cw_open.specs.Machine.{has_finished, is_running, waits}
 use Rattle.cw_core.specs.State.{CoreState, has_columns}
@@ -53,7 +53,7 @@ module _ (k z : CoreState) (tree : IsTree k.machine.tree) (x : Node) (is : IsMor
 
   old_fork : (f : ℕ) → is_fork u f ≡ true → is_fork t f ≡ true
   old_fork f e =
-      let low = fork_low u f e in
+      let low = fork_there u f e in
       elim (cases_eq f (length t)) [
         | inl q ↦ absurd (cc (e, ap (is_fork u) q, node_new t x (λ y. is_fork_kind y.kind), is.fork))
         | inr ne ↦ (let len = length_more t x in sym (node_grown t (x ∷ []) (λ y. is_fork_kind y.kind) f (omega (arith, ne))) ∙ e)

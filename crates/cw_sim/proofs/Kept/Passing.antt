@@ -20,9 +20,9 @@ use Rattle.cw_tree.proofs.Lists.{In}
 use Rattle.cw_tree.proofs.Walks.Children.{last_passes}
 use Rattle.cw_tree.proofs.InOrder.DepthFirst.{IsChild, child_is}
 use Rattle.cw_tree.proofs.NextNodes.Trees.{no_fork}
-use Rattle.cw_open.proofs.Refused.Backed.{fork_child}
-use Rattle.cw_open.proofs.Open.NodeKinds.{strand_no_block}
-use Rattle.cw_open.proofs.Open.Standing.{last_is, none_is}
+use Rattle.cw_tree.proofs.Walks.Kin.{fork_child}
+use Rattle.cw_tree.proofs.NodeKinds.{strand_no_block}
+use Rattle.cw_tree.proofs.LastBelow.{last_is, none_is}
 use Rattle.cw_open.proofs.Open.Staying.{is_later}
 use Rattle.cw_record.specs.Coherent.{entered, IsWanted, IsForkOf, StrandEnded, alone, joined, IsJoined, HasNoOpenFork, Follows}
 use Rattle.cw_sim.proofs.Kept.Onward.{goes_on, answers, Passes, passes_all}

@@ -9,20 +9,19 @@ use Rattle.cw_tree.specs.Series.{strand_of, children, place}
 use Rattle.cw_tree.specs.ForkCounts.{one_if}
 use Rattle.cw_tree.specs.Shape.{IsTree}
 use Rattle.cw_tree.proofs.Walks.Ancestors.{ancestor_le, ancestor_step}
-use Rattle.cw_tree.proofs.Walks.Kin.{branch}
+use Rattle.cw_tree.proofs.Walks.Kin.{branch, fork_child}
 use Rattle.cw_tree.proofs.Members.{below_last}
 use Rattle.cw_tree.proofs.NextNodes.Trees.{is_child}
 use Rattle.cw_tree.proofs.Walks.Parting.{series_or_parallel}
-use Rattle.cw_tree.proofs.Walks.Strands.{strand_of_le, strand_of_other, strand_innermost}
-use Rattle.cw_trace.proofs.Stands.InRange.{fork_low, pending_low}
+use Rattle.cw_tree.proofs.Walks.Strands.{strand_of_le, strand_of_other, strand_innermost, strand_itself}
+use Rattle.cw_tree.proofs.Walks.There.{pending_there, fork_there as fork_low}
+use Rattle.cw_tree.proofs.NodeKinds.{fork_no_strand, fork_no_block, pending_block}
 use Rattle.cw_open.specs.Machine.{OpenMachine}
 use Rattle.cw_open.specs.Open.{is_open}
 use Rattle.cw_open.proofs.Laws.Named.{strand_is}
-use Rattle.cw_open.proofs.Open.NodeKinds.{fork_no_block_at, fork_no_strand, pending_block}
-use Rattle.cw_open.proofs.Open.Standing.{strand_itself, pending_open, open_block, open_last}
+use Rattle.cw_open.proofs.Open.Standing.{pending_open, open_block, open_last}
 use Rattle.cw_open.proofs.Open.Trees.{IsWell}
 use Rattle.cw_core.proofs.Events.OneFork.{not_parallel}
-use Rattle.cw_core.proofs.Events.Ordering.{strand_under}
 use Rattle.cw_core.proofs.Events.Places.{place_is}
 use Rattle.cw_sim.proofs.Kept.PlacedRunning.{unjoined_open}
 
@@ -58,7 +57,7 @@ module _ (m : OpenMachine) (w : IsWell m) (f : ℕ) (fork : is_fork m.tree f ≡
   above_open = w.nested.outer f fork_some fork_there fork_open
 
   pub above_no_fork : is_fork t p ≡ false
-  above_no_fork = false_from_ne_true (is_fork t p) (λ e. absurd (let a = strand_under t shape f fork_some fork_there e in let no = fork_no_strand t f fork in cc (a, no)))
+  above_no_fork = false_from_ne_true (is_fork t p) (λ e. absurd (let a = fork_child t shape f fork_some fork_there e in let no = fork_no_strand t f fork in cc (a, no)))
 
   pub above_holds : (is_strand t p || is_block t p) ≡ true
   above_holds = by (is_strand t p) (is_fork t p) (is_block t p) above_no_fork (shape.parents f fork_there fork_some) where
@@ -91,7 +90,7 @@ module _ (m : OpenMachine) (w : IsWell m) (f : ℕ) (fork : is_fork m.tree f ≡
           (let h = low in
           let z = branch t shape.rooted f b h ne over in
           let z_le = ancestor_le t shape.rooted z.child b low z.over in
-          let strand = strand_under t shape z.child z.some (omega arith) (ap (is_fork t) z.parent ∙ fork) in
+          let strand = fork_child t shape z.child z.some (omega arith) (ap (is_fork t) z.parent ∙ fork) in
           let inner = strand_innermost t shape.rooted z.child strand b low z.over in
           let up : parent_of t z.child < z.child = shape.rooted z.child z.some (omega arith) in
           let le = strand_of_le t shape.rooted f fork_there in
@@ -106,10 +105,10 @@ module _ (m : OpenMachine) (w : IsWell m) (f : ℕ) (fork : is_fork m.tree f ≡
     ]
   ] where
     low : b < length t
-    low = pending_low t b pending
+    low = pending_there t b pending
 
     ne : b ≢ f
-    ne e = (let block = pending_block t b pending in let no = fork_no_block_at t f fork in cc (block, ap (is_block t) e, no))
+    ne e = (let block = pending_block t b pending in let no = fork_no_block t f fork in cc (block, ap (is_block t) e, no))
 
   pub above_place : place t o ≡ p
   above_place = place_is t shape.rooted o p (strand_is t shape.root f) (record {

@@ -11,7 +11,7 @@ use Rattle.cw_tree.specs.Shape.{IsTree}
 use Rattle.cw_tree.proofs.Lists.{any_in}
 use Rattle.cw_tree.proofs.NextNodes.Trees.{no_fork}
 use Rattle.cw_tree.proofs.Walks.Strands.{strand_over}
-use Rattle.cw_trace.proofs.Stands.InRange.{strand_low}
+use Rattle.cw_tree.proofs.Walks.There.{strand_there}
 use Rattle.cw_open.specs.Machine.{OpenMachine, has_finished, is_running, waits}
 use Rattle.cw_open.specs.Open.{is_open}
 use Rattle.cw_open.proofs.Open.Standing.{runs, stands, stands_at, place_open, pending_open, open_over}
@@ -39,7 +39,7 @@ module _ (m : OpenMachine) (w : IsWell m) where
   -- the fork of an open strand was not joined
   pub own_unjoined : (o : ℕ) → is_strand t o ≡ true → is_open m o ≡ true → 0 < o → has m.joined (parent_of t o) ≡ false
   own_unjoined o strand opened some =
-      let there = strand_low t o strand in
+      let there = strand_there t o strand in
       open_unjoined m (parent_of t o) (shape.strands o there some strand) (w.nested.outer o some there opened)
 
   -- a strand that is open no more stands at itself, and waits for none

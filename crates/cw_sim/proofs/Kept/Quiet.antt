@@ -1,6 +1,6 @@
 -- Events that leave strands and forks as they are: all workers stay where they were.
 use Rattle.std.proofs.Common.{◌≡◌, ℕ, ◌<◌, List, [], ◌∷◌, ◌++◌, length, refl, ap, sym, ◌∙◌, subst, Bool, true, false, cond, Option, Some, None, nat_eq}
-use Rattle.std.specs.Prelude.{◌&&◌, ◌||◌, not, ℤ}
+use Rattle.std.specs.Prelude.{ℤ}
 use Rattle.std.specs.List.{list_any}
 use Rattle.cw_tree.specs.declared.node.Node.{Node}
 use Rattle.cw_tree.specs.declared.node.Kind.TheVariants.{Block, Out, Tried}
@@ -11,12 +11,12 @@ use Rattle.cw_tree.specs.Series.{children, place}
 use Rattle.cw_tree.specs.Shape.{IsTree}
 use Rattle.cw_tree.specs.AccessStacks.{access_kind}
 use Rattle.cw_tree.proofs.NextNodes.Trees.{no_fork}
-use Rattle.cw_trace.proofs.Stands.InRange.{fork_low, strand_low}
 use Rattle.cw_open.specs.Machine.{OpenMachine, has_finished, is_running, rolls_back, live_value}
 use Rattle.cw_open.specs.Steps.{refuses, accesses, after_all}
 use Rattle.cw_open.proofs.Open.Standing.{runs}
 use Rattle.cw_core.specs.declared.event.Event.{Event}
 use Rattle.cw_core.specs.declared.event.Event.TheVariants as event
+use Rattle.cw_tree.proofs.Walks.There.{fork_there, strand_there}
 use Rattle.cw_core.specs.State.{CoreState, has_columns, waits_for_left, spent}
 use Rattle.cw_core.specs.Events.{fits, after_event, is_met, met_by, next}
 use Rattle.cw_core.specs.Laws.{IsCore}
@@ -84,8 +84,8 @@ module _ (first : List ℤ) (k z : CoreState) (on : CoreGoesOn first k) (core : 
   by_run w None idle = idle
   by_run w (Some y) at =
       let here = runs k.machine tree (well first k on.core).nested y at.running in
-      let low : (f : ℕ) → has (w.deque ++ w.inline) f ≡ true → f < length t = λ f e. (let p = has_parts (w.deque ++ w.inline) f e in fork_low t f (waits_around k tree on.forks y here.strand p.0 p.1 f (sym at.forks ∙ p.2)).fork) in
-      still_runs first k z on core quiet.ways quiet_goes.forks (λ s e. finished_same s ∙ e) quiet.columns w y at (quiet.runs y (strand_low t y here.strand) ∙ at.running) low (λ f e. finished_same (right_node f) ∙ at.to_come f e)
+      let low : (f : ℕ) → has (w.deque ++ w.inline) f ≡ true → f < length t = λ f e. (let p = has_parts (w.deque ++ w.inline) f e in fork_there t f (waits_around k tree on.forks y here.strand p.0 p.1 f (sym at.forks ∙ p.2)).fork) in
+      still_runs first k z on core quiet.ways quiet_goes.forks (λ s e. finished_same s ∙ e) quiet.columns w y at (quiet.runs y (strand_there t y here.strand) ∙ at.running) low (λ f e. finished_same (right_node f) ∙ at.to_come f e)
 
   pub quiet_workers : (ws : List Worker) → AreWorkers k ws → AreWorkers z ws
   quiet_workers ws old = record { fit = λ w. by_run (worker_in ws w) (worker_in ws w).runs (old.fit w); apart = old.apart; once = old.once }

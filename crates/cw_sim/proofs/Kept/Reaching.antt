@@ -19,8 +19,8 @@ use Rattle.cw_tree.specs.Links.{is_child}
 use Rattle.cw_tree.proofs.Lists.{In, at_or_before}
 use Rattle.cw_tree.proofs.Members.{in_filter, in_below, below_last}
 use Rattle.cw_tree.proofs.Walks.Climbs.{by_parent}
-use Rattle.cw_open.proofs.Refused.Backed.{fork_child}
-use Rattle.cw_open.proofs.Open.NodeKinds.{strand_no_block, fork_no_block_at}
+use Rattle.cw_tree.proofs.Walks.Kin.{fork_child}
+use Rattle.cw_tree.proofs.NodeKinds.{strand_no_block, fork_no_block}
 use Rattle.cw_record.specs.Coherent.{InSeries, entered, IsWanted, IsForkOf, HasNoOpenFork, Follows}
 use Rattle.cw_sim.proofs.Kept.Halves.{AsMade, which}
 use Rattle.cw_sim.proofs.Kept.Levels.{levels, some_levels, levels_left, levels_right, levels_other, levels_block}
@@ -125,7 +125,7 @@ module _ {A : Type 0} (s : Strands A) (t : List Node) (before after reached : �
         let P : List ℕ → Type 0 = IsForkOf s t before after reached p in
         let both = subst P (made p fork) kids in
         let Q : A → Type 0 = λ a. Reached s (levels t p) a in
-        let stood = subst Q (entered_other s t before after reached tree f p (fork_no_block_at t p fork)) up in
+        let stood = subst Q (entered_other s t before after reached tree f p (fork_no_block t p fork)) up in
         let here = entered_other s t before after reached tree f n (strand_no_block t n strand) in
         let R : List ℕ → Type 0 = λ own. Reached s own (enters n) in
         elim (which t tree made p fork n some low refl) [

@@ -8,11 +8,11 @@ use Rattle.cw_tree.specs.Walks.{IsRooted, has}
 use Rattle.cw_tree.specs.Series.{strand_of}
 use Rattle.cw_tree.proofs.Walks.Climbs.{by_parent}
 use Rattle.cw_tree.proofs.Walks.Strands.{strand_of_root, strand_of_strand, strand_of_other}
+use Rattle.cw_tree.proofs.Names.Naming.{on_strand, on_other}
 use Rattle.cw_trace.specs.Stands.{fork_column}
 use Rattle.cw_core.specs.State.{CoreState, has_columns, is_split}
 use Rattle.cw_sim.specs.Workers.{left_node}
 use Rattle.cw_sim.specs.Kept.{lefts, forks_around}
-use Rattle.cw_sim.proofs.Kept.Ways.{on_strand, on_other}
 
 -- the nodes of core k are in core z, with their strands, and as many of their forks are split
 pub record SameWays (k z : CoreState) : Type 0 where

@@ -28,9 +28,6 @@ module _ (k z : CoreState) (tree : IsTree k.machine.tree) (b : ℕ) (state : Blo
   abbrev t : List Node
   t = k.machine.tree
 
-  abbrev v : List Node
-  v = closed t b state end
-
   len : length z.machine.tree ≡ length t
   len = ap length is.tree ∙ length_closed t b state end
 

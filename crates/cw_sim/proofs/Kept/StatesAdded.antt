@@ -15,31 +15,22 @@ use Rattle.cw_tree.specs.Series.{strand_of, children, place}
 use Rattle.cw_tree.specs.Shape.{IsTree}
 use Rattle.cw_tree.proofs.NextNodes.Growing.{get_append, get_next, length_more, node_grown, number_grown, node_new, strand_of_grown, strand_of_new}
 use Rattle.cw_tree.proofs.NextNodes.Trees.{children_none}
-use Rattle.cw_trace.proofs.Stands.InRange.{fork_low, strand_low, pending_low}
+use Rattle.cw_tree.proofs.Walks.There.{pending_there, fork_there, strand_there}
+use Rattle.cw_tree.proofs.NodeKinds.{new_open}
 use Rattle.cw_open.specs.Machine.{is_running}
 use Rattle.cw_open.proofs.Open.Standing.{begun_in}
 use Rattle.cw_open.proofs.Open.Trees.{IsWell}
 use Rattle.cw_core.proofs.Events.Places.{place_grown, place_begun}
-use Rattle.cw_core.proofs.Kept.Tails.{child_low, children_here, children_other}
+use Rattle.cw_core.proofs.Kept.Tails.{children_here, children_other}
 use Rattle.cw_record.specs.Coherent.{InSeries, IsWanted, entered}
 use Rattle.cw_record.proofs.Coherent.AddedStates.{state_same, state_other}
 use Rattle.cw_record.proofs.Coherent.KeptStates.{does_same}
 use Rattle.cw_record.proofs.Coherent.States.{DoesAs}
 use Rattle.cw_sim.specs.Workers.{Simulation, changed, tree}
 use Rattle.cw_sim.specs.Kept.{AreStanding, HasStates}
-use Rattle.cw_sim.proofs.Kept.StatesKept.{AllStates, Stay, MayChange, AreNew, closed_by, series_more, series_at, entered_same, states_kept}
+use Rattle.cw_sim.proofs.Kept.StatesKept.{AllStates, Stay, MayChange, AreNew, closed_by, states_kept, series_with_new}
 use Rattle.cw_sim.proofs.Kept.PlacedKept.{Elsewhere, AreHere, current_is, standing_kept}
 use Rattle.cw_sim.proofs.Kept.PlacedRunning.{running_place, running_own, running_none, running_holds, running_may, running_stands}
-
--- a new block is pending, and nothing else is
-first_pending : (kind : Kind) → (is_block_kind kind && is_pending_state (first_state kind)) ≡ is_block_kind kind
-first_pending Strand = refl
-first_pending Fork = refl
-first_pending Block = refl
-first_pending (Read c v) = refl
-first_pending (Write c v) = refl
-first_pending (Out v) = refl
-first_pending (Tried c) = refl
 
 module _ {A : Type 0} (s : Strands A) where
   -- what a node does that is no fork, it wants
@@ -120,7 +111,7 @@ module _ {A : Type 0} (s : Strands A) (m : Simulation A) (w : IsWell m.core.mach
   block_here = node_new t new (λ i. is_block_kind i.kind)
 
   pending_here : is_pending u g ≡ is_block_kind kind
-  pending_here = node_new t new (λ i. is_block_kind i.kind && is_pending_state i.state) ∙ first_pending kind
+  pending_here = node_new t new (λ i. is_block_kind i.kind && is_pending_state i.state) ∙ new_open kind
 
   own_new : strand_of u g ≡ o
   own_new = strand_of_new t new shape.rooted there ∙ ap (λ i. cond i g (strand_of t p)) plain.0 ∙ running_own m.core.machine w o running
@@ -129,15 +120,6 @@ module _ {A : Type 0} (s : Strands A) (m : Simulation A) (w : IsWell m.core.mach
       (other : (n : ℕ) → n ≢ o → now n ≡ m.at n) (begun : is_block_kind kind ≡ true → kept g ≡ m.at o) (as_kept : (n : ℕ) → n < g → kept n ≡ m.saved n) where
     may : MayChange m.core.machine p g
     may = running_may m.core.machine w o running forks g (λ low. absurd (omega arith)) (false_from_ne_true (has m.core.machine.joined g) (λ e. absurd (let low = w.joined g e in omega arith)))
-
-    series_here : InSeries y.before y.after (entered s u y.before y.after y.reached p) (children u p) (y.reached p)
-    series_here =
-        series_at y.before y.after (entered s t x.before x.after x.reached p) (entered s u y.before y.after y.reached p) (children t p ++ g ∷ []) (children u p) (y.after g) (y.reached p)
-        (entered_same s m.core.machine z.core.machine x y p g may stays p there) (children_here t new shape.some) (reached_place ∙ sym (state_same x.after g b))
-        (series_more x.before x.after y.before y.after (children t p) g (entered s t x.before x.after x.reached p) (x.reached p)
-        (λ i j. let low = child_low t p i j in (state_other x.before g (m.at o) i (past i low), state_other x.after g b i (past i low)))
-        (state_same x.before g (m.at o) ∙ sym (running_stands s m w x h o running))
-        (h.states.series p there (running_holds m.core.machine w o running)))
 
     entered_new : is_block u g ≡ true → entered s u y.before y.after y.reached g ≡ y.reached g
     entered_new e =
@@ -164,7 +146,9 @@ module _ {A : Type 0} (s : Strands A) (m : Simulation A) (w : IsWell m.core.mach
 
     are_new : AreNew s m.core.machine z.core.machine y p g
     are_new = record {
-      here = series_here;
+      here =
+          series_with_new s m.core.machine z.core.machine x y p g may stays there (omega arith) (children_here t new shape.some) (state_same x.before g (m.at o) ∙ sym (running_stands s m w x h o running))
+          (reached_place ∙ sym (state_same x.after g b)) (h.states.series p there (running_holds m.core.machine w o running));
       series = series_new;
       behind = fits_new;
       fits = λ n le ne i is. absurd (ne (is_new n le (slice_get_within u n i is)));
@@ -200,15 +184,15 @@ module _ {A : Type 0} (s : Strands A) (m : Simulation A) (w : IsWell m.core.mach
       here = λ q. stands_here (is_block_kind kind) refl here;
       strands = λ n le e q. absurd (
           let strand = (current_is z.core (stays.strands 0 shape.some ∙ shape.root) n e).0 in
-          let at = is_new n le (strand_low u n strand) in
+          let at = is_new n le (strand_there u n strand) in
           let no = no_strand in
           cc (strand, ap (is_strand u) at, no));
       forks = λ f le e. absurd (
-          let at = is_new f le (fork_low u f e) in
+          let at = is_new f le (fork_there u f e) in
           let no = node_new t new (λ i. is_fork_kind i.kind) ∙ plain.1 in
           cc (e, at, no));
       saved = λ n le e.
-          (let at = is_new n le (pending_low u n e) in
+          (let at = is_new n le (pending_there u n e) in
           let block : is_block_kind kind ≡ true = sym pending_here ∙ ap (is_pending u) (sym at) ∙ e in
           ap y.before at ∙ state_same x.before g (m.at o) ∙ sym (begun block) ∙ ap kept (sym at));
     }

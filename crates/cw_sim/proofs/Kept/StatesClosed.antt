@@ -1,6 +1,6 @@
 -- The block in which a running strand stands is closed: the states around it, and where strands stand.
-use Rattle.std.proofs.Common.{◌≡◌, ◌≢◌, ℕ, ◌<◌, ◌≤◌, List, [], ◌∷◌, ◌++◌, length, refl, ap, sym, ◌∙◌, subst, arith, true, false, inl, inr, Some, None, Option}
-use Rattle.std.specs.Prelude.{◌&&◌, ◌||◌, Bool, ℤ, slice_get, filter}
+use Rattle.std.proofs.Common.{◌≡◌, ◌≢◌, ℕ, ◌<◌, ◌≤◌, List, [], length, refl, ap, sym, ◌∙◌, subst, arith, true, false, inl, inr, Some, None, Option}
+use Rattle.std.specs.Prelude.{◌&&◌, ◌||◌, Bool, ℤ, slice_get}
 use Rattle.std.proofs.lemmas.Bool.{cases_eq, false_from_ne_true}
 use Rattle.std.proofs.lemmas.Option.{slice_get_within, same_Some}
 use Rattle.cw_strand.specs.Strands.{Strands}
@@ -8,30 +8,28 @@ use Rattle.cw_tree.specs.declared.node.Node.{Node}
 use Rattle.cw_tree.specs.declared.node.Kind.{Kind}
 use Rattle.cw_tree.specs.declared.node.Kind.TheVariants.{Block}
 use Rattle.cw_tree.specs.declared.node.BlockState.{BlockState}
-use Rattle.cw_tree.specs.Nodes.{passes, is_strand_kind, is_fork_kind, is_block_kind, is_pending_state, parent_of, is_strand, is_fork, is_block, is_pending, below, closed}
+use Rattle.cw_tree.specs.Nodes.{passes, is_strand_kind, is_fork_kind, is_block_kind, is_pending_state, parent_of, is_strand, is_fork, is_block, is_pending, closed}
 use Rattle.cw_tree.specs.Walks.{has}
 use Rattle.cw_tree.specs.Series.{children, place}
 use Rattle.cw_tree.specs.Shape.{IsTree}
 use Rattle.cw_tree.proofs.NextNodes.Closing.{shut, length_closed, node_closed, number_closed, closed_here, closed_other, strand_of_closed}
-use Rattle.cw_tree.proofs.NextNodes.Trees.{is_child, no_fork}
-use Rattle.cw_tree.proofs.Lists.{In}
-use Rattle.cw_tree.proofs.Members.{in_below, in_filter}
+use Rattle.cw_tree.proofs.NextNodes.Trees.{no_fork}
 use Rattle.cw_tree.proofs.Walks.Strands.{strand_of_other}
-use Rattle.cw_trace.proofs.Stands.InRange.{fork_low, strand_low, pending_low}
+use Rattle.cw_tree.proofs.Walks.There.{pending_there, fork_there, strand_there}
+use Rattle.cw_tree.proofs.Walks.Kin.{fork_child}
+use Rattle.cw_tree.proofs.NodeKinds.{strand_no_block, pending_block}
 use Rattle.cw_open.specs.Machine.{is_running, in_block}
-use Rattle.cw_open.proofs.Open.NodeKinds.{pending_block, strand_no_block}
 use Rattle.cw_open.proofs.Open.Standing.{pending_open}
 use Rattle.cw_open.proofs.Open.Trees.{IsWell}
 use Rattle.cw_core.specs.State.{waits_for_left}
 use Rattle.cw_core.proofs.Events.Going.{well}
-use Rattle.cw_core.proofs.Events.Ordering.{strand_under}
 use Rattle.cw_core.proofs.Kept.RowsClose.{open_block, there, low, blocks, children_same, pending_other, pending_here, front, place_other, place_here}
-use Rattle.cw_record.specs.Coherent.{InSeries, IsClosed, IsWanted, entered}
+use Rattle.cw_record.specs.Coherent.{IsClosed, IsWanted}
 use Rattle.cw_record.proofs.Coherent.AddedStates.{state_same, state_other}
 use Rattle.cw_record.proofs.Coherent.States.{Closes}
 use Rattle.cw_sim.specs.Workers.{Simulation, changed, tree}
 use Rattle.cw_sim.specs.Kept.{CoreGoesOn, AreStanding, HasStates}
-use Rattle.cw_sim.proofs.Kept.StatesKept.{AllStates, Stay, MayChange, AreNew, closed_by, series_last, series_at, entered_same, states_kept}
+use Rattle.cw_sim.proofs.Kept.StatesKept.{AllStates, Stay, MayChange, AreNew, closed_by, states_kept, series_with_last}
 use Rattle.cw_sim.proofs.Kept.PlacedKept.{Elsewhere, AreHere, current_is, standing_kept}
 use Rattle.cw_sim.proofs.Kept.PlacedRunning.{running_own, running_none, running_stands}
 
@@ -108,7 +106,7 @@ module _ {A : Type 0} (s : Strands A) (first : List ℤ) (m : Simulation A) (on 
   }
 
   p_no_fork : is_fork t p ≡ false
-  p_no_fork = false_from_ne_true (is_fork t p) (λ e. absurd (let a = strand_under t shape c c_some c_there e in let i = not_strand in cc (a, i)))
+  p_no_fork = false_from_ne_true (is_fork t p) (λ e. absurd (let a = fork_child t shape c c_some c_there e in let i = not_strand in cc (a, i)))
 
   may : MayChange m.core.machine p c
   may = record {
@@ -129,22 +127,6 @@ module _ {A : Type 0} (s : Strands A) (first : List ℤ) (m : Simulation A) (on 
         by false false k e f = f
 
   module _ (h : AreStanding s m x.before x.after x.reached) (closes : Closes s (m.saved c) b (m.at o) state) (here : now o ≡ b) (other : (n : ℕ) → n ≢ o → now n ≡ m.at n) where
-    abbrev elders : List ℕ
-    elders = filter (is_child t p) (below c)
-
-    whole : children t p ≡ elders ++ c ∷ []
-    whole = front first m.core on.core o running ready within state done end end []
-
-    elder_low : (i : ℕ) → In i elders → i < c
-    elder_low i j = in_below i c (in_filter (is_child t p) i (below c) j).0
-
-    series_here : InSeries y.before y.after (entered s u y.before y.after y.reached p) (children u p) (y.reached p)
-    series_here =
-        series_at y.before y.after (entered s t x.before x.after x.reached p) (entered s u y.before y.after y.reached p) (elders ++ c ∷ []) (children u p) (y.after c) (y.reached p)
-        (entered_same s m.core.machine z.core.machine x y p c may stays p p_there) (same_children p ∙ whole) (state_same x.reached p b ∙ sym (state_same x.after c b))
-        (series_last x.before x.after y.before y.after elders c (entered s t x.before x.after x.reached p) (x.reached p) (λ i j. (refl, (let l = elder_low i j in state_other x.after c b i (λ e. omega (arith, e, l))))) refl
-        (series_at x.before x.after (entered s t x.before x.after x.reached p) (entered s t x.before x.after x.reached p) (children t p) (elders ++ c ∷ []) (x.reached p) (x.reached p) refl (sym whole) refl (h.states.series p p_there holds)))
-
     closes_now : IsClosed s u y.before y.after y.reached c state
     closes_now =
         let P : A → Type 0 = λ i. Closes s i b (m.at o) state in
@@ -171,7 +153,9 @@ module _ {A : Type 0} (s : Strands A) (first : List ℤ) (m : Simulation A) (on 
 
     are_new : AreNew s m.core.machine z.core.machine y p c
     are_new = record {
-      here = series_here;
+      here =
+          let whole = front first m.core on.core o running ready within state done end end [] in
+          series_with_last s m.core.machine z.core.machine x y p c may stays p_there c_there whole (same_children p ∙ whole) (state_same x.reached p b ∙ sym (state_same x.after c b)) (h.states.series p p_there holds);
       series = λ n le l e. absurd (none_new n le l);
       behind = behind (slice_get t c) refl;
       fits = λ n le ne i is. absurd (none_new n le (slice_get_within u n i is));
@@ -202,9 +186,9 @@ module _ {A : Type 0} (s : Strands A) (first : List ℤ) (m : Simulation A) (on 
     are_here : AreHere m z y o
     are_here = record {
       here = λ q. ap y.reached (place_here first m.core on.core o running ready within state done end end []) ∙ state_same x.reached p b ∙ sym here;
-      strands = λ n le e q. absurd (none_new n le (strand_low u n (current_is z.core (stays.strands 0 shape.some ∙ shape.root) n e).0));
-      forks = λ f le e. absurd (none_new f le (fork_low u f e));
-      saved = λ n le e. absurd (none_new n le (pending_low u n e));
+      strands = λ n le e q. absurd (none_new n le (strand_there u n (current_is z.core (stays.strands 0 shape.some ∙ shape.root) n e).0));
+      forks = λ f le e. absurd (none_new f le (fork_there u f e));
+      saved = λ n le e. absurd (none_new n le (pending_there u n e));
     }
 
     pub closed_states : HasStates s (with_closed m o state end now)

@@ -9,12 +9,12 @@ use Rattle.cw_tree.specs.Walks.{has, is_ancestor}
 use Rattle.cw_tree.specs.Series.{place}
 use Rattle.cw_tree.specs.Shape.{IsTree}
 use Rattle.cw_tree.proofs.Walks.Strands.{strand_over}
-use Rattle.cw_trace.proofs.Stands.InRange.{strand_low}
 use Rattle.cw_open.specs.Machine.{has_finished, is_running, in_block, is_dying}
 use Rattle.cw_open.specs.Open.{is_open}
 use Rattle.cw_open.proofs.Open.Standing.{stands_at}
 use Rattle.cw_open.proofs.Open.Trees.{IsWell}
 use Rattle.cw_core.specs.declared.event.Event.TheVariants as event
+use Rattle.cw_tree.proofs.Walks.There.{strand_there}
 use Rattle.cw_core.specs.State.{CoreState, is_split}
 use Rattle.cw_core.specs.Events.{fits}
 use Rattle.cw_core.proofs.Events.Going.{well}
@@ -85,7 +85,7 @@ module _ {A : Type 0} (s : Strands A) (first : List ℤ) (m : Simulation A) (on 
     strand_o = running_strand k.machine w o at.running
 
     fork : is_fork t f ≡ true
-    fork = ap (is_fork t) (sym up) ∙ shape.strands o (strand_low t o strand_o) some strand_o
+    fork = ap (is_fork t) (sym up) ∙ shape.strands o (strand_there t o strand_o) some strand_o
 
     unjoined : has k.machine.joined f ≡ false
     unjoined = ap (has k.machine.joined) (sym up) ∙ running_unjoined k.machine w o at.running some
@@ -101,10 +101,10 @@ module _ {A : Type 0} (s : Strands A) (first : List ℤ) (m : Simulation A) (on 
     joined_n = joined_states s n f x
 
     left_stands : has_finished n.core.machine (left_node f) ≡ true → x.reached (left_node f) ≡ n.at (left_node f)
-    left_stands = ended_stands (left_node f) (left_strand t shape on.forks f fork) (left_child t shape on.forks f fork).up
+    left_stands = ended_stands (left_node f) (left_strand t shape on.forks f fork) (left_child t shape on.forks f fork).parent
 
     right_stands : has_finished n.core.machine (right_node f) ≡ true → x.reached (right_node f) ≡ n.at (right_node f)
-    right_stands = ended_stands (right_node f) (right_strand t shape on.forks f fork) (right_child t shape on.forks f fork).up
+    right_stands = ended_stands (right_node f) (right_strand t shape on.forks f fork) (right_child t shape on.forks f fork).parent
 
     join_stands : x.reached (left_node f) ≡ n.at (left_node f) → x.reached (right_node f) ≡ n.at (right_node f) → AreStanding s (with_joined s n f) joined_n.before joined_n.after joined_n.reached
     join_stands = joined_stands s n w_n on_n.core.joined f fork unjoined (on.forks f fork) x on_finish

@@ -15,19 +15,19 @@ use Rattle.cw_tree.specs.Shape.{IsTree}
 use Rattle.cw_tree.specs.NextNodes.{fork_nodes}
 use Rattle.cw_tree.proofs.NextNodes.Growing.{get_append, get_next, length_more, node_grown, number_grown, rooted_more, strand_of_grown, strand_of_new}
 use Rattle.cw_tree.proofs.Walks.Strands.{strand_of_le}
-use Rattle.cw_trace.proofs.Stands.InRange.{fork_low, strand_low}
+use Rattle.cw_tree.proofs.Walks.There.{fork_there, strand_there}
+use Rattle.cw_tree.proofs.LastBelow.{last_past}
 use Rattle.cw_open.specs.Machine.{is_running}
 use Rattle.cw_open.proofs.Laws.ListSteps.{none_new}
 use Rattle.cw_open.proofs.Open.Standing.{begun_in}
 use Rattle.cw_open.proofs.Open.Trees.{IsWell}
 use Rattle.cw_core.proofs.Kept.ForkTails.{place_children, fork_children, other_children, no_children}
-use Rattle.cw_core.proofs.Events.Places.{last_pass, place_grown, waits_for}
-use Rattle.cw_core.proofs.Kept.Tails.{child_low}
+use Rattle.cw_core.proofs.Events.Places.{place_grown, waits_for}
 use Rattle.cw_record.specs.Coherent.{InSeries, IsForkOf, IsWanted, entered}
 use Rattle.cw_record.proofs.Coherent.AddedStates.{state_same, state_other}
 use Rattle.cw_sim.specs.Workers.{Simulation, left_node, right_node, changed, tree}
 use Rattle.cw_sim.specs.Kept.{AreStanding, HasStates}
-use Rattle.cw_sim.proofs.Kept.StatesKept.{AllStates, Stay, MayChange, AreNew, series_more, series_at, entered_same, states_kept}
+use Rattle.cw_sim.proofs.Kept.StatesKept.{AllStates, Stay, MayChange, AreNew, states_kept, series_with_new}
 use Rattle.cw_sim.proofs.Kept.PlacedKept.{Elsewhere, AreHere, current_is, standing_kept}
 use Rattle.cw_sim.proofs.Kept.PlacedRunning.{running_place, running_own, running_strand, running_none, running_holds, running_may, running_stands}
 
@@ -74,7 +74,7 @@ module _ {A : Type 0} (s : Strands A) (m : Simulation A) (w : IsWell m.core.mach
   there = running_place m.core.machine w o running
 
   own_low : o < g
-  own_low = strand_low t o (running_strand m.core.machine w o running)
+  own_low = strand_there t o (running_strand m.core.machine w o running)
 
   len : length u ≡ g + 3
   len = length-append t xs
@@ -118,7 +118,7 @@ module _ {A : Type 0} (s : Strands A) (m : Simulation A) (w : IsWell m.core.mach
   fork_only : (f : ℕ) → g ≤ f → is_fork u f ≡ true → f ≡ g
   fork_only f le e = elim (cases_eq f g) [
     | inl q ↦ q
-    | inr ne ↦ absurd (let no = ap (passes (λ i. is_fork_kind i.kind)) (get_half f (omega arith) (fork_low u f e)) in cc (e, no))
+    | inr ne ↦ absurd (let no = ap (passes (λ i. is_fork_kind i.kind)) (get_half f (omega arith) (fork_there u f e)) in cc (e, no))
   ]
 
   strand_past : (n : ℕ) → g ≤ n → is_strand u n ≡ true → g < n
@@ -144,7 +144,7 @@ module _ {A : Type 0} (s : Strands A) (m : Simulation A) (w : IsWell m.core.mach
   new_place : (n : ℕ) → g < n → place u n ≡ n
   new_place n more =
       ap (λ i. unwrap_or i n)
-      (last_pass (begun_in u n) 0 (length u) (omega arith) (λ i le l.
+      (last_past (begun_in u n) 0 (length u) (omega arith) (λ i le l.
       elim (cases_lt i g) [
         | inl low ↦ and_right (is_pending u i) (nat_eq (strand_of u i) n) (ne_eqb (strand_of u i) n (λ e. (let le = strand_of_le t shape.rooted i low in omega (arith, e, strand_of_grown t xs shape.rooted i low))))
         | inr past ↦ and_left (is_pending u i) (nat_eq (strand_of u i) n) (no_pending i past)
@@ -190,17 +190,6 @@ module _ {A : Type 0} (s : Strands A) (m : Simulation A) (w : IsWell m.core.mach
   may = running_may m.core.machine w o running forks g (λ low. absurd (omega arith)) (false_from_ne_true (has m.core.machine.joined g) (λ e. absurd (let low = w.joined g e in omega arith)))
 
   module _ (h : AreStanding s m x.before x.after x.reached) (wants : s.want (m.at o) ≡ want.Fork) where
-    series_here : InSeries y.before y.after (entered s u y.before y.after y.reached p) (children u p) (y.reached p)
-    series_here =
-        let stood = running_stands s m w x h o running in
-        series_at y.before y.after (entered s t x.before x.after x.reached p) (entered s u y.before y.after y.reached p) (children t p ++ g ∷ []) (children u p) (y.after g) (y.reached p)
-        (entered_same s m.core.machine z.core.machine x y p g may stays p there) (place_children t shape.rooted p st there)
-        (half_old x.reached p (let low = there in omega arith) ∙ stood ∙ sym (state_same x.after g a))
-        (series_more x.before x.after y.before y.after (children t p) g (entered s t x.before x.after x.reached p) (x.reached p)
-        (λ i j. let low = child_low t p i j in (stays.before i low, stays.after i low (λ e. omega (arith, e))))
-        (before_here ∙ sym stood)
-        (h.states.series p there (running_holds m.core.machine w o running)))
-
     series_new : (n : ℕ) → g ≤ n → n < length u → (is_strand u n || is_block u n) ≡ true → InSeries y.before y.after (entered s u y.before y.after y.reached n) (children u n) (y.reached n)
     series_new n le low e =
         let strand : is_strand u n ≡ true = sym (or_none (is_strand u n)) ∙ ap (λ i. is_strand u n || i) (sym (no_block n le)) ∙ e in
@@ -225,7 +214,10 @@ module _ {A : Type 0} (s : Strands A) (m : Simulation A) (w : IsWell m.core.mach
 
     are_new : AreNew s m.core.machine z.core.machine y p g
     are_new = record {
-      here = series_here;
+      here =
+          let stood = running_stands s m w x h o running in
+          series_with_new s m.core.machine z.core.machine x y p g may stays there (omega arith) (place_children t shape.rooted p st there) (before_here ∙ sym stood)
+          (half_old x.reached p (let low = there in omega arith) ∙ stood ∙ sym (state_same x.after g a)) (h.states.series p there (running_holds m.core.machine w o running));
       series = series_new;
       behind = λ v is. (let P : Node → Type 0 = λ i. IsWanted s u y.before y.after y.reached g i.kind i.state in subst P (same_Some fork_node v (sym (get_next t fork_node (half ∷ half ∷ [])) ∙ is)) is_forked);
       fits = λ n le ne v is. (let P : Node → Type 0 = λ i. IsWanted s u y.before y.after y.reached n i.kind i.state in subst P (same_Some half v (sym (get_half n (omega arith) (slice_get_within u n v is)) ∙ is)) tt);
@@ -253,7 +245,7 @@ module _ {A : Type 0} (s : Strands A) (m : Simulation A) (w : IsWell m.core.mach
       strands = λ n le e q.
           (let strand = (current_is z.core (stays.strands 0 shape.some ∙ shape.root) n e).0 in
           let more = strand_past n le strand in
-          ap y.reached (new_place n more) ∙ half_same x.reached m.at n more (strand_low u n strand));
+          ap y.reached (new_place n more) ∙ half_same x.reached m.at n more (strand_there u n strand));
       forks = λ f le e.
           (let at = fork_only f le e in
           let low = own_low in

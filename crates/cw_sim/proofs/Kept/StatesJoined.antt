@@ -1,6 +1,5 @@
 -- The strands of a fork join: the states around it, and where strands stand.
-use Rattle.std.proofs.Common.{◌≡◌, ◌≢◌, ℕ, ◌<◌, ◌≤◌, List, [], ◌∷◌, ◌++◌, length, refl, ap, sym, ◌∙◌, subst, arith, true, false, inl, inr, nat_eq}
-use Rattle.std.specs.Prelude.{filter}
+use Rattle.std.proofs.Common.{◌≡◌, ◌≢◌, ℕ, ◌<◌, ◌≤◌, List, [], ◌∷◌, length, refl, ap, sym, ◌∙◌, subst, arith, true, false, inl, inr, nat_eq}
 use Rattle.std.proofs.lemmas.Bool.{or_cases, or_from, or_left, or_parts, eq-eqb, eqb-true, ne_eqb}
 use Rattle.std.proofs.lemmas.Option.{slice_get_within}
 use Rattle.cw_strand.specs.Strands.{Strands}
@@ -8,21 +7,18 @@ use Rattle.cw_tree.specs.declared.node.Node.{Node}
 use Rattle.cw_tree.specs.declared.node.Kind.{Kind}
 use Rattle.cw_tree.specs.declared.node.Kind.TheVariants.{Fork}
 use Rattle.cw_tree.specs.declared.node.BlockState.{BlockState}
-use Rattle.cw_tree.specs.Nodes.{passes, is_fork_kind, parent_of, is_fork, below}
+use Rattle.cw_tree.specs.Nodes.{passes, is_fork_kind, parent_of, is_fork}
 use Rattle.cw_tree.specs.Walks.{has}
 use Rattle.cw_tree.specs.Series.{strand_of, children}
 use Rattle.cw_tree.specs.Shape.{IsTree}
-use Rattle.cw_tree.proofs.Lists.{In}
-use Rattle.cw_tree.proofs.Members.{in_below, in_filter}
-use Rattle.cw_tree.proofs.NextNodes.Trees.{is_child}
-use Rattle.cw_trace.proofs.Stands.InRange.{fork_low, strand_low, pending_low}
+use Rattle.cw_tree.proofs.Walks.There.{pending_there, fork_there as fork_low, strand_there}
 use Rattle.cw_open.proofs.Open.Trees.{IsWell}
 use Rattle.cw_core.proofs.Events.OneFork.{one_fork}
-use Rattle.cw_record.specs.Coherent.{InSeries, IsForkOf, IsWanted, entered}
+use Rattle.cw_record.specs.Coherent.{IsForkOf, IsWanted}
 use Rattle.cw_record.proofs.Coherent.AddedStates.{state_same, state_other}
 use Rattle.cw_sim.specs.Workers.{Simulation, left_node, right_node, changed, tree}
 use Rattle.cw_sim.specs.Kept.{AreStanding}
-use Rattle.cw_sim.proofs.Kept.StatesKept.{AllStates, Stay, MayChange, AreNew, series_last, series_at, entered_same, states_kept}
+use Rattle.cw_sim.proofs.Kept.StatesKept.{AllStates, Stay, MayChange, AreNew, states_kept, series_with_last}
 use Rattle.cw_sim.proofs.Kept.PlacedKept.{Elsewhere, AreHere, current_is, standing_kept}
 use Rattle.cw_sim.proofs.Kept.PlacedRunning.{unjoined_open}
 use Rattle.cw_sim.proofs.Kept.PlacedForked.{fork_there, above_low, above_open, above_no_fork, above_holds, above_own, above_place, fork_last}
@@ -114,23 +110,6 @@ module _ {A : Type 0} (s : Strands A) (m : Simulation A) (w : IsWell m.core.mach
       cc (yes, ap (has z.core.machine.joined) one, e)
 
   module _ (h : AreStanding s m x.before x.after x.reached) (left : x.reached (left_node f) ≡ m.at (left_node f)) (right : x.reached (right_node f) ≡ m.at (right_node f)) where
-    abbrev elders : List ℕ
-    elders = filter (is_child t p) (below f)
-
-    whole : children t p ≡ elders ++ f ∷ []
-    whole = fork_last m.core.machine w f fork unjoined
-
-    elder_low : (i : ℕ) → In i elders → i < f
-    elder_low i j = in_below i f (in_filter (is_child t p) i (below f) j).0
-
-    series_here : InSeries y.before y.after (entered s t y.before y.after y.reached p) (children t p) (y.reached p)
-    series_here =
-        series_at y.before y.after (entered s t x.before x.after x.reached p) (entered s t y.before y.after y.reached p) (elders ++ f ∷ []) (children t p) (y.after f) (y.reached p)
-        (entered_same s m.core.machine z.core.machine x y p f may stays p p_there) whole (state_same x.reached p v ∙ sym (state_same x.after f v))
-        (series_last x.before x.after y.before y.after elders f (entered s t x.before x.after x.reached p) (x.reached p) (λ i j. (refl, (let l = elder_low i j in state_other x.after f v i (λ e. omega (arith, e, l))))) refl
-        (series_at x.before x.after (entered s t x.before x.after x.reached p) (entered s t x.before x.after x.reached p) (children t p) (elders ++ f ∷ []) (x.reached p) (x.reached p) refl (sym whole) refl
-        (h.states.series p p_there (above_holds m.core.machine w f fork unjoined))))
-
     wanted_here : (kind : Kind) (state : BlockState) → is_fork_kind kind ≡ true → IsWanted s t x.before x.after x.reached f kind state → IsWanted s t y.before y.after y.reached f kind state
     wanted_here Fork state e g =
         let P : List ℕ → Type 0 = λ ns. IsForkOf s t x.before x.after x.reached f ns in
@@ -157,7 +136,9 @@ module _ {A : Type 0} (s : Strands A) (m : Simulation A) (w : IsWell m.core.mach
 
     are_new : AreNew s m.core.machine z.core.machine y p f
     are_new = record {
-      here = series_here;
+      here =
+          let whole = fork_last m.core.machine w f fork unjoined in
+          series_with_last s m.core.machine z.core.machine x y p f may stays p_there f_there whole whole (state_same x.reached p v ∙ sym (state_same x.after f v)) (h.states.series p p_there (above_holds m.core.machine w f fork unjoined));
       series = λ n le l e. absurd (none_new n le l);
       behind = λ n is. wanted_here n.kind n.state (sym (ap (passes (λ i. is_fork_kind i.kind)) is) ∙ fork) (h.states.fits f n is);
       fits = λ n le ne i is. absurd (none_new n le (slice_get_within t n i is));
@@ -185,9 +166,9 @@ module _ {A : Type 0} (s : Strands A) (m : Simulation A) (w : IsWell m.core.mach
     are_here : AreHere m z y o
     are_here = record {
       here = λ q. ap y.reached (above_place m.core.machine w f fork unjoined) ∙ state_same x.reached p v ∙ sym (state_same m.at o v);
-      strands = λ n le e q. absurd (none_new n le (strand_low t n (current_is z.core shape.root n e).0));
+      strands = λ n le e q. absurd (none_new n le (strand_there t n (current_is z.core shape.root n e).0));
       forks = λ g le e. absurd (none_new g le (fork_low t g e));
-      saved = λ n le e. absurd (none_new n le (pending_low t n e));
+      saved = λ n le e. absurd (none_new n le (pending_there t n e));
     }
 
     pub joined_stands : AreStanding s (with_joined s m f) y.before y.after y.reached

@@ -1,7 +1,7 @@
 -- States before, after and in each node, as a machine changes in one node and behind one child of it.
 use Rattle.std.proofs.Common.{◌≡◌, ◌≢◌, ℕ, ◌<◌, ◌≤◌, List, [], ◌∷◌, ◌++◌, length, refl, ap, sym, ◌∙◌, subst, arith, true, false, cond, inl, inr, Some, nat_eq}
 use Rattle.std.specs.Prelude.{◌&&◌, ◌||◌, not, slice_get}
-use Rattle.std.specs.List.{list_any}
+use Rattle.std.specs.List.{list_any, filter}
 use Rattle.std.proofs.lemmas.Bool.{and_parts, and_right, cases_Bool, cases_eq, cases_lt, false_from_ne_true}
 use Rattle.cw_strand.specs.declared.want.Given.TheVariants.{Nothing, Value}
 use Rattle.cw_strand.specs.Strands.{Strands, is_over}
@@ -10,16 +10,18 @@ use Rattle.cw_tree.specs.declared.node.Kind.{Kind}
 use Rattle.cw_tree.specs.declared.node.Kind.TheVariants.{Strand, Fork, Block, Read, Write, Out, Tried}
 use Rattle.cw_tree.specs.declared.node.BlockState.{BlockState}
 use Rattle.cw_tree.specs.declared.node.BlockState.TheVariants.{Pending, Committed, Aborted}
-use Rattle.cw_tree.specs.Nodes.{passes, is_fork_kind, is_block_kind, is_pending_state, is_committed_state, parent_of, is_strand, is_fork, is_block, is_pending, is_committed}
+use Rattle.cw_tree.specs.Nodes.{passes, is_fork_kind, is_block_kind, is_pending_state, is_committed_state, parent_of, is_strand, is_fork, is_block, is_pending, is_committed, below}
 use Rattle.cw_tree.specs.Walks.{has}
 use Rattle.cw_tree.specs.Series.{children}
+use Rattle.cw_tree.specs.Links.{is_child}
 use Rattle.cw_tree.proofs.Lists.{In}
+use Rattle.cw_tree.proofs.InOrder.DepthFirst.{child_is}
+use Rattle.cw_tree.proofs.NodeKinds.{node_tells}
+use Rattle.cw_tree.proofs.Members.{in_below, in_filter}
 use Rattle.cw_open.specs.Machine.{OpenMachine, has_finished, finished_dead}
 use Rattle.cw_open.specs.Open.{is_open}
-use Rattle.cw_open.proofs.Open.NodeKinds.{at_node, not_at_node}
 use Rattle.cw_open.proofs.Open.Standing.{open_block}
 use Rattle.cw_open.proofs.Open.Trees.{IsWell}
-use Rattle.cw_core.proofs.Events.Forks.{in_child}
 use Rattle.cw_core.proofs.Events.Ordering.{closed_strand}
 use Rattle.cw_core.proofs.Kept.Tails.{child_low}
 use Rattle.cw_record.specs.Coherent.{InSeries, IsForkOf, IsClosed, IsWanted, entered}
@@ -109,7 +111,7 @@ pub record AreNew {A : Type 0} (s : Strands A) (m z : OpenMachine) (y : AllState
 
 -- what is pending is not committed
 pending_undone : (t : List Node) (n : ℕ) → is_pending t n ≡ true → is_committed t n ≡ false
-pending_undone t = not_at_node t (λ v. is_block_kind v.kind && is_pending_state v.state) (λ v. is_block_kind v.kind && is_committed_state v.state) (λ v e.
+pending_undone t = node_tells false t (λ v. is_block_kind v.kind && is_pending_state v.state) (λ v. is_block_kind v.kind && is_committed_state v.state) (λ v e.
     let w = and_parts (is_block_kind v.kind) (is_pending_state v.state) e in
     and_right (is_block_kind v.kind) (is_committed_state v.state) (by v.state w.1)) where
       by : (state : BlockState) → is_pending_state state ≡ true → is_committed_state state ≡ false
@@ -127,23 +129,41 @@ module _ {A : Type 0} (s : Strands A) (m z : OpenMachine) (x y : AllStates A) (p
   pub entered_same : (n : ℕ) → n < length t → entered s u y.before y.after y.reached n ≡ entered s t x.before x.after x.reached n
   entered_same n l = ap (λ b. cond b (s.answer (y.before n) Nothing) (y.before n)) (k.blocks n l) ∙ ap (λ v. cond (is_block t n) (s.answer v Nothing) v) (k.before n l)
 
+  -- node p, where c comes as its last child
+  pub series_with_new : p < length t → length t ≤ c → children u p ≡ children t p ++ c ∷ [] → y.before c ≡ x.reached p → y.reached p ≡ y.after c
+      → InSeries x.before x.after (entered s t x.before x.after x.reached p) (children t p) (x.reached p) → InSeries y.before y.after (entered s u y.before y.after y.reached p) (children u p) (y.reached p)
+  series_with_new l past more at same e =
+      series_at y.before y.after (entered s t x.before x.after x.reached p) (entered s u y.before y.after y.reached p) (children t p ++ c ∷ []) (children u p) (y.after c) (y.reached p) (entered_same p l) more same
+      (series_more x.before x.after y.before y.after (children t p) c (entered s t x.before x.after x.reached p) (x.reached p)
+      (λ i j. let low = child_low t p i j in (k.before i low, k.after i low (λ q. omega (arith, q)))) at e)
+
+  -- and where c was its last child
+  pub series_with_last : p < length t → c < length t → children t p ≡ filter (is_child t p) (below c) ++ c ∷ [] → children u p ≡ filter (is_child t p) (below c) ++ c ∷ [] → y.reached p ≡ y.after c
+      → InSeries x.before x.after (entered s t x.before x.after x.reached p) (children t p) (x.reached p) → InSeries y.before y.after (entered s u y.before y.after y.reached p) (children u p) (y.reached p)
+  series_with_last l there was now same e =
+      let elders : List ℕ = filter (is_child t p) (below c) in
+      series_at y.before y.after (entered s t x.before x.after x.reached p) (entered s u y.before y.after y.reached p) (elders ++ c ∷ []) (children u p) (y.after c) (y.reached p) (entered_same p l) now same
+      (series_last x.before x.after y.before y.after elders c (entered s t x.before x.after x.reached p) (x.reached p)
+      (λ i j. let low : i < c = in_below i c (in_filter (is_child t p) i (below c) j).0 in (k.before i (omega arith), k.after i (omega arith) (λ q. omega (arith, q)))) (k.before c there)
+      (series_at x.before x.after (entered s t x.before x.after x.reached p) (entered s t x.before x.after x.reached p) (children t p) (elders ++ c ∷ []) (x.reached p) (x.reached p) refl (sym was) refl e))
+
   child_same : (n i : ℕ) → n ≢ p → In i (children t n) → (y.before i ≡ x.before i) × (y.after i ≡ x.after i)
   child_same n i ne j =
-      let q = in_child t n i j in
+      let q = child_is t n i j in
       let l = q.there in
-      (k.before i l, k.after i l (λ e. ne (sym q.up ∙ ap (parent_of t) e ∙ may.under (omega (arith, e)))))
+      (k.before i l, k.after i l (λ e. ne (sym q.parent ∙ ap (parent_of t) e ∙ may.under (omega (arith, e)))))
 
   not_committed : is_committed t p ≡ false
   not_committed = false_from_ne_true (is_committed t p) (λ e.
-      let block = at_node t (λ v. is_block_kind v.kind && is_committed_state v.state) (λ v. is_block_kind v.kind) (λ v e. (and_parts (is_block_kind v.kind) (is_committed_state v.state) e).0) p e in
+      let block = node_tells true t (λ v. is_block_kind v.kind && is_committed_state v.state) (λ v. is_block_kind v.kind) (λ v e. (and_parts (is_block_kind v.kind) (is_committed_state v.state) e).0) p e in
       absurd (let pending = pending_undone t p (open_block m may.well.sound.tree may.well.nested p block may.opened) in cc (e, pending)))
 
   -- the strands of a fork that was joined are open no more
   child_shut : (f i : ℕ) → has m.joined f ≡ true → In i (children t f) → i ≢ p
   child_shut f i e j same =
-      let q = in_child t f i j in
+      let q = child_is t f i j in
       let outer = may.well.nested.outer i q.some q.there (ap (is_open m) same ∙ may.opened) in
-      let off = open_unjoined m f (may.forks f e) (ap (is_open m) (sym q.up) ∙ outer) in
+      let off = open_unjoined m f (may.forks f e) (ap (is_open m) (sym q.parent) ∙ outer) in
       cc (e, off)
 
   -- ## The states

@@ -10,10 +10,9 @@ use Rattle.cw_tree.specs.Names.{strands_on}
 use Rattle.cw_tree.specs.Shape.{IsTree}
 use Rattle.cw_tree.proofs.Walks.Ancestors.{ancestor_self, ancestor_le, ancestor_trans, ancestor_up}
 use Rattle.cw_tree.proofs.Walks.Strands.{strand_of_le, strand_over}
-use Rattle.cw_tree.proofs.Walks.There.{node_there}
+use Rattle.cw_tree.proofs.Walks.There.{node_there, fork_there}
 use Rattle.cw_trace.specs.Stands.{fork_column}
 use Rattle.cw_trace.proofs.Stands.Counting.{fork_column_one}
-use Rattle.cw_trace.proofs.Stands.InRange.{fork_low}
 use Rattle.cw_trace.proofs.Segments.Lines.{strong}
 use Rattle.cw_open.proofs.Laws.Named.{strand_is}
 use Rattle.cw_core.specs.declared.event.Event.TheVariants as event
@@ -94,7 +93,7 @@ module _ (first : List ℤ) (k : CoreState) (on : CoreGoesOn first k) (f : ℕ) 
   -- a fork that waits around the strand of another fork is another one
   not_own : (g : ℕ) (gs : List ℕ) → is_fork t g ≡ true → forks_around k (strand_of t g) ≡ f ∷ gs → g ≢ f
   not_own g gs e q same =
-      let low = fork_low t g e in
+      let low = fork_there t g e in
       let le = strand_of_le t tree.rooted g low in
       let w = waits_around k tree on.forks (strand_of t g) (strand_is t tree.root g) [] gs f q in
       let up = ancestor_le t tree.rooted (left_node f) (strand_of t g) (omega arith) w.over in

@@ -9,11 +9,11 @@ use Rattle.cw_tree.specs.Series.{strand_of}
 use Rattle.cw_tree.specs.Shape.{IsTree}
 use Rattle.cw_tree.proofs.Lists.{any_in}
 use Rattle.cw_tree.proofs.Walks.Strands.{strand_over}
-use Rattle.cw_trace.proofs.Stands.InRange.{fork_low, strand_low}
 use Rattle.cw_open.specs.Machine.{OpenMachine, has_finished, is_running, waits}
-use Rattle.cw_open.proofs.Open.NodeKinds.{fork_no_strand}
 use Rattle.cw_open.proofs.Open.Standing.{runs}
 use Rattle.cw_core.specs.declared.event.Event.TheVariants as event
+use Rattle.cw_tree.proofs.Walks.There.{fork_there, strand_there}
+use Rattle.cw_tree.proofs.NodeKinds.{fork_no_strand}
 use Rattle.cw_core.specs.State.{CoreState, has_columns, is_split, waits_for_left}
 use Rattle.cw_core.specs.Events.{fits, after_event, is_early}
 use Rattle.cw_core.proofs.Events.Going.{well}
@@ -53,7 +53,7 @@ module _ (first : List ℤ) (k : CoreState) (on : CoreGoesOn first k) (f : ℕ) 
   -- no strand that is ready is the right one
   pub not_right : (x : ℕ) → waits_for_left k x ≡ false → x ≢ right_node f
   not_right x ready q =
-      let up = (right_child t tree on.forks f fork).up in
+      let up = (right_child t tree on.forks f fork).parent in
       let P : ℕ → Type 0 = λ n. waits_for_left k n ≡ false in
       let done = left_done k on.forks (right_node f) f up fork refl (subst P q ready) here.split in
       let shut = closed_strand m (left_node f) (left_strand t tree on.forks f fork) done in
@@ -68,7 +68,7 @@ module _ (first : List ℤ) (k : CoreState) (on : CoreGoesOn first k) (f : ℕ) 
   ] where
     by_side : 0 < x → waits_for_left z x ≡ false
     by_side some =
-        let low = strand_low t x strand in
+        let low = strand_there t x strand in
         let g = parent_of t x in
         let ff : is_fork t g ≡ true = tree.strands x low some strand in
         elim (which t tree on.forks g ff x some low refl) [
@@ -99,7 +99,7 @@ module _ (first : List ℤ) (k : CoreState) (on : CoreGoesOn first k) (f : ℕ) 
   others w None off idle = idle
   others w (Some x) off at =
       let run = runs m tree (well first k on.core).nested x at.running in
-      let apart : is_ancestor t (right_node f) x ≡ false = false_from_ne_true (is_ancestor t (right_node f) x) (λ q. absurd (not_right x at.ready (none_made x (strand_low t x run.strand) q))) in
+      let apart : is_ancestor t (right_node f) x ≡ false = false_from_ne_true (is_ancestor t (right_node f) x) (λ q. absurd (not_right x at.ready (none_made x (strand_there t x run.strand) q))) in
       record {
         running = at.running;
         ready = ready_still x run.strand at.ready;
@@ -114,7 +114,7 @@ module _ (first : List ℤ) (k : CoreState) (on : CoreGoesOn first k) (f : ℕ) 
       let a = any_in (λ g. is_fork t g && nat_eq (strand_of t g) (right_node f) && not (has m.joined g)) (all_nodes t) e in
       let b = and_parts (is_fork t a.0 && nat_eq (strand_of t a.0) (right_node f)) (not (has m.joined a.0)) a.2 in
       let c = and_parts (is_fork t a.0) (nat_eq (strand_of t a.0) (right_node f)) b.0 in
-      let low = fork_low t a.0 c.0 in
+      let low = fork_there t a.0 c.0 in
       let P : ℕ → Type 0 = λ n. is_ancestor t n a.0 ≡ true in
       let it = none_made a.0 low (subst P (eqb-true (strand_of t a.0) (right_node f) c.1) (strand_over t tree.rooted a.0 low)) in
       let strand = right_strand t tree on.forks f fork in
@@ -125,12 +125,12 @@ module _ (first : List ℤ) (k : CoreState) (on : CoreGoesOn first k) (f : ℕ) 
   thief_runs fresh w none_d none_i =
       let rc = right_child t tree on.forks f fork in
       let strand = right_strand t tree on.forks f fork in
-      let split : is_split z (parent_of t (right_node f)) ≡ true = ap (is_split z) rc.up ∙ now first k on f fork room here.split here.outer early fit in
+      let split : is_split z (parent_of t (right_node f)) ≡ true = ap (is_split z) rc.parent ∙ now first k on f fork room here.split here.outer early fit in
       record {
         running = and_from (is_strand t (right_node f) && not (has_finished m (right_node f)) && not (waits m (right_node f))) (not (has m.stopped (right_node f)))
             (and_from (is_strand t (right_node f) && not (has_finished m (right_node f))) (not (waits m (right_node f))) (and_from (is_strand t (right_node f)) (not (has_finished m (right_node f))) strand (not_from_false (has_finished m (right_node f)) fresh)) (not_from_false (waits m (right_node f)) right_waits))
             (ap (λ ss. not (has ss (right_node f))) on.stopped);
-        ready = split_ready z on.forks (right_node f) f rc.up fork (now first k on f fork room here.split here.outer early fit);
+        ready = split_ready z on.forks (right_node f) f rc.parent fork (now first k on f fork room here.split here.outer early fit);
         forks = ap (λ ds. ds ++ w.inline) none_d ∙ none_i ∙ sym (around_split z tree.rooted (right_node f) rc.some rc.there strand split);
         deque = λ g q. absurd (cc q);
         inline = λ g q. absurd (cc q);

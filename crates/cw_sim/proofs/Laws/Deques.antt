@@ -40,7 +40,7 @@ module _ (first : List ℤ) (k : CoreState) (on : CoreGoesOn first k) where
       let child = left_child t tree_of on.forks f w.fork in
       let over : is_open m (left_node f) ≡ true = open_over m tree_of nested (left_node f) x low w.over (strand_open m x here.strand here.unfinished) in
       let P : ℕ → Type 0 = λ g. is_open m g ≡ true in
-      open_unjoined m f w.fork (subst P child.up (nested.outer (left_node f) child.some child.there over))
+      open_unjoined m f w.fork (subst P child.parent (nested.outer (left_node f) child.some child.there over))
 
   -- what is first in a deque waits around the strand of its worker, and nothing further out
   pub oldest : (w : Worker) (r : Option ℕ) → Fits k w r → (f : ℕ) (fs : List ℕ) → w.deque ≡ f ∷ fs → (x : ℕ) × Runs k w x × Waits k x f []
@@ -64,8 +64,8 @@ module _ (first : List ℤ) (k : CoreState) (on : CoreGoesOn first k) where
       let strand = left_strand t tree_of on.forks f fork in
       let P : ℕ → Type 0 = λ g. is_split k g ≡ false in
       at.forks
-      ∙ around_left k tree_of.rooted (left_node f) child.some child.there strand (subst P (sym child.up) off) (ap left_node (sym child.up))
-      ∙ ap (λ g. forks_around k (strand_of t g) ++ g ∷ []) child.up
+      ∙ around_left k tree_of.rooted (left_node f) child.some child.there strand (subst P (sym child.parent) off) (ap left_node (sym child.parent))
+      ∙ ap (λ g. forks_around k (strand_of t g) ++ g ∷ []) child.parent
 
 pub none_early : {A : Type 0} (s : Strands A) → NoneIsEarly s
 none_early s first m w f fs kept e = oldest_may first m.core kept.core (worker m w) (worker m w).runs (kept.workers.fit w) f fs e

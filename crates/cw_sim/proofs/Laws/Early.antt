@@ -3,23 +3,21 @@ use Rattle.std.proofs.Common.{◌≡◌, ℕ, zero, suc, ◌+◌, ◌<◌, ◌�
 use Rattle.std.specs.Prelude.{◌&&◌, ◌%◌, ℤ, slice_index}
 use Rattle.std.proofs.lemmas.Bool.{ne_eqb}
 use Rattle.cw_tree.specs.declared.node.Node.{Node}
-use Rattle.cw_tree.specs.Nodes.{parent_of, is_strand, is_fork, all_nodes}
+use Rattle.cw_tree.specs.Nodes.{parent_of, is_strand, is_fork}
 use Rattle.cw_tree.specs.Walks.{has}
 use Rattle.cw_tree.specs.Series.{strand_of}
 use Rattle.cw_tree.specs.Names.{is_right}
 use Rattle.cw_tree.specs.Shape.{IsTree}
-use Rattle.cw_tree.proofs.Walks.Strands.{strand_of_root, strand_of_le}
-use Rattle.cw_tree.proofs.Walks.There.{node_there}
+use Rattle.cw_tree.proofs.Walks.Strands.{strand_of_root, strand_of_le, strand_itself}
+use Rattle.cw_tree.proofs.Walks.There.{node_there, fork_there}
 use Rattle.cw_trace.specs.Columns.{used, before_split, left_column_of as left_column}
 use Rattle.cw_trace.specs.Stands.{column, column_in, fork_column}
 use Rattle.cw_trace.specs.Segments.{outward}
 use Rattle.cw_trace.proofs.Stands.Counting.{fork_column_lt}
-use Rattle.cw_trace.proofs.Stands.InRange.{fork_low}
 use Rattle.cw_trace.proofs.Segments.Lines.{left_of_odd, left_of_next}
 use Rattle.cw_trace.proofs.Keeps.Meaning.{odd_column}
 use Rattle.cw_trace.proofs.Keeps.Sides.{Side, bare, left, right, side}
 use Rattle.cw_open.proofs.Laws.Named.{strand_is}
-use Rattle.cw_open.proofs.Open.Standing.{strand_itself}
 use Rattle.cw_core.specs.State.{CoreState, has_columns, is_split}
 use Rattle.cw_core.specs.Laws.{IsCore}
 use Rattle.cw_core.proofs.Events.Going.{well}
@@ -66,7 +64,7 @@ module _ (first : List ℤ) (k : CoreState) (core : IsCore first k) (made : AsMa
   outer_low : (f : ℕ) → is_fork t f ≡ true → fork_column t f + 1 < size → 0 < strand_of t f → fork_column t (parent_of t (strand_of t f)) + 1 < size
   outer_low f fork columns some =
       let s = strand_of t f in
-      let hf : f < length t = fork_low t f fork in
+      let hf : f < length t = fork_there t f fork in
       let le : s ≤ f = strand_of_le t tree.rooted f hf in
       let up : parent_of t s < s = tree.rooted s some (omega arith) in
       let over : is_fork t (parent_of t s) ≡ true = tree.strands s (omega arith) some (strand_is t tree.root f) in

@@ -8,11 +8,11 @@ use Rattle.cw_tree.specs.Nodes.{parent_of, is_strand, is_fork}
 use Rattle.cw_tree.specs.Walks.{has, is_ancestor}
 use Rattle.cw_tree.specs.Series.{children}
 use Rattle.cw_tree.specs.Shape.{IsTree}
-use Rattle.cw_trace.proofs.Stands.InRange.{strand_low}
 use Rattle.cw_open.specs.Machine.{OpenMachine, has_finished, finished_dead, in_block, is_dying, is_free, rolls_back}
 use Rattle.cw_open.specs.Runs.{left_died}
 use Rattle.cw_open.proofs.Open.Standing.{runs}
 use Rattle.cw_core.specs.declared.event.Event.TheVariants as event
+use Rattle.cw_tree.proofs.Walks.There.{strand_there}
 use Rattle.cw_core.specs.State.{CoreState, has_columns, is_split}
 use Rattle.cw_core.specs.Events.{fits, after_event, is_early}
 use Rattle.cw_core.proofs.Events.Going.{well}
@@ -92,13 +92,13 @@ module _ (first : List ℤ) (k : CoreState) (on : CoreGoesOn first k) (ws : List
       f = parent_of t x
 
       pub fork_here : is_fork t f ≡ true
-      fork_here = tree.strands x (strand_low t x strand_here) some strand_here
+      fork_here = tree.strands x (strand_there t x strand_here) some strand_here
 
       pub unjoined_here : has m.joined f ≡ false
       unjoined_here =
           let nested = (well first k on.core).nested in
           let it = runs m tree nested x at.running in
-          open_unjoined m f fork_here (nested.outer x some (strand_low t x strand_here) (strand_open m x strand_here it.unfinished))
+          open_unjoined m f fork_here (nested.outer x some (strand_there t x strand_here) (strand_open m x strand_here it.unfinished))
 
       pub join_fits_here : has_finished z.machine (left_node f) ≡ true → has_finished z.machine (right_node f) ≡ true → fits z (event.Join f) ≡ true
       join_fits_here = join_fits first z goes_finished f fork_here unjoined_here
@@ -131,7 +131,7 @@ module _ (first : List ℤ) (k : CoreState) (on : CoreGoesOn first k) (ws : List
     died =
         and_from (nat_eq (length (children t (right_node f))) 0) (list_any (λ l. nat_lt l (right_node f) && finished_dead dead_z.machine l) (children t (parent_of t (right_node f))))
         (ap (λ cs. nat_eq (length cs) 0) (no_children dead_z.machine tree (right_node f) strand fresh))
-        (ap (λ g. list_any (λ l. nat_lt l (right_node f) && finished_dead dead_z.machine l) (children t g)) (right_child t tree on.forks f fork).up
+        (ap (λ g. list_any (λ l. nat_lt l (right_node f) && finished_dead dead_z.machine l) (children t g)) (right_child t tree on.forks f fork).parent
         ∙ ap (list_any (λ l. nat_lt l (right_node f) && finished_dead dead_z.machine l)) (on.forks f fork)
         ∙ or_left (nat_lt (left_node f) (right_node f) && finished_dead dead_z.machine (left_node f)) (nat_lt (right_node f) (right_node f) && finished_dead dead_z.machine (right_node f) || false)
         (and_from (nat_lt (left_node f) (right_node f)) (finished_dead dead_z.machine (left_node f)) (lt-ltb (left_node f) (right_node f) (omega arith))

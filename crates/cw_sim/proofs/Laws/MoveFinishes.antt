@@ -9,11 +9,11 @@ use Rattle.cw_tree.specs.Nodes.{parent_of, is_strand, is_fork}
 use Rattle.cw_tree.specs.Walks.{has}
 use Rattle.cw_tree.specs.Series.{strand_of}
 use Rattle.cw_tree.specs.Shape.{IsTree}
-use Rattle.cw_trace.proofs.Stands.InRange.{strand_low}
 use Rattle.cw_strand.specs.Strands.{Strands}
 use Rattle.cw_open.specs.Machine.{OpenMachine, has_finished}
 use Rattle.cw_open.proofs.Open.Standing.{runs}
 use Rattle.cw_core.specs.declared.event.Event.TheVariants as event
+use Rattle.cw_tree.proofs.Walks.There.{strand_there}
 use Rattle.cw_core.specs.State.{CoreState, is_split}
 use Rattle.cw_core.specs.Events.{fits, after_event}
 use Rattle.cw_core.proofs.Events.Going.{well}
@@ -64,7 +64,7 @@ module _ (first : List ℤ) (k : CoreState) (on : CoreGoesOn first k) (ws : List
   strand = strand_here first k on ws old w x run
 
   there : x < length t
-  there = strand_low t x strand
+  there = strand_there t x strand
 
   fork : is_fork t f ≡ true
   fork = fork_here first k on ws old w x run dead fit some
@@ -114,7 +114,7 @@ module _ (first : List ℤ) (k : CoreState) (on : CoreGoesOn first k) (ws : List
     right_apart : (v : ℕ) → (worker_in ws v).runs ≡ Some (right_node f) → ⊥
     right_apart v e =
         let other = runs_in k ws v (right_node f) old e in
-        let ended = left_done k on.forks (right_node f) f (right_child t tree on.forks f fork).up fork refl other.ready off in
+        let ended = left_done k on.forks (right_node f) f (right_child t tree on.forks f fork).parent fork refl other.ready off in
         let going = (runs m tree (well first k on.core).nested x at.running).unfinished in
         absurd (cc (ended, left, going))
 
@@ -209,7 +209,7 @@ module _ {A : Type 0} (s : Strands A) (first : List ℤ) (n : Simulation A) (w :
       by : (a b : Bool) → nat_eq x (left_node forked) ≡ a → is_split k forked ≡ b → GoesTo first ended (cond (a && not b) (goes_to_right s w forked dead o) (meets s w forked both o))
       by true false p q = turns_to x run dead fit some (eqb-true x (left_node forked) p) q
       by true true p q = meets_to (inl q)
-      by false b p q = elim (which k.machine.tree tree on.forks forked (fork_here first k on ws old w x run dead fit some) x some (strand_low k.machine.tree x strand) refl) [
+      by false b p q = elim (which k.machine.tree tree on.forks forked (fork_here first k on ws old w x run dead fit some) x some (strand_there k.machine.tree x strand) refl) [
         | inl e ↦ absurd (let same = eq-eqb x (left_node forked) e in cc (same, p))
         | inr e ↦ meets_to (inr e)
       ]

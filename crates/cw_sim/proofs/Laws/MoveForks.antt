@@ -2,8 +2,8 @@
 use Rattle.std.proofs.Common.{◌≡◌, ◌≢◌, ℕ, ◌<◌, List, ◌++◌, length, refl, ap, sym, ◌∙◌, arith, true, Option, Some, None, inl, inr}
 use Rattle.std.specs.Prelude.{ℤ, slice_set}
 use Rattle.cw_tree.specs.Walks.{has}
-use Rattle.cw_trace.proofs.Stands.InRange.{strand_low}
 use Rattle.cw_core.specs.declared.event.Event.TheVariants as event
+use Rattle.cw_tree.proofs.Walks.There.{strand_there}
 use Rattle.cw_core.specs.State.{CoreState}
 use Rattle.cw_core.specs.Events.{fits, after_event, may_fork}
 use Rattle.cw_sim.specs.Workers.{Worker, waiting, with_fork, left_node, worker_in}
@@ -30,7 +30,7 @@ module _ (first : List ℤ) (k : CoreState) (on : CoreGoesOn first k) (ws : List
 
   -- no worker runs the left strand yet
   new_strand : (v y : ℕ) → (worker_in ws v).runs ≡ Some y → y ≡ left_node n → ⊥
-  new_strand v y e q = let low = strand_low k.machine.tree y (strand_here first k on ws old v y e) in omega (arith, low, q)
+  new_strand v y e q = let low = strand_there k.machine.tree y (strand_here first k on ws old v y e) in omega (arith, low, q)
 
   -- nor does the fork wait in any
   all_low : (v : Worker) (r : Option ℕ) → Fits k v r → (g : ℕ) → has (waiting v) g ≡ true → g < n

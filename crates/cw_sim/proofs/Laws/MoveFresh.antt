@@ -11,11 +11,11 @@ use Rattle.cw_tree.specs.Shape.{IsTree}
 use Rattle.cw_tree.proofs.Walks.Ancestors.{ancestor_self, ancestor_up}
 use Rattle.cw_tree.proofs.Lists.{In}
 use Rattle.cw_tree.proofs.Walks.Strands.{strand_over}
+use Rattle.cw_tree.proofs.InOrder.DepthFirst.{child_is}
 use Rattle.cw_open.specs.Machine.{OpenMachine, has_finished, in_block}
 use Rattle.cw_open.proofs.Open.Standing.{stands_at}
 use Rattle.cw_core.specs.State.{CoreState}
 use Rattle.cw_core.specs.Events.{is_unstarted}
-use Rattle.cw_core.proofs.Events.Forks.{in_child}
 use Rattle.cw_sim.specs.Workers.{left_node, right_node}
 use Rattle.cw_sim.proofs.Kept.Halves.{AsMade}
 
@@ -25,10 +25,10 @@ module _ (m : OpenMachine) (tree : IsTree m.tree) (r : ℕ) (strand : is_strand 
 
   no_child : (c : ℕ) → In c (children t r) → ⊥
   no_child c i =
-      let child = in_child t r c i in
+      let child = child_is t r c i in
       let low : parent_of t c < c = tree.rooted c child.some child.there in
-      let same = fresh c child.there (ancestor_up t tree.rooted r c child.some child.there (ap (is_ancestor t r) child.up ∙ ancestor_self t r)) in
-      let up = child.up in
+      let same = fresh c child.there (ancestor_up t tree.rooted r c child.some child.there (ap (is_ancestor t r) child.parent ∙ ancestor_self t r)) in
+      let up = child.parent in
       omega arith
 
   pub no_children : children t r ≡ []

@@ -4,7 +4,7 @@ use Rattle.std.specs.Prelude.{ℤ}
 use Rattle.cw_strand.specs.Strands.{Strands}
 use Rattle.cw_open.specs.Machine.{is_dying}
 use Rattle.cw_sim.specs.Workers.{Simulation, worker}
-use Rattle.cw_sim.specs.Moves.{is_over, others, steals, dies, acts, move}
+use Rattle.cw_sim.specs.Moves.{is_run_over, others, steals, dies, acts, move}
 use Rattle.cw_sim.specs.Kept.{AreWorkers, CoreGoesOn}
 use Rattle.cw_sim.specs.Laws.{AreStrands, ComesByEvents}
 use Rattle.cw_sim.specs.HasWants.{HasWants}
@@ -24,6 +24,6 @@ module _ {A : Type 0} (s : Strands A) (first : List ℤ) (m : Simulation A) (w :
   pub moves_to : GoesTo first m.core (move s w m)
   moves_to = moves_by (worker m w).runs refl
 
-pub moves_keep : {A : Type 0} (s : Strands A) (first : List ℤ) (m : Simulation A) (w : ℕ) → AreStrands s (length first) → w < length m.workers → CoreGoesOn first m.core → AreWorkers m.core m.workers → HasWants s (length first) m → is_over m ≡ false
-    → ComesByEvents m.core (move s w m).core × (is_over (move s w m) ≡ false → CoreGoesOn first (move s w m).core × AreWorkers (move s w m).core (move s w m).workers)
+pub moves_keep : {A : Type 0} (s : Strands A) (first : List ℤ) (m : Simulation A) (w : ℕ) → AreStrands s (length first) → w < length m.workers → CoreGoesOn first m.core → AreWorkers m.core m.workers → HasWants s (length first) m → is_run_over m ≡ false
+    → ComesByEvents m.core (move s w m).core × (is_run_over (move s w m) ≡ false → CoreGoesOn first (move s w m).core × AreWorkers (move s w m).core (move s w m).workers)
 moves_keep s first m w strands low on old wants going = let to = moves_to s first m w low on old wants in (to.comes, to.kept)

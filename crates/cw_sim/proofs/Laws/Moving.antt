@@ -8,18 +8,18 @@ use Rattle.cw_core.specs.declared.event.Event.{Event}
 use Rattle.cw_core.specs.State.{CoreState}
 use Rattle.cw_core.specs.Events.{fits, after_event, all_fit}
 use Rattle.cw_sim.specs.Workers.{Simulation}
-use Rattle.cw_sim.specs.Moves.{is_over}
+use Rattle.cw_sim.specs.Moves.{is_run_over}
 use Rattle.cw_sim.specs.Kept.{AreWorkers, CoreGoesOn}
 use Rattle.cw_sim.specs.Laws.{ComesByEvents}
 
 -- simulation n comes so of a state of the core
 pub record GoesTo {A : Type 0} (first : List ℤ) (k : CoreState) (n : Simulation A) : Type 0 where
   pub comes : ComesByEvents k n.core
-  pub kept : is_over n ≡ false → CoreGoesOn first n.core × AreWorkers n.core n.workers
+  pub kept : is_run_over n ≡ false → CoreGoesOn first n.core × AreWorkers n.core n.workers
 
 module _ {A : Type 0} (first : List ℤ) (n : Simulation A) where
   -- by no event
-  pub as_it_is : (is_over n ≡ false → CoreGoesOn first n.core × AreWorkers n.core n.workers) → GoesTo first n.core n
+  pub as_it_is : (is_run_over n ≡ false → CoreGoesOn first n.core × AreWorkers n.core n.workers) → GoesTo first n.core n
   as_it_is kept = record { comes = record { events = []; fit = refl; there = refl }; kept = kept }
 
   pub goes_on_there : CoreGoesOn first n.core → AreWorkers n.core n.workers → GoesTo first n.core n

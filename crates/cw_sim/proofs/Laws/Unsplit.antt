@@ -6,10 +6,10 @@ use Rattle.cw_tree.specs.declared.node.Node.{Node}
 use Rattle.cw_tree.specs.Nodes.{is_fork, parent_of}
 use Rattle.cw_tree.specs.Walks.{has, is_ancestor}
 use Rattle.cw_tree.specs.Shape.{IsTree}
+use Rattle.cw_tree.proofs.Walks.There.{strand_there}
 use Rattle.cw_trace.specs.Columns.{used}
 use Rattle.cw_trace.specs.Running.{IsUnsplit}
 use Rattle.cw_trace.specs.Stands.{fork_column}
-use Rattle.cw_trace.proofs.Stands.InRange.{strand_low}
 use Rattle.cw_open.specs.Machine.{OpenMachine, has_finished, is_running}
 use Rattle.cw_open.specs.Open.{is_open}
 use Rattle.cw_open.proofs.Open.Standing.{runs, open_over}
@@ -43,7 +43,7 @@ module _ (first : List ℤ) (k : CoreState) (on : CoreGoesOn first k) (f : ℕ) 
       let lc = left_child t tree on.forks f fork in
       let rc = right_child t tree on.forks f fork in
       let P : ℕ → Type 0 = λ g. is_fork t g ≡ true in
-      on.core.left_first (left_node f) (right_node f) n lc.some (omega arith) rc.there (lc.up ∙ sym rc.up) (subst P (sym rc.up) fork) (unsplit (parent_of t (right_node f)) rc.up) h over ne
+      on.core.left_first (left_node f) (right_node f) n lc.some (omega arith) rc.there (lc.parent ∙ sym rc.parent) (subst P (sym rc.parent) fork) (unsplit (parent_of t (right_node f)) rc.parent) h over ne
 
   -- and has finished
   pub left_ended : (n : ℕ) → n < length t → is_ancestor t (right_node f) n ≡ true → n ≢ right_node f → has_finished k.machine (left_node f) ≡ true
@@ -65,7 +65,7 @@ module _ (first : List ℤ) (k : CoreState) (on : CoreGoesOn first k) (y f : ℕ
       let tree = (well first k on.core).sound.tree in
       let nested = (well first k on.core).nested in
       let run = runs m tree nested y y_runs in
-      open_over m tree nested (left_node f) y (strand_low m.tree y run.strand) here.over (strand_open m y run.strand run.unfinished)
+      open_over m tree nested (left_node f) y (strand_there m.tree y run.strand) here.over (strand_open m y run.strand run.unfinished)
 
   -- and nothing was made in its right one
   pub none_beneath : (n : ℕ) → n < length m.tree → is_ancestor m.tree (right_node f) n ≡ true → n ≡ right_node f

@@ -12,11 +12,11 @@ use Rattle.cw_tree.specs.Series.{place}
 use Rattle.cw_tree.specs.Newest.{newest}
 use Rattle.cw_tree.specs.Shape.{IsTree}
 use Rattle.cw_tree.proofs.Walks.There.{node_there}
+use Rattle.cw_tree.proofs.Walks.Kin.{fork_child}
+use Rattle.cw_tree.proofs.NodeKinds.{strand_no_block, pending_block}
 use Rattle.cw_open.specs.Machine.{OpenMachine, has_finished, waits, is_running, is_dying, in_block, is_free}
 use Rattle.cw_open.specs.Refused.{unstopped}
-use Rattle.cw_open.proofs.Refused.Backed.{fork_child}
 use Rattle.cw_open.proofs.Runs.LawsHold.{at_any}
-use Rattle.cw_open.proofs.Open.NodeKinds.{pending_block, strand_no_block}
 use Rattle.cw_open.proofs.Open.Standing.{runs, stands, place_holds}
 use Rattle.cw_open.proofs.Open.Trees.{IsWell}
 use Rattle.cw_core.proofs.Events.Going.{well}
@@ -131,10 +131,6 @@ module _ {A : Type 0} (s : Strands A) (first : List ℤ) (m : Simulation A) (on 
   -- a strand that may go on stands where a run comes to
   pub free_is_reached : HasStates s m → (x : ℕ) → is_free o x ≡ true → Reached s (levels t (place t x)) (m.at x)
   free_is_reached (before, after, reached, st) = strand_reached before after reached st
-
-  -- what is saved of a pending block is where a run comes to
-  pub saved_is_reached : HasStates s m → (b : ℕ) → is_pending t b ≡ true → Reached s (levels t (parent_of t b)) (m.saved b)
-  saved_is_reached (before, after, reached, st) = block_reached before after reached st
 
   -- ## What is wanted there
 

@@ -18,14 +18,15 @@ use Rattle.cw_job.specs.Jobs.{Job, TakesWords}
 use Rattle.cw_job.specs.Room.Strands.{StrandState, strands_of_job}
 use Rattle.cw_record.specs.declared.record_end.RecordEnd.{RecordEnd}
 use Rattle.cw_record.specs.ClosedRun.{IsClosedRun}
-use Rattle.cw_record.specs.Built.{IsLeftBy, end_left}
+use Rattle.cw_record.specs.Built.{IsLeftBy, memory_left}
 use Rattle.cw_record.specs.Coherent.{IsCoherent, HasOutputs}
 use Rattle.cw_record.specs.Records.{job_of_record, IsNumberedDepthFirst}
+use Rattle.cw_record.proofs.ClosedRun.LeftEnds.{has_outputs}
 use Rattle.cw_record.proofs.ClosedRun.LeftRuns.{left_coherent}
 use Rattle.cw_record.proofs.ClosedRun.NumberedTrees.{numbered_in_order}
 use Rattle.cw_sim.specs.Workers.{Simulation, tree}
 use Rattle.cw_sim.specs.Turns.{worker_at, ListsWorkers}
-use Rattle.cw_sim.specs.Moves.{is_over, move}
+use Rattle.cw_sim.specs.Moves.{is_run_over, move}
 use Rattle.cw_sim.specs.Kept.{HasStates, IsKept}
 use Rattle.cw_sim.specs.Laws.{AreStrands, MovesFit}
 use Rattle.cw_sim.specs.Runs.{RunsAreClosed, RecordsAreCoherent, closed_of, simulation_of}
@@ -68,27 +69,18 @@ module _ (job : Job) (workers : ℕ) (schedule : Schedule) (compiled : IsCompile
   turns : (n : ℕ) → worker_at schedule workers n < workers
   turns n = worker_there schedule workers n some lists
 
-  pub job_closed : IsClosedRun s first job.limits.aborts m.core.machine (journals_of m.core) m.core.halt (not (is_over m))
+  pub job_closed : IsClosedRun s first job.limits.aborts m.core.machine (journals_of m.core) m.core.halt (not (is_run_over m))
   job_closed = runs_closed s first job.limits.strands job.limits.aborts workers job.limits.moves (worker_at schedule workers) are room turns
 
   pub job_core : IsCore first m.core
   job_core = core_left s (opens s) (moves_fit s) (states_kept s) (λ w m. move_number s w m) first job.limits.strands job.limits.aborts workers job.limits.moves (worker_at schedule workers) are room turns
 
-  pub job_left : length (tree m) < 2 ^ 32 → IsLeftBy job (not (is_over m)) m.core.machine m.core.halt (closed_of m)
+  pub job_left : length (tree m) < 2 ^ 32 → IsLeftBy job (not (is_run_over m)) m.core.machine m.core.halt (closed_of m)
   job_left few =
       let sound = (well first m.core job_core).sound.tree in
       record { numbered = record { root = sound.root; rooted = sound.rooted; few = few }; tree = refl; conflicts = refl; halt = refl; run = job_closed }
 
 -- ## Its record
-
--- what is told as left are its outputs
-has_outputs : (values : List ℤ) (budget : ℕ) (t : List Node) (kept : List (List Entry)) (cs : List Conflict) (h : Option Halt) (spent : Bool)
-    → HasOutputs t cs budget (end_left values budget (record { tree = t; journals = kept; conflicts = cs; halt = h }) spent)
-has_outputs values budget t kept cs (Some (Fault x kind)) spent = tt
-has_outputs values budget t kept cs (Some (Budget x)) spent = tt
-has_outputs values budget t kept cs (Some Memory) spent = tt
-has_outputs values budget t kept cs None true = tt
-has_outputs values budget t kept cs None false = refl
 
 pub records_coherent : RecordsAreCoherent
 records_coherent r workers schedule compiled takes room some lists few is =
@@ -104,4 +96,4 @@ records_coherent r workers schedule compiled takes room some lists few is =
     let J : List (List Entry) → Type 0 = λ kept. All c.tree kept r.conflicts r.end in
     let T : List Node → Type 0 = λ t. All t r.journals r.conflicts r.end in
     subst T (sym is.tree) (subst J (sym is.journals) (subst C (sym is.conflicts) (subst E (sym is.end)
-    (left_coherent job (not (is_over m)) m.core.machine m.core.halt c left, (has_outputs first budget c.tree c.journals c.conflicts c.halt (not (is_over m)), numbered_in_order m.core.machine.tree left.numbered)))))
+    (left_coherent job (not (is_run_over m)) m.core.machine m.core.halt c left, (has_outputs c.tree c.conflicts budget c.halt (not (is_run_over m)) (memory_left first c.journals), numbered_in_order m.core.machine.tree left.numbered)))))

@@ -23,7 +23,7 @@ use Rattle.cw_core.specs.Events.{is_stop, is_met, met_by, after_event}
 use Rattle.cw_core.proofs.Kept.RefusedTold.{after_refused}
 use Rattle.cw_record.specs.ClosedRun.{EndsSo}
 use Rattle.cw_sim.specs.Workers.{Simulation, left_node, right_node, tree, worker, with_strand}
-use Rattle.cw_sim.specs.Moves.{does, is_over, others, takes, steals, goes_to_right, meets, follows, finishes, dies, stops_if_spent, meets_cell, accesses, acts, move}
+use Rattle.cw_sim.specs.Moves.{does, is_run_over, others, takes, steals, goes_to_right, meets, follows, finishes, dies, stops_if_spent, meets_cell, accesses, acts, move}
 use Rattle.cw_sim.specs.Kept.{Fits, is_current, CoreGoesOn, AreStanding}
 use Rattle.cw_sim.proofs.Kept.After.{is_finish, halt_after, finished_after}
 use Rattle.cw_sim.proofs.Runs.EndingMain.{main_lives, waits_for_none, is_there}
@@ -54,10 +54,10 @@ still_current : (k : CoreState) (y : ℕ) (kind : FaultKind) (x : ℕ) → is_cu
 still_current k y kind zero e = refl
 still_current k y kind (suc x) e = e
 
-steal_still : {A : Type 0} (w : ℕ) (vs : List ℕ) (m : Simulation A) → is_over (steals w vs m) ≡ is_over m
+steal_still : {A : Type 0} (w : ℕ) (vs : List ℕ) (m : Simulation A) → is_run_over (steals w vs m) ≡ is_run_over m
 steal_still w [] m = refl
 steal_still w (v ∷ vs) m = by (worker m v).deque (steal_still w vs m) where
-  by : (ds : List ℕ) → is_over (steals w vs m) ≡ is_over m → is_over (elim ds [ [] ↦ steals w vs m | f ∷ fs ↦ takes w v f fs m ]) ≡ is_over m
+  by : (ds : List ℕ) → is_run_over (steals w vs m) ≡ is_run_over m → is_run_over (elim ds [ [] ↦ steals w vs m | f ∷ fs ↦ takes w v f fs m ]) ≡ is_run_over m
   by [] more = more
   by (f ∷ fs) more = still m.core (event.Split f) refl refl
 
@@ -67,22 +67,22 @@ module _ {A : Type 0} (s : Strands A) where
   Ends z = (before after reached : ℕ → A) → AreStanding s z before after reached → EndsSo s z.core.machine before after reached z.core.budget z.core.halt false
 
   abbrev pub GoesOrEnds : Simulation A → Type 0
-  GoesOrEnds z = (is_over z ≡ false) ⊎ Ends z
+  GoesOrEnds z = (is_run_over z ≡ false) ⊎ Ends z
 
   -- what follows another strand than main
-  follow : (w x : ℕ) (dead : Bool) (n : Simulation A) → is_over (follows s w (suc x) dead n) ≡ is_over n
+  follow : (w x : ℕ) (dead : Bool) (n : Simulation A) → is_run_over (follows s w (suc x) dead n) ≡ is_run_over n
   follow w x dead n =
       by ((nat_eq (suc x) (left_node f)) && not (is_split n.core f)) (has_finished n.core.machine (left_node f) && has_finished n.core.machine (right_node f)) dead where
         f : ℕ
         f = parent_of (tree n) (suc x)
 
-        by : (a b d : Bool) → is_over (cond a (goes_to_right s w f d n) (meets s w f b n)) ≡ is_over n
+        by : (a b d : Bool) → is_run_over (cond a (goes_to_right s w f d n) (meets s w f b n)) ≡ is_run_over n
         by true b false = refl
         by true b true = still (after_event n.core (event.Finish (right_node f) true)) (event.Join f) refl refl ∙ other n.core (right_node f) true (omega arith)
         by false false d = refl
         by false true d = still n.core (event.Join f) refl refl
 
-  module _ (first : List ℤ) (m : Simulation A) (on : CoreGoesOn first m.core) (off : is_over m ≡ false) where
+  module _ (first : List ℤ) (m : Simulation A) (on : CoreGoesOn first m.core) (off : is_run_over m ≡ false) where
     -- main comes to its end
     main_ends : (w : ℕ) → Ends (finishes s w 0 false m)
     main_ends w before after reached at =

@@ -11,10 +11,9 @@ use Rattle.cw_tree.specs.Refusals.{is_victim}
 use Rattle.cw_tree.specs.Shape.{IsTree}
 use Rattle.cw_tree.proofs.Walks.Ancestors.{ancestor_above, root_ancestor}
 use Rattle.cw_tree.proofs.Lists.{any_in}
-use Rattle.cw_tree.proofs.Walks.There.{node_there}
-use Rattle.cw_trace.proofs.Stands.InRange.{strand_low}
+use Rattle.cw_tree.proofs.Walks.There.{node_there, strand_there}
+use Rattle.cw_tree.proofs.NodeKinds.{strand_no_block, pending_block}
 use Rattle.cw_open.specs.Machine.{OpenMachine, has_finished, waits, is_running, in_block, is_dying, falls}
-use Rattle.cw_open.proofs.Open.NodeKinds.{pending_block, strand_no_block}
 use Rattle.cw_open.proofs.Open.Standing.{runs}
 use Rattle.cw_open.proofs.Open.Trees.{IsWell}
 use Rattle.cw_core.specs.State.{CoreState}
@@ -66,7 +65,7 @@ module _ (first : List ℤ) (k : CoreState) (core : IsCore first k) where
   is_there zero e = refl
   is_there (suc x) e =
       let here = runs m tree fine.nested (suc x) e in
-      let low = strand_low t (suc x) here.strand in
+      let low = strand_there t (suc x) here.strand in
       let fork = tree.strands (suc x) low (omega arith) here.strand in
       let opened = fine.nested.outer (suc x) (omega arith) low (strand_open m (suc x) here.strand here.unfinished) in
       and_from (is_strand t (suc x)) (not (has m.joined (parent_of t (suc x)))) here.strand (not_from_false (has m.joined (parent_of t (suc x))) (open_unjoined m (parent_of t (suc x)) fork opened))

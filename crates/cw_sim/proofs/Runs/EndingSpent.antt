@@ -18,12 +18,12 @@ use Rattle.cw_tree.specs.VictimsAt.{victim_at}
 use Rattle.cw_tree.specs.Refusals.{victim_of, refused}
 use Rattle.cw_tree.proofs.Walks.There.{node_there}
 use Rattle.cw_tree.proofs.NextNodes.Growing.{length_more, node_grown, number_new, strand_of_new}
+use Rattle.cw_tree.proofs.NodeKinds.{pending_block}
 use Rattle.cw_open.specs.Machine.{OpenMachine, has_finished, is_running, is_free}
 use Rattle.cw_open.specs.Steps.{Met, refusal}
 use Rattle.cw_open.specs.Spent.{StandsStill, HasSpent}
 use Rattle.cw_open.proofs.Laws.ListSteps.{none_new}
 use Rattle.cw_open.proofs.Laws.Named.{block_stamp}
-use Rattle.cw_open.proofs.Open.NodeKinds.{pending_block}
 use Rattle.cw_open.proofs.Open.Standing.{runs, stands}
 use Rattle.cw_open.proofs.Open.TreeSteps.{free_runs}
 use Rattle.cw_open.proofs.Open.Trees.{IsWell}

@@ -27,7 +27,7 @@ use Rattle.cw_record.specs.Built.{memory_left, outputs_left}
 use Rattle.cw_record.specs.ClosedRun.{end_after}
 use Rattle.cw_sim.specs.Workers.{Simulation, left_node, right_node, first_simulation, tree, worker}
 use Rattle.cw_sim.specs.Turns.{worker_at}
-use Rattle.cw_sim.specs.Moves.{accesses, acts, after_moves, dies, does, finishes, follows, is_over, joins, meets, meets_cell, move, others, steals, stops_if_spent, takes, goes_to_right}
+use Rattle.cw_sim.specs.Moves.{accesses, acts, after_moves, dies, does, finishes, follows, is_run_over, joins, meets, meets_cell, move, others, steals, stops_if_spent, takes, goes_to_right}
 use Rattle.cw_sim.specs.Runs.{IsRecordOf, closed_of, simulation_of}
 
 -- what an end tells of the moves, where it is not for want of memory
@@ -113,7 +113,7 @@ module _ {A : Type 0} where
 
     moves_go : (turn : ℕ → ℕ) (k n : ℕ) (m : Simulation A) → Goes m → Goes (after_moves s turn k n m)
     moves_go turn zero n m g = g
-    moves_go turn (suc k) n m g = by_over (is_over m) (moves_go turn k (suc n) (move s (turn n) m) (move_goes (turn n) m g))
+    moves_go turn (suc k) n m g = by_over (is_run_over m) (moves_go turn k (suc n) (move s (turn n) m) (move_goes (turn n) m g))
       where
         by_over : (b : Bool) → Goes (after_moves s turn k (suc n) (move s (turn n) m)) → Goes (elim b [ true ↦ m | false ↦ after_moves s turn k (suc n) (move s (turn n) m) ])
         by_over true h = g
@@ -122,7 +122,7 @@ module _ {A : Type 0} where
   -- ## What the record tells
 
   module _ (m : Simulation A) (r : Record) (is : IsRecordOf m r) (goes : Goes m) where
-    told : (r.end ≡ Moves → is_over m ≡ false) × (is_over m ≡ false → r.end ≡ Moves)
+    told : (r.end ≡ Moves → is_run_over m ≡ false) × (is_run_over m ≡ false → r.end ≡ Moves)
     told =
         let c = closed_of m in
         let memory = memory_left (first_memory r.program.cells) c.journals in
@@ -131,7 +131,7 @@ module _ {A : Type 0} where
         (λ f. z.0 (sym is.end ∙ f), λ f. is.end ∙ z.1 f)
 
 -- the record of what the moves of a job come to tells whether they were spent
-pub left_told : (job : Job) (workers : ℕ) (schedule : Schedule) (r : Record) → IsRecordOf (simulation_of job workers schedule) r → r.end ≡ Moves ↔ (is_over (simulation_of job workers schedule) ≡ false)
+pub left_told : (job : Job) (workers : ℕ) (schedule : Schedule) (r : Record) → IsRecordOf (simulation_of job workers schedule) r → r.end ≡ Moves ↔ (is_run_over (simulation_of job workers schedule) ≡ false)
 left_told job workers schedule r is =
     let s = strands_of_job job in
     told (simulation_of job workers schedule) r is

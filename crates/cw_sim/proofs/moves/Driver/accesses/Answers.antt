@@ -36,7 +36,7 @@ returns c =
           access_comes s x cell write z may w.in-Value.value r w.in-Value.is c.in_ok-value.ensures.reply w.given_for.result given w.answers.new.self
           (stands (record z { m = does (event.Access x cell write) z.m })
           (access_may s x cell write z may w.in-Value.value r w.in-Value.is c.in_ok-value.ensures.reply c.step.new.self c.in_ok-value.ensures.ok c.in_ok-value.ensures.stands)))
-          w.answers.ensures))
+          w.answers.ensures.stands))
       | in_default w ↦
           rw (w.result-is, w.self-is)
           (on_ok_weaker w.stops_if_spent.result

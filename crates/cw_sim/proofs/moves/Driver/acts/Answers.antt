@@ -70,7 +70,7 @@ pub returns-in-End : goal.returns-in-End
 returns-in-End c =
     on_ok_weaker c.ends.result
     (λ comes z may. let is = c.in-End.is in acts_so c.args.self.now c.args.w c.args.strand c.args.want z may _ is c.ends.new.self (comes z (may_do c.args.self.now c.args.w c.args.strand c.args.want z may _ is)))
-    c.ends.ensures
+    c.ends.ensures.comes
 
 pub returns-in-Fork : goal.returns-in-Fork
 returns-in-Fork c =

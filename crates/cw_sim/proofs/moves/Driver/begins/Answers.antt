@@ -24,4 +24,4 @@ returns c =
     (stands (begun c.args.self.now c.args.strand z may)
     (begin_may c.args.self.now c.args.strand z may c.at.result.now c.at.ensures c.in_ok-saved.saved c.in_ok-saved.ensures c.next_node-block.result c.put.new.self c.step.new.self c.next_node-block.ensures c.in_ok-put.ensures
     c.in_ok-step.ensures.ok c.in_ok-step.ensures.stands)))
-    c.answers.ensures
+    c.answers.ensures.stands

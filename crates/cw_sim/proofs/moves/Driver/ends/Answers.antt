@@ -1,7 +1,11 @@
 -- The core ends the block, and the strand is answered.
+use Rattle.std.proofs.Common.{None, sym, ap, ◌∙◌}
 use Rattle.std.proofs.lemmas.Result.{on_ok_weaker}
+use Rattle.cw_tree.specs.Series.{place}
 use Rattle.cw_core.specs.declared.event.Event.TheVariants as event
 use Rattle.cw_sim.specs.Moves.{does}
+use Rattle.cw_sim.specs.ThingsInMemory.{thing_at}
+use Rattle.cw_sim.proofs.InMemory.PutThings.{put_here}
 use Rattle.cw_sim.proofs.InMemory.Ends.{block_some, end_within, end_fits_there, end_may, end_comes}
 use Rattle.cw_sim.proofs.moves.Driver.ends.Goals as goal
 
@@ -20,10 +24,16 @@ answers-requires c =
       end_may c.args.self.now c.args.strand z may c.place-block.result c.take.new.self c.step.new.self c.place-block.ensures c.take.ensures.takes c.in_ok-step.ensures.ok c.in_ok-step.ensures.stands,
     )
 
-pub returns : goal.returns
-returns c =
+pub returns-clause-comes : goal.returns-clause-comes
+returns-clause-comes c =
     on_ok_weaker c.answers.result
     (λ stands z may. end_comes c.args.self.now c.args.strand z may c.answers.new.self
     (stands (record z { m = does (event.Commit c.args.strand) z.m })
     (end_may c.args.self.now c.args.strand z may c.place-block.result c.take.new.self c.step.new.self c.place-block.ensures c.take.ensures.takes c.in_ok-step.ensures.ok c.in_ok-step.ensures.stands)))
-    c.answers.ensures
+    c.answers.ensures.stands
+
+pub returns-clause-saves : goal.returns-clause-saves
+returns-clause-saves c =
+    on_ok_weaker c.answers.result
+    (λ stands. ap (λ x. thing_at x (place c.args.self.now.core.machine.tree c.args.strand)) c.answers.ensures.saves ∙ (ap (thing_at c.take.new.self) (sym c.place-block.ensures) ∙ put_here c.args.self.now.saved c.take.new.self c.place-block.result None c.take.ensures.takes))
+    c.answers.ensures.stands

@@ -22,4 +22,4 @@ returns c =
     on_ok_weaker c.answers.result
     (λ stands z may. out_comes c.args.self.now c.args.strand c.args.value z may c.answers.new.self
     (stands (record z { m = does (event.Out c.args.strand c.args.value) z.m }) (out_may c.args.self.now c.args.strand c.args.value z may c.step.new.self (c.in_ok-step.ensures.ok ∙ ap (λ v. after_event c.args.self.now.core (event.Out c.args.strand v)) (to_z-of_z w64 c.args.value signed)) c.in_ok-step.ensures.stands)))
-    c.answers.ensures
+    c.answers.ensures.stands
