@@ -1,10 +1,12 @@
 #!/usr/bin/env bash
 # Tries the program from outside, where no contract reaches: its words, standard input and output, notes and statuses, and large sources,
 # since no clause forbids a false want of memory. A later command adds its lines to the table.
+# The examples are run too, and each command that a page shows.
 # Usage: outside/program.sh PROGRAM, with the program as the gate builds it: crates/cwstm/out/cwstm, once `rt ci` has passed.
 # Ends with the line 'N passed, M failed', and with status 1 where one failed.
 set -u
 program=$(realpath "${1:?the program}")
+root=$(realpath "$(dirname "$0")/..")
 folder=$(mktemp -d)
 trap 'rm -rf "$folder"' EXIT
 cd "$folder" || exit 1
@@ -32,7 +34,79 @@ try() {
   judge "$name" "$got" "$status" "$text" "$note"
 }
 
+# within SECONDS MEGABYTES NAME STATUS TEXT NOTE WORD..: the same with so much time of a processor and so much memory
+within() {
+  local seconds=$1 megabytes=$2 name=$3 status=$4 text=$5 note=$6 got
+  shift 6
+  (
+    ulimit -t "$seconds" -v $((megabytes * 1024))
+    exec "$program" "$@" < source > text 2> note
+  )
+  got=$?
+  judge "$name" "$got" "$status" "$text" "$note"
+}
+
 usage=$'cwstm: usage\n'
+
+# ## Examples
+
+# Beside each lie its words (.args), the text that it gives (.out), and where there are such its note (.note) and status (.status).
+# The name before the first dot is the program's: NAME.WHAT.args are the words of a further run of NAME.cw.
+
+# whole FILE: what it holds, with a dot behind it, and nothing where there is no such file
+whole() {
+  if [ -e "$1" ]; then cat "$1"; fi
+  printf .
+}
+
+for source in "$root"/examples/*.cw; do
+  if [ ! -e "${source%.cw}.args" ]; then
+    failed=$((failed + 1))
+    echo "FAILED an example without words: $source"
+  fi
+done
+for words in "$root"/examples/*.args; do
+  run=$(basename "$words" .args)
+  beside=${words%.args}
+  cp "$root/examples/${run%%.*}.cw" source
+  wanted=$(whole "$beside.out")
+  note=$(whole "$beside.note")
+  status=$(if [ -e "$beside.status" ]; then cat "$beside.status"; else echo 0; fi)
+  # the words stand apart by blanks
+  # shellcheck disable=SC2046
+  try "example $run" "$status" "${wanted%.}" "${note%.}" $(cat "$words")
+done
+
+# ## Pages
+
+# What stands in a block ```cw NAME.cw of a page is that example. Each command in a block ```console, behind '$ ', is run at the top of
+# the repository, where `cwstm` is the program, and the lines beneath it are what it gives.
+mkdir shown_program
+ln -s "$program" shown_program/cwstm
+
+# block_of PAGE FENCE: the lines of a page's blocks that begin with this line
+block_of() {
+  awk -v fence="$2" '/^```/ { on = !inside && $0 == fence; inside = !inside; next } on' "$1"
+}
+
+for page in "$root"/README.md "$root"/docs/*.md; do
+  : > note
+  while IFS= read -r name; do
+    block_of "$page" "\`\`\`cw $name" > text
+    wanted=$(whole "$root/examples/$name")
+    judge "$name in $(basename "$page")" 0 0 "${wanted%.}" ''
+  done < <(sed -n 's/^```cw //p' "$page")
+  block_of "$page" '```console' > shown
+  if [ -s shown ]; then
+    grep '^\$ ' shown > commands
+    while IFS= read -r line <&3; do
+      printf '%s\n' "$line"
+      (cd "$root" && PATH=$folder/shown_program:$PATH timeout 60 bash -c "${line#'$ '}" 2>&1)
+    done 3< commands > text
+    wanted=$(whole shown)
+    judge "the commands in $(basename "$page")" 0 0 "${wanted%.}" ''
+  fi
+done
 
 # ## Words, texts and statuses
 
@@ -270,6 +344,47 @@ head -c 1048577 /dev/zero | tr '\0' ' ' > source
 try 'one byte more than a text may have' 5 '' $'cwstm: line 0: TooLong\n' run
 { printf 'fn main() {}'; head -c 1048564 /dev/zero | tr '\0' ' '; } > source
 try 'as many bytes as a text may have' 0 $'end\n' '' run
+
+# ## Memory and time
+# No clause forbids to waste either, or to want memory that is there. A bar on time is ten times what was needed, and a second at least.
+
+printf 'cell c; fn main() { c = c + 1; out c; }' > source
+(
+  ulimit -v 8000
+  exec "$program" run < source > text 2> note
+)
+judge 'too little memory' $? 1 '' $'cwstm: want of memory\n'
+within 1 150 'a run with the greatest limits' 0 $'out 1\nc = 1\nend\n' '' run --fuel 1000000000 --size 10000000
+within 1 150 'a simulation with the greatest limits' 0 $'out 1\nc = 1\nend\n' '' \
+  sim --workers 64 --strands 1000000 --moves 1000000000 --aborts 1000000000 --seed 18446744073709551615
+within 1 150 'as many columns as there may be' 0 $'out 1\nc = 1\nend\n' '' sim --strands 1000000
+
+printf 'fn main() { let i = 0; while i < 200000 { out 1000000000; i = i + 1; } }' > source
+within 5 200 '200,000 outputs' 0 "$(yes 'out 1000000000' | head -n 200000; echo end)"$'\n' '' run
+
+{
+  printf 'fn main(p1'
+  printf ', p%s' $(seq 2 70)
+  printf ') {'
+  printf ' out p%s;' $(seq 70)
+  echo ' }'
+} > source
+# the words stand apart by blanks
+# shellcheck disable=SC2046
+try '70 words' 0 "$(seq -f 'out %g' 101 170; echo end)"$'\n' '' run $(seq 101 170)
+
+{
+  echo 'cell c; fn f() { return 1;'
+  for _ in $(seq 30000); do echo 'c = c + 1;'; done
+  echo '} fn main() { out f(); }'
+} > source
+within 1 200 '30,000 statements behind a return' 0 $'out 1\nc = 0\nend\n' '' run
+
+printf 'cell c; fn main() { let i = 0; while i < 25000 { spawn { atomic { c = c + 1; } } i = i + 1; } }' > source
+within 5 500 '25,000 spawned blocks, simulated' 0 $'c = 25000\nend\n' '' sim
+
+printf 'cell c; cell d; fn main() { spawn { atomic { c = 1; let i = 0; while i < 60000 { d = i; i = i + 1; } } } atomic { c = 2; } }' > source
+within 5 500 '20,000 attempts of a block' 0 $'c = 2\nd = 59999\nend\n' '' sim --workers 2
 
 echo "$passed passed, $failed failed"
 [ "$failed" -eq 0 ]
