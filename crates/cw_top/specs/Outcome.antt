@@ -1,7 +1,7 @@
 -- What a status says: a part for each thing that the top call promises. What depends on the command is a function of it, with a case for
 -- words that are none; so a further command adds its cases and changes no clause.
 use Rattle.std.specs.Prelude.{◌≡◌, ◌≤◌, ◌⊎◌, ℕ, ◌+◌, ℤ, List, [], ◌++◌, false, length, Option, Some, None, IfSome, IsSome, IsSomeAnd, IsTrue}
-use Rattle.cw_io.specs.Outside.{Takes, Appends, AppendsFront, RunsDry, TellsOn}
+use Rattle.cw_io.specs.Outside.{Takes, Appends, AppendsFront, KeepsTelling, RunsDry, TellsOn}
 use Rattle.cw_code.specs.declared.CellInfo.{CellInfo}
 use Rattle.cw_tree.specs.Names.{name_of}
 use Rattle.cw_tree.specs.Nodes.{is_fork}
@@ -139,10 +139,11 @@ Writes command None n old new = Appends old new []
 Writes command (Some r) note.Write old new = AppendsFront old new (text_of command r)
 Writes command (Some r) n old new = Appends old new (text_of command r)
 
--- A sink that told still tells, if it goes on telling for as many bytes as the text has. Without a run there is no text.
-abbrev pub StillTells : Option Command → Option Record → (goes_on : ℕ → Type 0) → (old new : Option (List ℕ)) → Type 0
-StillTells command None goes_on old new = TellsOn old new
-StillTells command (Some r) goes_on old new = goes_on (length (text_of command r)) → TellsOn old new
+-- A sink that says for how many more bytes it goes on telling took the text: where it goes on for so many and some more, what it told it
+-- tells still, and it goes on for the rest. Without a run there is no text, and all is as before.
+abbrev pub StillTells : Option Command → Option Record → (before after : ℕ → Type 0) → (old new : Option (List ℕ)) → Type 0
+StillTells command None before after old new = TellsOn old new × ((n : ℕ) → before n → after n)
+StillTells command (Some r) before after old new = KeepsTelling before after old new (length (text_of command r))
 
 -- how one memory ends in the order that is kept
 abbrev pub end_of_one_memory : Record → SerialEnd

@@ -1,5 +1,5 @@
-ghost use Rattle.std.specs.Prelude.{◌≡◌, ◌≤◌, ◌↔◌, None, Some, length, IfOk, IfErr, IfSome, IsErrOf, IsSomeAnd, IsTrue, OnOk, OnSome, []};
-ghost use Rattle.cw_io.specs.Outside.{Appends, AppendsFront, TakesNothing, Rose, RunsDry, TellsOn};
+ghost use Rattle.std.specs.Prelude.{◌≡◌, ◌≤◌, ◌↔◌, ℕ, None, Some, length, IfOk, IfErr, IfSome, IsErrOf, IsSomeAnd, IsTrue, OnOk, OnSome, []};
+ghost use Rattle.cw_io.specs.Outside.{Appends, AppendsFront, KeepsTelling, TakesNothing, Rose, RunsDry, TellsOn};
 ghost use Rattle.cw_tree.specs.Nodes.{is_strand};
 ghost use Rattle.cw_strand.specs.Programs.{IsCompiled};
 ghost use Rattle.cw_job.specs.Jobs.{TakesWords};
@@ -90,8 +90,9 @@ fn write_run<K: Sink>(alloc: Global, run: &Record, sink: &mut K) -> Result<(), N
     ensures later { K.faults sink.old ≤ K.faults sink.new }
     ensures written { OnOk result (Appends (K.written sink.old) (K.written sink.new) (run_text run.now)) }
     ensures nothing { IsErrOf result OutOfMemory → Appends (K.written sink.old) (K.written sink.new) [] }
-    ensures tells { OnOk result (K.tells_for sink.old (length (run_text run.now)) → TellsOn (K.written sink.old) (K.written sink.new)) }
-    ensures tells_nothing_more { IsErrOf result OutOfMemory → TellsOn (K.written sink.old) (K.written sink.new) }
+    ensures tells { OnOk result (KeepsTelling (K.tells_for sink.old) (K.tells_for sink.new) (K.written sink.old) (K.written sink.new) (length (run_text run.now))) }
+    ensures untouched { IsErrOf result OutOfMemory
+        → TellsOn (K.written sink.old) (K.written sink.new) × ((n : ℕ) → K.tells_for sink.old n → K.tells_for sink.new n) }
     ensures front { IsErrOf result WriteFault → AppendsFront (K.written sink.old) (K.written sink.new) (run_text run.now) }
     ensures cause { IsErrOf result WriteFault → Rose (K.faults sink.old) (K.faults sink.new) }
 {
@@ -133,7 +134,7 @@ fn ran<S: Source, K: Sink>(alloc: Global, command: Command, source: &mut S, sink
     ensures run { IfSome result.kept (IsRunOf (Some command) (S.left source.old)) }
     ensures done { IfSome result.kept (IsDoneBy command) }
     ensures written { Writes (Some command) result.kept result.note (K.written sink.old) (K.written sink.new) }
-    ensures tells { (result.status ≡ 4 → ⊥) → StillTells (Some command) result.kept (K.tells_for sink.old) (K.written sink.old) (K.written sink.new) }
+    ensures tells { (result.status ≡ 4 → ⊥) → StillTells (Some command) result.kept (K.tells_for sink.old) (K.tells_for sink.new) (K.written sink.old) (K.written sink.new) }
 {
     let run = match run_of(alloc, command, source) {
         Ok(run) => run,
@@ -173,7 +174,7 @@ fn answer<S: Source, K: Sink>(
     ensures run { IfSome result.kept (IsRunOf command (S.left source.old)) }
     ensures done { IfSome result.kept (IsDoneAs command) }
     ensures written { Writes command result.kept result.note (K.written sink.old) (K.written sink.new) }
-    ensures tells { (result.status ≡ 4 → ⊥) → StillTells command result.kept (K.tells_for sink.old) (K.written sink.old) (K.written sink.new) }
+    ensures tells { (result.status ≡ 4 → ⊥) → StillTells command result.kept (K.tells_for sink.old) (K.tells_for sink.new) (K.written sink.old) (K.written sink.new) }
 {
     match command {
         None => Reply {
@@ -255,7 +256,7 @@ pub fn cwstm<R: Threads + Wait + Sync, S: Source, K: Sink, G: Gate>(
     ensures written { Writes (command_in words.now) result.kept result.note (K.written sink.old) (K.written sink.new) }
 
     // Unless a write failed, a sink that told still tells, if it goes on telling for as many bytes as the text has.
-    ensures tells { (result.status ≡ 4 → ⊥) → StillTells (command_in words.now) result.kept (K.tells_for sink.old) (K.written sink.old) (K.written sink.new) }
+    ensures tells { (result.status ≡ 4 → ⊥) → StillTells (command_in words.now) result.kept (K.tells_for sink.old) (K.tells_for sink.new) (K.written sink.old) (K.written sink.new) }
 
     // Counts of faults never fall.
     ensures read_later { S.faults source.old ≤ S.faults source.new }
