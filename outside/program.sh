@@ -351,7 +351,7 @@ try 'as many bytes as a text may have' 0 $'end\n' '' run
 printf 'cell c; fn main() { c = c + 1; out c; }' > source
 (
   ulimit -v 8000
-  exec "$program" run < source > text 2> note
+  exec "$program" sim --strands 1000000 < source > text 2> note
 )
 judge 'too little memory' $? 1 '' $'cwstm: want of memory\n'
 within 1 150 'a run with the greatest limits' 0 $'out 1\nc = 1\nend\n' '' run --fuel 1000000000 --size 10000000
@@ -380,8 +380,8 @@ try '70 words' 0 "$(seq -f 'out %g' 101 170; echo end)"$'\n' '' run $(seq 101 17
 } > source
 within 1 200 '30,000 statements behind a return' 0 $'out 1\nc = 0\nend\n' '' run
 
-printf 'cell c; fn main() { let i = 0; while i < 25000 { spawn { atomic { c = c + 1; } } i = i + 1; } }' > source
-within 5 500 '25,000 spawned blocks, simulated' 0 $'c = 25000\nend\n' '' sim
+printf 'cell c; cell d; fn main() { let i = 0; while i < 25000 { spawn { d = c + 1; } i = i + 1; } }' > source
+within 5 500 '25,000 spawned increments, simulated' 0 $'c = 0\nd = 1\nend\n' '' sim
 
 printf 'cell c; cell d; fn main() { spawn { atomic { c = 1; let i = 0; while i < 60000 { d = i; i = i + 1; } } } atomic { c = 2; } }' > source
 within 5 500 '20,000 attempts of a block' 0 $'c = 2\nd = 59999\nend\n' '' sim --workers 2
