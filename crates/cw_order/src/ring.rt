@@ -85,6 +85,7 @@ impl Ring {
         ensures labels { self.new.labels.items ≡ self.old.labels.items ++ 0 ∷ [] }
         ensures room { self.new.room ≡ self.old.room }
     {
+        // a hint to the prover: there are fewer than 2^32 places
         let _room = self.room;
         let place = self.next.len() as u32;
         put(&mut self.next, HEAD);
@@ -93,8 +94,8 @@ impl Ring {
         place
     }
 
-    /// Whether the label of `a` is below that of `b`. Beside the making of a ring, it is the one call that other files have without
-    /// `&mut`, so nothing there learns the order without a tick.
+    /// Whether the label of `a` is below that of `b`. Beside the making of a ring and its room, it is the one call that other files
+    /// have without `&mut`, so nothing there learns the order without a tick.
     pub(crate) fn is_before<L: Ledger>(&self, a: u32, b: u32, steps: &mut Steps<L>) -> bool
         requires first { a < vec_len self.now.next }
         requires second { b < vec_len self.now.next }

@@ -255,7 +255,7 @@ pub fn cwstm<R: Threads + Wait + Sync, S: Source, K: Sink, G: Gate>(
     ensures once { RisesAtMost (most_ends (command_in words.now)) (S.ends source.old) (S.ends source.new) }
     ensures written { Writes (command_in words.now) result.kept result.note (K.written sink.old) (K.written sink.new) }
 
-    // Unless a write failed, a sink that told still tells, if it goes on telling for as many bytes as the text has.
+    // Unless a write failed, a sink that goes on telling for as many bytes as the text has, and some more, still tells, and goes on for the rest.
     ensures tells { (result.status ≡ 4 → ⊥) → StillTells (command_in words.now) result.kept (K.tells_for sink.old) (K.tells_for sink.new) (K.written sink.old) (K.written sink.new) }
 
     // Counts of faults never fall.

@@ -1,4 +1,4 @@
-ghost use Rattle.std.specs.Prelude.{◌≡◌, ℕ, ◌+◌, ◌<◌, ◌≤◌, ◌==◌, ◌||◌, ◌^◌, [], true, false, IfOk, length, filter, not, slice_index, vec_len, vec_capacity};
+ghost use Rattle.std.specs.Prelude.{◌≡◌, ℕ, ◌+◌, ◌<◌, ◌≤◌, ◌==◌, ◌||◌, ◌⊎◌, ◌^◌, [], true, false, IfOk, length, filter, not, slice_index, vec_len, vec_capacity};
 ghost use Rattle.std.specs.Option.{ForSome};
 ghost use Rattle.cw_tree.specs.Walks.{has};
 ghost use Rattle.cw_trace.specs.Columns.{stands_before, opening_mark, closing_mark, marks, place_after, is_mark_of};
@@ -17,6 +17,7 @@ fn reach(list: &mut Vec<u32>, place: u32)
     ensures there { place < vec_len list.new }
     ensures same { (k : ℕ) → slice_index list.new.items k ≡ slice_index list.old.items k }
     ensures longer { vec_len list.old ≤ vec_len list.new }
+    ensures few { (vec_len list.new ≡ vec_len list.old) ⊎ (vec_len list.new ≤ place + 1) }
     ensures capacity { vec_capacity list.old ≤ vec_capacity list.new }
 {
     while list.len() <= place as usize {
