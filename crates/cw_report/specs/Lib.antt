@@ -1,0 +1,5 @@
+pub mod Results
+pub mod Report
+pub mod Found
+pub mod Elements
+pub mod Worked

@@ -1,0 +1,61 @@
+-- Reports on small runs.
+use Rattle.std.specs.Prelude.{◌≡◌, ℕ, pos, List, [], ◌∷◌, ◌++◌, codes, Some, None}
+use Rattle.cw_code.specs.declared.CellInfo.{CellInfo}
+use Rattle.cw_tree.specs.declared.conflict.Conflict.{Conflict}
+use Rattle.cw_tree.specs.declared.node.Node.{Node}
+use Rattle.cw_tree.specs.declared.node.Kind.TheVariants.{Strand, Fork, Block, Write, Tried}
+use Rattle.cw_tree.specs.declared.node.BlockState.{BlockState}
+use Rattle.cw_tree.specs.declared.node.BlockState.TheVariants.{Pending, Committed, Aborted}
+use Rattle.cw_tree.specs.Nodes.{is_strand}
+use Rattle.cw_report.specs.Results.{line}
+use Rattle.cw_report.specs.Report.{cell_text, conflict_line, count_nodes, counts_text, is_undone, stands_committed}
+
+-- a closed or pending block, and a leaf
+abbrev pub block : (parent : ℕ) → BlockState → (stamp end : ℕ) → Node
+block parent state stamp end = record { parent = parent; kind = Block; state = state; stamp = stamp; end = end }
+
+abbrev pub strand : ℕ → Node
+strand parent = record { parent = parent; kind = Strand; state = Committed; stamp = 0; end = 0 }
+
+abbrev pub writes : (parent cell stamp : ℕ) → Node
+writes parent cell stamp = record { parent = parent; kind = Write cell (pos 1); state = Committed; stamp = stamp; end = 0 }
+
+abbrev pub tries : (parent cell : ℕ) → Node
+tries parent cell = record { parent = parent; kind = Tried cell; state = Committed; stamp = 0; end = 0 }
+
+-- A block forks: its left strand writes element 1 in a block, its right one begins a block, and has another one in it that was committed; there
+-- it was refused that element, and rolled back. Then it did so again, and was not refused.
+abbrev pub forked : List Node
+forked =
+    strand 0 ∷ record { parent = 0; kind = Fork; state = Committed; stamp = 1; end = 0 }
+    ∷ strand 1 ∷ block 2 Committed 4 6 ∷ writes 3 1 5
+    ∷ strand 1 ∷ block 5 Aborted 2 7 ∷ block 6 Committed 3 8 ∷ tries 6 1
+    ∷ block 5 Pending 9 0 ∷ block 9 Committed 10 12 ∷ writes 10 1 11 ∷ []
+
+abbrev pub refused : Conflict
+refused = record { cell = 1; last = 5; asker = 8; block = 4; victim = 2; attempt = 1; chain = 5 ∷ [] }
+
+abbrev pub cell : List ℕ → (len base : ℕ) → CellInfo
+cell name len base = record { name = name; len = len; base = base; init = pos 0 }
+
+abbrev pub one_array : List CellInfo
+one_array = cell (codes "a") 2 0 ∷ []
+
+abbrev pub two_plain : List CellInfo
+two_plain = cell (codes "b") 0 0 ∷ cell (codes "c") 0 1 ∷ []
+
+-- A committed block under an aborted one is undone, and a pending one is neither.
+pub record Counts : Type 0 where
+  pub strands : count_nodes is_strand forked ≡ 3
+  pub committed : count_nodes stands_committed forked ≡ 2
+  pub undone : count_nodes is_undone forked ≡ 2
+  pub text : counts_text forked 1 ≡ line (codes "report 1") ++ line (codes "strands 3") ++ line (codes "blocks 2 2") ++ line (codes "conflicts 1")
+
+pub record Lines : Type 0 where
+  pub array : conflict_line one_array forked refused ≡ line (codes "conflict a[1] last 0.1l@5 asker 0.1r block 4 victim 2 attempt 1 chain 5")
+  pub plain : conflict_line two_plain forked refused ≡ line (codes "conflict c last 0.1l@5 asker 0.1r block 4 victim 2 attempt 1 chain 5")
+  -- without a victim, and after more accesses than one
+  pub no_victim : conflict_line two_plain forked (record refused { victim = 0; chain = 3 ∷ 5 ∷ [] }) ≡ line (codes "conflict c last 0.1l@5 asker 0.1r block 4 victim none attempt 1 chain 3,5")
+  -- the stamp of an end is no node's
+  pub end : conflict_line two_plain forked (record refused { last = 6 }) ≡ line (codes "conflict c last ?@6 asker 0.1r block 4 victim 2 attempt 1 chain 5")
+  pub no_cell : cell_text two_plain 2 ≡ codes "?"

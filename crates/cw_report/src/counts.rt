@@ -1,0 +1,99 @@
+ghost use Rattle.std.specs.Prelude.{◌≡◌, ◌<◌, length, map, IfOk};
+ghost use Rattle.cw_tree.specs.Accesses.{is_live};
+ghost use Rattle.cw_tree.specs.ForkCounts.{one_if};
+ghost use Rattle.cw_tree.specs.Nodes.{all_nodes, below, is_committed, is_strand};
+ghost use Rattle.cw_report.specs.Report.{count_nodes, is_undone, stands_committed};
+
+use cw_base::OutOfMemory;
+use cw_tree::{BlockState, Tree};
+use std::alloc::Global;
+
+/// How many strands and closed blocks a tree has.
+#[derive(Clone, Copy)]
+pub(crate) struct Counts {
+    pub(crate) strands: u32,
+    /// Committed blocks with no aborted block above them.
+    pub(crate) committed: u32,
+    /// All other closed blocks.
+    pub(crate) undone: u32,
+}
+
+impl Counts {
+    pub(crate) fn of_tree(alloc: Global, tree: &Tree) -> Result<Counts, OutOfMemory>
+        ensures strands { IfOk result (λ c. c.strands ≡ count_nodes is_strand tree.now) }
+        ensures committed { IfOk result (λ c. c.committed ≡ count_nodes stands_committed tree.now) }
+        ensures undone { IfOk result (λ c. c.undone ≡ count_nodes is_undone tree.now) }
+    {
+        let live = live_nodes(alloc, tree)?;
+        let mut counts = Counts {
+            strands: 0,
+            committed: 0,
+            undone: 0,
+        };
+        for n in 0..tree.nodes().len() as u32 {
+            let lives = live[n as usize];
+            counts.strands += one_if(tree.is_strand(n));
+            counts.committed += one_if(stands_committed(tree, lives, n));
+            counts.undone += one_if(is_undone(tree, lives, n));
+        }
+        Ok(counts)
+    }
+}
+
+// For each node whether no aborted block is above it.
+fn live_nodes(alloc: Global, tree: &Tree) -> Result<Vec<bool>, OutOfMemory>
+    ensures { IfOk result (λ ls. ls.items ≡ map (is_live tree.now) (all_nodes tree.now)) }
+{
+    let count = tree.nodes().len();
+    let mut live = Vec::with_capacity(alloc, count)?;
+    for n in 0..count as u32 {
+        let lives = is_live(tree, live.as_slice(), n);
+        live.push(lives)?;
+    }
+    Ok(live)
+}
+
+// The same of one node, from those of the nodes before it.
+fn is_live(tree: &Tree, before: &[bool], n: u32) -> bool
+    requires there { n < length tree.now }
+    requires before { before.now ≡ map (is_live tree.now) (below n) }
+    ensures { result ≡ is_live tree.now n }
+{
+    if n == 0 {
+        return true;
+    }
+    let parent = tree.parent(n);
+    !tree.is_aborted(parent) && before[parent as usize]
+}
+
+// Whether a node is a block that was committed.
+fn is_committed(tree: &Tree, n: u32) -> bool
+    requires { n < length tree.now }
+    ensures { result ≡ is_committed tree.now n }
+{
+    tree.is_block(n) && matches!(tree.node(n).state, BlockState::Committed)
+}
+
+// Whether a node is a committed block with no aborted block above it.
+fn stands_committed(tree: &Tree, lives: bool, n: u32) -> bool
+    requires there { n < length tree.now }
+    requires lives { lives ≡ is_live tree.now n }
+    ensures { result ≡ stands_committed tree.now n }
+{
+    is_committed(tree, n) && lives
+}
+
+// Whether it is any other closed block.
+fn is_undone(tree: &Tree, lives: bool, n: u32) -> bool
+    requires there { n < length tree.now }
+    requires lives { lives ≡ is_live tree.now n }
+    ensures { result ≡ is_undone tree.now n }
+{
+    tree.is_aborted(n) || (is_committed(tree, n) && !lives)
+}
+
+fn one_if(test: bool) -> u32
+    ensures { result ≡ one_if test }
+{
+    u32::from(test)
+}
