@@ -24,9 +24,6 @@ pub use program::Program;
 pub use table::{Operands, Row, TABLE, effect_at, look_up, row_at};
 pub use verified::{CodeRefusal, Verified, verify};
 
-#[cfg(test)]
-mod tests;
-
 use cw_base::Text;
 
 /// Why a strand stops for good.

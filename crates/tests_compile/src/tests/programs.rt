@@ -1,5 +1,5 @@
-use super::*;
 use cw_code::{Instr, Program};
+use cw_compile::{NameKind, NameRefusal, compile};
 use cw_text::read_program;
 use std::alloc::Global;
 use std::test::Fail;
