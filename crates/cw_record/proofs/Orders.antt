@@ -1,4 +1,5 @@
 pub mod Alike
+pub mod Buckets
 pub mod Chains
 pub mod GoingOn
 pub mod Homes
@@ -11,6 +12,7 @@ pub mod Opens
 pub mod Outside
 pub mod Rising
 pub mod SameOrders
+pub mod Shelves
 pub mod Scans
 pub mod Steps
 pub mod Tells
