@@ -33,7 +33,7 @@ impl Listed {
         for first in &same {
             numbers.push(firsts.number(*first))?;
         }
-        let mut names = Vec::new(alloc);
+        let mut names = Vec::with_capacity(alloc, firsts.strands.len())?;
         for strand in &firsts.strands {
             names.push(turns.listed_name(tree, &numbers, *strand))?;
         }
