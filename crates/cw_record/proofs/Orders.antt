@@ -3,6 +3,7 @@ pub mod Buckets
 pub mod Chains
 pub mod GoingOn
 pub mod Homes
+pub mod InOrder
 pub mod ItemsThere
 pub mod Laying
 pub mod Linking
