@@ -6,8 +6,8 @@ use Rattle.cw_tree.specs.Nodes.{is_strand}
 use Rattle.cw_tree.specs.Series.{depth_first}
 use Rattle.cw_tree.proofs.InOrder.Visits.{as_many}
 use Rattle.cw_tree.proofs.InOrder.Renumbered.{some_node, visited_there}
-use Rattle.cw_record.proofs.strands.strands.Goals as goal
-use Rattle.cw_record.proofs.strands.strands.Goals.{then-is_strand+in_ok-push, else-is_strand}
+use Rattle.cw_record.proofs.strands.by_walk.Goals as goal
+use Rattle.cw_record.proofs.strands.by_walk.Goals.{then-is_strand+in_ok-push, else-is_strand}
 
 pub is_strand-requires : goal.is_strand-requires
 is_strand-requires c =
