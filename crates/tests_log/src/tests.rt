@@ -1,1 +1,2 @@
 mod deques;
+mod pairs;
