@@ -1,5 +1,7 @@
 use cw_base::Seq;
-use cw_code::{Code, CodeKind, CodeRefusal, Func, Instr, Program, Verified, print_code, row_at, verify};
+use cw_code::{
+    Code, CodeKind, CodeRefusal, Func, Instr, Program, Verified, print_code, row_at, verify,
+};
 use std::alloc::Global;
 use std::process::Abort;
 use std::test::Fail;
