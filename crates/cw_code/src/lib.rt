@@ -17,17 +17,13 @@ mod situation;
 mod table;
 mod verified;
 
+use cw_base::Text;
 pub use effects::{Effect, Operator};
 pub use instruction::{Code, CodeFault, CodeKind, Func, Instr};
 pub use print::print_code;
 pub use program::Program;
 pub use table::{Operands, Row, TABLE, effect_at, look_up, row_at};
 pub use verified::{CodeRefusal, Verified, verify};
-
-#[cfg(test)]
-mod tests;
-
-use cw_base::Text;
 
 /// Why a strand stops for good.
 #[derive(Clone, Copy, PartialEq, Eq, Debug)]

@@ -20,6 +20,3 @@ mod slots;
 pub use compiling::compile;
 pub use cw_strand::{NameFault, NameKind};
 pub use refusal::NameRefusal;
-
-#[cfg(test)]
-mod tests;

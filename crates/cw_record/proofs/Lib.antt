@@ -7,5 +7,6 @@ pub mod OneWorker
 pub mod Orders
 pub mod Replay
 pub mod Walked
+pub mod WorkedClosed
 pub mod WorkedEnds
 pub mod WorkedRecord

@@ -1,7 +1,9 @@
 pub mod Alike
+pub mod Buckets
 pub mod Chains
 pub mod GoingOn
 pub mod Homes
+pub mod InOrder
 pub mod ItemsThere
 pub mod Laying
 pub mod Linking
@@ -11,6 +13,7 @@ pub mod Opens
 pub mod Outside
 pub mod Rising
 pub mod SameOrders
+pub mod Shelves
 pub mod Scans
 pub mod Steps
 pub mod Tells

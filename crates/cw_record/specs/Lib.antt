@@ -12,6 +12,7 @@ pub mod Built
 pub mod Records
 pub mod WorkedRecord
 pub mod Scripts
+pub mod WorkedClosed
 pub mod WorkedEnds
 pub mod Checking
 pub mod Replaying

@@ -3,7 +3,8 @@
 //! Contracts cite `specs/Order.antt` (the order of a record, from `specs/Items.antt` and `specs/Listed.antt`), `specs/Replay.antt` (that
 //! one memory does what a record says), `specs/Checking.antt` (what a check says), `specs/Records.antt` (the run of one worker),
 //! `specs/ClosedRun.antt` and `specs/Built.antt` (closed runs and their records), and `specs/Coherent.antt` (what a coherent record is),
-//! `specs/WorkedRecord.antt` and `specs/WorkedEnds.antt` (small records that are, the latter of strands of `specs/Scripts.antt`).
+//! `specs/WorkedRecord.antt` and `specs/WorkedEnds.antt` (small records that are, the latter of strands of `specs/Scripts.antt`), and
+//! `specs/WorkedClosed.antt` (small closed runs).
 //! Private ones cite `specs/Levels.antt` (how items are
 //! found), `specs/Walked.antt` (what the passes over a tree find), `specs/Replaying.antt` (what a check finds, step by step),
 //! `specs/Drawn.antt` (what each step makes of the tree and the journals) and `specs/OneWorker.antt` (what one worker holds).
@@ -11,6 +12,7 @@
 
 ghost use Rattle.cw_job.specs.Room.Strands.{StrandState};
 ghost use Rattle.cw_record.specs.ClosedRun.{ClosedAreCoherent};
+ghost use Rattle.cw_record.specs.WorkedClosed.{ClosedEarly, ClosedLate};
 ghost use Rattle.cw_record.specs.WorkedEnds.{Ends};
 ghost use Rattle.cw_record.specs.WorkedRecord.{Coherent};
 
@@ -43,6 +45,12 @@ pub fn worked_record()
 /// Small records that came to each end that is not main's own are coherent, and are not where one thing is changed.
 pub fn worked_ends()
     ensures { Ends }
+{}
+
+/// Small runs in which a step came late are closed runs, and are not where one thing is changed.
+pub fn worked_closed_runs()
+    ensures late { ClosedLate }
+    ensures early { ClosedEarly }
 {}
 
 /// The tree of a closed run in depth-first order, with its journals and conflicts, is coherent, whatever its end.

@@ -74,9 +74,9 @@ fn picks(
     requires there { All (λ i. node_of i < length tree.now) items.now }
     ensures { IfOk result (λ list. list ≡ map (pick_of tree.now) items.now) }
 {
-    let mut list = Seq::new(alloc);
+    let mut list = Vec::with_capacity(alloc, items.len())?;
     for item in items {
         list.push(listed.numbers[item.node() as usize])?;
     }
-    Ok(list)
+    Ok(Seq::from_vec(list))
 }

@@ -5,6 +5,7 @@ pub mod Worked
 pub mod Kept
 pub mod Laws
 pub mod Runs
+pub mod OneWorker
 pub mod HasWants
 pub mod Inside
 pub mod ThingsInMemory

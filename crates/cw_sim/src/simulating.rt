@@ -5,6 +5,7 @@ ghost use Rattle.cw_record.specs.Records.{HasItsOutputs, IsCoherentRun, IsNumber
 ghost use Rattle.cw_sim.specs.Turns.{ListsWorkers};
 ghost use Rattle.cw_record.specs.declared.record_end.RecordEnd.TheVariants.{Moves};
 ghost use Rattle.cw_sim.specs.Moves.{is_run_over};
+ghost use Rattle.cw_sim.specs.OneWorker.{IsUnrefused};
 ghost use Rattle.cw_sim.specs.Runs.{IsRecordOf, simulation_of};
 
 use crate::moves::moved;
@@ -16,8 +17,8 @@ use cw_record::{Record, build};
 use std::alloc::Global;
 
 /// The run of so many virtual workers over one core, each of which makes a move when its turn comes, by a schedule. It ends by itself, at the
-/// first fault, where the last attempt that a block or an access may have was refused, or once its moves are used up. The only error is want
-/// of memory.
+/// first fault, where the last attempt that a block or an access may have was refused, or once its moves are used up. One worker is refused
+/// nothing. The only error is want of memory.
 pub fn simulate(
     alloc: Global,
     program: Program,
@@ -36,6 +37,7 @@ pub fn simulate(
     ensures limits { IfOk result (λ r. r.limits ≡ limits) }
     ensures moves { IfOk result (λ r. IsRecordOf (simulation_of (job_of_record r) workers schedule.now) r) }
     ensures spent { IfOk result (λ r. r.end ≡ Moves ↔ (is_run_over (simulation_of (job_of_record r) workers schedule.now) ≡ false)) }
+    ensures one_worker { workers ≡ 1 → IfOk result (λ r. IsUnrefused r) }
     ensures coherent { IfOk result (λ r. IsCoherentRun r) }
     ensures outputs { IfOk result (λ r. HasItsOutputs r) }
     ensures replays { IfOk result (λ r. IsReplayed r) }

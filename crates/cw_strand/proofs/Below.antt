@@ -15,11 +15,11 @@ use Rattle.cw_code.specs.declared.situation.Situation.{Situation}
 use Rattle.cw_code.specs.Rules.{at_start, effect_of, blocks_after, is_torn, is_border, is_target, inside, jumps, known_at, never_passed, onwards, operand_faults, passed, places, pops, situation_faults, when, faults}
 use Rattle.cw_code.proofs.Sound.{Around, around, contained, inside_is, is_inside, laid, next_is, nil_left, nil_right, not_false, operands_fine, situation_fine, start_known, target_found, target_is, tested, when_not}
 use Rattle.cw_strand.specs.declared.want.Want.{Want}
-use Rattle.cw_strand.specs.declared.want.Want.TheVariants.{Load, Store, Out, Begin, End, Fork, Fault}
+use Rattle.cw_strand.specs.declared.want.Want.TheVariants.{Load, Store, Out, Begin, End, Fork, Done, Fault}
 use Rattle.cw_strand.specs.declared.want.Given.{Given}
 use Rattle.cw_strand.specs.declared.want.Given.TheVariants.{Nothing, Value}
 use Rattle.cw_strand.specs.Running.{Standing, on, wants, stuck, stand}
-use Rattle.cw_strand.specs.Meaning.{one_more, most_frames}
+use Rattle.cw_strand.specs.Meaning.{one_more, one_inside, most_frames}
 use Rattle.cw_strand.specs.Arithmetic.{is_zero}
 use Rattle.cw_strand.specs.Coded as coded
 use Rattle.cw_strand.specs.Coded.{Frame, State, Step, index, goes_to, with_value, joined, counted, counts, spends, result, in_range, read_local, write_local, returned, wait_in, strands_of_code}
@@ -43,6 +43,14 @@ over_other (more h) k = more h
 over_one_more : {below ns : List ℕ} {n : ℕ} → Over below n ns → Over below n (one_more ns)
 over_one_more last = last
 over_one_more (more h) = more h
+
+over_inside : {below ns : List ℕ} {n : ℕ} → Over below n ns → Over below (suc n) (one_inside ns)
+over_inside last = more last
+over_inside (more h) = more (more h)
+
+over_longer : {below ns : List ℕ} {n : ℕ} → Over below n ns → length below < length ns
+over_longer last = omega arith
+over_longer (more h) = omega (arith, over_longer h)
 
 over_popped : {below ns : List ℕ} {n : ℕ} → Over below (suc n) ns → Over below n (drop 1 ns)
 over_popped (more h) = h
@@ -145,7 +153,7 @@ module _ (code : Code) where
 
 -- ## Functions above the begin
 
-module _ (code : Code) (ok : faults code ≡ []) (start : State) (deep : ℕ) (some : 0 < deep) (below : List ℕ) where
+module _ (code : Code) (ok : faults code ≡ []) (start : State) (deep : ℕ) (some : 0 < deep) (below : List ℕ) (around : 0 < length below) where
   -- The current function, at this place with these locals, is that of the block, or one that was called from there; these wait for it, with
   -- these scopes; and so many blocks are begun inside the block. At the begin so many blocks of its function were open.
   data Above : ℕ → List ℤ → List Frame → List ℕ → ℕ → Type 0 where
@@ -156,9 +164,9 @@ module _ (code : Code) (ok : faults code ≡ []) (start : State) (deep : ℕ) (s
   goes q vs same move (own {n = n} at count here over) = own (move (n + deep) at) (same ∙ count) here over
   goes q vs same move (called {j = j} at h over is) = called (move j at) h over is
 
-  begins : {p n : ℕ} {ls : List ℤ} {fs : List Frame} {ns : List ℕ} (q : ℕ) → ((j : ℕ) → BlocksAt code p j → BlocksAt code q (j + 1)) → Above p ls fs ns n → Above q ls fs (0 ∷ ns) (suc n)
-  begins q move (own {n = n} at count here over) = own (subst (λ j. BlocksAt code q j) (omega arith) (move (n + deep) at)) count here (more over)
-  begins q move (called {j = j} at h over is) = called (subst (λ m. BlocksAt code q m) (omega arith) (move j at)) h (more over) (omega (arith, is))
+  begins : {p n : ℕ} {ls : List ℤ} {fs : List Frame} {ns : List ℕ} (q : ℕ) → ((j : ℕ) → BlocksAt code p j → BlocksAt code q (j + 1)) → Above p ls fs ns n → Above q ls fs (one_inside ns) (suc n)
+  begins q move (own {n = n} at count here over) = own (subst (λ j. BlocksAt code q j) (omega arith) (move (n + deep) at)) count here (over_inside over)
+  begins q move (called {j = j} at h over is) = called (subst (λ m. BlocksAt code q m) (omega arith) (move j at)) h (over_inside over) (omega (arith, is))
 
   ends : {p n : ℕ} {ls : List ℤ} {fs : List Frame} {ns : List ℕ} (q : ℕ) → ((j : ℕ) → BlocksAt code p j → 0 < j) → ((j : ℕ) → BlocksAt code p j → BlocksAt code q (j - 1)) → Above p ls fs ns (suc n) → Above q ls fs (drop 1 ns) n
   ends {n = n} q open_there move (own at count here over) = own (subst (λ j. BlocksAt code q j) (omega arith) (move (suc n + deep) at)) count here (over_popped over)
@@ -179,6 +187,15 @@ module _ (code : Code) (ok : faults code ≡ []) (start : State) (deep : ℕ) (s
   returns {n = n} {f = f} {fs = fs} flat (called {j = zero} {k = k} {ms = ms} at h over is) =
       let same : k ≡ n = omega (arith, is) in
       subst (λ ns. Above f.place f.locals fs ns n) (sym (over_none over)) (subst (λ m. Above f.place f.locals fs ms m) same h)
+
+  some_scope : {p n : ℕ} {ls : List ℤ} {fs : List Frame} {ns : List ℕ} → Above p ls fs ns n → 0 < length ns
+  some_scope (own at count here over) = omega (arith, over_longer over)
+  some_scope (called at h over is) = omega (arith, over_longer over)
+
+  -- there are two scopes at least
+  two_scopes : {p n : ℕ} {ls : List ℤ} {fs : List Frame} {ns : List ℕ} → Above p ls fs ns n → 1 < length ns
+  two_scopes (own at count here over) = omega (arith, over_longer over, around)
+  two_scopes (called at h over is) = omega (arith, over_longer over, some_scope h)
 
   -- what is below
   record Ends (current : Frame) (fs : List Frame) (ns : List ℕ) : Type 0 where
@@ -248,8 +265,13 @@ module _ (code : Code) (ok : faults code ≡ []) (start : State) (deep : ℕ) (s
     goes_waited (zero ∷ ns) p vs s is h g = g
     goes_waited (suc m ∷ ns) p vs s is h g = λ stays. (n, (enough, (other_top m (subst (λ ms. Above s.current.place s.current.locals s.callers ms n) is h.0), h.1)))
 
+    goes_ended : (ns : List ℕ) (s : State) → s.scopes ≡ ns → Holds n s → Goes n (wants Done (coded.ended ns s))
+    goes_ended [] s is h = λ stays. (n, (enough, h))
+    goes_ended (m ∷ []) s is h = absurd (omega (arith, two_scopes (subst (λ ms. Above s.current.place s.current.locals s.callers ms n) is h.0)))
+    goes_ended (m ∷ k ∷ ns) s is h = λ stays. (n, (enough, h))
+
     goes_returned : (fs : List Frame) (v : ℤ) (s : State) → s.callers ≡ fs → ((j : ℕ) → BlocksAt code s.current.place j → j ≡ 0) → Holds n s → Goes n (returned fs v s)
-    goes_returned [] v s is flat h = λ stays. (n, (enough, h))
+    goes_returned [] v s is flat h = goes_ended s.scopes s refl h
     goes_returned (f ∷ fs) v s is flat h = (returns flat (subst (λ gs. Above s.current.place s.current.locals gs s.scopes n) is h.0), h.1)
 
     module _ (i : Instr) (s : State) (is : slice_get code.instrs s.current.place ≡ Some i) (h : Holds n s) where
@@ -299,7 +321,7 @@ module _ (code : Code) (ok : faults code ≡ []) (start : State) (deep : ℕ) (s
           by (suc m) a = λ stays. (m, (omega arith, (ends (s.current.place + 1) (λ j at. ends_some code ok s.current.place j i is does at) (λ j at. onward code ok s.current.place i t.End is does refl at) a, h.1)))
       acts t.Fork vs does = goes_counted s (λ u. wants Fork (record (goes_to (index i.a) vs u) { scopes = one_more u.scopes; beside = s.current.place + 1 })) h (λ stays. (n, (enough, (top_more (leaps t.Fork does refl (λ f named. tested _ _ _ named) (λ j. refl)), h.1))))
       acts t.Sync vs does = goes_waited s.scopes (s.current.place + 1) vs s refl h (moved t.Sync does refl (λ j. refl) vs)
-      acts t.Done vs does = λ stays. (n, (enough, h))
+      acts t.Done vs does = goes_ended s.scopes s refl h
       acts t.Tick vs does = goes_spent s (λ u. on (goes_to (s.current.place + 1) vs u)) h (moved t.Tick does refl (λ j. refl) vs)
       acts e vs does = tt
 
@@ -374,8 +396,10 @@ module _ (code : Code) (ok : faults code ≡ []) (main : ℕ) (words : List ℤ)
       let s = begin.state in
       let b = stands.begun refl in
       let at : BlocksAt code s.current.place (0 + b.current.situation.blocks) = record { func = b.current.func; declared = b.current.declared; within = b.current.within; situation = b.current.situation; known = b.current.known; blocks = omega arith } in
-      let over : Over b.scopes 0 s.scopes = subst (Over b.scopes 0) (sym b.opened) last in
+      let below : List ℕ = b.around ∷ b.scopes in
+      let around : 0 < length below = omega arith in
+      let over : Over below 0 s.scopes = subst (Over below 0) (sym b.opened) last in
       let deep = b.current.situation.blocks in
-      let first : HoldsMore code ok s deep b.within b.scopes 0 s = (0, (omega arith, (own {n = 0} at refl refl over, refl))) in
-      let there = inside_holds code ok s deep b.within b.scopes main words limits begin first inside stays in
-      still code ok s deep b.within b.scopes _ x.state b.opened there
+      let first : HoldsMore code ok s deep b.within below around 0 s = (0, (omega arith, (own {n = 0} at refl refl over, refl))) in
+      let there = inside_holds code ok s deep b.within below around main words limits begin first inside stays in
+      still code ok s deep b.within below around _ x.state b.opened there

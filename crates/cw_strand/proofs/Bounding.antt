@@ -15,12 +15,12 @@ use Rattle.cw_code.specs.declared.effects.Effect.TheVariants as t
 use Rattle.cw_code.specs.Rules.{effect_of, is_target, is_tick, ticks, faults, operand_faults}
 use Rattle.cw_code.proofs.Sound.{owner, operands_fine, has_effect, target_is, tested}
 use Rattle.cw_strand.specs.declared.want.Want.{Want}
-use Rattle.cw_strand.specs.declared.want.Want.TheVariants.{Begin, Fork, Fault}
+use Rattle.cw_strand.specs.declared.want.Want.TheVariants.{Begin, Done, Fork, Fault}
 use Rattle.cw_strand.specs.declared.want.Given.{Given}
 use Rattle.cw_strand.specs.declared.want.Given.TheVariants.{Nothing, Value}
 use Rattle.cw_strand.specs.Running.{Running, on, wants, stuck, depth_of, IsBounded}
 use Rattle.cw_strand.specs.Arithmetic.{is_zero}
-use Rattle.cw_strand.specs.Meaning.{one_more, most_frames}
+use Rattle.cw_strand.specs.Meaning.{one_more, one_inside, most_frames}
 use Rattle.cw_strand.specs.Coded as coded
 use Rattle.cw_strand.specs.Coded.{Frame, State, Step, index, goes_to, with_value, joined, counted, counts, spends, result, in_range, read_local, returned, wait_in, rank, steps_left}
 
@@ -85,8 +85,13 @@ module _ (code : Code) where
     range_falls len (negsuc n) s go h = at_fault Range s
     range_falls len (pos n) s go h = falls_either s (nat_lt n len) _ _ (λ e. h) (λ e. at_fault Range s)
 
+    ended_falls : (s : State) (ns : List ℕ) → Falls s (wants Done (coded.ended ns s))
+    ended_falls s [] = omega arith
+    ended_falls s (n ∷ []) = omega arith
+    ended_falls s (n ∷ m ∷ ns) = omega arith
+
     returned_falls : (fs : List Frame) (v : ℤ) (s : State) → fs ≡ s.callers → Falls s (returned fs v s)
-    returned_falls [] v s e = omega arith
+    returned_falls [] v s e = ended_falls s s.scopes
     returned_falls (f ∷ fs) v s e =
         let fewer : length s.callers ≡ suc (length fs) = ap length (sym e) in
         lighter (length code.instrs) _ _ (rank code f.place) (rank code s.current.place) (omega (arith, fewer)) (rank_low f.place)
@@ -148,14 +153,14 @@ module _ (code : Code) where
         act_falls t.Ret (v ∷ vs) d = returned_falls s.callers v s refl
         act_falls t.Drop (v ∷ vs) d = moves _ vs (next_falls t.Drop d refl)
         act_falls t.Out (v ∷ vs) d = wanted _ s (goes_to (s.current.place + 1) vs s) refl (omega (arith, next_falls t.Out d refl))
-        act_falls t.Begin vs d = wanted Begin s (record (goes_to (s.current.place + 1) vs s) { scopes = 0 ∷ s.scopes }) refl (omega (arith, next_falls t.Begin d refl))
+        act_falls t.Begin vs d = wanted Begin s (record (goes_to (s.current.place + 1) vs s) { scopes = one_inside s.scopes }) refl (omega (arith, next_falls t.Begin d refl))
         act_falls t.End vs d = omega (arith, next_falls t.End d refl)
         act_falls t.Fork vs d = counted_falls s (λ u. wants Fork (record (goes_to (index i.a) vs u) { scopes = one_more u.scopes; beside = s.current.place + 1 })) (by (length s.callers) (jump_falls t.Fork d refl f (tested _ _ _ (fine t.Fork d))) (next_falls t.Fork d refl))
           where
             by : (n : ℕ) {q r p : ℕ} → q < p → r < p → suc (max ((length code.instrs + 2) * (2 * (s.limits.fuel - s.fuel) + n) + q) ((length code.instrs + 2) * (2 * (s.limits.fuel - s.fuel) + 0) + r)) ≤ (length code.instrs + 2) * (2 * (s.limits.fuel - s.fuel) + n) + p
             by n {r = r} l m = omega (arith, l, m, no_heavier (length code.instrs) (2 * (s.limits.fuel - s.fuel) + 0) (2 * (s.limits.fuel - s.fuel) + n) r (omega arith))
         act_falls t.Sync vs d = waited_falls s.scopes _ vs (next_falls t.Sync d refl)
-        act_falls t.Done vs d = omega arith
+        act_falls t.Done vs d = ended_falls s s.scopes
         act_falls t.Tick vs d = spent_falls s (λ u. on (goes_to (s.current.place + 1) vs u)) (λ lt. lighter (length code.instrs) _ _ (rank code (s.current.place + 1)) (rank code s.current.place) (omega (arith, lt)) (rank_low (s.current.place + 1)))
         act_falls t.Set [] d = tt
         act_falls t.LoadAt [] d = tt

@@ -1,5 +1,5 @@
 -- The code of a program does what the program does, step by step.
-use Rattle.std.proofs.Common.{◌≡◌, ◌∙◌, ℕ, suc, ◌+◌, ◌-◌, Bool, true, false, List, [], ◌∷◌, length, refl, sym, ap, subst, arith, Option, None, ℤ, nat_lt}
+use Rattle.std.proofs.Common.{◌≡◌, ◌∙◌, ℕ, suc, ◌+◌, ◌-◌, Bool, true, false, List, [], ◌∷◌, length, refl, sym, ap, subst, arith, Option, Some, None, ℤ, nat_lt}
 use Rattle.std.specs.Prelude.{slice_get, if◌then◌else◌}
 use Rattle.cw_text.specs.Syntax.{Declaration}
 use Rattle.cw_code.specs.declared.CellInfo.{CellInfo}
@@ -17,7 +17,7 @@ use Rattle.cw_strand.specs.Coded.{Frame}
 use Rattle.cw_strand.specs.Compilation.{Slots, code_of}
 use Rattle.cw_strand.specs.Compilation as instr
 use Rattle.cw_strand.proofs.Doing.{Does, does_value, does_lift, does_join, does_discard, does_enter, does_perform, does_bind, does_store, does_show, does_forget, does_wait, does_commit, does_finish, does_end, does_leave, ends_main, ends_left, ends_call, does_load_at, does_store_at, does_choose, does_test, does_repeat, does_there}
-use Rattle.cw_strand.proofs.Sharing.{over_syntax, over_code, Alike, Shared, syntax_at, code_at, IsSmall, Ahead, alike, same_place, both_want, acts}
+use Rattle.cw_strand.proofs.Sharing.{program, over_syntax, over_code, Alike, Shared, syntax_at, code_at, IsSmall, Ahead, alike, same_place, both_want, acts}
 use Rattle.cw_strand.proofs.Following.{stays, after_step}
 use Rattle.cw_strand.proofs.Calls.{call_follows, back_follows}
 use Rattle.cw_strand.proofs.Tasks.{value_follows, lift_follows, join_follows, discard_follows, show_follows, bind_follows, store_follows, forget_follows, wait_follows, commit_follows, load_at_follows, store_at_follows, choose_follows, test_follows, repeat_follows}
@@ -35,6 +35,32 @@ module _ (ds : List Declaration) (words : List ℤ) (limits : Limits) (named : i
 
   as_high : {n h j p : ℕ} {g : Slots} {k : List Task} {fs : List Frame} → h ≡ j → Does ds instrs n g h k p fs → Does ds instrs n g j k p fs
   as_high {n = n} {p = p} {g = g} {k = k} {fs = fs} same does = subst (λ i. Does ds instrs n g i k p fs) same does
+
+  -- at its end
+  finished : {n : ℕ} {g : Slots} (x : Shared ds words limits g n []) (k : List Task) (p : ℕ) (vs : List ℤ) → ((m : ℕ) (f : Slots) → Does ds instrs m f (length vs) k p [])
+      → c.step (program ds words limits) (code_at ds words limits x p vs) ≡ wants Done (c.ended x.scopes (code_at ds words limits x p vs))
+      → Ahead ds words limits (wants Done (m.ended x.scopes (syntax_at ds words limits x k vs))) (code_at ds words limits x p vs)
+  finished {n = n} {g = g} x k p vs does step =
+      both_want ds words limits x p vs Done (m.ended x.scopes (syntax_at ds words limits x k vs)) (c.ended x.scopes (code_at ds words limits x p vs)) step (kept x.scopes)
+    where
+      -- once its locals and its scope are gone
+      bare : Shared ds words limits [] 0 []
+      bare = record {
+        locals = [];
+        numbers = [];
+        scopes = [];
+        fuel = x.fuel;
+        size = x.size;
+        beside = x.beside;
+        begins = x.begins;
+        count = refl;
+        agree = tt;
+      }
+
+      kept : (ns : List ℕ) → Alike ds words limits (m.ended ns (syntax_at ds words limits x k vs)) (c.ended ns (code_at ds words limits x p vs))
+      kept [] = alike ds words limits x k p vs (does n g) refl
+      kept (m ∷ []) = alike ds words limits bare k p vs (does 0 []) refl
+      kept (m ∷ o ∷ ns) = alike ds words limits x k p vs (does n g) refl
 
   follow : {n h p : ℕ} {g : Slots} {todo : List Task} {fs : List Frame} → Does ds instrs n g h todo p fs → (x : Shared ds words limits g n fs) → IsSmall ds words limits x → (vs : List ℤ) → h ≡ length vs → Ahead ds words limits (m.step_of cells functions limits todo (syntax_at ds words limits x todo vs)) (code_at ds words limits x p vs)
   follow (does_value {p = p} {e = e} {k = k} fine has rest) x small vs high = value_follows ds words limits x small p e vs k fine has (as_high (ap suc high) rest)
@@ -70,17 +96,13 @@ module _ (ds : List Declaration) (words : List ℤ) (limits : Limits) (named : i
   follow (does_forget {p = p} {o = o} {k = k} rest) x small vs high = forget_follows ds words limits x small p o vs k (as_high high rest)
   follow (does_wait {p = p} {k = k} there rest) x small vs high = wait_follows ds words limits x small p vs k there (as_high high rest)
   follow (does_commit {p = p} {k = k} there rest) x small vs high = commit_follows ds words limits x small p vs k there (as_high high rest)
-  follow (does_finish {p = p} there) x small [] high = both_want ds words limits x p [] Done (syntax_at ds words limits x (finish ∷ []) []) (code_at ds words limits x p []) (acts ds words limits x p [] small instr.done effect.Done there refl) (alike ds words limits x (finish ∷ []) p [] (does_finish there) refl)
+  follow (does_finish {p = p} there) x small [] high = finished x (finish ∷ []) p [] (λ m f. does_finish there) (acts ds words limits x p [] small instr.done effect.Done there refl)
   follow (does_finish {p = p} there) x small (v ∷ vs) high = absurd (omega (arith, high))
   follow (does_end {p = p} there ends_main) x small [] high = absurd (omega (arith, high))
   follow (does_end {p = p} there ends_left) x small [] high = absurd (omega (arith, high))
   follow (does_end {p = p} there (ends_call g2 agree same rest)) x small [] high = absurd (omega (arith, high))
-  follow (does_end {p = p} there ends_main) x small (v ∷ vs) high =
-      both_want ds words limits x p (v ∷ vs) Done (syntax_at ds words limits x (finish_main ∷ []) (v ∷ vs)) (code_at ds words limits x p (v ∷ vs)) (acts ds words limits x p (v ∷ vs) small instr.ret effect.Ret there refl)
-      (alike ds words limits x (finish_main ∷ []) p (v ∷ vs) (does_end {h = length vs} there ends_main) refl)
-  follow (does_end {p = p} there ends_left) x small (v ∷ vs) high =
-      both_want ds words limits x p (v ∷ vs) Done (syntax_at ds words limits x (finish ∷ []) (v ∷ vs)) (code_at ds words limits x p (v ∷ vs)) (acts ds words limits x p (v ∷ vs) small instr.ret effect.Ret there refl)
-      (alike ds words limits x (finish ∷ []) p (v ∷ vs) (does_end {h = length vs} there ends_left) refl)
+  follow (does_end {p = p} there ends_main) x small (v ∷ vs) high = finished x (finish_main ∷ []) p (v ∷ vs) (λ m f. does_end {h = length vs} there ends_main) (acts ds words limits x p (v ∷ vs) small instr.ret effect.Ret there refl)
+  follow (does_end {p = p} there ends_left) x small (v ∷ vs) high = finished x (finish ∷ []) p (v ∷ vs) (λ m f. does_end {h = length vs} there ends_left) (acts ds words limits x p (v ∷ vs) small instr.ret effect.Ret there refl)
   follow (does_end {p = p} there (ends_call {l = l} {vs = us} {k = k} g2 agree same rest)) x small (v ∷ vs) high = back_follows ds words limits x small p l us v vs k there agree same rest
   follow (does_leave {h = h} {p = p} {k = k} there ending) x small vs high = same_place ds words limits x p vs (unwound k) (does_end {h = h} there ending) (sym high)
 

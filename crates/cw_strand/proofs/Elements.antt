@@ -17,7 +17,7 @@ use Rattle.cw_strand.specs.declared.want.Want.TheVariants.{Out, Begin}
 use Rattle.cw_strand.specs.Strands.{Strands, GoesTo, Reached, stays, answered, joins, of_main, of_left, of_right}
 use Rattle.cw_strand.specs.Running.{Standing, on, wants, stuck, stand}
 use Rattle.cw_strand.specs.Coded as coded
-use Rattle.cw_strand.specs.Meaning.{most_frames}
+use Rattle.cw_strand.specs.Meaning.{one_inside, most_frames}
 use Rattle.cw_strand.specs.Coded.{Frame, State, Step, index, goes_to, counts, spends, result, in_range, read_local, returned, wait_in}
 use Rattle.cw_strand.specs.Laws.{NamesElement}
 use Rattle.cw_strand.proofs.Bounding.{bounded}
@@ -89,7 +89,7 @@ module _ (code : Code) where
   act_names f q t.Ret i ok p (v ∷ vs) s = returned_names s.callers v s
   act_names f q t.Drop i ok p (v ∷ vs) s = tt
   act_names f q t.Out i ok p (v ∷ vs) s = counted_names (Out v) _ tt
-  act_names f q t.Begin i ok p vs s = counted_names Begin (record (goes_to p vs s) { scopes = 0 ∷ s.scopes }) tt
+  act_names f q t.Begin i ok p vs s = counted_names Begin (record (goes_to p vs s) { scopes = one_inside s.scopes }) tt
   act_names f q t.End i ok p vs s = tt
   act_names f q t.Fork i ok p vs s = names_either (nat_le s.limits.size s.size) _ _ (λ e. tt) (λ e. tt)
   act_names f q t.Sync i ok p vs s = waited_names s.scopes p vs s

@@ -17,7 +17,7 @@ use Rattle.cw_strand.specs.Arithmetic.{one, two, is_zero}
 use Rattle.cw_strand.specs.Names.{used, indexed, fault_of_call as call_fault, find, count_of, in_term, in_terms, in_block, in_functions, returned_from, globals, cells_of}
 use Rattle.cw_strand.specs.Running.{on, wants, stuck}
 use Rattle.cw_strand.specs.Laws.{AllIsDone}
-use Rattle.cw_strand.specs.Meaning.{State, Locals, function_of, Task, value, lift, join, enter, discard, perform, bind, store_in, load_at, store_at, show, choose_by, test, repeat_by, forget, wait, commit, finish, finish_main, back_to, leave, arguments, unwound, begins_call, most_frames, bound_to, lifted, joining, lifts, joins, Step, step, step_of, result, read_name, write_name, begin_with, perform_with, wait_in, element_of, cell_of, in_range, local_of, in_place, with_value}
+use Rattle.cw_strand.specs.Meaning.{State, Locals, function_of, Task, value, lift, join, enter, discard, perform, bind, store_in, load_at, store_at, show, choose_by, test, repeat_by, forget, wait, commit, finish, finish_main, back_to, leave, arguments, unwound, begins_call, most_frames, bound_to, lifted, joining, lifts, joins, Step, step, step_of, result, read_name, write_name, begin_with, perform_with, wait_in, element_of, cell_of, in_range, local_of, in_place, with_value, ended}
 use Rattle.cw_strand.proofs.StandingNames.{no_fault, IsFound, IsCell, names_of, with_names, name_found, name_indexed, name_called, names_kept, names_dropped, body_named}
 
 -- the names that are left of more names once those are dropped
@@ -321,7 +321,7 @@ module _ (ds : List Declaration) (limits : Limits) where
       commit_goes (within {o = o} {os = os} r) h = (tt, fit ls frames fuel size beside (o ∷ os) k vs r h)
       commit_goes (in_function r) h = absurd h
 
-    finish_goes : (k : List Task) {own : List ℕ} {os : List Open} → Scoped own os → Fits (finish ∷ k) 0 (names_of ls) os → MayWant Done own × AllIsDone (finish ∷ k) []
+    finish_goes : (k : List Task) {own : List ℕ} {os : List Open} → Scoped own os → Fits (finish ∷ k) 0 (names_of ls) os → Goes own (wants Done (ended (forks_in os) (state ls frames fuel size beside (finish ∷ k) [] os)))
     finish_goes [] (outermost {i = true}) h = (tt, tt)
     finish_goes (t ∷ k) (outermost {i = true}) h = absurd cc
     finish_goes k (outermost {i = false}) h = absurd h
@@ -330,7 +330,7 @@ module _ (ds : List Declaration) (limits : Limits) where
     finish_goes k (within r) h = absurd h
     finish_goes k (in_function r) h = absurd h
 
-    main_goes : (k : List Task) (v : ℤ) {own : List ℕ} {os : List Open} → Scoped own os → Fits (finish_main ∷ k) 1 (names_of ls) os → MayWant Done own × AllIsDone (finish_main ∷ k) (v ∷ [])
+    main_goes : (k : List Task) (v : ℤ) {own : List ℕ} {os : List Open} → Scoped own os → Fits (finish_main ∷ k) 1 (names_of ls) os → Goes own (wants Done (ended (forks_in os) (state ls frames fuel size beside (finish_main ∷ k) (v ∷ []) os)))
     main_goes [] v (outermost {i = false}) h = (tt, tt)
     main_goes (t ∷ k) v (outermost {i = false}) h = absurd cc
     main_goes k v (outermost {i = true}) h = absurd h

@@ -12,13 +12,13 @@ use Rattle.cw_code.specs.declared.Limits.{Limits}
 use Rattle.cw_code.specs.declared.FaultKind.{FaultKind}
 use Rattle.cw_code.specs.declared.FaultKind.TheVariants.{Fuel}
 use Rattle.cw_code.specs.declared.effects.Operator.{Operator}
-use Rattle.cw_strand.specs.declared.want.Want.TheVariants.{Fault}
+use Rattle.cw_strand.specs.declared.want.Want.TheVariants.{Done, Fault}
 use Rattle.cw_strand.specs.declared.want.Given.{Given}
 use Rattle.cw_strand.specs.declared.want.Given.TheVariants.{Nothing, Value}
 use Rattle.cw_strand.specs.Arithmetic.{one, two, is_zero}
 use Rattle.cw_strand.specs.Running.{on, wants, stuck, depth_of, IsBounded}
 use Rattle.cw_strand.specs.Names.{cells_of, count_of}
-use Rattle.cw_strand.specs.Meaning.{State, Locals, Step, Function, function_of, Task, value, lift, join, enter, discard, perform, bind, store_in, load_at, store_at, show, choose_by, test, repeat_by, forget, wait, commit, finish, finish_main, back_to, leave, arguments, unwound, begins_call, most_frames, lifted, joining, lifts, joins, result, wait_in, read_name, write_name, begin_with, perform_with, to_do, spends, local_of, element_of, cell_of, in_range, step, step_of, work, most_added, most_begun, block_work, terms_work, steps_left, with_value, runs}
+use Rattle.cw_strand.specs.Meaning.{State, Locals, Step, Function, function_of, Task, value, lift, join, enter, discard, perform, bind, store_in, load_at, store_at, show, choose_by, test, repeat_by, forget, wait, commit, finish, finish_main, back_to, leave, arguments, unwound, begins_call, most_frames, lifted, joining, lifts, joins, result, wait_in, read_name, write_name, begin_with, perform_with, to_do, spends, local_of, element_of, cell_of, in_range, step, step_of, work, most_added, most_begun, block_work, terms_work, steps_left, with_value, ended, runs}
 
 -- ## Less to do
 
@@ -126,6 +126,11 @@ module _ (ds : List Declaration) (words : List ℤ) (limits : Limits) (cells : L
   wait_leaves n (zero ∷ ns) k s h low = h
   wait_leaves n (suc m ∷ ns) k s h low = low
 
+  ended_leaves : (ns : List ℕ) (s : State) → Leaves (steps_left ds limits s) (wants Done (ended ns s))
+  ended_leaves [] s = omega arith
+  ended_leaves (n ∷ []) s = omega arith
+  ended_leaves (n ∷ m ∷ ns) s = omega arith
+
   spends_leaves : (s : State) (go : State → Step) → (s.fuel < limits.fuel → Leaves (steps_left ds limits s) (go (record s { fuel = s.fuel + 1 }))) → Leaves (steps_left ds limits s) (spends cells functions limits s go)
   spends_leaves s go h = by (nat_le limits.fuel s.fuel) refl
     where
@@ -215,8 +220,8 @@ module _ (ds : List Declaration) (words : List ℤ) (limits : Limits) (cells : L
       leaves (forget n ∷ k) vs = goes k (forget n ∷ k) (omega arith) (omega arith)
       leaves (wait ∷ k) vs = wait_leaves _ ns k (state fuel (wait ∷ k) vs) (goes k (wait ∷ k) (omega arith) (omega arith)) (omega arith)
       leaves (commit ∷ k) vs = goes k (commit ∷ k) (omega arith) (omega arith)
-      leaves (finish ∷ k) vs = omega arith
-      leaves (finish_main ∷ k) (v ∷ vs) = omega arith
+      leaves (finish ∷ k) vs = ended_leaves ns (state fuel (finish ∷ k) vs)
+      leaves (finish_main ∷ k) (v ∷ vs) = ended_leaves ns (state fuel (finish_main ∷ k) (v ∷ vs))
       leaves (back_to l us ∷ k) (v ∷ vs) = goes k (back_to l us ∷ k) (omega arith) (omega arith)
       leaves (leave ∷ k) vs = let h = unwound_work k in goes (unwound k) (leave ∷ k) (omega (arith, h.1)) (omega (arith, h.0))
       leaves todo vs = tt

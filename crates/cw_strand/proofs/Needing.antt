@@ -1,5 +1,5 @@
 -- A strand that stands has what its next instruction needs.
-use Rattle.std.proofs.Common.{◌≡◌, ℕ, ◌+◌, ◌<◌, ◌≤◌, ◌^◌, true, [], length, Some, None, sym, ap, ◌∙◌, subst, arith, ℤ, pos, negsuc, nat_lt}
+use Rattle.std.proofs.Common.{◌≡◌, ℕ, ◌+◌, ◌<◌, ◌≤◌, ◌^◌, true, [], length, Some, None, refl, sym, ap, ◌∙◌, subst, arith, ℤ, pos, negsuc, nat_lt}
 use Rattle.std.specs.Prelude.{slice_get, nat_le}
 use Rattle.std.proofs.lemmas.Bool.{leb-true, and_parts}
 use Rattle.std.proofs.lemmas.Option.{slice_get_within}
@@ -13,7 +13,7 @@ use Rattle.cw_code.proofs.Sound.{below_names, contained, laid, tested}
 use Rattle.cw_strand.specs.Coded.{State, index}
 use Rattle.cw_strand.specs.Standing.{NoneOver, StandsIn}
 use Rattle.cw_strand.specs.Acting.{Needs, HasArguments}
-use Rattle.cw_strand.proofs.Standing.{Here, next}
+use Rattle.cw_strand.proofs.Standing.{Here, locals_here, next}
 use Rattle.cw_strand.proofs.Elements.{cell_below}
 
 array_below : (a : ℤ) (len cells : ℕ) → cells_below a len cells ≡ true → index a + len ≤ cells
@@ -29,8 +29,8 @@ module _ (code : Code) (ok : faults code ≡ []) where
       record { room = omega (arith, room, count); fits = (laid code ok f (contained code.funcs n.0 f at)).locals }
 
   needs : (cells : code.cells < 2 ^ 32) (i : Instr) (e : Effect) (s : State) → NoneOver s.size s.scopes → Here code ok s.current.place (length s.current.locals) (length s.current.operands) i e → Needs code e i s
-  needs cells i t.Local s low w = subst (λ n. index i.a < n) w.at.locals_there (cell_below i.a w.at.func.locals (tested _ _ _ w.operands))
-  needs cells i t.Set s low w = (subst (λ n. index i.a < n) w.at.locals_there (cell_below i.a w.at.func.locals (tested _ _ _ w.operands)), omega (arith, w.room))
+  needs cells i t.Local s low w = subst (λ n. index i.a < n) (locals_here code ok w refl) (cell_below i.a w.at.func.locals (tested _ _ _ w.operands))
+  needs cells i t.Set s low w = (subst (λ n. index i.a < n) (locals_here code ok w refl) (cell_below i.a w.at.func.locals (tested _ _ _ w.operands)), omega (arith, w.room))
   needs cells i t.Load s low w = omega (arith, cells, cell_below i.a code.cells (tested _ _ _ w.operands))
   needs cells i t.LoadAt s low w = (omega (arith, cells, array_below i.a i.b code.cells (tested _ _ _ w.operands)), omega (arith, w.room))
   needs cells i t.Store s low w = (omega (arith, cells, cell_below i.a code.cells (tested _ _ _ w.operands)), omega (arith, w.room))

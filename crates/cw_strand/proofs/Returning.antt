@@ -48,7 +48,7 @@ module _ (kept : Kept) (now : State) (m : MayGoBack kept now) where
   scopes_kept : suc kept.scopes ≡ length start.scopes
   scopes_kept = omega (arith, ap (λ k. k.scopes) m.is_kept, ap length began.opened)
 
-  around_it : drop 1 start.scopes ≡ began.scopes
+  around_it : drop 1 start.scopes ≡ began.around ∷ began.scopes
   around_it = ap (drop 1) began.opened
 
   pub enough_scopes : kept.scopes < length now.scopes

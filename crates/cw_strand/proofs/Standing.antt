@@ -22,10 +22,10 @@ use Rattle.cw_strand.specs.declared.want.Given.{Given}
 use Rattle.cw_strand.specs.declared.want.Given.TheVariants.{Nothing, Value}
 use Rattle.cw_strand.specs.Running.{on, wants, stuck, Visits, starts, steps, answers, goes_left, goes_right, joins}
 use Rattle.cw_strand.specs.Arithmetic.{is_zero}
-use Rattle.cw_strand.specs.Meaning.{in_place, one_more, both_counts, most_frames}
+use Rattle.cw_strand.specs.Meaning.{in_place, one_more, one_inside, both_counts, most_frames}
 use Rattle.cw_strand.specs.Coded as coded
 use Rattle.cw_strand.specs.Coded.{Frame, State, Step, index, goes_to, with_value, locals_for, joined, counted, counts, spends, result, in_range, read_local, write_local, returned, wait_in, starts_at}
-use Rattle.cw_strand.specs.Standing.{StandsAt, WaitAt, NoneOver, StandsIn, HasBegun, StandsWanting, StepStands}
+use Rattle.cw_strand.specs.Standing.{ends, is_end, StandsAt, WaitAt, NoneOver, StandsIn, HasBegun, StandsWanting, StepStands}
 
 there : {X : Type 0} (xs : List X) (n : ℕ) → n < length xs → (x : X) × (slice_get xs n ≡ Some x)
 there [] n lt = absurd (omega arith)
@@ -46,7 +46,27 @@ over_more : (m : ℕ) (ns : List ℕ) → NoneOver m ns → NoneOver (m + 1) (on
 over_more m [] low = (omega arith, tt)
 over_more m (k ∷ ns) low = (omega (arith, low.0), over_less m (m + 1) ns (omega arith) low.1)
 
+over_inside : (m : ℕ) (ns : List ℕ) → NoneOver m ns → NoneOver m (one_inside ns)
+over_inside m [] low = (omega arith, (omega arith, tt))
+over_inside m (k ∷ ns) low = (omega arith, low)
+
+-- a scope that is opened inside those that are open has one around it
+one_around : (ns : List ℕ) → (around : ℕ) × (outer : List ℕ) × (one_inside ns ≡ 0 ∷ around ∷ outer)
+one_around [] = (0, [], refl)
+one_around (n ∷ ns) = (n, ns, refl)
+
 -- ## Steps
+
+-- what goes on is no end
+passed_no_end : (e : Effect) → never_passed (Some e) ≡ false → ends (Some e) ≡ false
+passed_no_end t.Ret goes = absurd cc
+passed_no_end t.Done goes = absurd cc
+passed_no_end e goes = refl
+
+jump_no_end : (e : Effect) → jumps (Some e) ≡ true → ends (Some e) ≡ false
+jump_no_end t.Ret goes = absurd cc
+jump_no_end t.Done goes = absurd cc
+jump_no_end e goes = refl
 
 module _ (code : Code) where
   stands_either : (b : Bool) (x y : Step) → (b ≡ true → StepStands code x) → (b ≡ false → StepStands code y) → StepStands code (if b then x else y)
@@ -72,6 +92,26 @@ module _ (code : Code) where
   pub grown_stands : (s : State) (fuel size : ℕ) → s.size ≤ size → StandsIn code s → StandsIn code (record s { fuel = fuel; size = size })
   grown_stands s fuel size le h = record { current = h.current; callers = h.callers; scopes = over_less s.size size s.scopes le h.scopes }
 
+  -- at an end its locals may be gone
+  ended_stands : (ns : List ℕ) (s : State) → is_end (slice_get code.instrs s.current.place) ≡ true → StandsIn code s → StandsIn code (coded.ended ns s)
+  ended_stands [] s is f = f
+  ended_stands (n ∷ []) s is f =
+      let at = f.current in
+      record {
+        current = record {
+          func = at.func;
+          declared = at.declared;
+          within = at.within;
+          situation = at.situation;
+          known = at.known;
+          operands_there = at.operands_there;
+          locals_there = λ off. absurd (let no : true ≡ false = sym is ∙ off in cc);
+        };
+        callers = f.callers;
+        scopes = tt;
+      }
+  ended_stands (n ∷ m ∷ ns) s is f = f
+
   pub joined_stands : (s t : State) → StandsIn code s → StandsIn code (joined s t)
   joined_stands s t = grown_stands s (max t.fuel s.fuel) (both_counts s.limits s.size t.size) (le-max_left s.size (min (suc s.limits.size) (t.size + s.size)))
 
@@ -80,9 +120,14 @@ module _ (code : Code) (ok : faults code ≡ []) where
   pub record Here (p n h : ℕ) (i : Instr) (e : Effect) : Type 0 where
     pub at : StandsAt code p n h
     pub is : slice_get code.instrs p ≡ Some i
+    pub does : effect_of i ≡ Some e
     pub operands : operand_faults code at.func p i (Some e) ≡ []
     pub around : Around code at.func (places code at.func) p i (Some e) at.situation
     pub room : taken e (called code i.a) ≤ h
+
+  -- the locals are there, but where a strand is done
+  pub locals_here : {p n h : ℕ} {i : Instr} {e : Effect} → (w : Here p n h i e) → ends (Some e) ≡ false → w.at.func.locals ≡ n
+  locals_here w off = w.at.locals_there (ap is_end w.is ∙ ap ends w.does ∙ off)
 
   -- the height behind an instruction
   behind_height : (e : Effect) (i : Instr) (s : Situation) → (onwards code i (Some e) s).height ≡ s.height - taken e (called code i.a) + left_there e
@@ -101,7 +146,7 @@ module _ (code : Code) (ok : faults code ≡ []) where
         situation = onwards code i (Some e) at.situation;
         known = w.around.next (p + 1) q;
         operands_there = omega (arith, behind_height e i at.situation, at.operands_there, eq);
-        locals_there = at.locals_there;
+        locals_there = λ off. locals_here w (passed_no_end e goes);
       }
 
   jumped : {p n h : ℕ} {i : Instr} {e : Effect} → (w : Here p n h i e) → jumps (Some e) ≡ true → is_target code w.at.func p i.a ≡ true → (m : ℕ) → m ≡ h - taken e (called code i.a) + left_there e → StandsAt code (index i.a) n m
@@ -116,7 +161,7 @@ module _ (code : Code) (ok : faults code ≡ []) where
         situation = passed code i (Some e) at.situation;
         known = w.around.target to.0 q;
         operands_there = omega (arith, at.operands_there, eq);
-        locals_there = at.locals_there;
+        locals_there = λ off. locals_here w (jump_no_end e j);
       } in
       subst (λ k. StandsAt code k n m) (sym (ap index to.1)) here
 
@@ -151,9 +196,9 @@ module _ (code : Code) (ok : faults code ≡ []) where
   waited_stands (zero ∷ ns) p vs s low f g = g
   waited_stands (suc n ∷ ns) p vs s low f g = at_want code Sync (record s { scopes = n ∷ ns }) (λ is. cc) (λ is. cc) (record { current = f.current; callers = f.callers; scopes = (omega (arith, low.0), low.1) })
 
-  returned_stands : (fs : List Frame) (v : ℤ) (s : State) → StandsIn code s → WaitAt code fs → StepStands code (returned fs v s)
-  returned_stands [] v s f w = at_want code Done s (λ is. cc) (λ is. cc) f
-  returned_stands (g ∷ fs) v s f w = record { current = w.0; callers = w.1; scopes = over_behind s.size s.scopes f.scopes }
+  returned_stands : (fs : List Frame) (v : ℤ) (s : State) → is_end (slice_get code.instrs s.current.place) ≡ true → StandsIn code s → WaitAt code fs → StepStands code (returned fs v s)
+  returned_stands [] v s end f w = at_want code Done (coded.ended s.scopes s) (λ is. cc) (λ is. cc) (ended_stands code s.scopes s end f)
+  returned_stands (g ∷ fs) v s end f w = record { current = w.0; callers = w.1; scopes = over_behind s.size s.scopes f.scopes }
 
   -- a function begins, with its arguments and zeros
   pub begins : (g : Func) (vs : List ℤ) → Contains code.funcs g → g.params ≤ length vs → StandsAt code g.start (length (locals_for g vs)) 0
@@ -161,7 +206,7 @@ module _ (code : Code) (ok : faults code ≡ []) where
       let li = laid code ok g co in
       let pl = li.locals in
       let len : g.locals ≡ length (locals_for g vs) = simp (length-append, length-reverse, length-replicate, length-take-le g.params vs le) (omega arith) in
-      record { func = g; declared = co; within = inside_is code g g.start (omega arith) li.starts; situation = at_start; known = start_known code g li.starts; operands_there = refl; locals_there = len }
+      record { func = g; declared = co; within = inside_is code g g.start (omega arith) li.starts; situation = at_start; known = start_known code g li.starts; operands_there = refl; locals_there = λ off. len }
 
   called_stands : (o : Option Func) (g : Func) → o ≡ Some g → Contains code.funcs g → (p : ℕ) (vs : List ℤ) (s : State) → g.params ≤ length vs → StandsIn code s → StandsAt code p (length s.current.locals) (suc (length (drop g.params vs))) → StepStands code (coded.begins_call o p vs s)
   called_stands o g e co p vs s le f h =
@@ -175,12 +220,13 @@ module _ (code : Code) (ok : faults code ≡ []) where
     moved p vs h = record { current = h; callers = f.callers; scopes = f.scopes }
 
     -- a block has begun where no operand was left
-    begun_block : (vs : List ℤ) → Here s.current.place (length s.current.locals) (length vs) i t.Begin → length vs ≡ 0 → HasBegun code (record (goes_to (s.current.place + 1) vs s) { scopes = 0 ∷ s.scopes; size = s.size + 1 })
+    begun_block : (vs : List ℤ) → Here s.current.place (length s.current.locals) (length vs) i t.Begin → length vs ≡ 0 → HasBegun code (record (goes_to (s.current.place + 1) vs s) { scopes = one_inside s.scopes; size = s.size + 1 })
     unfolding onward
     begun_block vs w none = record {
       operands = nil_from_length vs none;
-      scopes = s.scopes;
-      opened = refl;
+      around = (one_around s.scopes).0;
+      scopes = (one_around s.scopes).1;
+      opened = (one_around s.scopes).2;
       current = onward w refl 0 (omega (arith, none));
       within = let some : 0 < w.at.situation.blocks + 1 = omega arith in some;
     }
@@ -189,12 +235,12 @@ module _ (code : Code) (ok : faults code ≡ []) where
     act_stands t.Push vs w = moved _ (i.a ∷ vs) (onward w refl _ (omega arith))
     act_stands t.Local vs w =
         let n = below_names i.a w.at.func.locals (tested _ _ _ w.operands) in
-        let x = there s.current.locals n.0 (omega (arith, n.2, w.at.locals_there)) in
+        let x = there s.current.locals n.0 (omega (arith, n.2, locals_here w refl)) in
         let here : slice_get s.current.locals (index i.a) ≡ Some x.0 = ap (λ z. slice_get s.current.locals (index z)) n.1 ∙ x.1 in
         read_stands (slice_get s.current.locals (index i.a)) x.0 here (s.current.place + 1) vs s f (onward w refl _ (omega arith))
     act_stands t.Set (v ∷ vs) w =
         let n = below_names i.a w.at.func.locals (tested _ _ _ w.operands) in
-        let lt : index i.a < length s.current.locals = subst (λ z. index z < length s.current.locals) (sym n.1) (omega (arith, n.2, w.at.locals_there)) in
+        let lt : index i.a < length s.current.locals = subst (λ z. index z < length s.current.locals) (sym n.1) (omega (arith, n.2, locals_here w refl)) in
         write_stands (index i.a) v (s.current.place + 1) vs s lt f (onward w refl _ (omega arith))
     act_stands t.Load vs w = wants_counted _ _ (λ is. cc) (λ is. cc) (moved _ (pos 0 ∷ vs) (onward w refl _ (omega arith)))
     act_stands t.LoadAt (n ∷ vs) w = range_stands _ n s _ f (wants_counted _ _ (λ is. cc) (λ is. cc) (moved _ (pos 0 ∷ vs) (onward w refl _ (omega arith))))
@@ -218,15 +264,15 @@ module _ (code : Code) (ok : faults code ≡ []) where
         let spent = record s { fuel = s.fuel + 1 } in
         spent_stands s (λ u. coded.begins_call (slice_get code.funcs (index i.a)) (s.current.place + 1) vs u) f
         (called_stands (slice_get code.funcs (index i.a)) x.0 here (contained code.funcs n.0 x.0 x.1) (s.current.place + 1) vs spent (omega (arith, w.room, count)) (record { current = f.current; callers = f.callers; scopes = f.scopes }) (onward w refl _ (omega (arith, w.room, count, length-drop x.0.params vs))))
-    act_stands t.Ret (v ∷ vs) w = returned_stands s.callers v s f f.callers
+    act_stands t.Ret (v ∷ vs) w = returned_stands s.callers v s (ap is_end w.is ∙ ap ends w.does) f f.callers
     act_stands t.Drop (v ∷ vs) w = moved _ vs (onward w refl _ (omega arith))
     act_stands t.Out (v ∷ vs) w = wants_counted _ _ (λ is. cc) (λ is. cc) (moved _ vs (onward w refl _ (omega arith)))
     act_stands t.Begin vs w =
         let here : StandsAt code (s.current.place + 1) (length s.current.locals) (length vs) = onward w refl _ (omega arith) in
         let none : length vs ≡ 0 = omega (arith, w.at.operands_there, w.around.border refl) in
-        let begun : State = record (goes_to (s.current.place + 1) vs s) { scopes = 0 ∷ s.scopes } in
-        counted_stands begun (λ u. wants Begin u) (record { current = here; callers = f.callers; scopes = (omega arith, f.scopes) }) (record {
-          stands = record { current = here; callers = f.callers; scopes = (omega arith, over_less s.size (s.size + 1) s.scopes (omega arith) f.scopes) };
+        let begun : State = record (goes_to (s.current.place + 1) vs s) { scopes = one_inside s.scopes } in
+        counted_stands begun (λ u. wants Begin u) (record { current = here; callers = f.callers; scopes = over_inside s.size s.scopes f.scopes }) (record {
+          stands = record { current = here; callers = f.callers; scopes = over_inside (s.size + 1) s.scopes (over_less s.size (s.size + 1) s.scopes (omega arith) f.scopes) };
           beside = λ is. absurd (let no : Begin ≡ Fork = is in cc);
           begun = λ is. begun_block vs w none;
         })
@@ -239,7 +285,7 @@ module _ (code : Code) (ok : faults code ≡ []) where
           begun = λ is. absurd (let no : Fork ≡ Begin = is in cc);
         })
     act_stands t.Sync vs w = waited_stands s.scopes (s.current.place + 1) vs s f.scopes f (moved _ vs (onward w refl _ (omega arith)))
-    act_stands t.Done vs w = at_want code Done s (λ is. cc) (λ is. cc) f
+    act_stands t.Done vs w = at_want code Done (coded.ended s.scopes s) (λ is. cc) (λ is. cc) (ended_stands code s.scopes s (ap is_end w.is ∙ ap ends w.does) f)
     act_stands t.Tick vs w = spent_stands s (λ u. on (goes_to (s.current.place + 1) vs u)) f (record { current = onward w refl _ (omega arith); callers = f.callers; scopes = f.scopes })
     act_stands t.Set [] w = absurd (omega (arith, w.room))
     act_stands t.LoadAt [] w = absurd (omega (arith, w.room))
@@ -272,7 +318,7 @@ module _ (code : Code) (ok : faults code ≡ []) where
       let e = has_effect code at.func s.current.place i (effect_of i) ops in
       let ops2 = subst (λ o. operand_faults code at.func s.current.place i o ≡ []) e.1 ops in
       let sit2 = around code at.func (places code at.func) s.current.place i (Some e.0) at.situation (subst (λ o. situation_faults code at.func (places code at.func) s.current.place i o at.situation ≡ []) e.1 sit) in
-      record { instr = i; effect = e.0; does = e.1; here = record { at = at; is = is.1; operands = ops2; around = sit2; room = omega (arith, sit2.room, at.operands_there) } }
+      record { instr = i; effect = e.0; does = e.1; here = record { at = at; is = is.1; does = e.1; operands = ops2; around = sit2; room = omega (arith, sit2.room, at.operands_there) } }
 
   -- no step of a strand that stands is stuck, and what it leads to stands
   pub step_stands : (s : State) → StandsIn code s → StepStands code (coded.step code s)

@@ -10,7 +10,7 @@ use Rattle.cw_code.specs.declared.FaultKind.TheVariants.{Size}
 use Rattle.cw_strand.specs.declared.want.Want.TheVariants.{Begin, Fork, Fault}
 use Rattle.cw_strand.specs.Names.{◌then◌, count_of, in_term, in_statement, in_block, cells_of}
 use Rattle.cw_strand.specs.Meaning as m
-use Rattle.cw_strand.specs.Meaning.{Function, function_of, arguments, enter, discard, leave, Task, value, perform, bind, store_in, store_at, show, choose_by, test, forget, wait, commit, finish, one_more, cell_of}
+use Rattle.cw_strand.specs.Meaning.{Function, function_of, arguments, enter, discard, leave, Task, value, perform, bind, store_in, store_at, show, choose_by, test, forget, wait, commit, finish, one_more, one_inside, cell_of}
 use Rattle.cw_strand.specs.Coded.{Frame}
 use Rattle.cw_strand.specs.Compilation.{Slots, code_of, function_names, calls, term_code, terms_code, statement_code, block_code, slots_after, slot_of, most, most_in, writes, set, tick, begin, end, fork, stores_at}
 use Rattle.cw_strand.specs.Compilation as instr
@@ -53,7 +53,7 @@ module _ (ds : List Declaration) (words : List ℤ) (limits : Limits) where
         let back = dropped_behind b g (length x.locals) (same_count x.locals g x.numbers x.agree) in
         let last = does_wait tail.0 (does_commit tail.1.0 (subst (λ q. DoesThen q) past rest)) in
         let does = does_perform true named room (front instrs (p + 1) a (instr.wait ∷ end ∷ []) has.1) (does_forget {o = length x.locals} (subst (λ q. Does ds instrs n q (length vs) (wait ∷ commit ∷ k) (p + 1 + length a) fs) (sym back) last)) in
-        let y : Shared ds words limits g n fs = record x { scopes = 0 ∷ x.scopes } in
+        let y : Shared ds words limits g n fs = record x { scopes = one_inside x.scopes } in
         let z : Shared ds words limits g n fs = record y { size = x.size + 1 } in
         let inside : List Task = perform b ∷ forget (length x.locals) ∷ wait ∷ commit ∷ k in
         counts_follow ds words limits x small p vs Begin y inside (p + 1) vs (acts ds words limits x p vs small begin effect.Begin has.0 refl) (alike ds words limits z inside (p + 1) vs does refl)

@@ -20,7 +20,7 @@ use Rattle.cw_strand.specs.declared.want.Given.TheVariants.{Nothing, Value}
 use Rattle.cw_strand.specs.Strands.{Strands}
 use Rattle.cw_strand.specs.Running as running
 use Rattle.cw_strand.specs.Running.{Running, Standing, on, wants, stuck}
-use Rattle.cw_strand.specs.Meaning.{one_more, in_place, both_counts, most_frames}
+use Rattle.cw_strand.specs.Meaning.{one_more, one_inside, in_place, both_counts, most_frames}
 use Rattle.cw_strand.specs.Arithmetic.{one, two, is_zero}
 
 -- a function that stands: where it goes on, its operands, the newest first, and its locals by number
@@ -61,6 +61,11 @@ with_value (Value v) s = goes_to s.current.place (in_place v s.current.operands)
 -- the arguments, the last one first, as the first locals, and zeros after them
 abbrev pub locals_for : Func → List ℤ → List ℤ
 locals_for f vs = reverse (take f.params vs) ++ replicate (f.locals - f.params) (pos 0)
+
+-- what is done, with no scope open but its own, keeps no locals and no scope
+abbrev pub ended : List ℕ → State → State
+ended (n ∷ []) s = record s { current = record { place = s.current.place; operands = s.current.operands; locals = [] }; scopes = [] }
+ended ns s = s
 
 -- the left strand of the newest fork: it has the locals and the fuel spent so far, and counts from 0
 abbrev pub left : State → State
@@ -117,7 +122,7 @@ begins_call (Some f) p vs s =
     })
 
 abbrev pub returned : List Frame → ℤ → State → Step
-returned [] v s = wants Done s
+returned [] v s = wants Done (ended s.scopes s)
 returned (f ∷ fs) v s = on (record s {
   current = record { place = f.place; operands = v ∷ f.operands; locals = f.locals };
   callers = fs;
@@ -148,11 +153,11 @@ module _ (code : Code) where
   act ret i p (v ∷ vs) s = returned s.callers v s
   act drop_top i p (v ∷ vs) s = on (goes_to p vs s)
   act out i p (v ∷ vs) s = counts (Out v) (goes_to p vs s)
-  act begin i p vs s = counts Begin (record (goes_to p vs s) { scopes = 0 ∷ s.scopes })
+  act begin i p vs s = counts Begin (record (goes_to p vs s) { scopes = one_inside s.scopes })
   act end i p vs s = wants End (record (goes_to p vs s) { scopes = drop 1 s.scopes })
   act fork i p vs s = counted s (λ t. wants Fork (record (goes_to (index i.a) vs t) { scopes = one_more t.scopes; beside = p }))
   act sync i p vs s = wait_in s.scopes p vs s
-  act done i p vs s = wants Done s
+  act done i p vs s = wants Done (ended s.scopes s)
   act tick i p vs s = spends s (λ t. on (goes_to p vs t))
   act e i p vs s = stuck
 

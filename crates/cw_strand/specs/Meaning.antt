@@ -201,6 +201,11 @@ abbrev pub one_more : List ℕ → List ℕ
 one_more [] = 1 ∷ []
 one_more (n ∷ ns) = (n + 1) ∷ ns
 
+-- one scope more, inside those that are open: where none is, the strand's own is opened too
+abbrev pub one_inside : List ℕ → List ℕ
+one_inside [] = 0 ∷ 0 ∷ []
+one_inside ns = 0 ∷ ns
+
 -- a scope that has nothing to wait for goes on
 abbrev pub wait_in : List ℕ → List Task → State → Step
 wait_in (suc n ∷ ns) k s = wants Sync (record s { todo = wait ∷ k; scopes = n ∷ ns })
@@ -214,6 +219,11 @@ in_place v (x ∷ xs) = v ∷ xs
 abbrev pub with_value : Given → State → State
 with_value Nothing s = s
 with_value (Value v) s = record s { values = in_place v s.values }
+
+-- what is done, with no scope open but its own, keeps no locals and no scope
+abbrev pub ended : List ℕ → State → State
+ended (n ∷ []) s = record s { locals = []; scopes = [] }
+ended ns s = s
 
 -- the left strand of the newest fork: it has the locals and the fuel spent so far, and counts from 0
 abbrev pub left : State → State
@@ -278,7 +288,7 @@ module _ (cells : List CellInfo) (functions : List ℕ → Option Function) (lim
   begin_with (out e) k s = on (to_do (value e ∷ show ∷ k) s)
   begin_with (choose e a b) k s = on (to_do (value e ∷ choose_by a b ∷ k) s)
   begin_with (repeat e b) k s = on (to_do (test e b ∷ k) s)
-  begin_with (atomic b) k s = counts Begin (record s { todo = perform b ∷ forget (length s.locals) ∷ wait ∷ commit ∷ k; scopes = 0 ∷ s.scopes })
+  begin_with (atomic b) k s = counts Begin (record s { todo = perform b ∷ forget (length s.locals) ∷ wait ∷ commit ∷ k; scopes = one_inside s.scopes })
   begin_with (spawn b) k s = counted s (λ t. wants Fork (record t { todo = k; scopes = one_more t.scopes; beside = b }))
   begin_with sync k s = on (to_do (wait ∷ k) s)
   begin_with (return l e) k s = on (to_do (value e ∷ wait ∷ leave ∷ k) s)
@@ -315,8 +325,8 @@ module _ (cells : List CellInfo) (functions : List ℕ → Option Function) (lim
   act (forget n) vs k s = on (record s { todo = k; locals = drop (length s.locals - n) s.locals })
   act wait vs k s = wait_in s.scopes k s
   act commit vs k s = wants End (record s { todo = k; scopes = drop 1 s.scopes })
-  act finish vs k s = wants Done s
-  act finish_main (v ∷ vs) k s = wants Done s
+  act finish vs k s = wants Done (ended s.scopes s)
+  act finish_main (v ∷ vs) k s = wants Done (ended s.scopes s)
   act (back_to ls us) (v ∷ vs) k s = on (record s { todo = k; values = v ∷ us; locals = ls; frames = s.frames - 1; scopes = drop 1 s.scopes })
   act leave vs k s = on (to_do (unwound k) s)
   act t vs k s = stuck

@@ -1,22 +1,36 @@
 -- Where a strand of code stands: each of its functions at a place of the code, with the locals and the operands that stand there.
-use Rattle.std.specs.Prelude.{◌≡◌, ◌<◌, ◌≤◌, ℕ, suc, true, List, [], ◌∷◌, length, Contains, Some, ℤ}
+use Rattle.std.specs.Prelude.{◌≡◌, ◌<◌, ◌≤◌, ℕ, suc, Bool, true, false, List, [], ◌∷◌, length, slice_get, Contains, Option, Some, None, ℤ}
 use Rattle.cw_code.specs.declared.Limits.{Limits}
 use Rattle.cw_code.specs.declared.instruction.Func.{Func}
+use Rattle.cw_code.specs.declared.instruction.Instr.{Instr}
 use Rattle.cw_code.specs.declared.instruction.Code.{Code}
 use Rattle.cw_code.specs.declared.situation.Situation.{Situation}
-use Rattle.cw_code.specs.Rules.{inside, known_at, places}
+use Rattle.cw_code.specs.declared.effects.Effect.{Effect}
+use Rattle.cw_code.specs.declared.effects.Effect.TheVariants.{Ret as ret, Done as done}
+use Rattle.cw_code.specs.Rules.{effect_of, inside, known_at, places}
 use Rattle.cw_strand.specs.declared.want.Want.{Want}
 use Rattle.cw_strand.specs.declared.want.Want.TheVariants.{Begin, Fork}
 use Rattle.cw_strand.specs.declared.want.Given.{Given}
 use Rattle.cw_strand.specs.Running.{stand, on, wants, stuck}
 use Rattle.cw_strand.specs.Coded.{Frame, State, Step, left, with_value, runs}
 
+-- a function or a strand ends here
+abbrev pub ends : Option Effect → Bool
+ends (Some ret) = true
+ends (Some done) = true
+ends e = false
+
+abbrev pub is_end : Option Instr → Bool
+is_end None = false
+is_end (Some i) = ends (effect_of i)
+
 abbrev pub NoneOver : ℕ → List ℕ → Type 0
 NoneOver most [] = Unit {0}
 NoneOver most (n ∷ ns) = (n ≤ most) × NoneOver most ns
 
 module _ (code : Code) where
-  -- At a place of a function of the code something stands: so many operands. The function has so many locals.
+  -- At a place of a function of the code something stands: so many operands. The function has so many locals; where it ends
+  -- they may have been given up.
   pub record StandsAt (place locals operands : ℕ) : Type 0 where
     pub func : Func
     pub declared : Contains code.funcs func
@@ -24,7 +38,7 @@ module _ (code : Code) where
     pub situation : Situation
     pub known : known_at func (places code func) place ≡ Some situation
     pub operands_there : situation.height ≡ operands
-    pub locals_there : func.locals ≡ locals
+    pub locals_there : is_end (slice_get code.instrs place) ≡ false → func.locals ≡ locals
 
   -- each function that waits has one operand more where it goes on: what is returned to it
   abbrev pub WaitAt : List Frame → Type 0
@@ -38,11 +52,13 @@ module _ (code : Code) where
     pub callers : WaitAt s.callers
     pub scopes : NoneOver s.size s.scopes
 
-  -- A block has just begun: the strand stands inside a block, with no operand, and on all scopes stands one that waits for nothing.
+  -- A block has just begun: the strand stands inside a block, with no operand, and inside the scopes that were open, its own at least, stands
+  -- one that waits for nothing.
   pub record HasBegun (s : State) : Type 0 where
     pub operands : s.current.operands ≡ []
+    pub around : ℕ
     pub scopes : List ℕ
-    pub opened : s.scopes ≡ 0 ∷ scopes
+    pub opened : s.scopes ≡ 0 ∷ around ∷ scopes
     pub current : StandsAt s.current.place (length s.current.locals) 0
     pub within : 0 < current.situation.blocks
 

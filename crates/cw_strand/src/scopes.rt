@@ -1,4 +1,5 @@
 ghost use Rattle.std.specs.Prelude.{◌≡◌, ◌<◌, [], ◌∷◌, length, drop, MatchOption, OnOk, OnErr};
+ghost use Rattle.cw_strand.specs.Meaning.{one_inside};
 ghost use Rattle.cw_strand.specs.Saving.{lowest};
 
 use cw_base::OutOfMemory;
@@ -40,6 +41,16 @@ impl Scopes {
     {
         self.forks.push(forks)?;
         Ok(())
+    }
+
+    /// One scope more opens, that of a block.
+    pub fn open(&mut self) -> Result<(), OutOfMemory>
+        ensures { OnOk result (self.new ≡ one_inside self.old) }
+    {
+        if self.newest().is_none() {
+            self.push(0)?;
+        }
+        self.push(0)
     }
 
     pub fn pop(&mut self) -> Option<u32>

@@ -14,11 +14,6 @@ pub with_tokens_append : (text : List ℕ) (ps qs : List Placed) → with_tokens
 with_tokens_append text [] qs = refl
 with_tokens_append text (p ∷ ps) qs = with_tokens_append (text ++ (spelled p.0 ++ blank_behind p.0 ∷ [])) ps qs
 
--- a bracket, if it is needed
-abbrev pub bracket_if : Bool → List Placed → List Placed
-bracket_if true ps = ps
-bracket_if false ps = []
-
 pub with_tokens_text : (text : List ℕ) (ps : List Placed) → with_tokens text ps ≡ text ++ text_of ps
 with_tokens_text text [] = sym (append-nil text)
 with_tokens_text text (p ∷ ps) =

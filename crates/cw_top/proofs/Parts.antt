@@ -57,14 +57,6 @@ pub record IsReading (limit most : ℕ) (text rest : List ℕ) (count : ℕ) (ke
   pub parts : count + length (parts_of rest) ≡ length (parts_of text)
   pub numbers : numbers_below limit (parts_of text) ≡ behind before (numbers_below limit (parts_of rest))
 
-behind_none : (ns : Option (List ℕ)) → ns ≡ behind [] ns
-behind_none None = refl
-behind_none (Some ms) = refl
-
-pub opens : (limit most : ℕ) (text : List ℕ) (kept : Result (List ℕ) OutOfMemory) → kept ≡ Ok [] → IsReading limit most text text 0 kept
-opens limit most text (Ok ns) e = record { before = []; so_far = cc; few = omega arith; parts = omega arith; numbers = behind_none (numbers_below limit (parts_of text)) }
-opens limit most text (Err x) e = cc
-
 one_more : (before : List ℕ) (n : ℕ) (ns : Option (List ℕ)) → behind before (option_map (λ ms. n ∷ ms) ns) ≡ behind (before ++ n ∷ []) ns
 one_more before n None = refl
 one_more before n (Some ms) = ap Some (sym (append_assoc before (n ∷ []) ms))
@@ -73,10 +65,6 @@ pub one_longer : (old new : Result (List ℕ) OutOfMemory) (before : List ℕ) (
 one_longer old (Err e) before n h k = tt
 one_longer (Ok ms) (Ok ns) before n h k = h ∙ ap (λ is. is ++ n ∷ []) k
 one_longer (Err e) (Ok ns) before n h k = absurd h
-
-either_none : (b : Bool) (ns : Option (List ℕ)) → ns ≡ None → (if b then ns else None) ≡ None
-either_none true ns e = e
-either_none false ns e = refl
 
 module _ (limit most : ℕ) (text rest : List ℕ) (count : ℕ) (kept : Result (List ℕ) OutOfMemory) (i : IsReading limit most text rest count kept) where
   -- as many were read as may be, and more is left
@@ -91,10 +79,6 @@ module _ (limit most : ℕ) (text rest : List ℕ) (count : ℕ) (kept : Result 
     left : numbers_below limit (parts_of text) ≡ behind i.before (numbers_below limit (part ∷ parts))
     left = i.numbers ∙ ap (λ ps. behind i.before (numbers_below limit ps)) cuts
 
-    -- a part that spells no number
-    pub bad : number_within 0 (limit - 1) part ≡ None → list_below limit most text ≡ None
-    bad e = either_none (nat_le (length (parts_of text)) most) _ (left ∙ ap (λ o. behind i.before (option_and_then (λ n. option_map (λ ns. n ∷ ns) (numbers_below limit parts)) o)) e)
-
     module _ (n : ℕ) (e : number_within 0 (limit - 1) part ≡ Some n) where
       more : numbers_below limit (parts_of text) ≡ behind (i.before ++ n ∷ []) (numbers_below limit parts)
       more = left ∙ ap (λ o. behind i.before (option_and_then (λ m. option_map (λ ns. m ∷ ns) (numbers_below limit parts)) o)) e ∙ one_more i.before n (numbers_below limit parts)
@@ -107,12 +91,3 @@ module _ (limit most : ℕ) (text rest : List ℕ) (count : ℕ) (kept : Result 
         parts = let one = ap length cuts in let same = ap length is in omega (arith, i.parts);
         numbers = more ∙ ap (λ ps. behind (i.before ++ n ∷ []) (numbers_below limit ps)) is;
       }
-
-      -- the last part
-      pub ends : (new : Result (List ℕ) OutOfMemory) → parts ≡ [] → count < most → IfOk new (λ ns. IsOkAnd kept (λ ms. ns ≡ ms ++ n ∷ [])) → Reads (list_below limit most text) (Some new)
-      ends new is less h =
-          let one = ap length cuts in
-          let none = ap length is in
-          let within : length (parts_of text) ≤ most = omega (arith, i.parts) in
-          let all : list_below limit most text ≡ Some (i.before ++ n ∷ []) = rw (le-leb (length (parts_of text)) most within) (more ∙ ap (λ ps. behind (i.before ++ n ∷ []) (numbers_below limit ps)) is ∙ ap Some (append-nil (i.before ++ n ∷ []))) in
-          subst (λ (o : Option (List ℕ)). Reads o (Some new)) (sym all) (one_longer kept new i.before n h i.so_far)

@@ -12,12 +12,6 @@ use Rattle.cw_top.specs.Reading.{integers_in, known_in, text_in}
 -- ## Whether options are known
 
 module _ (names : List (List ℕ)) (g h : Option Given) where
-  pub known_word : (w : List ℕ) → g ≡ option_map (with_word w) h → known_in names g ≡ known_in names h
-  known_word w e = ap (known_in names) e ∙ go h
-    where
-      go : (o : Option Given) → known_in names (option_map (with_word w) o) ≡ known_in names o
-      go None = refl
-      go (Some x) = refl
 
   module _ (name value : List ℕ) (e : g ≡ option_map (with_option name value) h) where
     pub known_option : list_any (λ k. bytes_eq k name) names ≡ true → known_in names g ≡ known_in names h
@@ -75,10 +69,6 @@ module _ (name : List ℕ) (g h : Option Given) where
         go None = refl
         go (Some x) = rw k refl
 
-pub value_at_end : (name : List ℕ) (found : Option (Bor (List ℕ))) (g : Option Given) → g ≡ Some (only_words []) → value_after name found g ≡ text_in (Some found)
-value_at_end name None g e = ap (value_after name None) e
-value_at_end name (Some v) g e = ap (value_after name (Some v)) e
-
 -- ## The integers of main
 
 -- the integers so far, unless memory was wanting, and what is left
@@ -126,11 +116,3 @@ module _ (all : Option (List ℤ)) (kept : Result (List ℤ) OutOfMemory) (g h :
         longer old (Err x) a b = tt
         longer (Ok ms) (Ok ns) a b = a ∙ ap (λ is. is ++ n ∷ []) b
         longer (Err x) (Ok ns) a b = absurd a
-
-  pub all_read : g ≡ Some (only_words []) → Reads all (Some kept)
-  all_read e =
-      let is : all ≡ Some i.before = i.left ∙ ap (λ o. option_map (λ ms. i.before ++ ms) (integers_in o)) e ∙ ap Some (append-nil i.before) in
-      subst (λ (o : Option (List ℤ)). Reads o (Some kept)) (sym is) i.so_far
-
-  pub none_left : g ≡ None → all ≡ None
-  none_left e = i.left ∙ ap (λ o. option_map (λ ms. i.before ++ ms) (integers_in o)) e

@@ -17,10 +17,6 @@ item_first xs i x lt is = drop_more xs i x lt ∙ ap (λ y. y ∷ drop (i + 1) x
 pub in_block_next : (g : Scope) (inside : Bool) (xs : List Stmt) (i : ℕ) (x : Stmt) → i < length xs → x ≡ get_or xs i x → in_statement g inside (statement_of x) ≡ None → in_block g inside (block_of (drop i xs)) ≡ in_block (scope_after (statement_of x) g) inside (block_of (drop (i + 1) xs))
 in_block_next g inside xs i x lt is none = rw (item_first xs i x lt is, none) refl
 
--- an argument without a fault, in the same way
-pub in_terms_next : (g : Scope) (xs : List Expr) (i : ℕ) (x : Expr) → i < length xs → x ≡ get_or xs i x → in_term g (term_of x) ≡ None → in_terms g (terms_of (drop i xs)) ≡ in_terms g (terms_of (drop (i + 1) xs))
-in_terms_next g xs i x lt is none = rw (item_first xs i x lt is, none) refl
-
 -- the arguments are as many as the expressions
 pub arguments_counted : (xs : List Expr) → count_of (terms_of xs) ≡ length xs
 arguments_counted [] = refl

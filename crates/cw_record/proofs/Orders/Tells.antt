@@ -9,9 +9,6 @@ use Rattle.cw_tree.specs.Nodes.{block_with_stamp}
 use Rattle.cw_tree.specs.Series.{strand_of}
 use Rattle.cw_tree.specs.Refusals.{victim_of, is_refused_in, tells}
 
-pub victim_none : (c : Conflict) → c.victim ≡ 0 → victim_of c ≡ None
-victim_none c h = ap (λ b. cond b None (Some c.victim)) (eq-eqb c.victim 0 h)
-
 pub victim_some : (c : Conflict) → (c.victim ≡ 0 → ⊥) → victim_of c ≡ Some c.victim
 victim_some c h = ap (λ b. cond b None (Some c.victim)) (ne_eqb c.victim 0 h)
 

@@ -40,7 +40,7 @@ abbrev pub Where : Bool → Type 0 → Type 0
 Where true P = P
 Where false P = Unit {0}
 
-where_true : (b : Bool) (P : Type 0) → Where b P → IsTrue b → P
+pub where_true : (b : Bool) (P : Type 0) → Where b P → IsTrue b → P
 where_true true P h e = h
 where_true false P h e = absurd (cc e)
 

@@ -15,6 +15,7 @@ use Rattle.cw_strand.specs.declared.want.Given.{Given}
 use Rattle.cw_strand.specs.Arithmetic.{one, two}
 use Rattle.cw_strand.specs.Strands as strands
 use Rattle.cw_strand.specs.Strands.{Strands}
+use Rattle.cw_strand.specs.Meaning.{one_inside}
 use Rattle.cw_strand.specs.Running as running
 use Rattle.cw_strand.specs.Running.{Running, Standing, LocalStep, on, wants, stuck}
 use Rattle.cw_strand.specs.Coded as coded
@@ -107,7 +108,7 @@ module _ (code : Code) where
   act_plain effect.Drop i p (v ∷ vs) s h = tt
   act_plain effect.Out i p [] s h = tt
   act_plain effect.Out i p (v ∷ vs) s h = counts_plain (want.Out v) (coded.goes_to p vs s) refl
-  act_plain effect.Begin i p vs s h = counts_plain want.Begin (record (coded.goes_to p vs s) { scopes = 0 ∷ s.scopes }) refl
+  act_plain effect.Begin i p vs s h = counts_plain want.Begin (record (coded.goes_to p vs s) { scopes = one_inside s.scopes }) refl
   act_plain effect.End i p vs s h = refl
   act_plain effect.Fork i p vs s h = absurd (cc h)
   act_plain effect.Sync i p vs s h = wait_plain s.scopes p vs s

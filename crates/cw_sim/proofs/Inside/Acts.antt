@@ -42,9 +42,6 @@ module _ {A : Type 0} (s : Strands A) (first : List ℤ) (k z : CoreState) (on :
   told : IsToldState first m
   told = told_states at_once first m on.core.reached
 
-  told_now : IsToldState first u
-  told_now = told_states at_once first u core.reached
-
   tree : IsTree m.tree
   tree = told.state.well.sound.tree
 

@@ -119,15 +119,6 @@ module _ {A : Type 0} (s : Strands A) (first : List ℤ) (m : Simulation A) (on 
         let P : A → Type 0 = λ a. Reached s (levels t (place t x)) a in
         subst P (st.strands x (running_current x running) (running_waits x running)) there
 
-    -- and so does what is saved of a pending block
-    block_reached : (b : ℕ) → is_pending t b ≡ true → Reached s (levels t (parent_of t b)) (m.saved b)
-    block_reached b pending =
-        let some = pending_some t tree.root b pending in
-        let low = node_there (λ y. is_block_kind y.kind && is_pending_state y.state) t b pending in
-        let other = false_from_ne_true (is_fork t (parent_of t b)) (λ fork. absurd (let none = strand_no_block t b (fork_child t tree b some low fork) in let block = pending_block t b pending in cc (none, block))) in
-        let P : A → Type 0 = λ a. Reached s (levels t (parent_of t b)) a in
-        subst P (st.saved b pending) (before_reached s t before after reached tree all on.forks b some low other)
-
   -- a strand that may go on stands where a run comes to
   pub free_is_reached : HasStates s m → (x : ℕ) → is_free o x ≡ true → Reached s (levels t (place t x)) (m.at x)
   free_is_reached (before, after, reached, st) = strand_reached before after reached st

@@ -1,6 +1,6 @@
 -- Every event that a move makes fits, and all is kept while the run is not over; so what moves come to is a closed run, and the record of
 -- that of a compiled program is coherent.
-use Rattle.std.proofs.Common.{ℕ, ◌<◌, ◌^◌, List, length, refl, sym, subst, Bool, true, false, Option, Some, None}
+use Rattle.std.proofs.Common.{ℕ, ◌<◌, ◌^◌, List, length, refl, sym, subst}
 use Rattle.std.specs.Prelude.{ℤ, not}
 use Rattle.cw_io.specs.declared.schedule.Schedule.{Schedule}
 use Rattle.cw_strand.specs.Names.{first_memory}
@@ -9,8 +9,7 @@ use Rattle.cw_strand.specs.Strands.{Strands}
 use Rattle.cw_tree.specs.declared.node.Node.{Node}
 use Rattle.cw_tree.specs.declared.access.Entry.{Entry}
 use Rattle.cw_tree.specs.declared.conflict.Conflict.{Conflict}
-use Rattle.cw_tree.specs.declared.closed.Halt.{Halt}
-use Rattle.cw_tree.specs.declared.closed.Halt.TheVariants.{Fault, Budget, Memory}
+use Rattle.cw_core.specs.State.{start}
 use Rattle.cw_core.specs.Closing.{journals_of}
 use Rattle.cw_core.specs.Laws.{IsCore}
 use Rattle.cw_core.proofs.Events.Going.{well}
@@ -24,18 +23,18 @@ use Rattle.cw_record.specs.Records.{job_of_record, IsNumberedDepthFirst}
 use Rattle.cw_record.proofs.ClosedRun.LeftEnds.{has_outputs}
 use Rattle.cw_record.proofs.ClosedRun.LeftRuns.{left_coherent}
 use Rattle.cw_record.proofs.ClosedRun.NumberedTrees.{numbered_in_order}
-use Rattle.cw_sim.specs.Workers.{Simulation, tree}
+use Rattle.cw_sim.specs.Workers.{Simulation, tree, first_simulation}
 use Rattle.cw_sim.specs.Turns.{worker_at, ListsWorkers}
-use Rattle.cw_sim.specs.Moves.{is_run_over, move}
+use Rattle.cw_sim.specs.Moves.{is_run_over, move, after_moves}
 use Rattle.cw_sim.specs.Kept.{HasStates, IsKept}
-use Rattle.cw_sim.specs.Laws.{AreStrands, MovesFit}
+use Rattle.cw_sim.specs.Laws.{AreStrands, ComesByEvents, MovesFit}
 use Rattle.cw_sim.specs.Runs.{RunsAreClosed, RecordsAreCoherent, closed_of, simulation_of}
 use Rattle.cw_sim.proofs.Laws.MoveKeeps.{moves_keep}
 use Rattle.cw_sim.proofs.Laws.MoveNumbers.{move_number}
 use Rattle.cw_sim.proofs.Laws.Opens.{opens}
 use Rattle.cw_sim.proofs.Kept.StatesAfter.{states_after}
 use Rattle.cw_sim.proofs.Laws.Wants.{wants_fit}
-use Rattle.cw_sim.proofs.Runs.Whole.{core_left, closed}
+use Rattle.cw_sim.proofs.Runs.Whole.{comes_left, core_left, closed}
 use Rattle.cw_sim.proofs.Runs.Strands.{strands_lawful}
 use Rattle.cw_sim.proofs.Runs.Turns.{worker_there}
 
@@ -50,6 +49,10 @@ module _ {A : Type 0} (s : Strands A) where
 
   pub runs_closed : RunsAreClosed s
   runs_closed = closed s (opens s) moves_fit states_kept (λ w m. move_number s w m)
+
+  pub moves_come : (first : List ℤ) (room budget workers limit : ℕ) (turn : ℕ → ℕ) → AreStrands s (length first) → 0 < room → ((n : ℕ) → turn n < workers)
+      → ComesByEvents (start first room budget) (after_moves s turn limit 0 (first_simulation first room budget workers s.start)).core
+  moves_come first room budget workers limit turn are some turns = comes_left s (opens s) moves_fit states_kept (λ w m. move_number s w m) first room budget workers limit turn are some turns
 
 -- ## Of a job
 

@@ -1,5 +1,5 @@
 -- The moves of a simulation never stop it for want of memory; so of the record of moves it is told whether they came to an end.
-use Rattle.std.proofs.Common.{◌≡◌, ◌∙◌, ◌∷◌, [], ℕ, zero, suc, ℤ, ◌==◌, ◌&&◌, ◌||◌, Bool, true, false, not, List, Option, Some, None, ap, refl, sym, subst}
+use Rattle.std.proofs.Common.{◌≡◌, ◌∙◌, ◌∷◌, [], ℕ, zero, suc, ℤ, ◌==◌, ◌&&◌, ◌||◌, Bool, true, false, not, List, Option, Some, None, refl, sym}
 use Rattle.std.specs.Prelude.{◌↔◌, if◌then◌else◌, is_some}
 use Rattle.std.specs.Option.{option_map_or}
 use Rattle.cw_strand.specs.declared.want.Want.{Want}
@@ -21,13 +21,12 @@ use Rattle.cw_io.specs.declared.schedule.Schedule.{Schedule}
 use Rattle.cw_job.specs.Jobs.{Job}
 use Rattle.cw_job.specs.Room.Strands.{strands_of_job}
 use Rattle.cw_record.specs.declared.record.Record.{Record}
-use Rattle.cw_record.specs.declared.record_end.RecordEnd.{RecordEnd}
-use Rattle.cw_record.specs.declared.record_end.RecordEnd.TheVariants.{Finished, Fault, Budget, Moves}
+use Rattle.cw_record.specs.declared.record_end.RecordEnd.TheVariants.{Moves}
 use Rattle.cw_record.specs.Built.{memory_left, outputs_left}
 use Rattle.cw_record.specs.ClosedRun.{end_after}
 use Rattle.cw_sim.specs.Workers.{Simulation, left_node, right_node, first_simulation, tree, worker}
 use Rattle.cw_sim.specs.Turns.{worker_at}
-use Rattle.cw_sim.specs.Moves.{accesses, acts, after_moves, dies, does, finishes, follows, is_run_over, joins, meets, meets_cell, move, others, steals, stops_if_spent, takes, goes_to_right}
+use Rattle.cw_sim.specs.Moves.{accesses, acts, after_moves, dies, does, follows, is_run_over, meets, meets_cell, move, others, steals, stops_if_spent, takes, goes_to_right}
 use Rattle.cw_sim.specs.Runs.{IsRecordOf, closed_of, simulation_of}
 
 -- what an end tells of the moves, where it is not for want of memory

@@ -142,6 +142,10 @@ module _ {A : Type 0} (s : Strands A) where
       end : IsLeft from z
       end = left first from workers turn are turns limit 0 m (record { events = []; fit = refl; there = refl }) (opens first room budget workers some) many refl
 
+      -- it came by events that fit
+      pub comes_left : ComesByEvents from z.core
+      comes_left = end.comes
+
       -- the core that is left
       pub core_left : IsCore first z.core
       core_left = let P : CoreState → Type 0 = λ k. IsCore first k in subst P end.comes.there (lists first room budget end.comes.events some end.comes.fit).2

@@ -73,7 +73,7 @@ impl Strand {
             Effect::End => Ok(self.end(next)),
             Effect::Fork => self.spawn(instr, next),
             Effect::Sync => self.wait(next),
-            Effect::Done => Ok(Led::Wants(Want::Done)),
+            Effect::Done => Ok(self.finish()),
             Effect::Tick => Ok(self.tick(next)),
         }
     }

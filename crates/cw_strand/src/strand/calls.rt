@@ -101,7 +101,7 @@ impl Strand {
         ensures { (code : Code) (i : Instr) (p : ℕ) → IfOk result (λ l. Acts code ret i p self.old l self.new) }
     {
         let Some(frame) = self.callers.pop() else {
-            return Ok(Led::Wants(Want::Done));
+            return Ok(self.finish());
         };
         let Some(value) = self.operands.pop() else {
             unreachable!()

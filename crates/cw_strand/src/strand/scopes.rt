@@ -1,13 +1,14 @@
-ghost use Rattle.std.specs.Prelude.{IfOk};
+ghost use Rattle.std.specs.Prelude.{ℕ, IfOk};
 ghost use Rattle.cw_code.specs.declared.instruction.Code.{Code};
 ghost use Rattle.cw_code.specs.declared.instruction.Instr.{Instr};
-ghost use Rattle.cw_code.specs.declared.effects.Effect.TheVariants.{Begin as begin, End as end, Fork as fork, Sync as sync};
+ghost use Rattle.cw_code.specs.declared.effects.Effect.TheVariants.{Begin as begin, End as end, Fork as fork, Sync as sync, Done as done};
 
 use super::Strand;
 use super::operands::index;
 use crate::Want;
 use crate::led::Led;
-use cw_base::OutOfMemory;
+use crate::scopes::Scopes;
+use cw_base::{OutOfMemory, Stack};
 use cw_code::{FaultKind, Instr};
 
 impl Strand {
@@ -18,7 +19,7 @@ impl Strand {
     pub(crate) fn begin(&mut self, next: usize) -> Result<Led, OutOfMemory>
         ensures { (code : Code) (i : Instr) → IfOk result (λ l. Acts code begin i next self.old l self.new) }
     {
-        self.scopes.push(0)?;
+        self.scopes.open()?;
         self.place = next;
         Ok(self.count(Want::Begin))
     }
@@ -63,5 +64,24 @@ impl Strand {
                 Ok(Led::On)
             }
         }
+    }
+
+    /// Comes to its end. With no scope open but its own it keeps no locals and no scope, and no room: of a strand that has ended only what it
+    /// spent and counted is read.
+    pub(crate) fn finish(&mut self) -> Led
+        ensures { (code : Code) (i : Instr) (p : ℕ) → Acts code done i p self.old result self.new }
+    {
+        if self.scopes.len() == 1 {
+            let alloc = *self.locals.allocator();
+            self.locals = Vec::new(alloc);
+            self.scopes = Scopes::new(alloc);
+            if self.operands.len() == 0 {
+                self.operands = Stack::new(alloc);
+            }
+            if self.callers.len() == 0 {
+                self.callers = Stack::new(alloc);
+            }
+        }
+        Led::Wants(Want::Done)
     }
 }

@@ -28,7 +28,7 @@ loop-item-preserved c =
     ∙ get_map_below (λ n. strand_number t (strand_of t n)) (length t) c.node.result value here
     ∙ ap (λ n. strand_number t (strand_of t n)) c.node.ensures
     in
-    c.in_ok-push.ensures.ok
+    c.in_ok-push.ensures.items
     ∙ ap (λ xs. xs ++ value ∷ []) c.loop-item.invariant
     ∙ ap (λ p. map (pick_of t) (take i items) ++ p ∷ []) picked
     ∙ sym (map_more (pick_of t) items i (Begins 0) c.loop-item-test.true)

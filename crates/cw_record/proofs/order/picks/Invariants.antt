@@ -4,4 +4,4 @@ use Rattle.cw_record.proofs.order.picks.Given as goal
 
 -- the items so far have their picks
 abbrev pub invariant-loop-item : goal.invariant-loop-item
-invariant-loop-item l = l.list ≡ map (pick_of l.tree) (take l.item-index l.items)
+invariant-loop-item l = l.list.items ≡ map (pick_of l.tree) (take l.item-index l.items)

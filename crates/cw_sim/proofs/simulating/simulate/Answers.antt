@@ -3,6 +3,7 @@ use Rattle.std.proofs.Common.{IfOk, rules}
 use Rattle.cw_record.specs.Records.{job_of_record}
 use Rattle.cw_sim.specs.Runs.{IsRecordOf, simulation_of}
 use Rattle.cw_job.specs.Jobs.{Job}
+use Rattle.cw_sim.proofs.OneWorker.Records.{built_unrefused}
 use Rattle.cw_sim.proofs.InMemory.Records.{moved_same, closed_has_record, built_coherent, built_numbered, built_replays, built_spent}
 use Rattle.cw_sim.proofs.simulating.simulate.Goals as goal
 
@@ -39,3 +40,8 @@ pub returns-clause-spent : goal.returns-clause-spent
 returns-clause-spent c =
     let is : IfOk c.build.result (λ r. IsRecordOf (simulation_of (job_of_record r) c.args.workers c.args.schedule.now) r) = search rules in
     built_spent c.args.workers c.args.schedule.now c.build.result is
+
+pub returns-clause-one_worker : goal.returns-clause-one_worker
+returns-clause-one_worker c =
+    let is : IfOk c.build.result (λ r. IsRecordOf (simulation_of (job_of_record r) c.args.workers c.args.schedule.now) r) = search rules in
+    built_unrefused c.args.program c.args.words c.args.limits c.args.workers c.args.schedule.now c.requires.compiled c.requires.words c.requires.strands c.requires.listed c.build.result c.build.ensures.program c.build.ensures.words c.build.ensures.limits is

@@ -1,7 +1,6 @@
 -- Both strands have bodies, which become that of the strand that forked.
 use Rattle.std.proofs.Common.{refl, sym, ◌∙◌, subst, arith}
 use Rattle.cw_job.specs.declared.standing.Standing.{Standing}
-use Rattle.cw_sim.specs.InMemory.{Seen, MayJoin}
 use Rattle.cw_sim.specs.declared.moves.Driver.{Driver}
 use Rattle.cw_sim.proofs.InMemory.Joins.{IsParent, nodes_there, left_has, right_has, fits_here, parent_running, parent_dying, right_stands, given_up, lives_on, joins_come}
 use Rattle.cw_sim.proofs.moves.Driver.joins.Goals as goal

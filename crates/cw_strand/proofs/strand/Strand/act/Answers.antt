@@ -55,5 +55,8 @@ returns-in-Fork c = rw c.in-Fork.is (c.spawn.ensures c.args.code.now)
 pub returns-in-Sync : goal.returns-in-Sync
 returns-in-Sync c = rw c.in-Sync.is (c.wait.ensures c.args.code.now c.args.instr)
 
+pub returns-in-Done : goal.returns-in-Done
+returns-in-Done c = rw c.in-Done.is (c.finish.ensures c.args.code.now c.args.instr c.args.next)
+
 pub returns-in-Tick : goal.returns-in-Tick
 returns-in-Tick c = rw c.in-Tick.is (c.tick.ensures c.args.code.now c.args.instr)

@@ -1,0 +1,34 @@
+//! A steal under whatever rule: no rule gives a `None` without a look.
+ghost use Rattle.std.specs.Prelude.{◌≡◌, [], ◌∷◌, MatchOption, min};
+ghost use Rattle.crossbeam_deque.specs.Handles.{IsPassOf, SamePass, stealer_deque, stealer_flavor, view};
+ghost use Rattle.crossbeam_deque.specs.Tasks.{FindsFew, Takes};
+
+use crossbeam_deque::protocol::{Outcome, Protocol};
+use crossbeam_deque::{Pass, Steal, Stealer};
+use std::alloc::Global;
+use std::sync::Wait;
+
+/// Takes the task at the front, and tries again where another thread was first. `None` tells what holds where the deque
+/// held few tasks at one moment of the call: none of a FIFO deque, and at most one of a LIFO one.
+pub fn steal_by<T, V, P: Protocol<T, V>, M: Outcome<T, V>, R: Wait>(
+    rt: &R,
+    from: &Stealer<T, Global, V, P>,
+    pass: &mut Pass<T, V>,
+) -> Option<T>
+    requires table { IsPassOf (stealer_deque from.now) pass.old }
+    requires takes { Takes P.holds pass.old.id (view pass.old) 1 (M.then (view pass.old)) }
+    requires few { FindsFew P.holds (min (stealer_flavor from.now) 1) pass.old.id (view pass.old) (M.empty (view pass.old)) }
+    ensures same { SamePass pass.old pass.new }
+    ensures rule { MatchOption result
+        ((view pass.new ≡ view pass.old) × M.empty (view pass.old))
+        (λ x. M.then (view pass.old) (x ∷ []) (view pass.new)) }
+{
+    for _ in rt.forever() {
+        match from.steal_as::<M>(pass) {
+            Steal::Success(task) => return Some(task),
+            Steal::Empty => return None,
+            Steal::Retry => {}
+        }
+    }
+    unreachable!()
+}

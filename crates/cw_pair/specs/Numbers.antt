@@ -1,0 +1,80 @@
+-- Numbers, what they stand for, and who knows it.
+use Rattle.std.specs.Prelude.{◌≡◌, ◌⊎◌, ℕ, suc, ◌+◌, ◌<◌, ◌≤◌, ◌^◌, List, [], ◌∷◌, ◌++◌, min, Option, None}
+use mathlib.Core.Option.{some}
+use lib.ListN.{get_elem?}
+use Rattle.atomic_table.specs.Table.{Me, Step}
+use Rattle.atomic_table.specs.Seated.{TableId}
+use Rattle.cw_pair.specs.declared.view.Note.{Note}
+use Rattle.cw_pair.specs.declared.view.Known.{Known}
+
+-- What contracts see of a source: the numbers that it may still give, from the next one on and below the end.
+pub record Numbers : Type 0 where
+  pub next : ℕ
+  pub end : ℕ
+
+-- any table: each run picks its own
+abbrev pub no_table : TableId
+no_table = record { words = 0; slots = 0; views_name = 0; atom = 0; block = 0; offset = 0; slot_names = [] }
+
+module _ {T : Type 0} where
+  -- ## Views
+
+  abbrev pub note : ℕ → Option T → Note T
+  note n x = record { number = n; of = x }
+
+  -- all numbers may be given
+  abbrev pub whole : Known T
+  whole = record { first = 0; last = 2 ^ 63; notes = [] }
+
+  -- nothing is known
+  abbrev pub none : Known T
+  none = record { first = 0; last = 0; notes = [] }
+
+  -- a source that is shared keeps the next so many numbers
+  abbrev pub middle : Known T → ℕ
+  middle v = min v.last (v.first + 2 ^ 40)
+
+  abbrev pub lower : Known T → Known T
+  lower v = record v { last = middle v }
+
+  abbrev pub upper : Known T → Known T
+  upper v = record v { first = middle v; notes = [] }
+
+  -- the first number was given
+  abbrev pub gone : Known T → Known T
+  gone v = record v { first = suc v.first }
+
+  abbrev pub given : ℕ → Option T → Known T
+  given n x = record { first = 0; last = 0; notes = note n x ∷ [] }
+
+  abbrev pub both : Known T → Known T → Known T
+  both v w = record { first = 0; last = 0; notes = v.notes ++ w.notes }
+
+  -- what the first note says
+  abbrev pub meant_in : List (Note T) → Option T
+  meant_in [] = None
+  meant_in (x ∷ xs) = x.of
+
+  abbrev pub meant : Known T → Option T
+  meant v = meant_in v.notes
+
+  abbrev pub Has : List (Note T) → Note T → Type 0
+  Has [] y = ⊥
+  Has (x ∷ xs) y = (x ≡ y) ⊎ Has xs y
+
+  -- ## The rule
+
+  -- n may still be given by who knows this
+  pub record MayGive (v : Known T) (n : ℕ) : Type 0 where
+    pub first : v.first ≤ n
+    pub last : n < v.last
+
+  -- Notes of one number agree. A number that may still be given is in no note, and may be given by one seat alone.
+  pub record IsKept (views : List (Known T)) : Type 0 where
+    pub agree : (i j : ℕ) (u v : Known T) (x y : Note T) → get_elem? views i ≡ some u → get_elem? views j ≡ some v → Has u.notes x → Has v.notes y → x.number ≡ y.number → x.of ≡ y.of
+    pub fresh : (i j : ℕ) (u v : Known T) (y : Note T) → get_elem? views i ≡ some u → get_elem? views j ≡ some v → Has v.notes y → MayGive u y.number → ⊥
+    pub apart : (i j n : ℕ) (u v : Known T) → (i ≡ j → ⊥) → get_elem? views i ≡ some u → get_elem? views j ≡ some v → MayGive u n → MayGive v n → ⊥
+
+  -- a look changes nothing, and tells that the notes of the seat's own view agree
+  abbrev pub looked : {S : Type 0} → Step S → Me S (Known T) → ℕ → Me S (Known T) → Type 0
+  looked s me n me' = (me' ≡ me) × ((x y : Note T) → Has me.0.notes x → Has me.0.notes y → x.number ≡ y.number → x.of ≡ y.of)

@@ -1,0 +1,7 @@
+//! Tests of the verifier, of texts of code and of the compiler by their public calls, and nothing else: they stand here and not with these,
+//! so that those are proved once.
+//! Stands on the parts that they try, and on the reader, which makes trees of texts.
+#![tactic(auto)]
+
+#[cfg(test)]
+mod tests;

@@ -1,0 +1,95 @@
+//! A value that is known to two sides of a pair: one side goes through a deque to another thread and from there under a lock.
+ghost use Rattle.std.specs.Prelude.{◌≡◌, ◌<◌, IfOk, IfSome, Some};
+
+use cw_base::OutOfMemory;
+use cw_deck::{Deck, Thief};
+use cw_pair::{Half, Naming, Opened, Pairs, Source};
+use std::alloc::Global;
+use std::marker::Brand;
+use std::sync::{Mutex, Wait};
+use std::thread;
+use std::thread::Threads;
+
+/// So often does a thief look before it gives up.
+const LOOKS: u64 = 1_000_000_000;
+
+/// A value, with a half that stands for it.
+#[derive(Drop)]
+struct Side<N: Naming> {
+    value: u32,
+    half: Half<u32, N>,
+    ghost stands: { half.of ≡ Some value },
+}
+
+fn forks<N: Naming>(
+    pairs: &Pairs<u32, N>,
+    source: &mut Source<u32, N>,
+    value: u32,
+) -> (Side<N>, Side<N>)
+    requires { source.old.next < source.old.end }
+{
+    let (left, right) = source.pair(pairs, &value);
+    (Side { value, half: left }, Side { value, half: right })
+}
+
+/// The values of two sides, if they are of one pair.
+fn meets<N: Naming>(pairs: &Pairs<u32, N>, mine: Side<N>, other: Side<N>) -> Option<(u32, u32)>
+    ensures { IfSome result (λ values. values.0 ≡ values.1) }
+{
+    let here = mine.value;
+    let there = other.value;
+    if mine.half.number() != other.half.number() {
+        return None;
+    }
+    pairs.meet(mine.half, other.half);
+    Some((here, there))
+}
+
+/// Steals a side and leaves it under the lock.
+fn parks<N: Naming, R: Wait>(rt: &R, thief: Thief<Side<N>>, frame: &Mutex<Option<Side<N>>>) {
+    let mut thief = thief;
+    for _ in 0..LOOKS {
+        if let Some(side) = thief.steal(rt) {
+            *frame.lock(rt) = Some(side);
+            return;
+        }
+        thread::yield_now();
+    }
+}
+
+fn crosses<N: Naming, R: Threads + Wait + Sync>(
+    rt: &R,
+    alloc: Global,
+    opened: Opened<u32>,
+    value: u32,
+) -> Result<Option<(u32, u32)>, OutOfMemory>
+    requires { opened ≡ N.table }
+    ensures { IfOk result (λ r. IfSome r (λ values. values.0 ≡ values.1)) }
+{
+    let (pairs, mut source) = opened.named::<N>();
+    let (mine, other) = forks(&pairs, &mut source, value);
+    let mut deck = Deck::new(alloc)?;
+    let thief = deck.thief()?;
+    if deck.push(other).is_err() {
+        return Err(OutOfMemory);
+    }
+    let frame: Mutex<Option<Side<N>>> = Mutex::new(None);
+    let shared = &frame;
+    let _ = thread::join(rt, || parks(rt, thief, shared), || ());
+    let Some(other) = frame.into_inner() else {
+        return Ok(None);
+    };
+    Ok(meets(&pairs, mine, other))
+}
+
+/// Both values of a pair of which one half went to another thread and back.
+pub fn there_and_back<R: Threads + Wait + Sync>(
+    rt: &R,
+    alloc: Global,
+    value: u32,
+) -> Result<Option<(u32, u32)>, OutOfMemory>
+    ensures { IfOk result (λ r. IfSome r (λ values. values.0 ≡ values.1)) }
+{
+    let opened = Opened::new(alloc)?;
+    crosses::<Brand, R>(rt, alloc, opened, value)
+}

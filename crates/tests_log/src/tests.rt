@@ -1,0 +1,2 @@
+mod deques;
+mod pairs;
