@@ -1,7 +1,7 @@
 -- Small closed runs in which a step came late: an access was refused for a block that had ended by then, and a block began with a stamp
 -- that was drawn before others. Each is a closed run of strands that did what they want, and has a sibling, with one output more, that is
 -- none of any strands.
-use Rattle.std.specs.Prelude.{ℕ, List, [], ◌∷◌, pos, Bool, true, false, Option, None}
+use Rattle.std.specs.Prelude.{ℕ, List, pos, Bool, true, false, Option, None}
 use Rattle.cw_strand.specs.declared.want.Want.TheVariants.{Load, Store, Out as Shows, Begin, End}
 use Rattle.cw_strand.specs.Strands.{Strands}
 use Rattle.cw_tree.specs.declared.access.Entry.{Entry}

@@ -1,6 +1,8 @@
 -- What the statuses say, from the causes of the notes.
-use Rattle.std.proofs.Common.{◌≡◌, ◌≢◌, ◌⊎◌, inl, inr, List, length, ℕ, ℤ, Option, Some, None, IsSomeAnd, IfSome, sym, ◌∙◌, subst}
+use Rattle.std.proofs.Common.{◌≡◌, ◌≢◌, ◌<◌, ◌⊎◌, inl, inr, List, length, ℕ, ℤ, Option, Some, None, IsSomeAnd, IfSome, refl, sym, ◌∙◌, subst, arith}
+use Rattle.std.proofs.lemmas.Bool.{cases_lt}
 use Rattle.std.proofs.lemmas.Option.{same_Some}
+use Rattle.cw_io.specs.declared.schedule.Schedule.{Schedule}
 use Rattle.cw_io.specs.Outside.{Appends}
 use Rattle.cw_code.specs.declared.CellInfo.{CellInfo}
 use Rattle.cw_tree.specs.declared.node.Node.{Node}
@@ -22,8 +24,8 @@ use Rattle.cw_top.specs.declared.outcome.Note.TheVariants as note
 use Rattle.cw_top.specs.Refusals.{AsksFor, IsMisfit, refusal}
 use Rattle.cw_top.proofs.Parameters.{fits, spelled_accepted}
 use Rattle.cw_top.specs.Texts.{end_text, finished_text}
-use Rattle.cw_top.specs.Outcome.{Accepts, MayBeMisusedWith, MayEndWith, HasCause, IsDoneAs, IsDoneBy, IsMisused, IsRefusedFor, IsRefusedWith, IsRunBy, IsRunOf, IsStatus, IsSurelyMisused, IsSurelyRefused, Writes, WritesEndOfOneMemory, end_of_one_memory, status_of_end}
-use Rattle.cw_top.specs.Words.{words_of}
+use Rattle.cw_top.specs.Outcome.{Accepts, MayBeMisusedWith, MayEndWith, HasCause, HasSeveralWorkers, IsDoneAs, IsDoneBy, IsMisused, IsOfMoves, IsRefusedFor, IsRefusedWith, IsRunBy, IsRunOf, IsStatus, IsSurelyMisused, IsSurelyRefused, Writes, WritesEndOfOneMemory, end_of_one_memory, status_of_end}
+use Rattle.cw_top.specs.Words.{IsReady, words_of}
 
 -- words that are no command come to status 2
 of_none : (kept : Option Record) (status : ℕ) (n : Note) → n ≡ note.Usage → IsStatus kept status n → status ≡ 2
@@ -87,15 +89,40 @@ ended (Fault x k) status h is = inr (inl is)
 ended (Budget x) status h is = absurd h
 ended Moves status h is = absurd h
 
-came : (e : RecordEnd) (status : ℕ) → status ≡ status_of_end e → (status ≡ 0) ⊎ (status ≡ 6) ⊎ (status ≡ 7) ⊎ (status ≡ 9) ⊎ (status ≡ 1)
-came (Finished m o) status is = inl is
-came (Fault x k) status is = inr (inl is)
-came (Budget x) status is = inr (inr (inl is))
-came Moves status is = inr (inr (inr (inl is)))
+came : (e : RecordEnd) (status workers : ℕ) → ((x : ℕ) → e ≡ Budget x → 1 < workers) → status ≡ status_of_end e → (status ≡ 0) ⊎ (status ≡ 6) ⊎ ((status ≡ 7) × (1 < workers)) ⊎ (status ≡ 9) ⊎ (status ≡ 1)
+came (Finished m o) status workers more is = inl is
+came (Fault x k) status workers more is = inr (inl is)
+came (Budget x) status workers more is = inr (inr (inl (is, more x refl)))
+came Moves status workers more is = inr (inr (inr (inl is)))
 
-may_end : (co : Command) (x : Record) (status : ℕ) → IsDoneBy co x → status ≡ status_of_end x.end → MayEndWith (Some co) status
-may_end (Run ws ls) x status done is = ended x.end status done.ended is
-may_end (Sim ws ls w s) x status done is = came x.end status is
+-- a budget is spent only where there is more than one worker
+more_than_one : (workers : ℕ) (s : Schedule) (r : Record) → 0 < workers → IsOfMoves workers s r → (x : ℕ) → r.end ≡ Budget x → 1 < workers
+more_than_one workers s r some done x e = elim (cases_lt 1 workers) [ inl less ↦ less | inr le ↦ absurd ((done.one_worker (omega arith)).unspent x e) ]
+
+may_end : (co : Command) (x : Record) (status : ℕ) → IsReady co → IsDoneBy co x → status ≡ status_of_end x.end → MayEndWith (Some co) status
+may_end (Run ws ls) x status ready done is = ended x.end status done.ended is
+may_end (Sim ws ls w s) x status ready done is = came x.end status w (more_than_one w s x ready.0 done) is
+
+by_seven : (e : RecordEnd) → 7 ≡ status_of_end e → (x : ℕ) × (e ≡ Budget x)
+by_seven (Finished m o) is = cc
+by_seven (Fault x k) is = cc
+by_seven (Budget x) is = (x, refl)
+by_seven Moves is = cc
+
+several_of : (co : Command) (r : Record) → IsReady co → IsDoneBy co r → (x : ℕ) → r.end ≡ Budget x → HasSeveralWorkers (Some co)
+several_of (Run ws ls) r ready done x e = subst HasEnded e done.ended
+several_of (Sim ws ls w s) r ready done x e = more_than_one w s r ready.0 done x e
+
+pub several : (command : Option Command) (kept : Option Record) (status : ℕ) (n : Note) → IsStatus kept status n → IfSome command IsReady → IfSome kept (IsDoneAs command) → status ≡ 7 → HasSeveralWorkers command
+several command None status note.Nothing is ready done seven = absurd is
+several None (Some r) status note.Nothing is ready done seven = absurd done
+several (Some co) (Some r) status note.Nothing is ready done seven = let (x, e) = by_seven r.end (sym seven ∙ is) in several_of co r ready done x e
+several command kept status note.Usage (none, is) ready done seven = absurd (cc (seven, is))
+several command kept status note.Memory (none, is) ready done seven = absurd (cc (seven, is))
+several command kept status note.Read (none, is) ready done seven = absurd (cc (seven, is))
+several command kept status note.Write (some, is) ready done seven = absurd (cc (seven, is))
+several command kept status (note.Text f) (none, is) ready done seven = absurd (cc (seven, is))
+several command kept status (note.Name f) (none, is) ready done seven = absurd (cc (seven, is))
 
 may_want : (co : Command) (status : ℕ) → status ≡ 1 → MayEndWith (Some co) status
 may_want (Run ws ls) status is = inr (inr is)
@@ -152,16 +179,16 @@ refuses (Some co) (Some x) status note.Write left r w is cause run fault why no_
 refuses (Some co) kept status (note.Text f) left r w (none, is) cause run fault why no_r = inl (is, same_fault left (note.Text f) fault why cause)
 refuses (Some co) kept status (note.Name f) left r w (none, is) cause run fault why no_r = inl (is, same_fault left (note.Name f) fault why cause)
 
-pub complete : (command : Option Command) (kept : Option Record) (status : ℕ) (n : Note) (left : Option (List ℕ)) (r w : Type 0) → IsStatus kept status n → HasCause command n left r w → IfSome kept (IsDoneAs command) → Accepts command left → (r → ⊥) → (w → ⊥) → MayEndWith command status
-complete None kept status n left r w is cause done accepted no_r no_w = of_none kept status n cause is
-complete (Some co) None status note.Nothing left r w is cause done accepted no_r no_w = absurd is
-complete (Some co) (Some x) status note.Nothing left r w is cause done accepted no_r no_w = may_end co x status done is
-complete (Some co) kept status note.Usage left r w is cause done accepted no_r no_w = absurd (fitting left (words_of co) accepted cause)
-complete (Some co) kept status note.Memory left r w (none, is) cause done accepted no_r no_w = may_want co status is
-complete (Some co) kept status note.Read left r w is cause done accepted no_r no_w = absurd (no_r cause)
-complete (Some co) kept status note.Write left r w is cause done accepted no_r no_w = absurd (no_w cause)
-complete (Some co) kept status (note.Text f) left r w is cause done accepted no_r no_w = absurd (not_refused left (λ bytes. AsksFor bytes (length (words_of co))) (note.Text f) accepted cause)
-complete (Some co) kept status (note.Name f) left r w is cause done accepted no_r no_w = absurd (not_refused left (λ bytes. AsksFor bytes (length (words_of co))) (note.Name f) accepted cause)
+pub complete : (command : Option Command) (kept : Option Record) (status : ℕ) (n : Note) (left : Option (List ℕ)) (r w : Type 0) → IsStatus kept status n → HasCause command n left r w → IfSome command IsReady → IfSome kept (IsDoneAs command) → Accepts command left → (r → ⊥) → (w → ⊥) → MayEndWith command status
+complete None kept status n left r w is cause ready done accepted no_r no_w = of_none kept status n cause is
+complete (Some co) None status note.Nothing left r w is cause ready done accepted no_r no_w = absurd is
+complete (Some co) (Some x) status note.Nothing left r w is cause ready done accepted no_r no_w = may_end co x status ready done is
+complete (Some co) kept status note.Usage left r w is cause ready done accepted no_r no_w = absurd (fitting left (words_of co) accepted cause)
+complete (Some co) kept status note.Memory left r w (none, is) cause ready done accepted no_r no_w = may_want co status is
+complete (Some co) kept status note.Read left r w is cause ready done accepted no_r no_w = absurd (no_r cause)
+complete (Some co) kept status note.Write left r w is cause ready done accepted no_r no_w = absurd (no_w cause)
+complete (Some co) kept status (note.Text f) left r w is cause ready done accepted no_r no_w = absurd (not_refused left (λ bytes. AsksFor bytes (length (words_of co))) (note.Text f) accepted cause)
+complete (Some co) kept status (note.Name f) left r w is cause ready done accepted no_r no_w = absurd (not_refused left (λ bytes. AsksFor bytes (length (words_of co))) (note.Name f) accepted cause)
 
 -- where a run's status is 0 the machine finished, with the memory and the outputs that were written
 at_zero : (cells : List CellInfo) (t : List Node) (e : RecordEnd) (picks : Picks) (s : SerialEnd) (old new : Option (List ℕ)) → 0 ≡ status_of_end e → SameEnd e picks s → Appends old new (end_text cells t e) → (memory outputs : List ℤ) × (s ≡ last.Finished memory outputs) × Appends old new (finished_text cells memory outputs)

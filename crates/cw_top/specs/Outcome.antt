@@ -1,6 +1,7 @@
 -- What a status says: a part for each thing that the top call promises. What depends on the command is a function of it, with a case for
 -- words that are none; so a further command adds its cases and changes no clause.
-use Rattle.std.specs.Prelude.{◌≡◌, ◌≤◌, ◌⊎◌, ℕ, ◌+◌, ℤ, List, [], ◌++◌, false, length, Option, Some, None, IfSome, IsSome, IsSomeAnd, IsTrue}
+use Rattle.std.specs.Prelude.{◌≡◌, ◌<◌, ◌≤◌, ◌⊎◌, ℕ, ◌+◌, ℤ, List, [], ◌++◌, false, length, Option, Some, None, IfSome, IsSome, IsSomeAnd, IsTrue}
+use Rattle.cw_io.specs.declared.schedule.Schedule.{Schedule}
 use Rattle.cw_io.specs.Outside.{Takes, Appends, AppendsFront, KeepsTelling, RunsDry, TellsOn}
 use Rattle.cw_code.specs.declared.CellInfo.{CellInfo}
 use Rattle.cw_tree.specs.Names.{name_of}
@@ -20,6 +21,7 @@ use Rattle.cw_record.specs.Records.{job_of_record, BlocksEnded, HasEnded, HasIts
 use Rattle.cw_replay.specs.Attempts.{RecordsAttempts}
 use Rattle.cw_sim.specs.Moves.{is_run_over}
 use Rattle.cw_sim.specs.Runs.{IsRecordOf, simulation_of}
+use Rattle.cw_sim.specs.OneWorker.{IsUnrefused}
 use Rattle.cw_top.specs.declared.command.Command.{Command}
 use Rattle.cw_top.specs.declared.command.Command.TheVariants.{Run, Sim}
 use Rattle.cw_top.specs.declared.outcome.Note.{Note}
@@ -113,10 +115,15 @@ pub record IsOfOneWorker (r : Record) : Type 0 where
   pub ended : HasEnded r.end
   pub blocks : BlocksEnded r.tree r.end
 
--- How a command's run is done: by one worker; or by the moves of so many workers in the turns of a schedule, of which it is the record.
+-- The moves of so many workers did it, in the turns of a schedule, and it is their record. If there is one, nothing was refused.
+pub record IsOfMoves (workers : ℕ) (schedule : Schedule) (r : Record) : Type 0 where
+  pub moves : IsRecordOf (simulation_of (job_of_record r) workers schedule) r
+  pub one_worker : workers ≡ 1 → IsUnrefused r
+
+-- How a command's run is done: by one worker, or by the moves of several.
 abbrev pub IsDoneBy : Command → Record → Type 0
 IsDoneBy (Run words limits) r = IsOfOneWorker r
-IsDoneBy (Sim words limits workers schedule) r = IsRecordOf (simulation_of (job_of_record r) workers schedule) r
+IsDoneBy (Sim words limits workers schedule) r = IsOfMoves workers schedule r
 
 abbrev pub IsDoneAs : Option Command → Record → Type 0
 IsDoneAs command r = IsSomeAnd command (λ c. IsDoneBy c r)
@@ -175,6 +182,11 @@ pub record SpentItsBudget (r : Record) : Type 0 where
   pub attempts : RecordsAttempts r.tree r.conflicts r.limits.aborts strand
   pub forks : (f : ℕ) × IsTrue (is_fork r.tree f)
 
+-- a command has more than one worker
+abbrev pub HasSeveralWorkers : Option Command → Type 0
+HasSeveralWorkers (Some (Sim words limits workers schedule)) = 1 < workers
+HasSeveralWorkers command = ⊥
+
 -- All moves of a command were made, as many as its limit, and the run had not come to its end.
 abbrev pub HasSpentMoves : Option Command → Record → Type 0
 HasSpentMoves (Some (Sim words limits workers schedule)) r = is_run_over (simulation_of (job_of_record r) workers schedule) ≡ false
@@ -222,8 +234,8 @@ IsSurelyRefused (Some c) left fault = IsSomeAnd left (λ bytes. refusal bytes �
 abbrev pub IsRefusedWith : (fault : Note) → ℕ → Note → Type 0
 IsRefusedWith fault status n = ((status ≡ 5) × (n ≡ fault)) ⊎ (status ≡ 1)
 
--- the statuses that a command comes to, where it accepts the source and neither a read nor a write fails
+-- the statuses that a command comes to, where it accepts the source and neither a read nor a write fails: 7 needs more than one worker
 abbrev pub MayEndWith : Option Command → ℕ → Type 0
 MayEndWith None status = status ≡ 2
 MayEndWith (Some (Run words limits)) status = (status ≡ 0) ⊎ (status ≡ 6) ⊎ (status ≡ 1)
-MayEndWith (Some (Sim words limits workers schedule)) status = (status ≡ 0) ⊎ (status ≡ 6) ⊎ (status ≡ 7) ⊎ (status ≡ 9) ⊎ (status ≡ 1)
+MayEndWith (Some (Sim words limits workers schedule)) status = (status ≡ 0) ⊎ (status ≡ 6) ⊎ ((status ≡ 7) × (1 < workers)) ⊎ (status ≡ 9) ⊎ (status ≡ 1)

@@ -9,7 +9,7 @@ ghost use Rattle.cw_top.specs.declared.outcome.Note.{Note};
 ghost use Rattle.cw_top.specs.declared.outcome.Note.TheVariants.{Nothing};
 ghost use Rattle.cw_top.specs.declared.reasons.NoRun.TheVariants.{Misfit};
 ghost use Rattle.cw_top.specs.declared.reasons.NotWritten.TheVariants.{OutOfMemory, WriteFault};
-ghost use Rattle.cw_top.specs.Outcome.{Accepts, HasCause, HasSpentMoves, IsDoneAs, IsDoneBy, IsMisused, IsRefusedFor, IsRefusedWith, IsRunOf, IsSurelyMisused, IsSurelyRefused, IsStatus, MayBeMisusedWith, MayEndWith, ReadsWhole, RisesAtMost, SpentItsBudget, StillTells, TakesAtMost, Writes, WritesEndOfOneMemory, most_bytes, most_ends, most_read, status_of_end};
+ghost use Rattle.cw_top.specs.Outcome.{Accepts, HasCause, HasSeveralWorkers, HasSpentMoves, IsDoneAs, IsDoneBy, IsMisused, IsRefusedFor, IsRefusedWith, IsRunOf, IsSurelyMisused, IsSurelyRefused, IsStatus, MayBeMisusedWith, MayEndWith, ReadsWhole, RisesAtMost, SpentItsBudget, StillTells, TakesAtMost, Writes, WritesEndOfOneMemory, most_bytes, most_ends, most_read, status_of_end};
 ghost use Rattle.cw_top.specs.OverSource.{IsRunOfSource, Spawns};
 ghost use Rattle.cw_top.specs.Reasons.{WhyNoRun, note_of};
 ghost use Rattle.cw_top.specs.Refusals.{IsMisfit};
@@ -227,7 +227,8 @@ pub fn cwstm<R: Threads + Wait + Sync, S: Source, K: Sink, G: Gate>(
         → MayEndWith (command_in words.now) result.status }
 
     // What is kept is a run of the command: it is coherent, and one memory does the same. Of `run` it is the depth-first one, in which
-    // nothing is refused; of `sim` it is the record of the moves of the command's workers, in the turns of its schedule.
+    // nothing is refused; of `sim` it is the record of the moves of the command's workers, in the turns of its schedule: if there is one, nothing
+    // is refused either.
     ensures run { IfSome result.kept (IsRunOf (command_in words.now) (S.left source.old)) }
     ensures done { IfSome result.kept (IsDoneAs (command_in words.now)) }
     ensures whole { OnSome result.kept (ReadsWhole (command_in words.now) (S.left source.old) (S.left source.new)) }
@@ -241,7 +242,8 @@ pub fn cwstm<R: Threads + Wait + Sync, S: Source, K: Sink, G: Gate>(
     // With status 7 a strand spent its budget, on attempts that are kept one by one.
     ensures spent { result.status ≡ 7 → IsSomeAnd result.kept SpentItsBudget }
 
-    // It comes only of a source with a `spawn`.
+    // It comes only of several workers, and of a source with a `spawn`.
+    ensures several { result.status ≡ 7 → HasSeveralWorkers (command_in words.now) }
     ensures spawns { result.status ≡ 7 → IfSome (S.left source.old) Spawns }
 
     // Status 9 comes exactly where all moves of a simulation were made without an end, and the text was written.

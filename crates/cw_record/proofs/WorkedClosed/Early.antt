@@ -1,10 +1,10 @@
 -- The small closed run in which a stamp was drawn early.
-use Rattle.std.proofs.Common.{◌≡◌, ap, sym, ◌∙◌, ℕ, List, [], ◌∷◌, refl, arith, pos}
+use Rattle.std.proofs.Common.{◌≡◌, ap, sym, ◌∙◌, ℕ, [], ◌∷◌, refl, arith, pos}
 use Rattle.cw_strand.specs.declared.want.Want.TheVariants.{Load, Store, Begin, End}
 use Rattle.cw_open.specs.WorkedTimes.{early}
 use Rattle.cw_open.proofs.WorkedTimes.Early.{drawn_early}
 use Rattle.cw_record.specs.ClosedRun.{AreStates}
-use Rattle.cw_record.specs.Scripts.{Script, done, sync, act, fork, left_of, wants_of, scripted}
+use Rattle.cw_record.specs.Scripts.{Script, done, sync, act, left_of, wants_of, scripted}
 use Rattle.cw_record.specs.WorkedClosed.{reads_in_block, ClosedEarly}
 use Rattle.cw_record.proofs.WorkedEnds.Parts.{state_in}
 use Rattle.cw_record.proofs.WorkedClosed.States.{are_states}

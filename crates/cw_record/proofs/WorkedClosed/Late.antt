@@ -1,10 +1,10 @@
 -- The small closed run in which an access was refused late.
-use Rattle.std.proofs.Common.{◌≡◌, ap, sym, ◌∙◌, ℕ, List, [], ◌∷◌, refl, arith, pos}
+use Rattle.std.proofs.Common.{◌≡◌, ap, sym, ◌∙◌, ℕ, [], ◌∷◌, refl, arith, pos}
 use Rattle.cw_strand.specs.declared.want.Want.TheVariants.{Load, Store, Out as Shows, Begin, End}
 use Rattle.cw_open.specs.WorkedTimes.{late}
 use Rattle.cw_open.proofs.WorkedTimes.Late.{refused_late}
 use Rattle.cw_record.specs.ClosedRun.{AreStates}
-use Rattle.cw_record.specs.Scripts.{Script, done, sync, act, fork, left_of, after_answer, wants_of, scripted}
+use Rattle.cw_record.specs.Scripts.{Script, done, sync, act, left_of, after_answer, wants_of, scripted}
 use Rattle.cw_record.specs.WorkedClosed.{reads_behind, ClosedLate}
 use Rattle.cw_record.proofs.WorkedEnds.Parts.{state_in}
 use Rattle.cw_record.proofs.WorkedClosed.States.{are_states}

@@ -41,7 +41,7 @@ pub returns-clause-complete : goal.returns-clause-complete
 returns-clause-complete g c =
     let cause = rw c.in-Ok.ensures.exact at c.answer.ensures.cause in
     let done = rw c.in-Ok.ensures.exact at c.answer.ensures.done in
-    statuses.complete _ _ _ _ _ _ _ c.answer.ensures.status cause done
+    statuses.complete _ _ _ _ _ _ _ c.answer.ensures.status cause (ready (map string_bytes c.args.words.now)) done
 
 pub returns-clause-source : goal.returns-clause-source
 returns-clause-source g c =
@@ -56,6 +56,11 @@ returns-clause-finished g c =
 
 pub returns-clause-spent : goal.returns-clause-spent
 returns-clause-spent g c = spends _ _ _ _ _ c.answer.ensures.status c.answer.ensures.run
+
+pub returns-clause-several : goal.returns-clause-several
+returns-clause-several g c =
+    let done = rw c.in-Ok.ensures.exact at c.answer.ensures.done in
+    statuses.several _ _ _ _ c.answer.ensures.status (ready (map string_bytes c.args.words.now)) done
 
 pub returns-clause-spawns : goal.returns-clause-spawns
 returns-clause-spawns g c = spawned _ _ _ _ _ c.answer.ensures.status c.answer.ensures.run

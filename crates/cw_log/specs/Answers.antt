@@ -1,0 +1,29 @@
+-- What the answers of a board's calls tell.
+use Rattle.std.specs.Prelude.{◌≡◌, ℕ, ℤ, ◌<◌, Option, Some, None, length}
+use Rattle.cw_tree.specs.declared.node.Kind.{Kind}
+use Rattle.cw_tree.specs.declared.node.Kind.TheVariants.{Read, Write}
+use Rattle.cw_log.specs.declared.board.Access.{Access}
+use Rattle.cw_log.specs.declared.board.Access.TheVariants.{Value, Conflict}
+use Rattle.cw_log.specs.declared.board.Forked.{Forked}
+use Rattle.cw_log.specs.declared.board.Forked.TheVariants.{Two, Inline}
+use Rattle.cw_log.specs.declared.token.Token.{Token}
+use Rattle.cw_log.specs.Tokens.{made, refused, forked, right_of, branched}
+
+-- a read of any value, or a write of the value that was given
+abbrev pub access_kind : (cell : ℕ) → Option ℤ → ℤ → Kind
+access_kind c None v = Read c v
+access_kind c (Some w) v = Write c v
+
+abbrev pub IsWritten : Option ℤ → ℤ → Type 0
+IsWritten None v = Unit {0}
+IsWritten (Some w) v = v ≡ w
+
+-- the access is in the log, with the value that is answered; or the refused access is, with its conflict
+abbrev pub Meets : (before after : Token) → (cell : ℕ) → Option ℤ → Access → Type 0
+Meets x y c w (Value v) = IsWritten w v × ((stamp : ℕ) × (y ≡ made x (access_kind c w v) stamp))
+Meets x y c w (Conflict k) = (k.cell ≡ c) × (k.asker ≡ length x.own.nodes) × (y ≡ refused x k)
+
+-- two tokens, of which the left one goes on with the log; or one, in the left strand
+abbrev pub Forks : {T : Type 0} → (T → Token) → Token → Forked T → Type 0
+Forks of x (Two fork left right) = (0 < fork) × ((stamp : ℕ) × (of left ≡ forked x stamp fork)) × ((column : ℕ) × (of right ≡ right_of x fork column))
+Forks of x (Inline token) = (stamp : ℕ) × (of token ≡ branched x stamp)

@@ -1,0 +1,74 @@
+//! Lists of logs, of which two are put together without memory.
+ghost use Rattle.std.specs.Prelude.{◌≡◌, ◌<◌, ◌+◌, ◌^◌, [], ◌∷◌, ◌++◌, length, MatchOption, OnOk, OnErr};
+ghost use Rattle.std.specs.Map.Iter.{ShowsInOrder, deref};
+ghost use Rattle.cw_log.specs.declared.log.Log.{Log};
+
+use crate::Log;
+use cw_base::OutOfMemory;
+use std::alloc::Global;
+use std::collections::LinkedList;
+use std::collections::linked_list::Iter;
+use std::marker::Model;
+
+/// The logs of a list, in order.
+pub type LogsIter<'a> = Iter<'a, Log>;
+
+/// A list of logs. Contracts see the list.
+#[derive(Drop)]
+pub struct Logs {
+    list: LinkedList<Log>,
+}
+
+impl Model for Logs {
+    ghost use Rattle.std.specs.Prelude.{List};
+    ghost use Rattle.cw_log.specs.declared.log.Log.{Log};
+
+    ghost Value = { List Log };
+
+    ghost view = { λ l. l.list };
+}
+
+impl Logs {
+    /// The empty list, which takes no memory.
+    pub fn new(alloc: Global) -> Logs
+        ensures { result ≡ [] }
+    {
+        Logs {
+            list: LinkedList::new(alloc),
+        }
+    }
+
+    /// Adds a log at the end.
+    pub fn push(&mut self, log: Log) -> Result<(), OutOfMemory>
+        ensures ok { OnOk result (self.new ≡ self.old ++ log ∷ []) }
+        ensures err { OnErr result (self.new ≡ self.old) }
+    {
+        self.list.push_back(log)?;
+        Ok(())
+    }
+
+    /// Puts another list behind this one. Takes no memory, and as long for short lists as for long ones.
+    pub fn append(&mut self, more: Logs)
+        requires { length self.old + length more < 2 ^ 63 }
+        ensures { self.new ≡ self.old ++ more }
+    {
+        let Logs { list } = more;
+        let mut more = list;
+        if self.list.append(&mut more).is_err() {
+            unreachable!()
+        }
+    }
+
+    pub fn iter(&self) -> LogsIter<'_>
+        ensures rest { result ≡ self.now }
+        ensures runs { ShowsInOrder (deref {X = Log}) }
+    {
+        self.list.iter()
+    }
+
+    pub fn len(&self) -> usize
+        ensures { result ≡ length self.now }
+    {
+        self.list.len()
+    }
+}
