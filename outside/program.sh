@@ -271,7 +271,7 @@ zeros=$(printf ',0%.0s' $(seq 20000))
 try 'as many listed as may be' 0 $'end\n' '' sim --schedule "${zeros:1}"
 try 'one listed too many' 2 '' "$usage" sim --schedule "0$zeros"
 for words in '--workers 0' '--workers 65' '--moves 0' '--strands 1000001' '--schedule 4' '--schedule 0,2 --workers 2' '--schedule=' '--schedule 0,' '--schedule +1' \
-  '--seed 18446744073709551616' '--seed 1 --schedule 0' '--schedule 0 --schedule 0' '--report 1' 'x'; do
+  '--seed 18446744073709551616' '--seed 1 --schedule 0' '--schedule 0 --schedule 0' '--report 2' '--report 0' '--report 1 --report 1' '--report' 'x'; do
   # the words stand apart by blanks
   # shellcheck disable=SC2086
   try "sim $words" 2 '' "$usage" sim $words

@@ -12,7 +12,6 @@ use Rattle.cw_top.specs.Reading.{integers_in, known_in, text_in}
 -- ## Whether options are known
 
 module _ (names : List (List ℕ)) (g h : Option Given) where
-
   module _ (name value : List ℕ) (e : g ≡ option_map (with_option name value) h) where
     pub known_option : list_any (λ k. bytes_eq k name) names ≡ true → known_in names g ≡ known_in names h
     known_option k = ap (known_in names) e ∙ go h

@@ -7,7 +7,7 @@ use Rattle.cw_code.specs.declared.Limits.{Limits}
 use Rattle.cw_io.specs.declared.schedule.Schedule.TheVariants.{List as Listed, Seeded}
 use Rattle.cw_sim.specs.Turns.{ListsWorkers}
 use Rattle.cw_top.specs.Options.{Given, GivenOption, NumberOption, are_known, given, integers_of, list_below, number_in, number_given, number_within, numbers_below, parts_of, option_value}
-use Rattle.cw_top.specs.Words.{IsReady, aborts_option, command_of, fuel_option, limits_given, moves_option, run_given, run_options, schedule_given, schedule_in, sim_given, sim_options, size_option, strands_option, workers_option, most_listed}
+use Rattle.cw_top.specs.Words.{IsReady, aborts_option, command_of, fuel_option, limits_given, moves_option, report_given, run_given, run_options, schedule_given, schedule_in, sim_given, sim_options, size_option, strands_option, workers_option, most_listed}
 
 -- ## Values that may be missing
 
@@ -91,14 +91,15 @@ column os =
     then_some (λ m. 1 ≤ m) P _ (number_given strands_option os) (at_least strands_option os (omega arith)) (λ m l. map_some P _ (number_given moves_option os) (λ c. omega arith)))))
 
 run_ready : (g : Given) → IfSome (run_given g) IsReady
-run_ready g = where_true IsReady (are_known run_options g.options) _ (each_some IsReady _ (limits_given g.options) (λ ls. map_some IsReady _ (integers_of g.words) (λ ns. tt)))
+run_ready g = where_true IsReady (are_known run_options g.options) _ (each_some IsReady _ (limits_given g.options) (λ ls. each_some IsReady _ (report_given g.options) (λ p. map_some IsReady _ (integers_of g.words) (λ ns. tt))))
 
 sim_ready : (g : Given) → IfSome (sim_given g) IsReady
 sim_ready g = where_true IsReady (are_known sim_options g.options) _
     (then_some (λ (ls : Limits). 0 < ls.strands) IsReady _ (limits_given g.options) (column g.options) (λ ls l.
+    each_some IsReady _ (report_given g.options) (λ p.
     then_some (λ w. 1 ≤ w) IsReady _ (number_given workers_option g.options) (at_least workers_option g.options (omega arith)) (λ w m.
     then_some (λ s. ListsWorkers s w) IsReady _ (schedule_given w g.options) (each_some (λ s. ListsWorkers s w) _ (option_value (codes "schedule") g.options) (λ list. each_some (λ s. ListsWorkers s w) _ (option_value (codes "seed") g.options) (λ seed. listed w list seed (omega arith)))) (λ s a.
-    map_some IsReady _ (integers_of g.words) (λ ns. (omega arith, a, l))))))
+    map_some IsReady _ (integers_of g.words) (λ ns. (omega arith, a, l)))))))
 
 pub ready : (words : List (List ℕ)) → IfSome (command_of words) IsReady
 ready [] = tt

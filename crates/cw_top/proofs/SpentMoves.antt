@@ -19,12 +19,12 @@ by_end (Budget x) is = cc
 by_end Moves is = refl
 
 spent : (c : Command) (r : Record) → IsDoneBy c r → r.end ≡ Moves → HasSpentMoves (Some c) r
-spent (Run ws ls) r done e = subst HasEnded e done.ended
-spent (Sim ws ls w s) r done e = (left_told (job_of_record r) w s r done.moves).0 e
+spent (Run ws ls p) r done e = subst HasEnded e done.ended
+spent (Sim ws ls w s p) r done e = (left_told (job_of_record r) w s r done.moves).0 e
 
 told : (c : Command) (r : Record) → IsDoneBy c r → HasSpentMoves (Some c) r → r.end ≡ Moves
-told (Run ws ls) r done e = absurd e
-told (Sim ws ls w s) r done e = (left_told (job_of_record r) w s r done.moves).1 e
+told (Run ws ls p) r done e = absurd e
+told (Sim ws ls w s p) r done e = (left_told (job_of_record r) w s r done.moves).1 e
 
 pub moves : (command : Option Command) (kept : Option Record) (status : ℕ) (n : Note) → IsStatus kept status n → IfSome kept (IsDoneAs command) → status ≡ 9 ↔ ((n ≡ note.Nothing) × IsSomeAnd kept (HasSpentMoves command))
 moves command None status note.Nothing is done = absurd is

@@ -1,5 +1,5 @@
 -- What the statuses say, from the causes of the notes.
-use Rattle.std.proofs.Common.{◌≡◌, ◌≢◌, ◌<◌, ◌⊎◌, inl, inr, List, length, ℕ, ℤ, Option, Some, None, IsSomeAnd, IfSome, refl, sym, ◌∙◌, subst, arith}
+use Rattle.std.proofs.Common.{◌≡◌, ◌≢◌, ◌<◌, ◌⊎◌, ◌++◌, inl, inr, List, length, ℕ, ℤ, Option, Some, None, IsSomeAnd, IfSome, refl, sym, ◌∙◌, subst, arith}
 use Rattle.std.proofs.lemmas.Bool.{cases_lt}
 use Rattle.std.proofs.lemmas.Option.{same_Some}
 use Rattle.cw_io.specs.declared.schedule.Schedule.{Schedule}
@@ -23,9 +23,9 @@ use Rattle.cw_top.specs.declared.outcome.Note.{Note}
 use Rattle.cw_top.specs.declared.outcome.Note.TheVariants as note
 use Rattle.cw_top.specs.Refusals.{AsksFor, IsMisfit, refusal}
 use Rattle.cw_top.proofs.Parameters.{fits, spelled_accepted}
-use Rattle.cw_top.specs.Texts.{end_text, finished_text}
-use Rattle.cw_top.specs.Outcome.{Accepts, MayBeMisusedWith, MayEndWith, HasCause, HasSeveralWorkers, IsDoneAs, IsDoneBy, IsMisused, IsOfMoves, IsRefusedFor, IsRefusedWith, IsRunBy, IsRunOf, IsStatus, IsSurelyMisused, IsSurelyRefused, Writes, WritesEndOfOneMemory, end_of_one_memory, status_of_end}
-use Rattle.cw_top.specs.Words.{IsReady, words_of}
+use Rattle.cw_report.specs.Results.{end_text, finished_text}
+use Rattle.cw_top.specs.Outcome.{Accepts, MayBeMisusedWith, MayEndWith, HasCause, HasSeveralWorkers, IsDoneAs, IsDoneBy, IsMisused, IsOfMoves, IsRefusedFor, IsRefusedWith, IsRunBy, IsRunOf, IsStatus, IsSurelyMisused, IsSurelyRefused, Writes, WritesEndOfOneMemory, end_of_one_memory, report_if, status_of_end}
+use Rattle.cw_top.specs.Words.{IsReady, asks_report, words_of}
 
 -- words that are no command come to status 2
 of_none : (kept : Option Record) (status : ℕ) (n : Note) → n ≡ note.Usage → IsStatus kept status n → status ≡ 2
@@ -100,8 +100,8 @@ more_than_one : (workers : ℕ) (s : Schedule) (r : Record) → 0 < workers → 
 more_than_one workers s r some done x e = elim (cases_lt 1 workers) [ inl less ↦ less | inr le ↦ absurd ((done.one_worker (omega arith)).unspent x e) ]
 
 may_end : (co : Command) (x : Record) (status : ℕ) → IsReady co → IsDoneBy co x → status ≡ status_of_end x.end → MayEndWith (Some co) status
-may_end (Run ws ls) x status ready done is = ended x.end status done.ended is
-may_end (Sim ws ls w s) x status ready done is = came x.end status w (more_than_one w s x ready.0 done) is
+may_end (Run ws ls p) x status ready done is = ended x.end status done.ended is
+may_end (Sim ws ls w s p) x status ready done is = came x.end status w (more_than_one w s x ready.0 done) is
 
 by_seven : (e : RecordEnd) → 7 ≡ status_of_end e → (x : ℕ) × (e ≡ Budget x)
 by_seven (Finished m o) is = cc
@@ -110,8 +110,8 @@ by_seven (Budget x) is = (x, refl)
 by_seven Moves is = cc
 
 several_of : (co : Command) (r : Record) → IsReady co → IsDoneBy co r → (x : ℕ) → r.end ≡ Budget x → HasSeveralWorkers (Some co)
-several_of (Run ws ls) r ready done x e = subst HasEnded e done.ended
-several_of (Sim ws ls w s) r ready done x e = more_than_one w s r ready.0 done x e
+several_of (Run ws ls p) r ready done x e = subst HasEnded e done.ended
+several_of (Sim ws ls w s p) r ready done x e = more_than_one w s r ready.0 done x e
 
 pub several : (command : Option Command) (kept : Option Record) (status : ℕ) (n : Note) → IsStatus kept status n → IfSome command IsReady → IfSome kept (IsDoneAs command) → status ≡ 7 → HasSeveralWorkers command
 several command None status note.Nothing is ready done seven = absurd is
@@ -125,8 +125,8 @@ several command kept status (note.Text f) (none, is) ready done seven = absurd (
 several command kept status (note.Name f) (none, is) ready done seven = absurd (cc (seven, is))
 
 may_want : (co : Command) (status : ℕ) → status ≡ 1 → MayEndWith (Some co) status
-may_want (Run ws ls) status is = inr (inr is)
-may_want (Sim ws ls w s) status is = inr (inr (inr (inr is)))
+may_want (Run ws ls p) status is = inr (inr is)
+may_want (Sim ws ls w s p) status is = inr (inr (inr (inr is)))
 
 -- bytes that are not refused are refused for no reason
 not_refused : (left : Option (List ℕ)) (P : List ℕ → Type 0) (n : Note) → IsSomeAnd left (λ bytes. (refusal bytes ≡ None) × P bytes) → IsRefusedFor n left → ⊥
@@ -190,16 +190,16 @@ complete (Some co) kept status note.Write left r w is cause ready done accepted 
 complete (Some co) kept status (note.Text f) left r w is cause ready done accepted no_r no_w = absurd (not_refused left (λ bytes. AsksFor bytes (length (words_of co))) (note.Text f) accepted cause)
 complete (Some co) kept status (note.Name f) left r w is cause ready done accepted no_r no_w = absurd (not_refused left (λ bytes. AsksFor bytes (length (words_of co))) (note.Name f) accepted cause)
 
--- where a run's status is 0 the machine finished, with the memory and the outputs that were written
-at_zero : (cells : List CellInfo) (t : List Node) (e : RecordEnd) (picks : Picks) (s : SerialEnd) (old new : Option (List ℕ)) → 0 ≡ status_of_end e → SameEnd e picks s → Appends old new (end_text cells t e) → (memory outputs : List ℤ) × (s ≡ last.Finished memory outputs) × Appends old new (finished_text cells memory outputs)
-at_zero cells t (Finished m o) picks s old new is same written = (m, o, same, written)
-at_zero cells t (Fault x k) picks s old new is same written = cc
-at_zero cells t (Budget x) picks s old new is same written = cc
-at_zero cells t Moves picks s old new is same written = cc
+-- where a run's status is 0 the machine finished, with the memory and the outputs that were written, and behind them what follows
+at_zero : (cells : List CellInfo) (t : List Node) (e : RecordEnd) (picks : Picks) (s : SerialEnd) (more : List ℕ) (old new : Option (List ℕ)) → 0 ≡ status_of_end e → SameEnd e picks s → Appends old new (end_text cells t e ++ more) → (memory outputs : List ℤ) × (s ≡ last.Finished memory outputs) × Appends old new (finished_text cells memory outputs ++ more)
+at_zero cells t (Finished m o) picks s more old new is same written = (m, o, same, written)
+at_zero cells t (Fault x k) picks s more old new is same written = cc
+at_zero cells t (Budget x) picks s more old new is same written = cc
+at_zero cells t Moves picks s more old new is same written = cc
 
 of_replay : (co : Command) (r : Record) (old new : Option (List ℕ)) → 0 ≡ status_of_end r.end → IsTree r.tree → IsReplayed r → Writes (Some co) (Some r) note.Nothing old new → WritesEndOfOneMemory (Some co) r old new
 of_replay co r old new is tree replays written =
-    let (memory, outputs, finishes, told) = at_zero r.program.cells r.tree r.end r.order (end_of_one_memory r) old new is (same_end r tree.rooted tree.root replays) written in
+    let (memory, outputs, finishes, told) = at_zero r.program.cells r.tree r.end r.order (end_of_one_memory r) (report_if (asks_report co) r) old new is (same_end r tree.rooted tree.root replays) written in
     record { memory = memory; outputs = outputs; finishes = finishes; written = told }
 
 pub finished : (command : Option Command) (kept : Option Record) (status : ℕ) (n : Note) (left old new : Option (List ℕ)) → IsStatus kept status n → IfSome kept (IsRunOf command left) → Writes command kept n old new → status ≡ 0 → IsSomeAnd kept (λ r. WritesEndOfOneMemory command r old new)

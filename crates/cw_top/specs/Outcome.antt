@@ -1,9 +1,8 @@
 -- What a status says: a part for each thing that the top call promises. What depends on the command is a function of it, with a case for
 -- words that are none; so a further command adds its cases and changes no clause.
-use Rattle.std.specs.Prelude.{◌≡◌, ◌<◌, ◌≤◌, ◌⊎◌, ℕ, ◌+◌, ℤ, List, [], ◌++◌, false, length, Option, Some, None, IfSome, IsSome, IsSomeAnd, IsTrue}
+use Rattle.std.specs.Prelude.{◌≡◌, ◌<◌, ◌≤◌, ◌⊎◌, ℕ, ◌+◌, ℤ, List, [], ◌++◌, Bool, true, false, length, Option, Some, None, IfSome, IsSome, IsSomeAnd, IsTrue}
 use Rattle.cw_io.specs.declared.schedule.Schedule.{Schedule}
 use Rattle.cw_io.specs.Outside.{Takes, Appends, AppendsFront, KeepsTelling, RunsDry, TellsOn}
-use Rattle.cw_code.specs.declared.CellInfo.{CellInfo}
 use Rattle.cw_tree.specs.Names.{name_of}
 use Rattle.cw_tree.specs.Nodes.{is_fork}
 use Rattle.cw_tree.specs.Refusals.{telling}
@@ -27,8 +26,9 @@ use Rattle.cw_top.specs.declared.command.Command.TheVariants.{Run, Sim}
 use Rattle.cw_top.specs.declared.outcome.Note.{Note}
 use Rattle.cw_top.specs.declared.outcome.Note.TheVariants as note
 use Rattle.cw_top.specs.Refusals.{AsksFor, IsMisfit, refusal, Spells}
-use Rattle.cw_top.specs.Texts.{finished_text, run_text}
-use Rattle.cw_top.specs.Words.{limits_of, words_of}
+use Rattle.cw_report.specs.Results.{finished_text, run_text}
+use Rattle.cw_report.specs.Report.{report_text}
+use Rattle.cw_top.specs.Words.{asks_report, limits_of, words_of}
 
 -- ## The status, the note and the run
 
@@ -122,23 +122,32 @@ pub record IsOfMoves (workers : ℕ) (schedule : Schedule) (r : Record) : Type 0
 
 -- How a command's run is done: by one worker, or by the moves of several.
 abbrev pub IsDoneBy : Command → Record → Type 0
-IsDoneBy (Run words limits) r = IsOfOneWorker r
-IsDoneBy (Sim words limits workers schedule) r = IsOfMoves workers schedule r
+IsDoneBy (Run words limits report) r = IsOfOneWorker r
+IsDoneBy (Sim words limits workers schedule report) r = IsOfMoves workers schedule r
 
 abbrev pub IsDoneAs : Option Command → Record → Type 0
 IsDoneAs command r = IsSomeAnd command (λ c. IsDoneBy c r)
 
 -- ## What was written
 
+-- the report on a run, where it is asked for
+abbrev pub report_if : Bool → Record → List ℕ
+report_if true r = report_text r
+report_if false r = []
+
+-- the text of a run: its result, and behind it the report
+abbrev pub text_by : (report : Bool) → Record → List ℕ
+text_by report r = run_text r ++ report_if report r
+
 -- the text that a command writes for its run
 abbrev pub text_of : Option Command → Record → List ℕ
 text_of None r = []
-text_of (Some c) r = run_text r
+text_of (Some c) r = text_by (asks_report c) r
 
--- the same of a run that finished, from what one memory comes to
-abbrev pub text_of_end : Option Command → List CellInfo → (memory outputs : List ℤ) → List ℕ
-text_of_end None cells memory outputs = []
-text_of_end (Some c) cells memory outputs = finished_text cells memory outputs
+-- the same of a run that finished, with the result from what one memory comes to
+abbrev pub text_of_end : Option Command → Record → (memory outputs : List ℤ) → List ℕ
+text_of_end None r memory outputs = []
+text_of_end (Some c) r memory outputs = finished_text r.program.cells memory outputs ++ report_if (asks_report c) r
 
 -- With a run its whole text, or a front of it where the write failed; with a refusal nothing.
 abbrev pub Writes : Option Command → Option Record → Note → (old new : Option (List ℕ)) → Type 0
@@ -161,7 +170,7 @@ pub record WritesEndOfOneMemory (command : Option Command) (r : Record) (old new
   pub memory : List ℤ
   pub outputs : List ℤ
   pub finishes : end_of_one_memory r ≡ last.Finished memory outputs
-  pub written : Appends old new (text_of_end command r.program.cells memory outputs)
+  pub written : Appends old new (text_of_end command r memory outputs)
 
 -- ## Budgets and moves that were spent
 
@@ -184,12 +193,12 @@ pub record SpentItsBudget (r : Record) : Type 0 where
 
 -- a command has more than one worker
 abbrev pub HasSeveralWorkers : Option Command → Type 0
-HasSeveralWorkers (Some (Sim words limits workers schedule)) = 1 < workers
+HasSeveralWorkers (Some (Sim words limits workers schedule report)) = 1 < workers
 HasSeveralWorkers command = ⊥
 
 -- All moves of a command were made, as many as its limit, and the run had not come to its end.
 abbrev pub HasSpentMoves : Option Command → Record → Type 0
-HasSpentMoves (Some (Sim words limits workers schedule)) r = is_run_over (simulation_of (job_of_record r) workers schedule) ≡ false
+HasSpentMoves (Some (Sim words limits workers schedule report)) r = is_run_over (simulation_of (job_of_record r) workers schedule) ≡ false
 HasSpentMoves command r = ⊥
 
 -- ## The statuses that come, and their causes
@@ -237,5 +246,5 @@ IsRefusedWith fault status n = ((status ≡ 5) × (n ≡ fault)) ⊎ (status ≡
 -- the statuses that a command comes to, where it accepts the source and neither a read nor a write fails: 7 needs more than one worker
 abbrev pub MayEndWith : Option Command → ℕ → Type 0
 MayEndWith None status = status ≡ 2
-MayEndWith (Some (Run words limits)) status = (status ≡ 0) ⊎ (status ≡ 6) ⊎ (status ≡ 1)
-MayEndWith (Some (Sim words limits workers schedule)) status = (status ≡ 0) ⊎ (status ≡ 6) ⊎ ((status ≡ 7) × (1 < workers)) ⊎ (status ≡ 9) ⊎ (status ≡ 1)
+MayEndWith (Some (Run words limits report)) status = (status ≡ 0) ⊎ (status ≡ 6) ⊎ (status ≡ 1)
+MayEndWith (Some (Sim words limits workers schedule report)) status = (status ≡ 0) ⊎ (status ≡ 6) ⊎ ((status ≡ 7) × (1 < workers)) ⊎ (status ≡ 9) ⊎ (status ≡ 1)

@@ -5,7 +5,7 @@ use Rattle.std.specs.Borrow.{Bor}
 use Rattle.cw_code.specs.declared.Limits.{Limits}
 use Rattle.cw_io.specs.declared.schedule.Schedule.{Schedule}
 use Rattle.cw_top.specs.Options.{Given, NumberOption, are_known, integers_of, number_given, parts_of, option_value}
-use Rattle.cw_top.specs.Words.{limits_given, schedule_given}
+use Rattle.cw_top.specs.Words.{limits_given, report_given, schedule_given}
 
 -- the parts of what stands behind a comma, if there is one
 abbrev pub parts_behind : Option (Bor (List ℕ)) → List (List ℕ)
@@ -29,6 +29,9 @@ number_asked o g = option_and_then (λ h. number_given o h.options) g
 
 abbrev pub limits_in : Option Given → Option Limits
 limits_in g = option_and_then (λ h. limits_given h.options) g
+
+abbrev pub report_asked : Option Given → Option Bool
+report_asked g = option_and_then (λ h. report_given h.options) g
 
 abbrev pub schedule_asked : (workers : ℕ) → Option Given → Option Schedule
 schedule_asked workers g = option_and_then (λ h. schedule_given workers h.options) g

@@ -1,5 +1,5 @@
--- Which words are a command, and what they say. There are two: `run` has two options, `sim` has eight, and both have the words of main.
-use Rattle.std.specs.Prelude.{◌<◌, ◌-◌, ◌^◌, List, [], ◌∷◌, ℕ, ℤ, Option, Some, None, codes, if◌then◌else◌, map, option_and_then, option_map, string_bytes, String}
+-- Which words are a command, and what they say. There are two: `run` has three options, `sim` has nine, and both have the words of main.
+use Rattle.std.specs.Prelude.{◌<◌, ◌-◌, ◌^◌, Bool, true, false, List, [], ◌∷◌, ℕ, ℤ, Option, Some, None, codes, if◌then◌else◌, map, option_and_then, option_map, string_bytes, String}
 use Rattle.std.specs.declared.alloc.Global.{Global}
 use Rattle.std.specs.Str.{bytes_eq}
 use Rattle.cw_code.specs.declared.Limits.{Limits}
@@ -34,10 +34,10 @@ workers_option = record { name = codes "workers"; least = 1; most = 64; default 
 
 -- the names of the options of each command
 abbrev pub run_options : List (List ℕ)
-run_options = codes "fuel" ∷ codes "size" ∷ []
+run_options = codes "fuel" ∷ codes "size" ∷ codes "report" ∷ []
 
 abbrev pub sim_options : List (List ℕ)
-sim_options = codes "fuel" ∷ codes "size" ∷ codes "aborts" ∷ codes "strands" ∷ codes "moves" ∷ codes "workers" ∷ codes "schedule" ∷ codes "seed" ∷ []
+sim_options = codes "fuel" ∷ codes "size" ∷ codes "aborts" ∷ codes "strands" ∷ codes "moves" ∷ codes "workers" ∷ codes "schedule" ∷ codes "seed" ∷ codes "report" ∷ []
 
 -- The limits that options give. One that is not given, or that is no option of the command, has its default.
 abbrev pub limits_given : List GivenOption → Option Limits
@@ -45,6 +45,14 @@ limits_given os =
     option_and_then (λ f. option_and_then (λ n. option_and_then (λ b. option_and_then (λ m. option_map (λ c.
     record { fuel = f; size = n; aborts = b; strands = m; moves = c })
     (number_given moves_option os)) (number_given strands_option os)) (number_given aborts_option os)) (number_given size_option os)) (number_given fuel_option os)
+
+-- Whether a report is asked for. Its one value is 1, the number of its form.
+abbrev pub report_in : (value : Option (List ℕ)) → Option Bool
+report_in None = Some false
+report_in (Some v) = option_map (λ n. true) (number_within 1 1 v)
+
+abbrev pub report_given : List GivenOption → Option Bool
+report_given os = option_and_then report_in (option_value (codes "report") os)
 
 -- ## Schedules
 
@@ -69,15 +77,16 @@ schedule_given workers os =
 -- the run that options and words ask for
 abbrev pub run_given : Given → Option Command
 run_given g =
-    if are_known run_options g.options then option_and_then (λ limits. option_map (λ ns. Run ns limits) (integers_of g.words)) (limits_given g.options)
+    if are_known run_options g.options then option_and_then (λ limits. option_and_then (λ report. option_map (λ ns. Run ns limits report)
+    (integers_of g.words)) (report_given g.options)) (limits_given g.options)
     else None
 
 -- the simulation that options and words ask for
 abbrev pub sim_given : Given → Option Command
 sim_given g =
     if are_known sim_options g.options then
-    option_and_then (λ limits. option_and_then (λ workers. option_and_then (λ schedule. option_map (λ ns. Sim ns limits workers schedule)
-    (integers_of g.words)) (schedule_given workers g.options)) (number_given workers_option g.options)) (limits_given g.options)
+    option_and_then (λ limits. option_and_then (λ report. option_and_then (λ workers. option_and_then (λ schedule. option_map (λ ns. Sim ns limits workers schedule report)
+    (integers_of g.words)) (schedule_given workers g.options)) (number_given workers_option g.options)) (report_given g.options)) (limits_given g.options)
     else None
 
 -- The first word says which command it is.
@@ -89,12 +98,17 @@ command_of (name ∷ words) =
     else None
 
 abbrev pub words_of : Command → List ℤ
-words_of (Run words limits) = words
-words_of (Sim words limits workers schedule) = words
+words_of (Run words limits report) = words
+words_of (Sim words limits workers schedule report) = words
 
 abbrev pub limits_of : Command → Limits
-limits_of (Run words limits) = limits
-limits_of (Sim words limits workers schedule) = limits
+limits_of (Run words limits report) = limits
+limits_of (Sim words limits workers schedule report) = limits
+
+-- whether a report is asked for
+abbrev pub asks_report : Command → Bool
+asks_report (Run words limits report) = report
+asks_report (Sim words limits workers schedule report) = report
 
 -- the command that these words are, which come behind the program's name, if they are one
 abbrev pub command_in : List (String Global) → Option Command
@@ -102,5 +116,5 @@ command_in words = command_of (map string_bytes words)
 
 -- A simulation has workers, each worker that is listed is one of them, and there is a column for the first strand.
 abbrev pub IsReady : Command → Type 0
-IsReady (Run words limits) = Unit {0}
-IsReady (Sim words limits workers schedule) = (0 < workers) × ListsWorkers schedule workers × (0 < limits.strands)
+IsReady (Run words limits report) = Unit {0}
+IsReady (Sim words limits workers schedule report) = (0 < workers) × ListsWorkers schedule workers × (0 < limits.strands)

@@ -1,5 +1,5 @@
 -- Worked words.
-use Rattle.std.specs.Prelude.{◌≡◌, ℕ, ℤ, pos, neg_ℤ, List, [], ◌∷◌, ◌++◌, Option, Some, None, codes, replicate}
+use Rattle.std.specs.Prelude.{◌≡◌, ℕ, ℤ, pos, neg_ℤ, true, false, List, [], ◌∷◌, ◌++◌, Option, Some, None, codes, replicate}
 use Rattle.std.specs.List.{flat_map}
 use Rattle.cw_code.specs.declared.Limits.{Limits}
 use Rattle.cw_io.specs.declared.schedule.Schedule.{Schedule}
@@ -15,22 +15,22 @@ default_limits = record { fuel = 1000000; size = 1000000; aborts = 100000; stran
 
 -- a run of these limits; the others are those that no option has changed
 abbrev pub run_of : (fuel size : ℕ) → Option Command
-run_of fuel size = Some (Run [] (record default_limits { fuel = fuel; size = size }))
+run_of fuel size = Some (Run [] (record default_limits { fuel = fuel; size = size }) false)
 
 -- a run of these words
 abbrev pub run_on : List ℤ → Option Command
-run_on words = Some (Run words default_limits)
+run_on words = Some (Run words default_limits false)
 
 -- a simulation of these limits, without words, by so many workers in the turns of a schedule
 abbrev pub sim_of : Limits → (workers : ℕ) → Schedule → Option Command
-sim_of limits workers schedule = Some (Sim [] limits workers schedule)
+sim_of limits workers schedule = Some (Sim [] limits workers schedule false)
 
 -- so many workers of number 0, by commas, behind one more
 abbrev pub zeros : ℕ → List ℕ
 zeros n = codes "0" ++ flat_map {X = ℕ} (λ x. codes ",0") (replicate n 0)
 
 pub record Commands : Type 0 where
-  pub plain : command_of (codes "run" ∷ []) ≡ Some (Run [] default_limits)
+  pub plain : command_of (codes "run" ∷ []) ≡ Some (Run [] default_limits false)
   pub none : command_of [] ≡ None
   pub capital : command_of (codes "Run" ∷ []) ≡ None
   pub empty : command_of ([] ∷ []) ≡ None
@@ -67,14 +67,14 @@ pub record Commands : Type 0 where
   pub before : command_of (codes "--fuel" ∷ codes "1" ∷ codes "run" ∷ []) ≡ None
   -- words of main, in their order, before, between and behind options
   pub word : command_of (codes "run" ∷ codes "7" ∷ []) ≡ run_on (pos 7 ∷ [])
-  pub words : command_of (codes "run" ∷ codes "7" ∷ codes "--fuel" ∷ codes "2" ∷ codes "5" ∷ codes "--size=4" ∷ []) ≡ Some (Run (pos 7 ∷ pos 5 ∷ []) (record default_limits { fuel = 2; size = 4 }))
+  pub words : command_of (codes "run" ∷ codes "7" ∷ codes "--fuel" ∷ codes "2" ∷ codes "5" ∷ codes "--size=4" ∷ []) ≡ Some (Run (pos 7 ∷ pos 5 ∷ []) (record default_limits { fuel = 2; size = 4 }) false)
   pub word_zeros : command_of (codes "run" ∷ codes "007" ∷ []) ≡ run_on (pos 7 ∷ [])
   pub greatest : command_of (codes "run" ∷ codes "9223372036854775807" ∷ []) ≡ run_on (pos 9223372036854775807 ∷ [])
   -- behind `--` there are only words
   pub only_words : command_of (codes "run" ∷ codes "--" ∷ codes "7" ∷ codes "-5" ∷ []) ≡ run_on (pos 7 ∷ neg_ℤ (pos 5) ∷ [])
   pub only_behind : command_of (codes "run" ∷ codes "7" ∷ codes "--" ∷ codes "-5" ∷ []) ≡ run_on (pos 7 ∷ neg_ℤ (pos 5) ∷ [])
   pub no_more : command_of (codes "run" ∷ codes "--" ∷ []) ≡ run_on []
-  pub option_before : command_of (codes "run" ∷ codes "--size=4" ∷ codes "--" ∷ codes "1" ∷ []) ≡ Some (Run (pos 1 ∷ []) (record default_limits { size = 4 }))
+  pub option_before : command_of (codes "run" ∷ codes "--size=4" ∷ codes "--" ∷ codes "1" ∷ []) ≡ Some (Run (pos 1 ∷ []) (record default_limits { size = 4 }) false)
   pub signed_zeros : command_of (codes "run" ∷ codes "--" ∷ codes "-0" ∷ codes "-007" ∷ []) ≡ run_on (pos 0 ∷ neg_ℤ (pos 7) ∷ [])
   pub lowest : command_of (codes "run" ∷ codes "--" ∷ codes "-9223372036854775808" ∷ codes "0" ∷ []) ≡ run_on (neg_ℤ (pos 9223372036854775808) ∷ pos 0 ∷ [])
   -- what is no word of main
@@ -98,7 +98,7 @@ pub record Simulations : Type 0 where
   pub capital : command_of (codes "SIM" ∷ []) ≡ None
   -- all options, both ways to give them, and words between them
   pub all : command_of (codes "sim" ∷ codes "--workers" ∷ codes "2" ∷ codes "--fuel=3" ∷ codes "--size" ∷ codes "4" ∷ codes "7" ∷ codes "--aborts=5" ∷ codes "--strands" ∷ codes "6" ∷ codes "--moves=8" ∷ codes "--schedule" ∷ codes "0,1,0" ∷ codes "--" ∷ codes "-9" ∷ [])
-      ≡ Some (Sim (pos 7 ∷ neg_ℤ (pos 9) ∷ []) (record { fuel = 3; size = 4; aborts = 5; strands = 6; moves = 8 }) 2 (Listed (0 ∷ 1 ∷ 0 ∷ [])))
+      ≡ Some (Sim (pos 7 ∷ neg_ℤ (pos 9) ∷ []) (record { fuel = 3; size = 4; aborts = 5; strands = 6; moves = 8 }) 2 (Listed (0 ∷ 1 ∷ 0 ∷ [])) false)
   pub most : command_of (codes "sim" ∷ codes "--workers=64" ∷ codes "--fuel=1000000000" ∷ codes "--size=10000000" ∷ codes "--aborts=1000000000" ∷ codes "--strands=1000000" ∷ codes "--moves=1000000000" ∷ codes "--schedule=63" ∷ [])
       ≡ sim_of (record { fuel = 1000000000; size = 10000000; aborts = 1000000000; strands = 1000000; moves = 1000000000 }) 64 (Listed (63 ∷ []))
   pub least : command_of (codes "sim" ∷ codes "--workers=1" ∷ codes "--fuel=1" ∷ codes "--size=1" ∷ codes "--aborts=1" ∷ codes "--strands=1" ∷ codes "--moves=1" ∷ codes "--schedule=0" ∷ [])
@@ -136,13 +136,16 @@ pub record Simulations : Type 0 where
   pub great_seed : command_of (codes "sim" ∷ codes "--seed=18446744073709551616" ∷ []) ≡ None
   pub both : command_of (codes "sim" ∷ codes "--seed=1" ∷ codes "--schedule=0" ∷ []) ≡ None
   pub both_other : command_of (codes "sim" ∷ codes "--schedule" ∷ codes "0" ∷ codes "--seed" ∷ codes "1" ∷ []) ≡ None
-  -- options of no command, and those of a simulation alone
-  pub report : command_of (codes "sim" ∷ codes "--report" ∷ codes "1" ∷ []) ≡ None
+  -- a report: its one value is 1
+  pub report : command_of (codes "sim" ∷ codes "--report" ∷ codes "1" ∷ []) ≡ Some (Sim [] default_limits 4 (Listed []) true)
+  pub run_report : command_of (codes "run" ∷ codes "--report=01" ∷ []) ≡ Some (Run [] default_limits true)
+  pub other_report : command_of (codes "run" ∷ codes "--report" ∷ codes "2" ∷ []) ≡ None
+  pub no_report : command_of (codes "sim" ∷ codes "--report=0" ∷ []) ≡ None
+  -- those of a simulation alone
   pub run_workers : command_of (codes "run" ∷ codes "--workers=1" ∷ []) ≡ None
   pub run_aborts : command_of (codes "run" ∷ codes "--aborts=1" ∷ []) ≡ None
   pub run_strands : command_of (codes "run" ∷ codes "--strands=1" ∷ []) ≡ None
   pub run_moves : command_of (codes "run" ∷ codes "--moves=1" ∷ []) ≡ None
   pub run_schedule : command_of (codes "run" ∷ codes "--schedule=0" ∷ []) ≡ None
   pub run_seed : command_of (codes "run" ∷ codes "--seed=1" ∷ []) ≡ None
-  pub run_report : command_of (codes "run" ∷ codes "--report=1" ∷ []) ≡ None
   pub bad_word : command_of (codes "sim" ∷ codes "--seed=1" ∷ codes "x" ∷ []) ≡ None

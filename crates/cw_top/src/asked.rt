@@ -4,7 +4,7 @@ ghost use Rattle.std.specs.Str.{bytes_eq};
 ghost use Rattle.cw_io.specs.declared.schedule.Schedule.TheVariants.{List as Listed};
 ghost use Rattle.cw_top.specs.Given.{Reads};
 ghost use Rattle.cw_top.specs.Options.{given};
-ghost use Rattle.cw_top.specs.Reading.{integers_in, known_in, limits_in, number_asked, schedule_asked, text_in, value_in};
+ghost use Rattle.cw_top.specs.Reading.{integers_in, known_in, limits_in, number_asked, report_asked, schedule_asked, text_in, value_in};
 ghost use Rattle.cw_top.specs.Words.{schedule_in as schedule_by, workers_option};
 
 use crate::given::{Next, next_of, words_behind};
@@ -102,6 +102,19 @@ pub fn limits_of(words: &[String]) -> Option<Limits>
         strands: strands as u32,
         moves,
     })
+}
+
+/// Whether options ask for a report.
+pub fn report_of(words: &[String]) -> Option<bool>
+    ensures { result ≡ report_asked (given (map string_bytes words.now)) }
+{
+    match value_of(words, "report")? {
+        Some(value) => {
+            number_within(value, 1, 1)?;
+            Some(true)
+        }
+        None => Some(false),
+    }
 }
 
 /// The number of workers that options give.

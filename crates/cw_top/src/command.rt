@@ -1,8 +1,8 @@
 ghost use Rattle.std.specs.Prelude.{◌≡◌, IfOk, IsSome, OnErr, map, option_and_then, string_bytes};
 ghost use Rattle.cw_top.specs.Options.{given};
-ghost use Rattle.cw_top.specs.Words.{command_of, run_given, sim_given, words_of};
+ghost use Rattle.cw_top.specs.Words.{asks_report, command_of, run_given, sim_given, words_of};
 
-use crate::asked::{are_known, integers_of, limits_of, schedule_of, workers_of};
+use crate::asked::{are_known, integers_of, limits_of, report_of, schedule_of, workers_of};
 use cw_base::{OutOfMemory, Seq};
 use cw_code::Limits;
 use cw_io::Schedule;
@@ -11,10 +11,11 @@ use std::alloc::Global;
 /// What the words of a command ask for, and what they say of it.
 #[derive(Drop)]
 pub enum Command {
-    /// Reads a program from the source, runs it with these words and limits, and writes its text.
+    /// Reads a program from the source, runs it with these words and limits, and writes its result, and the report where it is asked for.
     Run {
         words: Seq<i64>,
         limits: Limits,
+        report: bool,
     },
     /// The same by so many virtual workers, who move in the turns of this schedule.
     Sim {
@@ -22,6 +23,7 @@ pub enum Command {
         limits: Limits,
         workers: u32,
         schedule: Schedule,
+        report: bool,
     },
 }
 
@@ -35,6 +37,16 @@ impl Command {
             Command::Sim { words, .. } => words,
         }
     }
+
+    /// Whether a report is asked for.
+    pub fn asks_report(&self) -> bool
+        ensures { result ≡ asks_report self.now }
+    {
+        match self {
+            Command::Run { report, .. } => *report,
+            Command::Sim { report, .. } => *report,
+        }
+    }
 }
 
 // The run that the words behind `run` ask for.
@@ -42,10 +54,13 @@ fn run_with(alloc: Global, words: &[String]) -> Result<Option<Command>, OutOfMem
     ensures exact { IfOk result (λ c. c ≡ option_and_then run_given (given (map string_bytes words.now))) }
     ensures memory { OnErr result (IsSome (option_and_then run_given (given (map string_bytes words.now)))) }
 {
-    if !are_known(words, &["fuel", "size"]) {
+    if !are_known(words, &["fuel", "size", "report"]) {
         return Ok(None);
     }
     let Some(limits) = limits_of(words) else {
+        return Ok(None);
+    };
+    let Some(report) = report_of(words) else {
         return Ok(None);
     };
     let Some(kept) = integers_of(alloc, words) else {
@@ -54,6 +69,7 @@ fn run_with(alloc: Global, words: &[String]) -> Result<Option<Command>, OutOfMem
     Ok(Some(Command::Run {
         words: kept?,
         limits,
+        report,
     }))
 }
 
@@ -63,12 +79,15 @@ fn sim_with(alloc: Global, words: &[String]) -> Result<Option<Command>, OutOfMem
     ensures memory { OnErr result (IsSome (option_and_then sim_given (given (map string_bytes words.now)))) }
 {
     let names = [
-        "fuel", "size", "aborts", "strands", "moves", "workers", "schedule", "seed",
+        "fuel", "size", "aborts", "strands", "moves", "workers", "schedule", "seed", "report",
     ];
     if !are_known(words, &names) {
         return Ok(None);
     }
     let Some(limits) = limits_of(words) else {
+        return Ok(None);
+    };
+    let Some(report) = report_of(words) else {
         return Ok(None);
     };
     let Some(workers) = workers_of(words) else {
@@ -85,6 +104,7 @@ fn sim_with(alloc: Global, words: &[String]) -> Result<Option<Command>, OutOfMem
         limits,
         workers,
         schedule: schedule?,
+        report,
     }))
 }
 

@@ -2,7 +2,7 @@
 //! its status.
 //! Stands on all crates below.
 //! Contracts cite `specs/Words.antt` (which words are which command, from `specs/Options.antt`, how words give options),
-//! `specs/Refusals.antt` (why a source is refused), `specs/Reasons.antt` (why there is no run), `specs/Texts.antt` (what is written),
+//! `specs/Refusals.antt` (why a source is refused), `specs/Reasons.antt` (why there is no run), `specs/Texts.antt` (notes),
 //! `specs/Outcome.antt` (what a status says) and `specs/OverSource.antt` (what a run is over the syntax of its source). Private ones cite
 //! `specs/Given.antt` (how words are read one after another) and `specs/Reading.antt` (in passes).
 #![tactic(auto)]
@@ -21,7 +21,7 @@ ghost use Rattle.cw_top.specs.Worked.{Commands, Simulations};
 
 pub use command::{Command, command_of};
 pub use outcome::{Note, Reply};
-pub use text::{note_text, result_text};
+pub use text::note_text;
 pub use top::cwstm;
 
 /// Worked words.

@@ -9,21 +9,21 @@ ghost use Rattle.cw_top.specs.declared.outcome.Note.{Note};
 ghost use Rattle.cw_top.specs.declared.outcome.Note.TheVariants.{Nothing};
 ghost use Rattle.cw_top.specs.declared.reasons.NoRun.TheVariants.{Misfit};
 ghost use Rattle.cw_top.specs.declared.reasons.NotWritten.TheVariants.{OutOfMemory, WriteFault};
-ghost use Rattle.cw_top.specs.Outcome.{Accepts, HasCause, HasSeveralWorkers, HasSpentMoves, IsDoneAs, IsDoneBy, IsMisused, IsRefusedFor, IsRefusedWith, IsRunOf, IsSurelyMisused, IsSurelyRefused, IsStatus, MayBeMisusedWith, MayEndWith, ReadsWhole, RisesAtMost, SpentItsBudget, StillTells, TakesAtMost, Writes, WritesEndOfOneMemory, most_bytes, most_ends, most_read, status_of_end};
+ghost use Rattle.cw_top.specs.Outcome.{Accepts, HasCause, HasSeveralWorkers, HasSpentMoves, IsDoneAs, IsDoneBy, IsMisused, IsRefusedFor, IsRefusedWith, IsRunOf, IsSurelyMisused, IsSurelyRefused, IsStatus, MayBeMisusedWith, MayEndWith, ReadsWhole, RisesAtMost, SpentItsBudget, StillTells, TakesAtMost, Writes, WritesEndOfOneMemory, most_bytes, most_ends, most_read, status_of_end, text_by};
 ghost use Rattle.cw_top.specs.OverSource.{IsRunOfSource, Spawns};
 ghost use Rattle.cw_top.specs.Reasons.{WhyNoRun, note_of};
 ghost use Rattle.cw_top.specs.Refusals.{IsMisfit};
-ghost use Rattle.cw_top.specs.Texts.{run_text};
 ghost use Rattle.cw_top.specs.Words.{IsReady, command_in, limits_of, words_of};
 
 use crate::command::{Command, command_of};
 use crate::reading::program_from;
 use crate::reasons::{NoRun, NotWritten, Refusal, Stop};
-use crate::{Note, Reply, result_text};
+use crate::{Note, Reply};
 use cw_code::Program;
 use cw_io::{Gate, Sink, Source, write_all};
 use cw_job::takes_words;
 use cw_record::{Record, RecordEnd, depth_first};
+use cw_report::{report_text, result_text};
 use cw_sim::simulate;
 use std::alloc::Global;
 use std::sync::Wait;
@@ -55,12 +55,13 @@ fn done(alloc: Global, command: Command, program: Program) -> Result<Record, cw_
     ensures done { IfOk result (IsDoneBy command) }
 {
     match command {
-        Command::Run { words, limits } => depth_first(alloc, program, words, limits),
+        Command::Run { words, limits, .. } => depth_first(alloc, program, words, limits),
         Command::Sim {
             words,
             limits,
             workers,
             schedule,
+            ..
         } => simulate(alloc, program, words, workers, &schedule, limits),
     }
 }
@@ -84,19 +85,36 @@ fn run_of<S: Source>(alloc: Global, command: Command, source: &mut S) -> Result<
     Ok(done(alloc, command, program)?)
 }
 
-// Writes the text of a run.
-fn write_run<K: Sink>(alloc: Global, run: &Record, sink: &mut K) -> Result<(), NotWritten>
+// The text of a run: its result, and behind it the report where it is asked for.
+fn text_of(alloc: Global, run: &Record, report: bool) -> Result<Vec<u8>, cw_base::OutOfMemory>
+    requires { IsTrue (is_strand run.now.tree (ending_strand run.now.end)) }
+    ensures { IfOk result (λ text. text.items ≡ text_by report run.now) }
+{
+    let mut text = result_text(alloc, run)?;
+    if report {
+        text.extend_from_slice(report_text(alloc, run)?.as_slice())?;
+    }
+    Ok(text)
+}
+
+// Writes the text of a run, once it is made whole.
+fn write_run<K: Sink>(
+    alloc: Global,
+    run: &Record,
+    report: bool,
+    sink: &mut K,
+) -> Result<(), NotWritten>
     requires { IsTrue (is_strand run.now.tree (ending_strand run.now.end)) }
     ensures later { K.faults sink.old ≤ K.faults sink.new }
-    ensures written { OnOk result (Appends (K.written sink.old) (K.written sink.new) (run_text run.now)) }
+    ensures written { OnOk result (Appends (K.written sink.old) (K.written sink.new) (text_by report run.now)) }
     ensures nothing { IsErrOf result OutOfMemory → Appends (K.written sink.old) (K.written sink.new) [] }
-    ensures tells { OnOk result (KeepsTelling (K.tells_for sink.old) (K.tells_for sink.new) (K.written sink.old) (K.written sink.new) (length (run_text run.now))) }
+    ensures tells { OnOk result (KeepsTelling (K.tells_for sink.old) (K.tells_for sink.new) (K.written sink.old) (K.written sink.new) (length (text_by report run.now))) }
     ensures untouched { IsErrOf result OutOfMemory
         → TellsOn (K.written sink.old) (K.written sink.new) × ((n : ℕ) → K.tells_for sink.old n → K.tells_for sink.new n) }
-    ensures front { IsErrOf result WriteFault → AppendsFront (K.written sink.old) (K.written sink.new) (run_text run.now) }
+    ensures front { IsErrOf result WriteFault → AppendsFront (K.written sink.old) (K.written sink.new) (text_by report run.now) }
     ensures cause { IsErrOf result WriteFault → Rose (K.faults sink.old) (K.faults sink.new) }
 {
-    let text = result_text(alloc, run)?;
+    let text = text_of(alloc, run, report)?;
     Ok(write_all(sink, text.as_slice())?)
 }
 
@@ -136,11 +154,12 @@ fn ran<S: Source, K: Sink>(alloc: Global, command: Command, source: &mut S, sink
     ensures written { Writes (Some command) result.kept result.note (K.written sink.old) (K.written sink.new) }
     ensures tells { (result.status ≡ 4 → ⊥) → StillTells (Some command) result.kept (K.tells_for sink.old) (K.tells_for sink.new) (K.written sink.old) (K.written sink.new) }
 {
+    let report = command.asks_report();
     let run = match run_of(alloc, command, source) {
         Ok(run) => run,
         Err(why) => return without_run(why),
     };
-    match write_run(alloc, &run, sink) {
+    match write_run(alloc, &run, report, sink) {
         Ok(()) => Reply {
             status: status_of_end(&run.end),
             note: Note::Nothing,
@@ -187,8 +206,8 @@ fn answer<S: Source, K: Sink>(
 }
 
 /// Does all that the program does. `words` are the command's words without the program's name. Each command reads a program from
-/// the source, runs it with the words of main, and writes its text (`result_text`) to the sink: `run` depth first, with the options
-/// `--fuel` and `--size`; `sim` by the moves of several virtual workers, with these and `--workers`, `--aborts`, `--strands`,
+/// the source, runs it with the words of main, and writes its result (`result_text`) to the sink, with `--report 1` followed by the
+/// report on it (`report_text`): `run` depth first, with the options `--fuel` and `--size`; `sim` by the moves of several virtual workers, with these and `--workers`, `--aborts`, `--strands`,
 /// `--moves`, and `--schedule` or `--seed`.
 ///
 /// The statuses are those of `Reply`. At most 1,048,577 bytes are read, one more than a text may have, and never more are asked
