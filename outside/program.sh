@@ -271,10 +271,53 @@ zeros=$(printf ',0%.0s' $(seq 20000))
 try 'as many listed as may be' 0 $'end\n' '' sim --schedule "${zeros:1}"
 try 'one listed too many' 2 '' "$usage" sim --schedule "0$zeros"
 for words in '--workers 0' '--workers 65' '--moves 0' '--strands 1000001' '--schedule 4' '--schedule 0,2 --workers 2' '--schedule=' '--schedule 0,' '--schedule +1' \
-  '--seed 18446744073709551616' '--seed 1 --schedule 0' '--schedule 0 --schedule 0' '--report 2' '--report 0' '--report 1 --report 1' '--report' 'x'; do
+  '--seed 18446744073709551616' '--seed 1 --schedule 0' '--schedule 0 --schedule 0' '--report 2' 'x'; do
   # the words stand apart by blanks
   # shellcheck disable=SC2086
   try "sim $words" 2 '' "$usage" sim $words
+done
+
+# ## Reports
+
+# report STRANDS BLOCKS LINE..: the lines of a report with these conflicts
+report() {
+  printf 'report 1\nstrands %s\nblocks %s\nconflicts %s\n' "$1" "$2" $(($# - 2))
+  shift 2
+  printf 'conflict %s\n' "$@" | sed '/^conflict $/d'
+  echo 'end report'
+}
+seven='last 0.1l@3 asker 0.1r block 2 victim 4 attempt 1 chain 3'
+turns='--workers 2 --schedule 0,1,0,0,1,1,1'
+
+for cell in c 'a[1]'; do
+  case $cell in c) declared=c values=$'c = 2\n' ;; *) declared='a[2]' values=$'a[0] = 0\na[1] = 2\n' ;; esac
+  printf 'cell %s; fn main() { spawn { atomic { %s = 1; } } atomic { atomic { %s = 2; } } }' "$declared" "$cell" "$cell" > source
+  # the words stand apart by blanks
+  # shellcheck disable=SC2086
+  try "the block of the asker falls, $cell" 0 "$values"$'end\n'"$(report 3 '3 2' "$cell $seven")"$'\n' '' sim $turns --report 1
+  # shellcheck disable=SC2086
+  try "a budget spent, $cell" 7 $'budget spent in 0.1r\n'"$(report 3 '0 0' "$cell $seven")"$'\n' '' sim --report=01 $turns --aborts 1
+done
+printf 'cell c; cell d; fn main() { spawn { spawn { d = 5; } c = 1; sync; atomic { d = 1; d = 2; } } c = 2; }' > source
+try 'a stolen branch that is joined before a block' 0 $'c = 2\nd = 2\nend\n'"$(report 5 '1 0')"$'\n' '' \
+  sim --workers 3 --schedule 0,1,0,2,2,0,2,0,0,0,1 --report 1
+printf 'cell c; cell d; fn main() { spawn { atomic { spawn { d = 5; } c = 1; sync; d = 1; } } c = 2; }' > source
+try 'the same inside the block' 0 $'c = 2\nd = 1\nend\n'"$(report 5 '1 0' 'c last 0.1l.1r@4 asker 0.1r block 2 victim none attempt 1 chain 4' \
+  'c last 0.1l.1r@4 asker 0.1r block 2 victim none attempt 2 chain 4')"$'\n' '' sim --workers 3 --schedule 0,1,0,0,2,2,0,2,0,1 --report 1
+printf 'cell c; fn main() { atomic { spawn { atomic { c = 1; } } c = 2; } }' > source
+try 'no victim inside one block' 0 $'c = 2\nend\n'"$(report 3 '2 0' 'c last 0.1l@4 asker 0.1r block 3 victim none attempt 1 chain 4')"$'\n' '' \
+  sim --workers 2 --schedule 0,0,1,0,0,1 --report 1
+cp "$root/examples/undone.cw" source
+try 'a rollback after an inner commit' 0 $'a = 8\nb = 9\nc = 2\nend\n'"$(report 3 '3 2' "c $seven")"$'\n' '' \
+  sim --workers 2 --schedule 0,1,0,0,1,1,1,1,1,1,1,1,1 --report 1
+printf 'cell c; fn main() { c = c + 1; out c; }' > source
+try 'moves spent' 9 $'moves spent\n'"$(report 1 '0 0')"$'\n' '' sim --workers 1 --moves 2 --report 1
+try 'a fault' 6 $'fault Size in 0\n'"$(report 1 '0 0')"$'\n' '' run --size 3 --report 1
+printf 'cell c; fn main() { spawn { atomic { c = c + 1; } } spawn { atomic { c = c + 1; } } spawn { atomic { c = c + 1; } } }' > source
+try 'one worker' 0 $'c = 3\nend\n'"$(report 7 '3 0')"$'\n' '' run --report 1
+for words in '--report 2' '--report 0' '--report -1' '--report' '--report= ' '--report 1 --report=1' '--reports 1'; do
+  # shellcheck disable=SC2086
+  try "run $words" 2 '' "$usage" run $words
 done
 
 # ## Reading and writing that fail
