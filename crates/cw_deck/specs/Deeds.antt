@@ -32,7 +32,8 @@ module _ {T : Type 0} where
   abbrev pub HasHistory : List T → List (List (Deed T)) → Type 0
   HasHistory tasks known = (h : List (ℕ × Deed T)) × IsHistory h tasks × AreDeedsOf h known
 
-  -- there is a history, in which an end did just this, after which the deque holds at most so many tasks
+  -- There is a history, in which an end did just this, after which the deque holds at most so many tasks. What an end did does not tell that
+  -- it looked: other ends may have done anything. That none answers without a look is refused over any rule.
   abbrev pub MayHold : ℕ → List (Deed T) → Type 0
   MayHold most ds = (h : List (ℕ × Deed T)) × (tasks : List T) × (end : ℕ) × IsHistory h tasks × (ds ≡ deeds_of end h) × (length tasks ≤ most)
 

@@ -4,7 +4,7 @@ ghost use Rattle.cw_deck.specs.Deeds.{MayHold, did, pushes};
 ghost use Rattle.cw_deck.specs.declared.deed.Deed.TheVariants.{Pushed, Popped, Stolen};
 
 use crate::deed::{Another, Deeds, History, Pops, Pushes, Steals};
-use crate::ruled::steal_by;
+use crate::ruled::{pop_by, steal_by};
 use crossbeam_deque::{Pass, Stealer, Worker};
 use cw_base::OutOfMemory;
 use std::alloc::Global;
@@ -101,7 +101,7 @@ impl<T> Deck<T> {
             ((self.new ≡ self.old) × MayHold 0 self.old.deeds)
             (λ x. self.new ≡ did self.old (Popped x)) }
     {
-        self.worker.pop_as::<Pops>()
+        pop_by::<T, Deeds<T>, History<T>, Pops>(&mut self.worker)
     }
 }
 

@@ -1,12 +1,27 @@
-//! A steal under whatever rule: no rule gives a `None` without a look.
-ghost use Rattle.std.specs.Prelude.{◌≡◌, [], ◌∷◌, MatchOption, min};
-ghost use Rattle.crossbeam_deque.specs.Handles.{IsPassOf, SamePass, stealer_deque, stealer_flavor, view};
-ghost use Rattle.crossbeam_deque.specs.Tasks.{FindsFew, Takes};
+//! A pop and a steal under whatever rule: no rule gives a `None` without a look.
+ghost use Rattle.std.specs.Prelude.{◌≡◌, ◌≤◌, [], ◌∷◌, MatchOption, min};
+ghost use Rattle.crossbeam_deque.specs.Handles.{IsPassOf, SamePass, SameWorker, stealer_deque, stealer_flavor, view, worker_flavor, worker_index, worker_port, worker_view};
+ghost use Rattle.crossbeam_deque.specs.Tasks.{Finds, FindsFew, Pops, Takes};
 
 use crossbeam_deque::protocol::{Outcome, Protocol};
-use crossbeam_deque::{Pass, Steal, Stealer};
+use crossbeam_deque::{Pass, Steal, Stealer, Worker};
 use std::alloc::Global;
 use std::sync::Wait;
+
+/// Takes the task at the back of a LIFO deque. `None` tells what holds where the deque was empty at one moment of the call.
+pub fn pop_by<T, V, P: Protocol<T, V>, M: Outcome<T, V>>(
+    worker: &mut Worker<T, Global, V, P>,
+) -> Option<T>
+    requires lifo { worker_flavor worker.old ≡ 1 }
+    requires pops { Pops P.holds (worker_port worker.old) (worker_view worker.old) (M.then (worker_view worker.old)) }
+    requires empty { Finds P.holds (worker_port worker.old) (worker_view worker.old) (M.empty (worker_view worker.old)) }
+    ensures same { SameWorker worker.old worker.new × (worker_index worker.new ≤ worker_index worker.old) }
+    ensures rule { MatchOption result
+        ((worker_view worker.new ≡ worker_view worker.old) × M.empty (worker_view worker.old))
+        (λ x. M.then (worker_view worker.old) (x ∷ []) (worker_view worker.new)) }
+{
+    worker.pop_as::<M>()
+}
 
 /// Takes the task at the front, and tries again where another thread was first. `None` tells what holds where the deque
 /// held few tasks at one moment of the call: none of a FIFO deque, and at most one of a LIFO one.

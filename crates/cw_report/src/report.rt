@@ -115,6 +115,9 @@ fn push_conflicts(
 ) -> Result<(), OutOfMemory>
     ensures { OnOk result (string_bytes text.new ≡ string_bytes text.old ++ flat_map (conflict_line cells.now tree.now) conflicts.now) }
 {
+    if conflicts.is_empty() {
+        return Ok(());
+    }
     let alloc = *text.allocator();
     let elements = elements(alloc, cells)?;
     let found = Found::of_tree(alloc, tree)?;
@@ -131,7 +134,7 @@ fn push_conflicts(
 /// `conflict CELL last STRAND@STAMP asker STRAND block STAMP victim STAMP attempt NUMBER chain STAMPS`
 ///
 /// A cell is `NAME`, or `NAME[I]` for an element of an array. The strand of a stamp is that of the first node with it. A victim that there
-/// is none of is `none`, and what the record does not have is `?`. Takes steps for each node, conflict and byte of the text.
+/// is none of is `none`, and what the record does not have is `?`.
 pub fn report_text(alloc: Global, kept: &Record) -> Result<Vec<u8>, OutOfMemory>
     ensures { IfOk result (λ text. text.items ≡ report_text kept.now) }
 {

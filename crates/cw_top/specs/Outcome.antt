@@ -115,12 +115,12 @@ pub record IsOfOneWorker (r : Record) : Type 0 where
   pub ended : HasEnded r.end
   pub blocks : BlocksEnded r.tree r.end
 
--- The moves of so many workers did it, in the turns of a schedule, and it is their record. If there is one, nothing was refused.
+-- The moves of so many workers did it, in the turns of a schedule, and it is their record. If there is one worker, nothing was refused.
 pub record IsOfMoves (workers : ℕ) (schedule : Schedule) (r : Record) : Type 0 where
   pub moves : IsRecordOf (simulation_of (job_of_record r) workers schedule) r
   pub one_worker : workers ≡ 1 → IsUnrefused r
 
--- How a command's run is done: by one worker, or by the moves of several.
+-- How a command's run is done: by one worker, depth first, or by the moves of so many.
 abbrev pub IsDoneBy : Command → Record → Type 0
 IsDoneBy (Run words limits report) r = IsOfOneWorker r
 IsDoneBy (Sim words limits workers schedule report) r = IsOfMoves workers schedule r

@@ -86,7 +86,7 @@ fn run_of<S: Source>(alloc: Global, command: Command, source: &mut S) -> Result<
 }
 
 // The text of a run: its result, and behind it the report where it is asked for.
-fn text_of(alloc: Global, run: &Record, report: bool) -> Result<Vec<u8>, cw_base::OutOfMemory>
+fn text_by(alloc: Global, run: &Record, report: bool) -> Result<Vec<u8>, cw_base::OutOfMemory>
     requires { IsTrue (is_strand run.now.tree (ending_strand run.now.end)) }
     ensures { IfOk result (λ text. text.items ≡ text_by report run.now) }
 {
@@ -114,7 +114,7 @@ fn write_run<K: Sink>(
     ensures front { IsErrOf result WriteFault → AppendsFront (K.written sink.old) (K.written sink.new) (text_by report run.now) }
     ensures cause { IsErrOf result WriteFault → Rose (K.faults sink.old) (K.faults sink.new) }
 {
-    let text = text_of(alloc, run, report)?;
+    let text = text_by(alloc, run, report)?;
     Ok(write_all(sink, text.as_slice())?)
 }
 
@@ -207,8 +207,8 @@ fn answer<S: Source, K: Sink>(
 
 /// Does all that the program does. `words` are the command's words without the program's name. Each command reads a program from
 /// the source, runs it with the words of main, and writes its result (`result_text`) to the sink, with `--report 1` followed by the
-/// report on it (`report_text`): `run` depth first, with the options `--fuel` and `--size`; `sim` by the moves of several virtual workers, with these and `--workers`, `--aborts`, `--strands`,
-/// `--moves`, and `--schedule` or `--seed`.
+/// report on it (`report_text`): `run` depth first, with the options `--fuel` and `--size`; `sim` by the moves of several virtual
+/// workers, with these and `--workers`, `--aborts`, `--strands`, `--moves`, and `--schedule` or `--seed`.
 ///
 /// The statuses are those of `Reply`. At most 1,048,577 bytes are read, one more than a text may have, and never more are asked
 /// for. Refusals are looked for in this order: words, read, text, names, number of words, run, write; want of memory may stand at
