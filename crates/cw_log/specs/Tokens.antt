@@ -71,20 +71,20 @@ right_of x fork column = record {
 abbrev pub branched : Token → (stamp : ℕ) → Token
 branched x stamp =
     let n = length x.own.nodes in
-    inside (with_nodes x (x.own.nodes ++ fresh_node x.place Fork stamp ∷ fresh_node n Strand 0 ∷ fresh_node n Strand 0 ∷ [])) First (n + 1)
+    inside (with_nodes x (x.own.nodes ++ fresh_node x.place Fork stamp ∷ fresh_node n Strand 0 ∷ fresh_node n Strand 0 ∷ [])) (First (n + 2)) (n + 1)
 
 -- from a strand of the innermost fork to where the strand that forked stands
 abbrev pub left_behind : Token → List Open → Token
 left_behind x [] = x
 left_behind x (o ∷ os) = record x { strand = o.strand; place = o.place; around = o.around; forks = os }
 
--- from the left strand of an inline fork to the right one, which has the next number, and from there to the strand that forked
+-- from the left strand of an inline fork to the right one, and from there to the strand that forked
 abbrev pub turned_by : Token → List Open → Token
 turned_by x [] = x
 turned_by x (o ∷ os) = by o.side where
   by : Side → Token
   by (Beside fork) = x
-  by First = record x { strand = x.strand + 1; place = x.strand + 1; around = o.around; forks = record o { side = Second } ∷ os }
+  by (First right) = record x { strand = right; place = right; around = o.around; forks = record o { side = Second } ∷ os }
   by Second = left_behind x (o ∷ os)
 
 abbrev pub turned : Token → Token
@@ -168,12 +168,17 @@ pub record AreOfOneFork (x y : Token) : Type 0 where
   pub fork : inner.side ≡ Beside y.fork
   pub right : y.forks ≡ []
 
+abbrev pub is_inline : Side → Bool
+is_inline (Beside fork) = false
+is_inline (First right) = true
+is_inline Second = true
+
 -- it stands in a strand of a fork that has one token
 pub record IsInline (x : Token) : Type 0 where
   pub inner : Open
   pub outer : List Open
   pub there : x.forks ≡ inner ∷ outer
-  pub side : (inner.side ≡ First) ⊎ (inner.side ≡ Second)
+  pub side : is_inline inner.side ≡ true
 
 -- it waits for the split of this fork
 abbrev pub MaySplit : Token → (fork : ℕ) → Type 0

@@ -13,5 +13,5 @@ mod token;
 pub use board::{Access, Forked, SharedBoard};
 pub use laws::strands_go_on;
 pub use log::{Above, Log};
-pub use logs::{Logs, LogsIter};
+pub use logs::{LogRoom, Logs, LogsIter};
 pub use token::{Open, Phase, Side, Stop, Token};

@@ -4,7 +4,7 @@ ghost use Rattle.std.specs.Map.Iter.{ShowsInOrder, deref};
 ghost use Rattle.cw_log.specs.declared.log.Log.{Log};
 
 use crate::Log;
-use cw_base::OutOfMemory;
+use cw_base::{OutOfMemory, Seq};
 use std::alloc::Global;
 use std::collections::LinkedList;
 use std::collections::linked_list::Iter;
@@ -70,5 +70,38 @@ impl Logs {
         ensures { result ≡ length self.now }
     {
         self.list.len()
+    }
+}
+
+/// Room for one log in a list, which is taken ahead.
+#[derive(Drop)]
+pub struct LogRoom {
+    list: LinkedList<Log>,
+    ghost one: { length list ≡ 1 },
+}
+
+impl LogRoom {
+    pub fn new(alloc: Global) -> Result<LogRoom, OutOfMemory> {
+        let mut list = LinkedList::new(alloc);
+        list.push_back(Log {
+            column: 0,
+            from: 0,
+            fork: 0,
+            nodes: Seq::new(alloc),
+            conflicts: Seq::new(alloc),
+        })?;
+        Ok(LogRoom { list })
+    }
+
+    /// The list of one log. Takes no memory.
+    pub fn fill(self, log: Log) -> Logs
+        ensures { result ≡ log ∷ [] }
+    {
+        let LogRoom { list } = self;
+        let mut list = list;
+        if let Some(place) = list.front_mut() {
+            *place = log;
+        }
+        Logs { list }
     }
 }

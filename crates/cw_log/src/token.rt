@@ -16,8 +16,8 @@ pub struct Stop {
 pub enum Side {
     /// In the left strand of the fork with this number, whose right strand has a token of its own.
     Beside(u32),
-    /// In the left strand of a fork that has one token.
-    First,
+    /// In the left strand of a fork that has one token, and whose right strand has this number.
+    First(u32),
     /// In the right strand of such a fork.
     Second,
 }
