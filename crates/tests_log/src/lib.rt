@@ -1,10 +1,15 @@
-//! Tests of what running threads are built from, by their public calls: deques and pairs.
+//! Tests of what running threads are built from, by their public calls: deques, pairs, and a board that grants and refuses as it likes.
 //! Stands on the parts that they try.
 #![tactic(auto)]
 
 mod crossing;
+mod fickle;
+mod kept;
+mod token;
 
 pub use crossing::there_and_back;
+pub use fickle::{Fickle, Odds};
+pub use token::StrandToken;
 
 #[cfg(test)]
 mod tests;

@@ -1,0 +1,59 @@
+-- What the tokens of tests stand for.
+use Rattle.std.specs.Prelude.{◌≡◌, ℕ, zero, suc, ◌^◌, sum, List, [], ◌∷◌, None, false, map, reverse}
+use Rattle.cw_tree.specs.declared.node.Kind.TheVariants.{Strand}
+use Rattle.cw_tree.specs.Nodes.{fresh_node}
+use Rattle.cw_log.specs.declared.token.Token.{Token}
+use Rattle.cw_log.specs.declared.token.Open.{Open}
+use Rattle.cw_log.specs.declared.token.Phase.TheVariants.{Going}
+use Rattle.cw_log.specs.declared.token.Side as side
+use Rattle.cw_log.specs.declared.token.Side.{Side}
+use Rattle.cw_log.specs.Tokens.{is_inline}
+use Rattle.tests_log.specs.declared.kept.Kept.{Kept}
+use Rattle.tests_log.specs.declared.kept.Kept.TheVariants.{Beside, First, Second}
+
+abbrev pub open_of : Kept → Open
+open_of (Beside p at around) = record { side = side.TheVariants.Beside p.fork; strand = at.strand; place = at.place; around = around }
+open_of (First right at twice) = record { side = side.TheVariants.First right; strand = at.strand; place = at.place; around = twice.one }
+open_of (Second at around) = record { side = side.TheVariants.Second; strand = at.strand; place = at.place; around = around }
+
+-- the newest first
+abbrev pub opens : List Kept → List Open
+opens ks = reverse (map open_of ks)
+
+-- how many logs the token of a right strand may come to have is its fork's number
+abbrev pub logs_of : ℕ → ℕ
+logs_of zero = 2 ^ 40
+logs_of (suc n) = suc n
+
+abbrev pub promise : Kept → ℕ
+promise (Beside p at around) = p.fork
+promise (First right at twice) = 0
+promise (Second at around) = 0
+
+-- how many logs were promised to right strands that are not joined yet
+abbrev pub promised : List Kept → ℕ
+promised ks = sum (map promise ks)
+
+abbrev pub beside_number : Side → ℕ
+beside_number (side.TheVariants.Beside fork) = fork
+beside_number (side.TheVariants.First right) = 0
+beside_number side.TheVariants.Second = 0
+
+-- the innermost fork has this number, and its right strand has a token of its own
+abbrev pub StandsBeside : List Open → ℕ → Type 0
+StandsBeside os n = (o : Open) × (rest : List Open) × (os ≡ o ∷ rest) × (is_inline o.side ≡ false) × (beside_number o.side ≡ n)
+
+abbrev pub root : Token
+root = record {
+  own = record { column = 0; from = 0; fork = 0; nodes = fresh_node 0 Strand 0 ∷ []; conflicts = [] };
+  joined = [];
+  strand = 0;
+  place = 0;
+  around = [];
+  forks = [];
+  fork = 0;
+  split = false;
+  phase = Going;
+  stop = None;
+  told = false;
+}
