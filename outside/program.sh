@@ -428,8 +428,8 @@ within 1 200 '30,000 statements behind a return' 0 $'out 1\nc = 0\nend\n' '' run
   for i in $(seq 20000); do echo "let a$i = 1; spawn { c = 1; }"; done
   echo '}'
 } > source
-within 60 300 '20,000 strands that have ended beside 20,000 locals' 0 $'c = 1\nend\n' '' run
-within 60 300 'the same, simulated' 0 $'c = 1\nend\n' '' sim
+within 5 300 '20,000 strands that have ended beside 20,000 locals' 0 $'c = 1\nend\n' '' run
+within 5 300 'the same, simulated' 0 $'c = 1\nend\n' '' sim
 
 printf 'cell c; cell d; fn main() { let i = 0; while i < 25000 { spawn { d = c + 1; } i = i + 1; } }' > source
 within 5 500 '25,000 spawned increments, simulated' 0 $'c = 0\nd = 1\nend\n' '' sim
