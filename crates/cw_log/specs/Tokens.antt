@@ -211,7 +211,7 @@ pub record MayHalt (budget : ℕ) (x : Token) (h : Halt) : Type 0 where
   pub phase : x.phase ≡ Going
   pub spent : IsSpentFor budget x h
 
--- a begin's stamp exceeds 0, those of all blocks around, and all that its conflicts name
+-- a begin's stamp exceeds 0, those of all blocks around, and those of all victims of the token's conflicts
 pub record IsLater (x : Token) (stamp : ℕ) : Type 0 where
   pub some : 0 < stamp
   pub around : All (λ b. b < stamp) x.around
