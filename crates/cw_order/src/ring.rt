@@ -1,7 +1,7 @@
 ghost use Rattle.std.specs.Prelude.{◌≡◌, ◌≤◌, ◌++◌, ◌∷◌, [], ℕ, ◌<◌, All, vec_len, vec_capacity};
 
 use crate::Steps;
-use cw_base::OutOfMemory;
+use cw_base::{OutOfMemory, put};
 use std::alloc::Global;
 use std::sync::ledger::Ledger;
 
@@ -33,17 +33,6 @@ pub(crate) struct Ring {
     ghost next_room: { room < vec_capacity next },
     ghost previous_room: { room < vec_capacity previous },
     ghost labels_room: { room < vec_capacity labels },
-}
-
-/// One more in a list that has room for it.
-fn put<T: Drop>(list: &mut Vec<T>, item: T)
-    requires { vec_len list.old < vec_capacity list.old }
-    ensures items { list.new.items ≡ list.old.items ++ item ∷ [] }
-    ensures capacity { vec_capacity list.old ≤ vec_capacity list.new }
-{
-    if list.push(item).is_err() {
-        unreachable!()
-    }
 }
 
 impl Ring {

@@ -5,18 +5,13 @@ use mathlib.Core.Option.{none, some, some-injective, some-ne-none}
 use lib.ListN.{get_elem?}
 use Rattle.atomic_table.specs.Table.{Me, State, step, keeps, Allows, Splits, Joins}
 use Rattle.atomic_table.proofs.Lists.{at_set, set_again}
+use Rattle.cw_base.proofs.Ends.{snoc_at}
 use Rattle.cw_pair.specs.declared.view.Note.{Note}
 use Rattle.cw_pair.specs.declared.view.Known.{Known}
 use Rattle.cw_pair.specs.Numbers as numbers
 use Rattle.cw_pair.specs.Numbers.{note, whole, lower, upper, gone, given, both, Has, MayGive, IsKept, looked}
 
 module _ {T : Type 0} where
-  snoc_at : (l : List (Known T)) (a b : Known T) (j : ℕ) → get_elem? (l ++ a ∷ []) j ≡ some b → (get_elem? l j ≡ some b) ⊎ ((j ≡ length l) × (a ≡ b))
-  snoc_at [] a b zero e = inr (refl, some-injective a b e)
-  snoc_at [] a b (suc j) e = absurd (some-ne-none b (sym e))
-  snoc_at (x ∷ xs) a b zero e = inl e
-  snoc_at (x ∷ xs) a b (suc j) e = ⊎_elim (λ h. inl h) (λ h. inr (ap suc h.0, h.1)) (snoc_at xs a b j e)
-
   -- ## A view is cut in two
 
   -- where a view comes from once the view of seat id was cut in two

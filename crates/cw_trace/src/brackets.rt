@@ -4,8 +4,7 @@ ghost use Rattle.cw_tree.specs.Walks.{has};
 ghost use Rattle.cw_trace.specs.Columns.{stands_before, opening_mark, closing_mark, marks, place_after, is_mark_of};
 ghost use Rattle.cw_trace.specs.Marks.{with_mark};
 
-use crate::tier::put;
-use cw_base::OutOfMemory;
+use cw_base::{OutOfMemory, put};
 use cw_order::{OrderList, Steps};
 use std::alloc::Global;
 use std::marker::Model;

@@ -4,7 +4,7 @@ ghost use Rattle.cw_trace.specs.Columns as columns;
 mod reads;
 
 use crate::brackets::Brackets;
-use cw_base::OutOfMemory;
+use cw_base::{OutOfMemory, put};
 use cw_order::Steps;
 use std::alloc::Global;
 use std::marker::Model;
@@ -50,17 +50,6 @@ impl Model for Tier {
     ghost view = { traces_of };
 
     ghost invariant = { IsTierInMemory };
-}
-
-/// One more in a list that has room for it.
-pub(crate) fn put<T: Drop>(list: &mut Vec<T>, item: T)
-    requires { vec_len list.old < vec_capacity list.old }
-    ensures items { list.new.items ≡ list.old.items ++ item ∷ [] }
-    ensures capacity { vec_capacity list.old ≤ vec_capacity list.new }
-{
-    if list.push(item).is_err() {
-        unreachable!()
-    }
 }
 
 /// Two more of the same.

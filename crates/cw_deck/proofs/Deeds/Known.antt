@@ -8,12 +8,6 @@ use Rattle.std.proofs.lemmas.Bool.Decides.{eqb_tells}
 use Rattle.cw_deck.specs.declared.deed.Deed.{Deed}
 use Rattle.cw_deck.specs.Deeds.{deeds_of}
 
-pub snoc_at : {X : Type 0} (l : List X) (a b : X) (j : ℕ) → get_elem? (l ++ a ∷ []) j ≡ some b → (get_elem? l j ≡ some b) ⊎ ((j ≡ length l) × (a ≡ b))
-snoc_at [] a b zero e = inr (refl, some-injective a b e)
-snoc_at [] a b (suc j) e = absurd (some-ne-none b (sym e))
-snoc_at (x ∷ xs) a b zero e = inl e
-snoc_at (x ∷ xs) a b (suc j) e = ⊎_elim (λ h. inl h) (λ h. inr (ap suc h.0, h.1)) (snoc_at xs a b j e)
-
 pub in_range : {X : Type 0} (l : List X) (a : X) (j : ℕ) → get_elem? l j ≡ some a → j < length l
 in_range [] a j e = absurd (some-ne-none a (sym e))
 in_range (x ∷ xs) a zero e = omega arith

@@ -8,7 +8,8 @@ use Rattle.crossbeam_deque.proofs.Lists.{at_set, set_again}
 use Rattle.cw_deck.specs.declared.deed.Deed.{Deed}
 use Rattle.cw_deck.specs.declared.deed.Deed.TheVariants.{Pushed, Popped, Stolen}
 use Rattle.cw_deck.specs.Deeds.{IsDone, IsHistory, deeds_of, HasHistory, MayHold}
-use Rattle.cw_deck.proofs.Deeds.Known.{snoc_at, in_range, mine, another's}
+use Rattle.cw_base.proofs.Ends.{snoc_at}
+use Rattle.cw_deck.proofs.Deeds.Known.{in_range, mine, another's}
 
 module _ {T : Type 0} where
   pub begins : HasHistory {T = T} [] ([] ∷ [])
