@@ -197,8 +197,8 @@ impl Core {
             stamp: self.tree.node(node).stamp,
         };
         let mut held = Held {
-            tier: &self.tier,
-            gaps: &self.gaps,
+            tier: self.tier.reader(),
+            gaps: self.gaps.reader(),
         };
         !contains_by(&mut held, block, last, looks, compares)
     }

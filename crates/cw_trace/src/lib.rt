@@ -15,14 +15,15 @@ mod brackets;
 mod columns;
 mod gaps;
 mod queries;
+mod reads;
 mod tier;
 mod verdict;
 
 pub use asks::told_laws;
 pub use columns::Columns;
-pub use gaps::Gaps;
+pub use gaps::{GapReader, Gaps};
 pub use queries::query_laws;
-pub use tier::{Early, Inline, Tier, Trace};
+pub use tier::{Early, Inline, Tier, TierReader, Trace};
 pub use verdict::Verdict;
 
 /// What a tier that stands for a tree tells of it, and what else keeps it.

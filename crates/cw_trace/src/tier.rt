@@ -1,11 +1,12 @@
 ghost use Rattle.std.specs.Prelude.{◌≡◌, ◌^◌, map, ℕ, ◌<◌, ◌≤◌, ◌+◌, ◌%◌, ◌++◌, ◌∷◌, [], true, false, Option, Some, None, length, IsErr, IfOk, IfErr, OnOk, OnErr, vec_len, vec_capacity, slice_get, slice_index};
 ghost use Rattle.cw_trace.specs.Columns as columns;
 
-mod reads;
+mod reader;
 
 use crate::brackets::Brackets;
 use cw_base::{OutOfMemory, put};
 use cw_order::Steps;
+pub use reader::TierReader;
 use std::alloc::Global;
 use std::marker::Model;
 use std::sync::ledger::Ledger;
@@ -201,48 +202,12 @@ impl Tier {
         self.owners.len() as u32
     }
 
-    /// The trace of a strand.
-    pub fn owner<L: Ledger>(&self, strand: u32, steps: &mut Steps<L>) -> u32
-        requires { strand < columns.used self.now.columns }
-        ensures value { result ≡ columns.owner self.now.columns strand }
-        ensures cost { steps.new ≡ steps.old + 1 }
-    {
-        steps.tick();
-        self.owners[strand as usize]
-    }
-
     /// The gap in use by a strand.
     pub fn gap(&self, strand: u32) -> u32
         requires { strand < columns.used self.now.columns }
         ensures { result ≡ columns.gap self.now.columns strand }
     {
         self.gaps[strand as usize]
-    }
-
-    /// The gap that leads to a trace's outermost pending block.
-    pub fn lead<L: Ledger>(&self, trace: u32, steps: &mut Steps<L>) -> Option<u32>
-        requires { trace < columns.used self.now.columns }
-        ensures value { result ≡ columns.lead self.now.columns trace }
-        ensures cost { steps.new ≡ steps.old + 1 }
-    {
-        steps.tick();
-        match self.traces[trace as usize] {
-            Some(row) => row.lead,
-            None => None,
-        }
-    }
-
-    /// The nearest trace around it that has a pending block.
-    pub fn up<L: Ledger>(&self, trace: u32, steps: &mut Steps<L>) -> Option<u32>
-        requires { trace < columns.used self.now.columns }
-        ensures value { result ≡ columns.up self.now.columns trace }
-        ensures cost { steps.new ≡ steps.old + 1 }
-    {
-        steps.tick();
-        match self.traces[trace as usize] {
-            Some(row) => row.up,
-            None => None,
-        }
     }
 
     /// Whether a trace stands within another.

@@ -2,18 +2,18 @@ ghost use Rattle.std.specs.Prelude.{◌≡◌, ◌+◌, ◌≤◌};
 ghost use Rattle.cw_trace.specs.Told.{HoldsRead, Inside, Test, Stays};
 
 use cw_order::Steps;
-use cw_trace::{Columns, Gaps, Tier};
+use cw_trace::{Columns, GapReader, TierReader};
 use std::sync::ledger::Ledger;
 
 /// A tier and gap words in memory: what they hold is told.
-#[derive(Clone, Copy, Drop)]
+#[derive(Drop)]
 pub struct Held<'a> {
-    pub tier: &'a Tier,
-    pub gaps: &'a Gaps,
+    pub tier: TierReader<'a>,
+    pub gaps: GapReader<'a>,
 }
 
 impl<'a> Columns for Held<'a> {
-    ghost told = { λ s. HoldsRead s.tier.now.columns s.gaps.now.words.items };
+    ghost told = { λ s. HoldsRead s.tier.columns s.gaps };
 
     ghost ready = { λ s. Unit {0} };
 
@@ -30,11 +30,7 @@ impl<'a> Columns for Held<'a> {
     }
 
     fn word<K: Ledger>(&mut self, gap: u32, looks: &mut Steps<K>) -> u64 {
-        looks.tick();
-        match self.gaps.words.get(gap as usize) {
-            Some(word) => *word,
-            None => 0,
-        }
+        self.gaps.word_of(gap, looks)
     }
 
     fn inside<K: Ledger, L: Ledger>(
@@ -44,18 +40,13 @@ impl<'a> Columns for Held<'a> {
         looks: &mut Steps<K>,
         compares: &mut Steps<L>,
     ) -> bool
-        ensures told { HoldsRead self.new.tier.now.columns self.new.gaps.now.words.items (Inside trace outer) (Test result) }
-        ensures kept { Stays (HoldsRead self.old.tier.now.columns self.old.gaps.now.words.items)
-            (HoldsRead self.new.tier.now.columns self.new.gaps.now.words.items) }
+        ensures told { HoldsRead self.new.tier.columns self.new.gaps (Inside trace outer) (Test result) }
+        ensures kept { Stays (HoldsRead self.old.tier.columns self.old.gaps)
+            (HoldsRead self.new.tier.columns self.new.gaps) }
         ensures looks { looks.new ≤ looks.old + 4 }
         ensures compares { compares.new ≤ compares.old + 2 }
         ensures cost { looks.new ≡ looks.old + 4 }
     {
-        // a comparison reads the labels of two brackets
-        looks.tick();
-        looks.tick();
-        looks.tick();
-        looks.tick();
-        self.tier.stands_within(trace, outer, compares)
+        self.tier.stands_within(trace, outer, looks, compares)
     }
 }

@@ -160,6 +160,9 @@ pub fn ask<L: Ledger, K: Ledger>(
     ensures needed { looks.new ≤ looks.old + looks_for result }
     ensures compares { compares.new ≤ compares.old + 5 }
 {
-    let mut held = Held { tier, gaps };
+    let mut held = Held {
+        tier: tier.reader(),
+        gaps: gaps.reader(),
+    };
     ask_by(&mut held, last, asker, looks, compares)
 }

@@ -1,28 +1,44 @@
--- What names no trace has no lead, nothing around it, and stands within nothing.
-use Rattle.std.proofs.Common.{◌≡◌, ℕ, ◌≤◌, length, ap, sym, ◌∙◌, arith, true, false, inl, inr}
-use Rattle.std.specs.Prelude.{◌⊎◌, ◌/◌, is_some}
-use Rattle.std.proofs.lemmas.Bool.{false_from_ne_true, and_parts}
+-- What is beyond the columns names no trace, and what names no trace has no marks.
+use Rattle.std.proofs.Common.{◌≡◌, ◌≢◌, ℕ, ◌≤◌, ◌<◌, List, length, ap, refl, ◌∙◌, arith, Bool, true, false, inl, inr, ⊎_elim, nat_eq, nat_lt, eqb-true, eq-eqb}
+use Rattle.std.specs.Prelude.{◌⊎◌, ◌/◌, ◌%◌, is_some}
+use Rattle.cw_tree.specs.Walks.{has}
+use Rattle.std.proofs.lemmas.Bool.{false_from_ne_true, ltb-true, ltb-false}
 use Rattle.std.proofs.lemmas.Option.{slice_get_past}
-use Rattle.cw_trace.specs.Columns.{ColumnTable, is_trace, inside, stands_before, opening_mark, closing_mark, trace_in}
+use Rattle.cw_trace.specs.Columns.{ColumnTable, is_trace, opening_mark, closing_mark, stands_before, trace_in}
 use Rattle.cw_trace.specs.Tier.{AreSound}
 use Rattle.cw_trace.proofs.Marks.Marking.{before_first, before_second}
 
 pub no_trace : (c : ColumnTable) (t : ℕ) → length c.traces ≤ t → is_trace c t ≡ false
 no_trace c t h = ap (λ o. is_some (trace_in o)) (slice_get_past c.traces t h)
 
-half : (x : ℕ) → opening_mark x / 2 ≡ x
-half x = omega arith
+pub trace_low : (c : ColumnTable) (t : ℕ) → is_trace c t ≡ true → t < length c.traces
+trace_low c t e = by_test (nat_lt t (length c.traces)) refl where
+  by_test : (b : Bool) → nat_lt t (length c.traces) ≡ b → t < length c.traces
+  by_test true h = ltb-true t (length c.traces) h
+  by_test false h = absurd (let no = no_trace c t (ltb-false t (length c.traces) h) in cc (e, no))
 
--- only traces have marks
-pub inside_traces : (c : ColumnTable) → AreSound c → (t o : ℕ) → inside c t o ≡ true → (is_trace c t ≡ true) × (is_trace c o ≡ true)
-inside_traces c s t o e =
-    let z = and_parts (stands_before c.brackets (opening_mark o) (opening_mark t)) (stands_before c.brackets (opening_mark t) (closing_mark o)) e in (
-      ap (is_trace c) (sym (half t)) ∙ s.only (opening_mark t) (before_second c.brackets (opening_mark o) (opening_mark t) z.0),
-      ap (is_trace c) (sym (half o)) ∙ s.only (opening_mark o) (before_first c.brackets (opening_mark o) (opening_mark t) z.0),
-    )
+half_of : (b : ℕ) → (b ≡ opening_mark (b / 2)) ⊎ (b ≡ closing_mark (b / 2))
+half_of b = by_test (nat_eq (b % 2) 0) refl where
+  by_test : (t : Bool) → nat_eq (b % 2) 0 ≡ t → (b ≡ opening_mark (b / 2)) ⊎ (b ≡ closing_mark (b / 2))
+  by_test true e = inl (let even = eqb-true (b % 2) 0 e in omega (arith, even))
+  by_test false e = inr (let odd : b % 2 ≢ 0 = λ h. cc (e, eq-eqb (b % 2) 0 h) in omega (arith, odd))
 
-pub not_inside : (c : ColumnTable) → AreSound c → (t o : ℕ) → (is_trace c t ≡ false) ⊎ (is_trace c o ≡ false) → inside c t o ≡ false
-not_inside c s t o h =
-    false_from_ne_true (inside c t o) (λ e.
-    let z = inside_traces c s t o e in
-    elim h [ inl f ↦ cc (f, z.0) | inr f ↦ cc (f, z.1) ])
+-- just the marks of traces stand
+pub marked : (c : ColumnTable) → AreSound c → (b : ℕ) → has c.brackets b ≡ is_trace c (b / 2)
+marked c s b = by_trace (is_trace c (b / 2)) refl where
+  by_trace : (x : Bool) → is_trace c (b / 2) ≡ x → has c.brackets b ≡ x
+  by_trace false e = false_from_ne_true (has c.brackets b) (λ h. let is = s.only b h in cc (e, is))
+  by_trace true e = ⊎_elim
+      (λ k. ap (has c.brackets) k ∙ (s.there (b / 2) e).0)
+      (λ k. ap (has c.brackets) k ∙ (s.there (b / 2) e).1)
+      (half_of b)
+
+pub mark_low : (c : ColumnTable) → AreSound c → (b : ℕ) → has c.brackets b ≡ true → b / 2 < length c.traces
+mark_low c s b e = trace_low c (b / 2) (s.only b e)
+
+pub not_before : (ms : List ℕ) (a b : ℕ) → (has ms a ≡ false) ⊎ (has ms b ≡ false) → stands_before ms a b ≡ false
+not_before ms a b h =
+    false_from_ne_true (stands_before ms a b) (λ e.
+    let first = before_first ms a b e in
+    let second = before_second ms a b e in
+    elim h [ inl f ↦ cc (f, first) | inr f ↦ cc (f, second) ])

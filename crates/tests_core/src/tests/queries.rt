@@ -100,8 +100,8 @@ fn answers<K: Ledger, L: Ledger>(
         make(&mut tier, &mut gaps, *call);
     }
     let mut held = Held {
-        tier: &tier,
-        gaps: &gaps,
+        tier: tier.reader(),
+        gaps: gaps.reader(),
     };
     let mut text = String::new(alloc);
     for &(strand, stamp, question) in questions {
@@ -331,8 +331,8 @@ fn verdicts<K: Ledger, L: Ledger>(
         make(&mut tier, &mut gaps, *call);
     }
     let mut held = Held {
-        tier: &tier,
-        gaps: &gaps,
+        tier: tier.reader(),
+        gaps: gaps.reader(),
     };
     let tree = &moment.tree;
     let size = tree.nodes().len();

@@ -23,6 +23,6 @@ returns g c =
     let last = seen a c.args.self.now (λ k. IsMarked k c.args.last) c.self.view_is c.requires.last in
     let pending : is_pending a.tree c.args.node ≡ true = sym c.is_pending.ensures ∙ c.if-not-is_pending.false in
     let stamp : c.node.result.now.stamp ≡ stamp_of a.tree c.args.node = sym (ap (number_in (λ x. x.stamp)) c.node.ensures) in
-    let back = holds_back a.tier.columns c.contains_by.new.columns.tier.now.columns a.gaps.words.items c.contains_by.new.columns.gaps.now.words.items c.contains_by.ensures.kept in
+    let back = holds_back a.tier.columns c.contains_by.new.columns.tier.columns a.gaps.words.items c.contains_by.new.columns.gaps (rw (c.reader.ensures, c.reader-2.ensures) at c.contains_by.ensures.kept) in
     falls_so a c.self.invariant c.args.last last c.args.node pending c.row-strand.result c.row.result row own c.node.result.now.stamp stamp c.contains_by.result (c.contains_by.ensures.tells a.tier.columns a.gaps.words.items back)
     ∙ ap (λ k. may_fall k.machine.tree (access_at k.machine.tree c.args.last.stamp) c.args.node) c.self.view_is
