@@ -2,7 +2,7 @@
 ghost use Rattle.std.specs.Prelude.{◌≡◌, ◌<◌, ◌≤◌, ℤ, Option, [], IfOk, OnErr};
 ghost use Rattle.cw_log.specs.Answers as answers;
 ghost use Rattle.cw_log.specs.Answers.{IsWritten, Meets};
-ghost use Rattle.tests_log.specs.Kept.{root};
+ghost use Rattle.tests_log.specs.Kept.{root, IsAround, NamesAround};
 
 use crate::StrandToken;
 use cw_base::{OutOfMemory, Seq};
@@ -94,7 +94,9 @@ impl Fickle {
     }
 
     /// The begin stamp of a block around, or 0: whichever is drawn.
-    fn victim(&self, token: &StrandToken) -> Result<u64, OutOfMemory> {
+    fn victim(&self, token: &StrandToken) -> Result<u64, OutOfMemory>
+        ensures { IfOk result (λ v. IsAround token.now v) }
+    {
         let mut around = token.around.copy()?;
         let past = self.luck((around.len() as u64).saturating_add(1));
         for _ in 0..past {
@@ -125,6 +127,7 @@ impl Fickle {
         write: Option<i64>,
     ) -> Result<Access, OutOfMemory>
         ensures ok { IfOk result (λ a. Meets token.old token.new cell write a) }
+        ensures named { IfOk result (λ a. NamesAround token.old a) }
         ensures err { OnErr result (token.new ≡ token.old) }
     {
         let _ = write;

@@ -2,14 +2,17 @@
 //! Stands on the parts that they try.
 #![tactic(auto)]
 
+mod conditions;
 mod crossing;
 mod fickle;
 mod kept;
 mod token;
+mod walk;
 
 pub use crossing::there_and_back;
 pub use fickle::{Fickle, Odds};
 pub use token::StrandToken;
+pub use walk::{Counts, Way, walked};
 
 #[cfg(test)]
 mod tests;
