@@ -1,5 +1,5 @@
 -- The innermost fork in whose strand a token stands is the last that it keeps.
-use Rattle.std.proofs.Common.{◌≡◌, ◌∙◌, ap, refl, subst, ℕ, List, [], ◌∷◌, ◌++◌, length, zero, suc, ◌-◌, Some, reverse, map, arith}
+use Rattle.std.proofs.Common.{◌≡◌, ◌∙◌, ap, refl, subst, List, [], ◌∷◌, ◌++◌, length, ◌-◌, Some, map, arith}
 use Rattle.std.specs.List.{slice_get}
 use Rattle.std.proofs.lemmas.List.{reverse-append}
 use Rattle.cw_log.specs.declared.token.Open.{Open}

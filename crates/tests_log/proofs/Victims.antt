@@ -1,5 +1,5 @@
 -- Victims of the conflicts of a token's logs, log by log and block by block.
-use Rattle.std.proofs.Common.{inl, inr, ◌≡◌, ℕ, List, [], ◌∷◌, ◌++◌, ◌<◌, zero, suc, arith, ap, subst, sym, refl, ◌∙◌}
+use Rattle.std.proofs.Common.{inl, inr, ◌≡◌, ℕ, List, [], ◌∷◌, ◌++◌, zero, suc, arith, subst, sym, ◌∙◌}
 use Rattle.std.specs.Prelude.{◌⊎◌, All, Contains, MatchOption, MatchBool, Option, Some, None, Bool, true, false}
 use Rattle.std.proofs.lemmas.List.Elements.{All-append, Contains-append_left, Contains-append_right}
 use Rattle.cw_tree.specs.declared.conflict.Conflict.{Conflict}

@@ -1,4 +1,4 @@
-use crate::{Counts, Odds, Way, walked};
+use crate::{Counts, Odds, Way, read_back, walked};
 use std::test::Fail;
 
 const WALKS: u64 = 20;
@@ -35,7 +35,7 @@ fn walks_on_one_thread(rt: HostRuntime) -> Result<(), Fail> {
     assert_eq!(rt; (counts.stuck, counts.halts), (0, 0));
     assert_eq!(rt;
         (counts.logs, counts.merged),
-        (counts.two + WALKS, counts.split)
+        (counts.two.saturating_add(WALKS), counts.split)
     );
     assert_eq!(rt; walked(&rt, rt.alloc(), ODDS, way(false, false))?, counts);
     Ok(())
@@ -48,7 +48,7 @@ fn walks_on_several_threads(rt: HostRuntime) -> Result<(), Fail> {
     assert_eq!(rt; (counts.stuck, counts.halts), (0, 0));
     assert_eq!(rt;
         (counts.logs, counts.merged),
-        (counts.two + WALKS, counts.split)
+        (counts.two.saturating_add(WALKS), counts.split)
     );
     Ok(())
 }
@@ -57,6 +57,15 @@ fn walks_on_several_threads(rt: HostRuntime) -> Result<(), Fail> {
 fn walks_with_halts(rt: HostRuntime) -> Result<(), Fail> {
     let counts = walked(&rt, rt.alloc(), ODDS, way(true, true))?;
     assert!(rt; counts.halts > 10);
-    assert_eq!(rt; (counts.stuck, counts.logs), (0, counts.two + WALKS));
+    assert_eq!(rt;
+        (counts.stuck, counts.logs),
+        (0, counts.two.saturating_add(WALKS))
+    );
+    Ok(())
+}
+
+#[test]
+fn a_list_gives_what_was_written(rt: HostRuntime) -> Result<(), Fail> {
+    assert_eq!(rt; read_back(&rt, rt.alloc(), 5)?, Some(5));
     Ok(())
 }

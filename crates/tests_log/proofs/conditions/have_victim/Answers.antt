@@ -1,8 +1,6 @@
-use Rattle.std.proofs.Common.{rules, subst, sym, ap, ◌∙◌, ◌≡◌, List, [], ◌∷◌, ◌++◌, append_assoc, append-nil}
-use Rattle.std.specs.Prelude.{Contains, All}
+use Rattle.std.proofs.Common.{rules, subst, sym, ap, ◌∙◌, ◌≡◌, [], ◌∷◌, ◌++◌, append_assoc, append-nil}
+use Rattle.std.specs.Prelude.{Contains}
 use Rattle.std.proofs.lemmas.List.Elements.{All-push}
-use Rattle.cw_log.specs.declared.log.Log.{Log}
-use Rattle.cw_tree.specs.declared.conflict.Conflict.{Conflict}
 use Rattle.cw_log.specs.Tokens.{conflicts_in}
 use Rattle.tests_log.specs.Kept.{HasVictim, HasNoVictim}
 use Rattle.tests_log.proofs.Victims.{all_in, one_in}

@@ -1,4 +1,4 @@
-use Rattle.std.proofs.Common.{ℕ, ◌*◌, ◌+◌}
+use Rattle.std.proofs.Common.{◌*◌, ◌+◌}
 use Rattle.tests_log.proofs.walk.+strands.Given as goal
 
 abbrev pub decreases-Walk::walks : goal.decreases-Walk::walks

@@ -1,4 +1,4 @@
-use Rattle.std.proofs.Common.{rules, subst}
+use Rattle.std.proofs.Common.{rules}
 use Rattle.cw_log.specs.Tokens.{AreOfOneFork}
 use Rattle.tests_log.specs.Kept.{open_of}
 use Rattle.tests_log.proofs.Innermost.{innermost, none_open, of_both}
