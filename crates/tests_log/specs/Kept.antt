@@ -1,13 +1,16 @@
 -- What the tokens of tests stand for.
-use Rattle.std.specs.Prelude.{◌≡◌, ℕ, zero, suc, ◌^◌, sum, List, [], ◌∷◌, None, false, map, reverse}
+use Rattle.std.specs.Prelude.{◌≡◌, ◌⊎◌, All, Contains, ℕ, zero, suc, ◌^◌, sum, List, [], ◌∷◌, None, false, map, reverse}
 use Rattle.cw_tree.specs.declared.node.Kind.TheVariants.{Strand}
 use Rattle.cw_tree.specs.Nodes.{fresh_node}
+use Rattle.cw_tree.specs.declared.conflict.Conflict.{Conflict}
+use Rattle.cw_log.specs.declared.board.Access as access
+use Rattle.cw_log.specs.declared.board.Access.{Access}
 use Rattle.cw_log.specs.declared.token.Token.{Token}
 use Rattle.cw_log.specs.declared.token.Open.{Open}
 use Rattle.cw_log.specs.declared.token.Phase.TheVariants.{Going}
 use Rattle.cw_log.specs.declared.token.Side as side
 use Rattle.cw_log.specs.declared.token.Side.{Side}
-use Rattle.cw_log.specs.Tokens.{is_inline}
+use Rattle.cw_log.specs.Tokens.{is_inline, conflicts_in, logs, Fells}
 use Rattle.tests_log.specs.declared.kept.Kept.{Kept}
 use Rattle.tests_log.specs.declared.kept.Kept.TheVariants.{Beside, First, Second}
 
@@ -57,3 +60,23 @@ root = record {
   stop = None;
   told = false;
 }
+
+-- no block, or a pending one around its place
+abbrev pub IsAround : Token → (begin : ℕ) → Type 0
+IsAround x b = (b ≡ 0) ⊎ Contains x.around b
+
+-- where the access is refused, the conflict's victim is such a block
+abbrev pub NamesAround : Token → Access → Type 0
+NamesAround x (access.TheVariants.Value v) = Unit {0}
+NamesAround x (access.TheVariants.Conflict k) = IsAround x k.victim
+
+-- some conflict has this block for its victim
+abbrev pub HasVictim : List Conflict → (begin : ℕ) → Type 0
+HasVictim cs b = (c : Conflict) × Contains cs c × (c.victim ≡ b)
+
+abbrev pub HasNoVictim : List Conflict → (begin : ℕ) → Type 0
+HasNoVictim cs b = All (λ c. c.victim ≡ b → ⊥) cs
+
+-- some conflict of its logs has a pending block around its place for its victim
+abbrev pub Dies : Token → Type 0
+Dies x = (c : Conflict) × Contains (conflicts_in (logs x)) c × Fells x c

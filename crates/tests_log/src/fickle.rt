@@ -1,17 +1,17 @@
 //! A board that grants what it likes and refuses what it likes, by numbers that are drawn from a seed.
 ghost use Rattle.std.specs.Prelude.{◌≡◌, ◌<◌, ◌≤◌, ℤ, Option, [], IfOk, OnErr};
-ghost use Rattle.cw_log.specs.Answers as answers;
-ghost use Rattle.cw_log.specs.Answers.{IsWritten, Meets};
-ghost use Rattle.tests_log.specs.Kept.{root};
+ghost use Rattle.cw_log.specs.Answers.{Meets};
+ghost use Rattle.tests_log.specs.Kept.{root, IsAround, NamesAround};
 
 use crate::StrandToken;
+use crate::values::{Values, access_kind};
 use cw_base::{OutOfMemory, Seq};
 use cw_log::{Access, Forked, Phase, SharedBoard};
 use cw_trace::Early;
 use cw_tree::{BlockState, Conflict, Halt, Kind, Node};
 use std::alloc::Global;
+use std::sync::Wait;
 use std::sync::atomic::{AtomicU64, Ordering};
-use std::sync::{Mutex, Wait};
 
 /// How often, of a hundred times, an access is refused, a fork has one token, and another fork is to be split before.
 #[derive(Clone, Copy, Drop)]
@@ -21,14 +21,14 @@ pub struct Odds {
     pub early: u64,
 }
 
-/// The board. Its values lie under one lock.
+/// The board.
 #[derive(Drop)]
 pub struct Fickle {
     alloc: Global,
     cells: u32,
     attempts: u32,
     odds: Odds,
-    values: Mutex<Vec<i64>>,
+    values: Values,
     clock: AtomicU64,
     columns: AtomicU64,
     stopped: AtomicU64,
@@ -46,17 +46,14 @@ impl Fickle {
         ensures board { IfOk result (λ r. (r.0.cells ≡ cells) × (r.0.attempts ≡ attempts)) }
         ensures token { IfOk result (λ r. r.1 ≡ root) }
     {
-        let mut values = Vec::new(alloc);
-        for _ in 0..cells {
-            values.push(0)?;
-        }
+        let values = Values::new(alloc, cells)?;
         let token = StrandToken::root(alloc)?;
         let board = Fickle {
             alloc,
             cells,
             attempts,
             odds,
-            values: Mutex::new(values),
+            values,
             clock: AtomicU64::new(1),
             columns: AtomicU64::new(1),
             stopped: AtomicU64::new(0),
@@ -94,7 +91,9 @@ impl Fickle {
     }
 
     /// The begin stamp of a block around, or 0: whichever is drawn.
-    fn victim(&self, token: &StrandToken) -> Result<u64, OutOfMemory> {
+    fn victim(&self, token: &StrandToken) -> Result<u64, OutOfMemory>
+        ensures { IfOk result (λ v. IsAround token.now v) }
+    {
         let mut around = token.around.copy()?;
         let past = self.luck((around.len() as u64).saturating_add(1));
         for _ in 0..past {
@@ -125,6 +124,7 @@ impl Fickle {
         write: Option<i64>,
     ) -> Result<Access, OutOfMemory>
         ensures ok { IfOk result (λ a. Meets token.old token.new cell write a) }
+        ensures named { IfOk result (λ a. NamesAround token.old a) }
         ensures err { OnErr result (token.new ≡ token.old) }
     {
         let _ = write;
@@ -134,40 +134,6 @@ impl Fickle {
         let victim = self.victim(token)?;
         token.refuse(self.conflict(cell, asker, victim))?;
         Ok(Access::Conflict(self.conflict(cell, asker, victim)))
-    }
-
-    /// The value of a cell, after a write where there is one.
-    fn value<R: Wait>(&self, rt: &R, cell: u32, write: Option<i64>) -> i64
-        ensures { IsWritten write result }
-    {
-        let mut values = self.values.lock(rt);
-        let values: &mut Vec<i64> = &mut values;
-        if let Some(place) = values.get_mut(cell as usize) {
-            if let Some(value) = write {
-                *place = value;
-            }
-            let held = *place;
-            return held_or(write, held);
-        }
-        held_or(write, 0)
-    }
-}
-
-fn held_or(write: Option<i64>, held: i64) -> i64
-    ensures { IsWritten write result }
-{
-    match write {
-        Some(value) => value,
-        None => held,
-    }
-}
-
-fn access_kind(cell: u32, write: Option<i64>, value: i64) -> Kind
-    ensures { result ≡ answers.access_kind cell write value }
-{
-    match write {
-        None => Kind::Read { cell, value },
-        Some(_) => Kind::Write { cell, value },
     }
 }
 
@@ -206,7 +172,7 @@ impl SharedBoard for Fickle {
         if self.luck(100) < self.odds.refused {
             return self.refuse(token, cell, write);
         }
-        let value = self.value(rt, cell, write);
+        let value = self.values.access(rt, cell, write);
         token.make(access_kind(cell, write, value), self.stamp())?;
         Ok(Access::Value(value))
     }

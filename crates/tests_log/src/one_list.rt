@@ -1,0 +1,175 @@
+//! A board for one thread, which keeps its values in one list: it refuses nothing, and its forks have one token.
+ghost use Rattle.std.specs.Prelude.{◌≡◌, IfOk};
+ghost use Rattle.tests_log.specs.Kept.{root};
+
+use crate::StrandToken;
+use crate::values::{Values, access_kind};
+use cw_base::OutOfMemory;
+use cw_log::{Access, Forked, Phase, SharedBoard};
+use cw_trace::Early;
+use cw_tree::{BlockState, Halt, Kind, Node};
+use std::alloc::Global;
+use std::sync::Wait;
+use std::sync::atomic::{AtomicU64, Ordering};
+
+/// The board. A stamp is the number of those before it and one.
+#[derive(Drop)]
+pub struct OneList {
+    cells: u32,
+    attempts: u32,
+    values: Values,
+    stamps: AtomicU64,
+}
+
+impl OneList {
+    pub fn new(
+        alloc: Global,
+        cells: u32,
+        attempts: u32,
+    ) -> Result<(OneList, StrandToken), OutOfMemory>
+        ensures board { IfOk result (λ r. (r.0.cells ≡ cells) × (r.0.attempts ≡ attempts)) }
+        ensures token { IfOk result (λ r. r.1 ≡ root) }
+    {
+        let board = OneList {
+            cells,
+            attempts,
+            values: Values::new(alloc, cells)?,
+            stamps: AtomicU64::new(1),
+        };
+        Ok((board, StrandToken::root(alloc)?))
+    }
+
+    fn stamp(&self) -> u64 {
+        self.stamps.fetch_add(1, Ordering::SeqCst)
+    }
+}
+
+impl SharedBoard for OneList {
+    type Token = StrandToken;
+
+    ghost of = { λ t. t };
+
+    ghost cells = { λ b. b.cells };
+
+    ghost budget = { λ b. b.attempts };
+
+    fn begin(&self, token: &mut StrandToken) -> Result<(), OutOfMemory> {
+        let stamp = self.stamp();
+        if stamp == 0 || !token.is_before(stamp)? {
+            return Err(OutOfMemory);
+        }
+        token.begin(stamp)
+    }
+
+    fn commit(&self, token: &mut StrandToken) {
+        token.end(BlockState::Committed, self.stamp());
+    }
+
+    fn out(&self, token: &mut StrandToken, value: i64) -> Result<(), OutOfMemory> {
+        token.make(Kind::Out { value }, self.stamp())
+    }
+
+    fn access<R: Wait>(
+        &self,
+        rt: &R,
+        token: &mut StrandToken,
+        cell: u32,
+        write: Option<i64>,
+    ) -> Result<Access, OutOfMemory> {
+        let value = self.values.access(rt, cell, write);
+        token.make(access_kind(cell, write, value), self.stamp())?;
+        Ok(Access::Value(value))
+    }
+
+    fn fork<R: Wait>(
+        &self,
+        rt: &R,
+        token: StrandToken,
+    ) -> Result<Forked<StrandToken>, (StrandToken, OutOfMemory)> {
+        let _ = rt;
+        let mut token = token;
+        match token.branch(self.stamp()) {
+            Ok(()) => Ok(Forked::Inline { token }),
+            Err(error) => Err((token, error)),
+        }
+    }
+
+    fn next_branch(&self, token: &mut StrandToken) {
+        token.turn();
+    }
+
+    fn roll<R: Wait>(&self, rt: &R, token: &mut StrandToken) {
+        let _ = rt;
+        token.end(BlockState::Aborted, self.stamp());
+    }
+
+    fn split<R: Wait>(&self, rt: &R, token: &mut StrandToken, fork: u32) -> Result<(), Early> {
+        let _ = rt;
+        let _ = token;
+        Err(Early { before: fork })
+    }
+
+    fn take_back(&self, left: &mut StrandToken, right: &mut StrandToken) {
+        left.set_phase(Phase::Over);
+        right.set_phase(Phase::Going);
+    }
+
+    fn join(&self, left: StrandToken, right: StrandToken) -> StrandToken {
+        left.join(right)
+    }
+
+    fn merge<R: Wait>(&self, rt: &R, token: &mut StrandToken, fork: u32) {
+        let _ = rt;
+        let _ = fork;
+        token.set_phase(Phase::Going);
+    }
+
+    fn halt(&self, token: &mut StrandToken, halt: Halt) {
+        token.stop(halt);
+    }
+
+    fn halted(&self, token: &mut StrandToken) -> bool {
+        let _ = self.cells;
+        token.tell(false);
+        false
+    }
+
+    fn place(&self, token: &StrandToken) -> u32 {
+        token.place
+    }
+
+    fn nodes<'a>(&self, token: &'a StrandToken) -> &'a [Node] {
+        token.nodes.as_slice()
+    }
+}
+
+/// What a cell holds after a write in a block, read in the right strand of a fork behind the block.
+pub fn read_back<R: Wait>(rt: &R, alloc: Global, value: i64) -> Result<Option<i64>, OutOfMemory> {
+    let (board, mut token) = OneList::new(alloc, 2, 3)?;
+    if token.goes(3)? {
+        board.begin(&mut token)?;
+    }
+    if token.goes(3)? {
+        let _ = board.access(rt, &mut token, 1, Some(value))?;
+    }
+    if token.goes(3)? && token.has_block() {
+        board.commit(&mut token);
+    }
+    if !token.goes(3)? {
+        return Ok(None);
+    }
+    let Ok(Forked::Inline { token }) = board.fork(rt, token) else {
+        return Ok(None);
+    };
+    let mut token = token;
+    if token.is_inline() && token.is_done() {
+        board.next_branch(&mut token);
+    }
+    if !token.goes(3)? {
+        return Ok(None);
+    }
+    match board.access(rt, &mut token, 1, None)? {
+        Access::Value(value) => Ok(Some(value)),
+        Access::Conflict(_) => Ok(None),
+    }
+}

@@ -1,0 +1,62 @@
+//! The values of a board's cells, under one lock.
+ghost use Rattle.cw_log.specs.Answers as answers;
+ghost use Rattle.cw_log.specs.Answers.{IsWritten};
+ghost use Rattle.std.specs.Prelude.{◌≡◌};
+
+use cw_base::OutOfMemory;
+use cw_tree::Kind;
+use std::alloc::Global;
+use std::sync::{Mutex, Wait};
+
+#[derive(Drop)]
+pub struct Values {
+    list: Mutex<Vec<i64>>,
+}
+
+impl Values {
+    /// So many cells, each 0.
+    pub fn new(alloc: Global, cells: u32) -> Result<Values, OutOfMemory> {
+        let mut list = Vec::new(alloc);
+        for _ in 0..cells {
+            list.push(0)?;
+        }
+        Ok(Values {
+            list: Mutex::new(list),
+        })
+    }
+
+    /// The value of a cell, after a write where there is one.
+    pub fn access<R: Wait>(&self, rt: &R, cell: u32, write: Option<i64>) -> i64
+        ensures { IsWritten write result }
+    {
+        let mut list = self.list.lock(rt);
+        let list: &mut Vec<i64> = &mut list;
+        if let Some(place) = list.get_mut(cell as usize) {
+            if let Some(value) = write {
+                *place = value;
+            }
+            let held = *place;
+            return held_or(write, held);
+        }
+        held_or(write, 0)
+    }
+}
+
+fn held_or(write: Option<i64>, held: i64) -> i64
+    ensures { IsWritten write result }
+{
+    match write {
+        Some(value) => value,
+        None => held,
+    }
+}
+
+/// The node of an access.
+pub fn access_kind(cell: u32, write: Option<i64>, value: i64) -> Kind
+    ensures { result ≡ answers.access_kind cell write value }
+{
+    match write {
+        None => Kind::Read { cell, value },
+        Some(_) => Kind::Write { cell, value },
+    }
+}

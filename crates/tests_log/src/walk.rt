@@ -1,0 +1,363 @@
+//! A walk over a board's calls: of those whose conditions hold, which is made next is drawn.
+ghost use Rattle.std.specs.Prelude.{◌≡◌, ◌<◌};
+ghost use Rattle.cw_log.specs.Tokens.{Goes};
+
+use crate::{Fickle, Odds, StrandToken};
+use cw_base::OutOfMemory;
+use cw_code::FaultKind;
+use cw_log::{Access, Forked, SharedBoard};
+use cw_tree::Halt;
+use std::alloc::Global;
+use std::sync::Wait;
+use std::sync::atomic::{AtomicU64, Ordering};
+use std::thread;
+use std::thread::Threads;
+
+const CELLS: u32 = 4;
+
+/// So many attempts may a block or an access have.
+const BUDGET: u32 = 100;
+
+/// So many calls does a strand make at most, those of forks and of its ends not counted, and so deep are forks in it.
+const STEPS: u32 = 12;
+
+const DEPTH: u32 = 4;
+
+/// How often each was met.
+#[derive(Clone, Copy, Drop, PartialEq, Eq, Debug)]
+pub struct Counts {
+    pub values: u64,
+    pub refused: u64,
+    pub rolled: u64,
+    pub inline: u64,
+    pub two: u64,
+    pub split: u64,
+    pub early: u64,
+    pub taken_back: u64,
+    pub merged: u64,
+    pub halts: u64,
+    /// The tokens of a fork's strands could not be joined, or a fork's parts not merged.
+    pub stuck: u64,
+    /// Logs of the tokens of roots at the end.
+    pub logs: u64,
+}
+
+#[derive(Drop)]
+struct Seen {
+    values: AtomicU64,
+    refused: AtomicU64,
+    rolled: AtomicU64,
+    inline: AtomicU64,
+    two: AtomicU64,
+    split: AtomicU64,
+    early: AtomicU64,
+    taken_back: AtomicU64,
+    merged: AtomicU64,
+    halts: AtomicU64,
+    stuck: AtomicU64,
+    logs: AtomicU64,
+}
+
+fn one_more(count: &AtomicU64) {
+    count.fetch_add(1, Ordering::SeqCst);
+}
+
+fn count(count: &AtomicU64) -> u64 {
+    count.load(Ordering::SeqCst)
+}
+
+impl Seen {
+    fn new() -> Seen {
+        Seen {
+            values: AtomicU64::new(0),
+            refused: AtomicU64::new(0),
+            rolled: AtomicU64::new(0),
+            inline: AtomicU64::new(0),
+            two: AtomicU64::new(0),
+            split: AtomicU64::new(0),
+            early: AtomicU64::new(0),
+            taken_back: AtomicU64::new(0),
+            merged: AtomicU64::new(0),
+            halts: AtomicU64::new(0),
+            stuck: AtomicU64::new(0),
+            logs: AtomicU64::new(0),
+        }
+    }
+
+    fn counts(&self) -> Counts {
+        Counts {
+            values: count(&self.values),
+            refused: count(&self.refused),
+            rolled: count(&self.rolled),
+            inline: count(&self.inline),
+            two: count(&self.two),
+            split: count(&self.split),
+            early: count(&self.early),
+            taken_back: count(&self.taken_back),
+            merged: count(&self.merged),
+            halts: count(&self.halts),
+            stuck: count(&self.stuck),
+            logs: count(&self.logs),
+        }
+    }
+}
+
+/// How walks go: how many, each from a seed of its own; whether the strands of a fork that is split go on in two threads; and whether
+/// strands halt.
+#[derive(Clone, Copy, Drop)]
+pub struct Way {
+    pub walks: u64,
+    pub threads: bool,
+    pub halts: bool,
+}
+
+/// What is drawn next.
+#[derive(Drop)]
+struct Draws {
+    state: u64,
+}
+
+impl Draws {
+    fn below(&mut self, bound: u64) -> u64
+        requires { 0 < bound }
+        ensures { result < bound }
+    {
+        self.state = self
+            .state
+            .wrapping_mul(6364136223846793005)
+            .wrapping_add(1442695040888963407);
+        (self.state >> 33) % bound
+    }
+}
+
+#[derive(Clone, Copy, Drop)]
+struct Walk<'a> {
+    board: &'a Fickle,
+    seen: &'a Seen,
+    way: Way,
+    ghost limits: { (board.now.cells ≡ 4) × (board.now.attempts ≡ 100) },
+}
+
+impl<'a> Walk<'a> {
+    /// One call more, where one may be made that is none of a fork.
+    fn calls<R: Wait>(
+        &self,
+        rt: &R,
+        token: &mut StrandToken,
+        draws: &mut Draws,
+    ) -> Result<(), OutOfMemory> {
+        if token.goes_back(BUDGET)? && token.has_block() {
+            self.board.roll(rt, token);
+            one_more(&self.seen.rolled);
+            return Ok(());
+        }
+        if !token.goes(BUDGET)? {
+            return Ok(());
+        }
+        match draws.below(6) {
+            0 => self.board.begin(token),
+            1 => {
+                if token.has_block() {
+                    self.board.commit(token);
+                }
+                Ok(())
+            }
+            2 => self.board.out(token, 7),
+            _ => self.accesses(rt, token, draws),
+        }
+    }
+
+    fn accesses<R: Wait>(
+        &self,
+        rt: &R,
+        token: &mut StrandToken,
+        draws: &mut Draws,
+    ) -> Result<(), OutOfMemory>
+        requires { Goes 100 token.old }
+    {
+        let cell = draws.below(u64::from(CELLS)) as u32;
+        let write = if draws.below(2) == 0 { None } else { Some(5) };
+        let seen = match self.board.access(rt, token, cell, write)? {
+            Access::Value(_) => &self.seen.values,
+            Access::Conflict(_) => &self.seen.refused,
+        };
+        one_more(seen);
+        Ok(())
+    }
+
+    /// Ends the blocks that the token's strand began.
+    fn ends<R: Wait>(&self, rt: &R, token: &mut StrandToken) -> Result<(), OutOfMemory> {
+        for _ in 0..u64::MAX {
+            if !token.has_block() {
+                break;
+            }
+            if token.goes(BUDGET)? {
+                self.board.commit(token);
+            } else if token.goes_back(BUDGET)? {
+                self.board.roll(rt, token);
+                one_more(&self.seen.rolled);
+            } else {
+                break;
+            }
+        }
+        Ok(())
+    }
+
+    /// From one strand of an inline fork to the next.
+    fn turns(&self, token: &mut StrandToken) {
+        if token.is_inline() && token.is_done() {
+            self.board.next_branch(token);
+        } else {
+            one_more(&self.seen.stuck);
+        }
+    }
+
+    fn joins<R: Wait>(&self, rt: &R, left: StrandToken, right: StrandToken) -> StrandToken {
+        if !left.is_beside(&right) || !left.is_done() || !right.is_done() {
+            one_more(&self.seen.stuck);
+            return left;
+        }
+        let mut token = self.board.join(left, right);
+        if let Some(fork) = token.owes() {
+            if token.is_on(BUDGET) {
+                self.board.merge(rt, &mut token, fork);
+                one_more(&self.seen.merged);
+            }
+        }
+        token
+    }
+
+    fn halts(&self, token: &mut StrandToken, draws: &mut Draws) {
+        if self.way.halts && draws.below(60) == 0 && token.may_halt() {
+            self.board.halt(
+                token,
+                Halt::Fault {
+                    strand: 0,
+                    kind: FaultKind::Zero,
+                },
+            );
+            one_more(&self.seen.halts);
+        } else {
+            let _ = self.board.halted(token);
+        }
+    }
+
+    #[cycle(strands)]
+    fn forks<R: Threads + Wait + Sync>(
+        &self,
+        rt: &R,
+        token: StrandToken,
+        draws: &mut Draws,
+        depth: u32,
+    ) -> Result<StrandToken, OutOfMemory> {
+        if !token.goes(BUDGET)? {
+            return Ok(token);
+        }
+        match self.board.fork(rt, token) {
+            Err((token, _)) => Ok(token),
+            Ok(Forked::Inline { token }) => {
+                one_more(&self.seen.inline);
+                let mut token = token;
+                for _ in 0..2u32 {
+                    token = self.walks(rt, token, draws.below(1 << 30), depth)?;
+                    self.turns(&mut token);
+                }
+                Ok(token)
+            }
+            Ok(Forked::Two { fork, left, right }) => {
+                one_more(&self.seen.two);
+                let (left, right) = self.both(rt, fork, left, right, draws, depth)?;
+                Ok(self.joins(rt, left, right))
+            }
+        }
+    }
+
+    /// Both strands of a fork: beside each other where it is split, else one after the other, and the right one only where the left one
+    /// goes on.
+    #[cycle(strands)]
+    fn both<R: Threads + Wait + Sync>(
+        &self,
+        rt: &R,
+        fork: u32,
+        left: StrandToken,
+        right: StrandToken,
+        draws: &mut Draws,
+        depth: u32,
+    ) -> Result<(StrandToken, StrandToken), OutOfMemory> {
+        let mut right = right;
+        let (one, other) = (draws.below(1 << 30), draws.below(1 << 30));
+        if right.may_split(fork) && right.is_on(BUDGET) {
+            if self.board.split(rt, &mut right, fork).is_ok() {
+                one_more(&self.seen.split);
+                if !self.way.threads {
+                    let left = self.walks(rt, left, one, depth)?;
+                    return Ok((left, self.walks(rt, right, other, depth)?));
+                }
+                let (left, right) = thread::join(
+                    rt,
+                    || self.walks(rt, left, one, depth),
+                    || self.walks(rt, right, other, depth),
+                );
+                return Ok((left?, right?));
+            }
+            one_more(&self.seen.early);
+        }
+        let mut left = self.walks(rt, left, one, depth)?;
+        if left.goes(BUDGET)?
+            && left.is_beside(&right)
+            && left.may_take_back(&right)
+            && right.is_on(BUDGET)
+        {
+            self.board.take_back(&mut left, &mut right);
+            one_more(&self.seen.taken_back);
+            right = self.walks(rt, right, other, depth)?;
+        }
+        Ok((left, right))
+    }
+
+    /// A strand, from where its token stands to its end, with forks in it as deep as this.
+    #[cycle(strands)]
+    fn walks<R: Threads + Wait + Sync>(
+        &self,
+        rt: &R,
+        token: StrandToken,
+        seed: u64,
+        depth: u32,
+    ) -> Result<StrandToken, OutOfMemory> {
+        let mut token = token;
+        let mut draws = Draws { state: seed };
+        for _ in 0..STEPS {
+            if depth > 0 && draws.below(6) == 0 {
+                token = self.forks(rt, token, &mut draws, depth - 1)?;
+            }
+            self.calls(rt, &mut token, &mut draws)?;
+            self.halts(&mut token, &mut draws);
+        }
+        self.ends(rt, &mut token)?;
+        Ok(token)
+    }
+}
+
+/// Walks, each from a fresh root, and says what was met.
+pub fn walked<R: Threads + Wait + Sync>(
+    rt: &R,
+    alloc: Global,
+    odds: Odds,
+    way: Way,
+) -> Result<Counts, OutOfMemory> {
+    let seen = Seen::new();
+    for seed in 0..way.walks {
+        let (board, token) = Fickle::new(alloc, CELLS, BUDGET, odds, seed)?;
+        let walk = Walk {
+            board: &board,
+            seen: &seen,
+            way,
+        };
+        let token = walk.walks(rt, token, seed, DEPTH)?;
+        if token.is_done() {
+            seen.logs
+                .fetch_add(token.joined.len() as u64 + 1, Ordering::SeqCst);
+        }
+    }
+    Ok(seen.counts())
+}
