@@ -1,3 +1,5 @@
 pub mod Sides
 pub mod Meeting
 pub mod Unrefused
+pub mod Older
+pub mod AreOlder

@@ -1,15 +1,16 @@
 -- Runs in which each fork's left strand finishes before its right one steps: no access is refused in them.
-use Rattle.std.specs.Prelude.{◌≡◌, ℕ, ℤ, ◌&&◌, Bool, true, not, nat_lt, IsTrue, List, [], ◌∷◌, Option}
+use Rattle.std.specs.Prelude.{◌≡◌, ℕ, ℤ, ◌<◌, ◌&&◌, Bool, true, false, not, nat_lt, IsTrue, List, [], ◌∷◌, length, Option}
 use Rattle.std.specs.List.{list_any, list_all}
 use Rattle.cw_tree.specs.declared.node.Node.{Node}
-use Rattle.cw_tree.specs.Nodes.{parent_of, is_pending}
+use Rattle.cw_tree.specs.Nodes.{parent_of, stamp_of, end_of, is_strand, is_fork, is_pending}
 use Rattle.cw_tree.specs.Walks.{is_ancestor}
 use Rattle.cw_tree.specs.Series.{children, place}
 use Rattle.cw_tree.specs.Names.{strands_on}
 use Rattle.cw_tree.specs.Newest.{newest}
 use Rattle.cw_open.specs.Machine.{OpenMachine, has_finished}
 use Rattle.cw_open.specs.Steps.{Step, forks, begins, accesses, refuses, outputs, commits, undoes, aborts, finishes, joins, stops, after_open_step, after_all, first_machine}
-use Rattle.cw_open.specs.Runs.{Rules, IsRun, at_once}
+use Rattle.cw_open.specs.Runs.{Rules, IsRun, at_once, at_any_time}
+use Rattle.cw_open.specs.Times.{AreAhead}
 
 -- ## Left strands first
 
@@ -56,3 +57,40 @@ abbrev pub LeftFirstIsUnrefused : Type 0
 LeftFirstIsUnrefused =
     (asked : List Node → List ℕ → Option ℤ → List ℕ) (first : List ℤ) (es : List Step) → IsRun (while_pending asked) (first_machine first) es → IsTrue (go_left_first (first_machine first) es)
     → (after_all (first_machine first) es).conflicts ≡ []
+
+-- ## What stands to the left is older
+
+-- node m stands in the left strand of a fork, and n in the right one
+pub record IsLeftOf (t : List Node) (m n : ℕ) : Type 0 where
+  pub fork : ℕ
+  pub left : ℕ
+  pub right : ℕ
+  pub forks : IsTrue (is_fork t fork)
+  pub strands : children t fork ≡ left ∷ right ∷ []
+  pub in_left : IsTrue (is_ancestor t left m)
+  pub in_right : IsTrue (is_ancestor t right n)
+
+-- it came, and was ended, before the stamp of n, and is pending no more
+pub record IsOlder (t : List Node) (m n : ℕ) : Type 0 where
+  pub came : stamp_of t m < stamp_of t n
+  pub ended : end_of t m < stamp_of t n
+  pub shut : is_pending t m ≡ false
+
+-- what stands to the left of a stamp is older
+abbrev pub LeftsAreOlder : List Node → Type 0
+LeftsAreOlder t = (m n : ℕ) → m < length t → n < length t → IsLeftOf t m n → 0 < stamp_of t n → IsOlder t m n
+
+-- so it is where left strands go first and stamps are drawn by the steps that use them, whenever accesses are refused
+abbrev pub LeftFirstAreOlder : Type 0
+LeftFirstAreOlder =
+    (asked : List Node → List ℕ → Option ℤ → List ℕ) (first : List ℤ) (es : List Step) → IsRun (at_any_time asked) (first_machine first) es → IsTrue (go_left_first (first_machine first) es)
+    → AreAhead (first_machine first) es → LeftsAreOlder (after_all (first_machine first) es).tree
+
+-- and each strand to the left of a stamp has finished
+abbrev pub LeftsHaveFinished : OpenMachine → Type 0
+LeftsHaveFinished m = (x n : ℕ) → IsTrue (is_strand m.tree x) → n < length m.tree → IsLeftOf m.tree x n → 0 < stamp_of m.tree n → IsTrue (has_finished m x)
+
+abbrev pub LeftFirstHaveFinished : Type 0
+LeftFirstHaveFinished =
+    (asked : List Node → List ℕ → Option ℤ → List ℕ) (first : List ℤ) (es : List Step) → IsRun (at_any_time asked) (first_machine first) es → IsTrue (go_left_first (first_machine first) es)
+    → LeftsHaveFinished (after_all (first_machine first) es)

@@ -6,7 +6,7 @@ use Rattle.cw_tree.specs.Series.{place}
 use Rattle.cw_open.specs.Machine.{OpenMachine, live, live_value, waits, is_running, is_dying, is_free, rolls_back}
 use Rattle.cw_open.specs.Steps.{Met, Step, forks, begins, accesses, refuses, outputs, commits, undoes, aborts, finishes, joins, stops, after_all, first_machine}
 use Rattle.cw_open.specs.Runs.{IsMet, left_died, is_undone}
-use Rattle.cw_open.specs.LeftFirst.{go_left_first}
+use Rattle.cw_open.specs.LeftFirst.{go_left_first, IsLeftOf, IsOlder}
 
 -- ## A block forks; a block of the left strand writes, and the right strand is refused
 
@@ -141,6 +141,10 @@ read_before = left_wrote ++ refuses 3 0 None written_left ∷ left_ended ++ acce
 abbrev pub told_after : List Step
 told_after = left_wrote ++ left_ended ++ refuses 3 0 None written_left ∷ []
 
+-- the left strand has finished, but the right one begins a block with a stamp from before the write
+abbrev pub begun_early : List Step
+begun_early = forks 0 1 ∷ accesses 2 0 (Some (pos 1)) 3 ∷ finishes 2 false ∷ begins 3 2 ∷ []
+
 abbrev pub one_cell : OpenMachine
 one_cell = first_machine (pos 0 ∷ [])
 
@@ -154,3 +158,10 @@ pub record LeftStrands : Type 0 where
   pub met : IsMet (after_all one_cell (left_wrote ++ left_ended)).tree 3 0 written_left
   pub ended : list_any (is_pending (after_all one_cell (left_wrote ++ left_ended)).tree) (all_nodes (after_all one_cell (left_wrote ++ left_ended)).tree) ≡ false
   pub refused_late : length (after_all one_cell told_after).conflicts ≡ 1
+  -- the block of the left strand stands to the left of the read, and is older
+  pub beside : IsLeftOf (after_all one_cell read_after).tree 4 6
+  pub older : IsOlder (after_all one_cell read_after).tree 4 6
+  -- not where a stamp was drawn before it was used, though left strands went first
+  pub early : go_left_first one_cell begun_early ≡ true
+  pub beside_early : IsLeftOf (after_all one_cell begun_early).tree 4 5
+  pub not_older : IsOlder (after_all one_cell begun_early).tree 4 5 → ⊥

@@ -10,7 +10,7 @@
 
 ghost use Rattle.cw_open.specs.Laws.{AtOnceIsAtAnyTime, BlocksHaveEnded, CellsFit, ClocksAreLatest, DyingRollBack, FreeAreSafe, ListsAreChains, ListsAreLive, ListsHaveAll, ListsRise, OpenAreNested, RefusalsAreTold, StrandsStandAtPlaces, TreesAreSound, VictimsAreAbove};
 ghost use Rattle.cw_open.specs.Left.{HistoriesAreInOrder, HistoriesAreLeft};
-ghost use Rattle.cw_open.specs.LeftFirst.{AtOnceIsWhilePending, LeftFirstIsUnrefused};
+ghost use Rattle.cw_open.specs.LeftFirst.{AtOnceIsWhilePending, LeftFirstAreOlder, LeftFirstHaveFinished, LeftFirstIsUnrefused};
 ghost use Rattle.cw_open.specs.Reads.{ReadsAreMet};
 ghost use Rattle.cw_open.specs.Reordered.{CellsStay, EndsStay, FaultsStay, JournalsStay, RefusalsStay, RollsBackStays};
 ghost use Rattle.cw_open.specs.Refused.{AbortedAreVictims, AheadIsTimely, AskersAreTried, AtOnceIsTold, CommittedAreSafe, ConflictsAreRecorded, DeadGoBack, DyingGoBack, StopsAreLeftOut, ToldIsAtAnyTime};
@@ -89,6 +89,13 @@ pub fn conflicts_at_once()
 pub fn left_strands_are_unrefused()
     ensures unrefused { LeftFirstIsUnrefused }
     ensures at_once { AtOnceIsWhilePending }
+{}
+
+/// Where left strands go first, each strand to the left of a stamp has finished; and where each stamp exceeds the clock, what stands there came,
+/// and was ended, before it.
+pub fn left_strands_are_older()
+    ensures older { LeftFirstAreOlder }
+    ensures finished { LeftFirstHaveFinished }
 {}
 
 /// What a run leaves where no undo is under way: its journals, conflicts and rolled-back blocks are as they have to be, and in depth-first

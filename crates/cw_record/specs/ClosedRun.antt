@@ -49,7 +49,7 @@ module _ {A : Type 0} (s : Strands A) (m : OpenMachine) (before after reached : 
 -- ## A closed run
 
 -- a run of these strands over a memory with these first values, in which a strand may have that many attempts, was left in this state, with
--- these entries of its cells
+-- these entries of its cells; how many attempts it may have matters only where a spent budget stopped the run
 pub record IsClosedRun {A : Type 0} (s : Strands A) (first : List ℤ) (budget : ℕ) (m : OpenMachine) (kept : List (List Entry)) (h : Option Halt) (spent : Bool) : Type 0 where
   pub reached : ReachedInTime (as_told (λ t us w. newest us)) first m
   -- no undo is under way

@@ -11,9 +11,9 @@ use Rattle.cw_open.specs.WorkedTimes.{one_cell, late, late_entries, too_late, ea
 use Rattle.cw_record.specs.ClosedRun.{IsClosedRun}
 use Rattle.cw_record.specs.Scripts.{Script, done, sync, act, fork, scripted}
 
--- strands with these scripts left this state, and nothing stopped them; the moves were spent or not
+-- strands with these scripts left this state, each with two attempts, and nothing stopped them; the moves were spent or not
 abbrev pub IsClosedBy : Script → OpenMachine → (kept : List (List Entry)) → (spent : Bool) → Type 0
-IsClosedBy main m kept spent = IsClosedRun (scripted main) one_cell 1 m kept None spent
+IsClosedBy main m kept spent = IsClosedRun (scripted main) one_cell 2 m kept None spent
 
 -- no strands left this state, however it was closed
 abbrev pub IsNeverClosed : OpenMachine → Type 0

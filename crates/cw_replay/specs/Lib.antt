@@ -4,3 +4,4 @@ pub mod Attempts
 pub mod SameMachines
 pub mod Spawning
 pub mod OverSource
+pub mod LeftFirst

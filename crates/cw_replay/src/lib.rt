@@ -2,11 +2,12 @@
 //! is no code here that runs. Stands on `cw_text`, `cw_strand`, `cw_job`, `cw_tree`, `cw_serial` and `cw_record`.
 //! Contracts cite `specs/RecordsReplay.antt` (the law behind every run that is not one worker's), `specs/WorkedReplays.antt` (small records to
 //! which it applies), `specs/SameMachines.antt` (two laws of strands that want the same, and the machine over each), `specs/OverSource.antt`
-//! (records of compiled programs over their sources), `specs/Spawning.antt` (sources that spawn) and `specs/Attempts.antt` (attempts that are
+//! (records of compiled programs over their sources), `specs/LeftFirst.antt` (runs in which left strands went first), `specs/Spawning.antt` (sources that spawn) and `specs/Attempts.antt` (attempts that are
 //! recorded one by one).
 #![tactic(auto)]
 
 ghost use Rattle.cw_replay.specs.Attempts.{AttemptsAreRecorded, ConflictsNeedForks};
+ghost use Rattle.cw_replay.specs.LeftFirst.{ClosedWentLeftFirst, DepthFirstIsOne, LeftFirstIsDepthFirst};
 ghost use Rattle.cw_replay.specs.OverSource.{ForksNeedSpawns, RecordsReplayOverSource};
 ghost use Rattle.cw_replay.specs.RecordsReplay.{KeptRecordsReplay, PicksLeadThere, RecordsReplay};
 ghost use Rattle.cw_replay.specs.SameMachines.{SameEnds, SameMachines, SameReplays};
@@ -22,6 +23,22 @@ pub fn replays<S>()
 /// Where a run replays, the picks of its order lead the machine to its end.
 pub fn picks_lead_there<S>()
     ensures { (s : Strands S) → PicksLeadThere s }
+{}
+
+/// A closed run in which left strands went first is so in depth-first order.
+pub fn closed_went_left_first<S>()
+    ensures went { ClosedWentLeftFirst S }
+{}
+
+/// Where left strands went first in a run that ended by itself, or at a fault, its order is the depth-first one: one memory goes through what
+/// the run of one worker goes through.
+pub fn left_first_is_depth_first()
+    ensures depth_first { LeftFirstIsDepthFirst }
+{}
+
+/// Two runs of one job whose orders are the depth-first one have the same picks and came to the same end.
+pub fn depth_first_is_one()
+    ensures one { DepthFirstIsOne }
 {}
 
 /// So does each coherent record with its program, and a check agrees with it.

@@ -1,7 +1,7 @@
 ghost use Rattle.std.specs.Prelude.{◌≡◌, ◌<◌, ◌↔◌, false, IfOk, length};
 ghost use Rattle.cw_strand.specs.Programs.{IsCompiled};
 ghost use Rattle.cw_job.specs.Jobs.{TakesWords};
-ghost use Rattle.cw_record.specs.Records.{HasItsOutputs, IsCoherentRun, IsNumberedDepthFirst, IsReplayed, job_of_record};
+ghost use Rattle.cw_record.specs.Records.{HasEnded, HasItsOutputs, IsCoherentRun, IsDepthFirst, IsNumberedDepthFirst, IsReplayed, job_of_record};
 ghost use Rattle.cw_sim.specs.Turns.{ListsWorkers};
 ghost use Rattle.cw_record.specs.declared.record_end.RecordEnd.TheVariants.{Moves};
 ghost use Rattle.cw_sim.specs.Moves.{is_run_over};
@@ -18,7 +18,8 @@ use std::alloc::Global;
 
 /// The run of so many virtual workers over one core, each of which makes a move when its turn comes, by a schedule. It ends by itself, at the
 /// first fault, where the last attempt that a block or an access may have was refused, or once its moves are used up. One worker is refused
-/// nothing. The only error is want of memory.
+/// nothing, and goes depth first, as `depth_first` does, to its end or to the first fault, unless its moves are used up before. The only error
+/// is want of memory.
 pub fn simulate(
     alloc: Global,
     program: Program,
@@ -38,6 +39,7 @@ pub fn simulate(
     ensures moves { IfOk result (λ r. IsRecordOf (simulation_of (job_of_record r) workers schedule.now) r) }
     ensures spent { IfOk result (λ r. r.end ≡ Moves ↔ (is_run_over (simulation_of (job_of_record r) workers schedule.now) ≡ false)) }
     ensures one_worker { workers ≡ 1 → IfOk result (λ r. IsUnrefused r) }
+    ensures depth_first { workers ≡ 1 → IfOk result (λ r. HasEnded r.end → IsDepthFirst r) }
     ensures coherent { IfOk result (λ r. IsCoherentRun r) }
     ensures outputs { IfOk result (λ r. HasItsOutputs r) }
     ensures replays { IfOk result (λ r. IsReplayed r) }

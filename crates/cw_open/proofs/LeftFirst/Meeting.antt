@@ -1,7 +1,7 @@
 -- A strand to the left of which nothing is unfinished meets no pending block that is not around its place.
 use Rattle.std.proofs.Common.{◌≡◌, ◌≢◌, ℕ, ◌<◌, ◌≤◌, List, length, ap, sym, ◌∙◌, subst, arith, true, false, inl, inr}
 use Rattle.std.specs.Prelude.{◌&&◌, ◌||◌, not, nat_lt}
-use Rattle.std.proofs.lemmas.Bool.{and_parts, and_from, or_cases, not-true, not_from_false, cases_lt, lt-ltb, false_from_ne_true, true_from_ne_false}
+use Rattle.std.proofs.lemmas.Bool.{and_parts, and_from, or_cases, or_left, not-true, not_from_false, cases_lt, lt-ltb, false_from_ne_true, true_from_ne_false}
 use Rattle.cw_tree.specs.declared.node.Node.{Node}
 use Rattle.cw_tree.specs.Nodes.{is_strand_kind, parent_of, is_strand, is_fork, is_block, is_pending}
 use Rattle.cw_tree.specs.Walks.{IsRooted, has, is_ancestor, path, lca}
@@ -79,6 +79,24 @@ module _ (t : List Node) (r : IsRooted t) (a b : ℕ) (ha : a < length t) (hb : 
       let both : parallel t a b ≡ true = true_from_ne_false (parallel t a b) (λ e. absurd (omega (arith, one, ap one_if e, ap one_if no_forth, ap one_if no_back))) in
       (and_parts (not (is_ancestor t a b) && not (is_ancestor t b a)) (is_fork t (lca t a b)) both).1
 
+-- an open strand has not finished
+pub open_strand : (m : OpenMachine) (n : ℕ) → is_strand m.tree n ≡ true → is_open m n ≡ true → has_finished m n ≡ false
+open_strand m n strand e =
+    false_from_ne_true (has_finished m n) (λ f.
+    elim (or_cases (is_strand m.tree n && not (has_finished m n) || is_fork m.tree n && not (has m.joined n)) (is_pending m.tree n) e) [
+      | inr pending ↦ absurd (cc (pending_block m.tree n pending, strand_no_block m.tree n strand))
+      | inl z ↦ elim (or_cases (is_strand m.tree n && not (has_finished m n)) (is_fork m.tree n && not (has m.joined n)) z) [
+        | inl y ↦ absurd (cc (f, not-true (has_finished m n) (and_parts (is_strand m.tree n) (not (has_finished m n)) y).1))
+        | inr y ↦ absurd (cc (strand, fork_no_strand m.tree n (and_parts (is_fork m.tree n) (not (has m.joined n)) y).0))
+      ]
+    ])
+
+-- and one that has not finished is open
+pub strand_open : (m : OpenMachine) (x : ℕ) → is_strand m.tree x ≡ true → has_finished m x ≡ false → is_open m x ≡ true
+strand_open m x is e =
+    or_left (is_strand m.tree x && not (has_finished m x) || is_fork m.tree x && not (has m.joined x)) (is_pending m.tree x)
+    (or_left (is_strand m.tree x && not (has_finished m x)) (is_fork m.tree x && not (has m.joined x)) (and_from (is_strand m.tree x) (not (has_finished m x)) is (not_from_false (has_finished m x) e)))
+
 -- ## A strand that runs
 
 module _ (m : OpenMachine) (w : IsWell m) (s : ℕ) (running : is_running m s ≡ true) (clear : lefts_have_finished m s ≡ true) where
@@ -116,18 +134,6 @@ module _ (m : OpenMachine) (w : IsWell m) (s : ℕ) (running : is_running m s �
 
   pub left_here : LeftDone t (has_finished m) p
   left_here = left_over p there (ancestor_self t p)
-
-  -- an open strand has not finished
-  open_strand : (n : ℕ) → is_strand t n ≡ true → is_open m n ≡ true → has_finished m n ≡ false
-  open_strand n strand e =
-      false_from_ne_true (has_finished m n) (λ f.
-      elim (or_cases (is_strand t n && not (has_finished m n) || is_fork t n && not (has m.joined n)) (is_pending t n) e) [
-        | inr pending ↦ absurd (cc (pending_block t n pending, strand_no_block t n strand))
-        | inl z ↦ elim (or_cases (is_strand t n && not (has_finished m n)) (is_fork t n && not (has m.joined n)) z) [
-          | inl y ↦ absurd (cc (f, not-true (has_finished m n) (and_parts (is_strand t n) (not (has_finished m n)) y).1))
-          | inr y ↦ absurd (cc (strand, fork_no_strand t n (and_parts (is_fork t n) (not (has m.joined n)) y).0))
-        ]
-      ])
 
   module _ (waits : RightsWait t (has_finished m)) (b : ℕ) (pending : is_pending t b ≡ true) (beside : is_ancestor t b p ≡ false) where
     low : b < length t
@@ -167,10 +173,10 @@ module _ (m : OpenMachine) (w : IsWell m) (s : ℕ) (running : is_running m s �
     strand_second = fork_child t w.sound.tree z.second z.second_some low_second (ap (is_fork t) z.second_up ∙ fork)
 
     unfinished_first : has_finished m z.first ≡ false
-    unfinished_first = open_strand z.first strand_first (open_over m w.sound.tree w.nested z.first b low z.first_over opened)
+    unfinished_first = open_strand m z.first strand_first (open_over m w.sound.tree w.nested z.first b low z.first_over opened)
 
     unfinished_second : has_finished m z.second ≡ false
-    unfinished_second = open_strand z.second strand_second (open_over m w.sound.tree w.nested z.second p there z.second_over place_opened)
+    unfinished_second = open_strand m z.second strand_second (open_over m w.sound.tree w.nested z.second p there z.second_over place_opened)
 
     -- the block is to the left: the strand does not step yet
     block_left : z.first < z.second → ⊥

@@ -29,45 +29,49 @@ record IsUnrefused (m : OpenMachine) : Type 0 where
   waits : RightsWait m.tree (has_finished m)
   none : m.conflicts ≡ []
 
-module _ (asked : List Node → List ℕ → Option ℤ → List ℕ) where
-  abbrev r : Rules
-  r = while_pending asked
+-- the one strand that makes a step
+pub one_left : (m : OpenMachine) (s : ℕ) → list_all (lefts_have_finished m) (s ∷ []) ≡ true → lefts_have_finished m s ≡ true
+one_left m s e = (and_parts (lefts_have_finished m s) true e).0
 
-  module _ (m : OpenMachine) (u : IsUnrefused m) (s : ℕ) (running : is_running m s ≡ true) (clear : lefts_have_finished m s ≡ true) where
+module _ (m : OpenMachine) (w : IsWell m) (waits : RightsWait m.tree (has_finished m)) where
+  module _ (s : ℕ) (running : is_running m s ≡ true) (clear : lefts_have_finished m s ≡ true) where
     -- a node more, at the place of a strand
     waits_more : (x : Node) → x.parent ≡ place m.tree s → RightsWait (m.tree ++ x ∷ []) (has_finished m)
     waits_more x up =
-        let there = (stands_well m u.well s running).there in
+        let there = (stands_well m w s running).there in
         let P : ℕ → Type 0 = λ q. LeftDone m.tree (has_finished m) q in
-        rights_more m.tree u.well.sound.tree.rooted (has_finished m) x (omega (arith, up)) u.waits (subst P (sym up) (left_here m u.well s running clear))
+        rights_more m.tree w.sound.tree.rooted (has_finished m) x (omega (arith, up)) waits (subst P (sym up) (left_here m w s running clear))
 
     waits_fork : (stamp : ℕ) → RightsWait (m.tree ++ fork_nodes (length m.tree) (place m.tree s) stamp) (has_finished m)
     waits_fork stamp =
-        let at = stands_well m u.well s running in
-        rights_fork m.tree u.well.sound.tree (has_finished m) (place m.tree s) stamp at.there at.holds u.waits (left_here m u.well s running clear)
-
-  -- the one strand that makes a step
-  one_left : (m : OpenMachine) (s : ℕ) → list_all (lefts_have_finished m) (s ∷ []) ≡ true → lefts_have_finished m s ≡ true
-  one_left m s e = (and_parts (lefts_have_finished m s) true e).0
+        let at = stands_well m w s running in
+        rights_fork m.tree w.sound.tree (has_finished m) (place m.tree s) stamp at.there at.holds waits (left_here m w s running clear)
 
   -- the nodes that a step brings leave the right strands waiting
-  waits_after : (m : OpenMachine) (e : Step) → IsUnrefused m → Allowed r m e → list_all (lefts_have_finished m) (makers e) ≡ true → RightsWait (after_open_step m e).tree (has_finished (after_open_step m e))
-  waits_after m (forks s stamp) u a first = waits_fork m u s (free_runs m s a.0) (one_left m s first) stamp
-  waits_after m (begins s stamp) u a first = waits_more m u s (free_runs m s a.0) (one_left m s first) (fresh_node (place m.tree s) Block stamp) refl
-  waits_after m (accesses s c write stamp) u a first =
+  pub waits_after : (r : Rules) (e : Step) → Allowed r m e → list_all (lefts_have_finished m) (makers e) ≡ true → RightsWait (after_open_step m e).tree (has_finished (after_open_step m e))
+  waits_after r (forks s stamp) a first = waits_fork s (free_runs m s a.0) (one_left m s first) stamp
+  waits_after r (begins s stamp) a first = waits_more s (free_runs m s a.0) (one_left m s first) (fresh_node (place m.tree s) Block stamp) refl
+  waits_after r (accesses s c write stamp) a first =
       let z = and_parts (is_free m s && nat_lt c (length m.lists)) _ a.0 in
       let free = (and_parts (is_free m s) (nat_lt c (length m.lists)) z.0).0 in
-      waits_more m u s (free_runs m s free) (one_left m s first) (fresh_node (place m.tree s) (access_kind c write (live_value m c)) stamp) refl
-  waits_after m (refuses s c write met) u a first =
+      waits_more s (free_runs m s free) (one_left m s first) (fresh_node (place m.tree s) (access_kind c write (live_value m c)) stamp) refl
+  waits_after r (refuses s c write met) a first =
       let free = (and_parts (is_free m s) (nat_lt c (length m.lists)) a.0).0 in
-      waits_more m u s (free_runs m s free) (one_left m s first) (fresh_node (place m.tree s) (Tried c) 0) refl
-  waits_after m (outputs s v stamp) u a first = waits_more m u s (free_runs m s a.0) (one_left m s first) (fresh_node (place m.tree s) (Out v) stamp) refl
-  waits_after m (commits s stamp) u a first = rights_closed m.tree (has_finished m) (place m.tree s) Committed stamp u.waits
-  waits_after m (undoes s c) u a first = u.waits
-  waits_after m (aborts s stamp) u a first = rights_closed m.tree (has_finished m) (place m.tree s) Aborted stamp u.waits
-  waits_after m (finishes s dead) u a first = rights_later m.tree (has_finished m) (has_finished (after_open_step m (finishes s dead))) (λ n e. or_right (nat_eq s n) (has_finished m n) e) u.waits
-  waits_after m (joins f) u a first = u.waits
-  waits_after m (stops s) u a first = u.waits
+      waits_more s (free_runs m s free) (one_left m s first) (fresh_node (place m.tree s) (Tried c) 0) refl
+  waits_after r (outputs s v stamp) a first = waits_more s (free_runs m s a.0) (one_left m s first) (fresh_node (place m.tree s) (Out v) stamp) refl
+  waits_after r (commits s stamp) a first = rights_closed m.tree (has_finished m) (place m.tree s) Committed stamp waits
+  waits_after r (undoes s c) a first = waits
+  waits_after r (aborts s stamp) a first = rights_closed m.tree (has_finished m) (place m.tree s) Aborted stamp waits
+  waits_after r (finishes s dead) a first = rights_later m.tree (has_finished m) (has_finished (after_open_step m (finishes s dead))) (λ n e. or_right (nat_eq s n) (has_finished m n) e) waits
+  waits_after r (joins f) a first = waits
+  waits_after r (stops s) a first = waits
+
+pub waits_opening : (first : List ℤ) → RightsWait (first_machine first).tree (has_finished (first_machine first))
+waits_opening first k some h = absurd (omega arith)
+
+module _ (asked : List Node → List ℕ → Option ℤ → List ℕ) where
+  abbrev r : Rules
+  r = while_pending asked
 
   -- and none of them is a refusal
   none_after : (m : OpenMachine) (e : Step) → IsUnrefused m → Allowed r m e → list_all (lefts_have_finished m) (makers e) ≡ true → (after_open_step m e).conflicts ≡ []
@@ -91,10 +95,10 @@ module _ (asked : List Node → List ℕ → Option ℤ → List ℕ) where
   unrefused_run m [] u run first = u.none
   unrefused_run m (e ∷ es) u run first =
       let z = and_parts (list_all (lefts_have_finished m) (makers e)) (go_left_first (after_open_step m e) es) first in
-      unrefused_run (after_open_step m e) es (record { well = well_after r m e u.well run.0; waits = waits_after m e u run.0 z.0; none = none_after m e u run.0 z.0 }) run.1 z.1
+      unrefused_run (after_open_step m e) es (record { well = well_after r m e u.well run.0; waits = waits_after m u.well u.waits r e run.0 z.0; none = none_after m e u run.0 z.0 }) run.1 z.1
 
 opening : (first : List ℤ) → IsUnrefused (first_machine first)
-opening first = record { well = (state_opening first).well; waits = λ k some h. absurd (omega arith); none = refl }
+opening first = record { well = (state_opening first).well; waits = waits_opening first; none = refl }
 
 pub left_first_unrefused : LeftFirstIsUnrefused
 left_first_unrefused asked first es run go = unrefused_run asked (first_machine first) es (opening first) run go

@@ -36,8 +36,8 @@ use Rattle.cw_open.proofs.Reordered.History.{accesses_renamed, histories_in_orde
 use Rattle.cw_open.proofs.Reordered.Spending.{spent_in_order}
 use Rattle.cw_open.proofs.Reordered.Places.{place_renamed}
 use Rattle.cw_tree.specs.Links.{last_child}
-use Rattle.cw_record.specs.Coherent.{IsMemory, StrandEnded, IsJoined, HasNoOpenFork, IsCoherent}
-use Rattle.cw_record.specs.ClosedRun.{IsClosedRun, end_after}
+use Rattle.cw_record.specs.Coherent.{IsMemory, StrandEnded, IsJoined, HasNoOpenFork, Follows, EndStands, IsCoherent}
+use Rattle.cw_record.specs.ClosedRun.{AreStates, EndsSo, IsClosedRun, end_after}
 use Rattle.cw_record.proofs.ClosedRun.Strands.{follows, none_pending, live_ended, no_open_fork}
 use Rattle.cw_record.proofs.ClosedRun.RenamedStrands.{moved, moved_at, last_renamed, last_is_child, follows_at, ended_at, joined_at}
 
@@ -113,74 +113,69 @@ module _ {A : Type 0} (s : Strands A) (first : List ℤ) (budget : ℕ) (m : Ope
     place_at : place new (f x) ≡ f (place t x)
     place_at = place_renamed first k (told_states (at_any_time asked) first k goes) w x running
 
-  pub coherent_end : (h : Option Halt) (spent : Bool) → IsClosedRun s first budget m kept h spent → IsCoherent s first budget new kept cs (end_after (halt_in_order t h) spent memory outputs)
-  coherent_end None true c =
-      let (before, after, reached, st, end) = c.states in
-      record {
-        history = history None true c;
-        faulted = tt;
-        spent = tt;
-        memory = tt;
-        strands = (moved s t w before after reached before, moved s t w before after reached after, moved s t w before after reached reached, follows_at s t w before after reached (follows s asked first m (any None true c) before after reached st), tt);
-      }
-  coherent_end None false c =
-      let (before, after, reached, st, end) = c.states in
-      let y = and_parts (has_finished m 0) (not (finished_dead m 0)) end in
-      let lives = not-true (finished_dead m 0) y.1 in
-      let reach = any None false c in
-      let pending : NonePending new = each_number t w (λ n. is_pending new n ≡ false) (λ n l. pending_kept t w n l ∙ none_pending s asked first m reach before after reached st y.0 lives n l) in
-      record {
-        history = history None false c;
-        faulted = tt;
-        spent = tt;
-        memory = has_memory None false c;
-        strands = (
-          moved s t w before after reached before,
-          moved s t w before after reached after,
-          moved s t w before after reached reached,
-          follows_at s t w before after reached (follows s asked first m reach before after reached st),
-          (
-            pending,
+  -- ## The strands
+
+  -- the last child of a renamed place
+  no_fork_there : (p : ℕ) → p < length t → (before after reached : ℕ → A) → HasNoOpenFork s t before after reached p → HasNoOpenFork s new (moved s t w before after reached before) (moved s t w before after reached after) (moved s t w before after reached reached) (f p)
+  no_fork_there p low before after reached none g e fork = by (last_child t p) refl (sym (last_renamed s t w before after reached p low) ∙ e) where
+    by : (o : Option ℕ) → last_child t p ≡ o → option_map f o ≡ Some g
+        → IsJoined s new (moved s t w before after reached before) (moved s t w before after reached after) (moved s t w before after reached reached) g
+    by None q e = absurd (cc e)
+    by (Some j) q e =
+        let same : f j ≡ g = cc e in
+        let l = last_is_child s t w before after reached p j q in
+        let Q : ℕ → Type 0 = λ n. IsJoined s new (moved s t w before after reached before) (moved s t w before after reached after) (moved s t w before after reached reached) n in
+        subst Q same (joined_at s t w before after reached j l (none j q (sym (fork_kept t w j l) ∙ ap (is_fork new) same ∙ fork)))
+
+  module _ (h : Option Halt) (spent : Bool) (c : IsClosedRun s first budget m kept h spent) (before after reached : ℕ → A) (st : AreStates s m before after reached) where
+    pub strands_follow : Follows s new (moved s t w before after reached before) (moved s t w before after reached after) (moved s t w before after reached reached)
+    strands_follow = follows_at s t w before after reached (follows s asked first m (any h spent c) before after reached st)
+
+    pub strands_stand : EndsSo s m before after reached budget h spent
+        → EndStands s new (moved s t w before after reached before) (moved s t w before after reached after) (moved s t w before after reached reached) (end_after (halt_in_order t h) spent memory outputs)
+    strands_stand = by h spent (any h spent c) where
+      by : (h : Option Halt) (spent : Bool) → IsReachedBy (at_any_time asked) first m → EndsSo s m before after reached budget h spent
+          → EndStands s new (moved s t w before after reached before) (moved s t w before after reached after) (moved s t w before after reached reached) (end_after (halt_in_order t h) spent memory outputs)
+      by None true reach end = tt
+      by None false reach end =
+          let y = and_parts (has_finished m 0) (not (finished_dead m 0)) end in
+          let lives = not-true (finished_dead m 0) y.1 in (
+            each_number t w (λ n. is_pending new n ≡ false) (λ n l. pending_kept t w n l ∙ none_pending s asked first m reach before after reached st y.0 lives n l),
             each_number t w (λ n. (is_strand new n && is_live new n) ≡ true → StrandEnded s new (moved s t w before after reached before) (moved s t w before after reached after) (moved s t w before after reached reached) n)
                 (λ n l e.
                 let was : (is_strand t n && is_live t n) ≡ true = sym (ap (λ b. b && is_live new (f n)) (strand_kept t w n l) ∙ ap (λ b. is_strand t n && b) (live_renamed t w n l)) ∙ e in
                 ended_at s t w before after reached n l (live_ended s asked first m reach before after reached st y.0 lives n l was)),
-          ),
-        );
-      }
-  coherent_end (Some (halt.Fault x kind)) spent c =
-      let (before, after, reached, st, end) = c.states in
-      let reach = any (Some (halt.Fault x kind)) spent c in
-      let there = at x reach end.0 in
-      let place_is = place_at x reach end.0 in
-      let P : ℕ → Type 0 = λ p. HasNoOpenFork s new (moved s t w before after reached before) (moved s t w before after reached after) (moved s t w before after reached reached) p in
-      record {
-        history = history (Some (halt.Fault x kind)) spent c;
-        faulted = may_fault x reach end.0;
-        spent = tt;
-        memory = tt;
-        strands = (
-          moved s t w before after reached before,
-          moved s t w before after reached after,
-          moved s t w before after reached reached,
-          follows_at s t w before after reached (follows s asked first m reach before after reached st),
-          (
+          )
+      by (Some (halt.Fault x kind)) spent reach end =
+          let there = at x reach end.0 in
+          let place_is = place_at x reach end.0 in
+          let P : ℕ → Type 0 = λ p. HasNoOpenFork s new (moved s t w before after reached before) (moved s t w before after reached after) (moved s t w before after reached reached) p in (
             ap (λ p. s.want (moved s t w before after reached reached p)) place_is ∙ ap s.want (moved_at s t w before after reached reached (place t x) there.there) ∙ end.1,
             subst P (sym place_is) (no_fork_there (place t x) there.there before after reached (no_open_fork s asked first m reach before after reached st x end.0)),
-          ),
-        );
-      } where
-        -- the last child of a renamed place
-        no_fork_there : (p : ℕ) → p < length t → (before after reached : ℕ → A) → HasNoOpenFork s t before after reached p → HasNoOpenFork s new (moved s t w before after reached before) (moved s t w before after reached after) (moved s t w before after reached reached) (f p)
-        no_fork_there p low before after reached none g e fork = by (last_child t p) refl (sym (last_renamed s t w before after reached p low) ∙ e) where
-          by : (o : Option ℕ) → last_child t p ≡ o → option_map f o ≡ Some g
-              → IsJoined s new (moved s t w before after reached before) (moved s t w before after reached after) (moved s t w before after reached reached) g
-          by None q e = absurd (cc e)
-          by (Some j) q e =
-              let same : f j ≡ g = cc e in
-              let l = last_is_child s t w before after reached p j q in
-              let Q : ℕ → Type 0 = λ n. IsJoined s new (moved s t w before after reached before) (moved s t w before after reached after) (moved s t w before after reached reached) n in
-              subst Q same (joined_at s t w before after reached j l (none j q (sym (fork_kept t w j l) ∙ ap (is_fork new) same ∙ fork)))
+          )
+      by (Some (halt.Budget x)) spent reach end = tt
+      by (Some halt.Memory) spent reach end = absurd end
+
+    pub strands_end : EndsSo s m before after reached budget h spent
+        → (b a r : ℕ → A) × Follows s new b a r × EndStands s new b a r (end_after (halt_in_order t h) spent memory outputs)
+    strands_end end = (moved s t w before after reached before, moved s t w before after reached after, moved s t w before after reached reached, strands_follow, strands_stand end)
+
+  pub coherent_end : (h : Option Halt) (spent : Bool) → IsClosedRun s first budget m kept h spent → IsCoherent s first budget new kept cs (end_after (halt_in_order t h) spent memory outputs)
+  coherent_end None true c =
+      let (before, after, reached, st, end) = c.states in
+      record { history = history None true c; faulted = tt; spent = tt; memory = tt; strands = strands_end None true c before after reached st end }
+  coherent_end None false c =
+      let (before, after, reached, st, end) = c.states in
+      record { history = history None false c; faulted = tt; spent = tt; memory = has_memory None false c; strands = strands_end None false c before after reached st end }
+  coherent_end (Some (halt.Fault x kind)) spent c =
+      let (before, after, reached, st, end) = c.states in
+      record {
+        history = history (Some (halt.Fault x kind)) spent c;
+        faulted = may_fault x (any (Some (halt.Fault x kind)) spent c) end.0;
+        spent = tt;
+        memory = tt;
+        strands = strands_end (Some (halt.Fault x kind)) spent c before after reached st end;
+      }
   coherent_end (Some (halt.Budget x)) spent c =
       let (before, after, reached, st, end) = c.states in
       record {
@@ -188,12 +183,6 @@ module _ {A : Type 0} (s : Strands A) (first : List ℤ) (budget : ℕ) (m : Ope
         faulted = tt;
         spent = spent_in_order asked first m (any (Some (halt.Budget x)) spent c) budget x w end;
         memory = tt;
-        strands = (
-          moved s t w before after reached before,
-          moved s t w before after reached after,
-          moved s t w before after reached reached,
-          follows_at s t w before after reached (follows s asked first m (any (Some (halt.Budget x)) spent c) before after reached st),
-          tt,
-        );
+        strands = strands_end (Some (halt.Budget x)) spent c before after reached st end;
       }
   coherent_end (Some halt.Memory) spent c = let (before, after, reached, st, end) = c.states in absurd end

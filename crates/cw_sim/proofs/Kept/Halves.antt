@@ -1,7 +1,7 @@
 -- The two strands of a fork.
 use Rattle.std.proofs.Common.{◌≡◌, ℕ, ◌<◌, List, [], ◌∷◌, length, refl, sym, ◌∙◌, subst, arith, true, false, inl, inr}
 use Rattle.std.specs.Prelude.{◌⊎◌, ◌&&◌, ◌||◌, not}
-use Rattle.std.proofs.lemmas.Bool.{and_parts, and_from, or_cases, or_left, not-true, not_from_false}
+use Rattle.std.proofs.lemmas.Bool.{and_parts, or_cases, not-true}
 use Rattle.cw_tree.specs.declared.node.Node.{Node}
 use Rattle.cw_tree.specs.Nodes.{parent_of, is_strand, is_fork}
 use Rattle.cw_tree.specs.Walks.{has}
@@ -15,6 +15,7 @@ use Rattle.cw_tree.proofs.NodeKinds.{fork_no_strand, fork_no_block, pending_bloc
 use Rattle.cw_trace.proofs.Keeps.Sides.{right_of as is_right_of}
 use Rattle.cw_open.specs.Machine.{OpenMachine, has_finished}
 use Rattle.cw_open.specs.Open.{is_open}
+pub use Rattle.cw_open.proofs.LeftFirst.Meeting.{strand_open}
 use Rattle.cw_sim.specs.Workers.{left_node, right_node}
 
 -- forks are as they were made
@@ -58,10 +59,3 @@ open_unjoined m f fork e =
         | inr y ↦ not-true (has m.joined f) (and_parts (is_fork t f) (not (has m.joined f)) y).1
       ]
     ]
-
--- a strand that has not finished is open
-pub strand_open : (m : OpenMachine) (x : ℕ) → is_strand m.tree x ≡ true → has_finished m x ≡ false → is_open m x ≡ true
-strand_open m x strand e =
-    let t = m.tree in
-    or_left (is_strand t x && not (has_finished m x) || is_fork t x && not (has m.joined x)) (Rattle.cw_tree.specs.Nodes.is_pending t x)
-    (or_left (is_strand t x && not (has_finished m x)) (is_fork t x && not (has m.joined x)) (and_from (is_strand t x) (not (has_finished m x)) strand (not_from_false (has_finished m x) e)))

@@ -6,13 +6,12 @@ use Rattle.cw_strand.specs.declared.want.Want.{Want}
 use Rattle.cw_strand.specs.declared.want.Want.TheVariants.{End, Sync, Done}
 use Rattle.cw_strand.specs.Strands.{Strands, Reached, MayWant, is_over}
 use Rattle.cw_tree.specs.declared.node.Node.{Node}
-use Rattle.cw_tree.specs.Nodes.{is_strand_kind, is_block_kind, is_pending_state, parent_of, is_strand, is_fork, is_block, is_pending}
+use Rattle.cw_tree.specs.Nodes.{is_strand_kind, parent_of, is_strand, is_block, is_pending}
 use Rattle.cw_tree.specs.Walks.{has}
 use Rattle.cw_tree.specs.Series.{place}
 use Rattle.cw_tree.specs.Newest.{newest}
 use Rattle.cw_tree.specs.Shape.{IsTree}
 use Rattle.cw_tree.proofs.Walks.There.{node_there}
-use Rattle.cw_tree.proofs.Walks.Kin.{fork_child}
 use Rattle.cw_tree.proofs.NodeKinds.{strand_no_block, pending_block}
 use Rattle.cw_open.specs.Machine.{OpenMachine, has_finished, waits, is_running, is_dying, in_block, is_free}
 use Rattle.cw_open.specs.Refused.{unstopped}
@@ -28,7 +27,7 @@ use Rattle.cw_sim.specs.Laws.{AreStrands}
 use Rattle.cw_sim.proofs.Kept.Halves.{open_unjoined, strand_open}
 use Rattle.cw_sim.specs.HasWants.{HasWants}
 use Rattle.cw_sim.proofs.Kept.Levels.{levels, strand_levels, block_levels}
-use Rattle.cw_sim.proofs.Kept.Reaching.{before_reached, end_reached}
+use Rattle.cw_sim.proofs.Kept.Reaching.{end_reached}
 
 -- ## What may be wanted with so many blocks
 

@@ -103,7 +103,7 @@ module _ (first : List ℤ) (k : CoreState) (core : IsCore first k) (none : k.sp
           | inr ne ↦ outer_left q (ltb-true 0 q y.0) y.1 (in_ancestor t q s z.0) ne
         ])
 
-  running_lefts : (s : ℕ) → is_running m s ≡ true → waits_for_left k s ≡ false → lefts_have_finished m s ≡ true
+  pub running_lefts : (s : ℕ) → is_running m s ≡ true → waits_for_left k s ≡ false → lefts_have_finished m s ≡ true
   running_lefts s e ready = lefts_of s (runs m tree (well first k core).nested s e).strand ready
 
   free_lefts : (s : ℕ) → (is_free m s && not (waits_for_left k s)) ≡ true → lefts_have_finished m s ≡ true

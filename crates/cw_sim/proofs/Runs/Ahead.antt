@@ -49,7 +49,7 @@ ahead_event k (event.Split f) = tt
 ahead_event k (event.Join f) = (tt, tt)
 ahead_event k (event.Stop h) = ahead_stop k.machine h
 
-ahead_all : (k : CoreState) (es : List Event) → AreAhead k.machine (steps_of_all k es)
+pub ahead_all : (k : CoreState) (es : List Event) → AreAhead k.machine (steps_of_all k es)
 ahead_all k [] = tt
 ahead_all k (e ∷ es) = ahead_more k.machine (steps_of k e) (steps_of_all (after_event k e) es) (ahead_event k e) (ahead_all (after_event k e) es)
 

@@ -97,7 +97,7 @@ module _ {A : Type 0} (s : Strands A) (t : List Node) (first : List ℤ) (kept :
       by (inl q) = let P : ℕ → Type 0 = λ y. Quiet s t (unstopped s t first kept cs h before after reached follows) y in subst P (sym q) last
       by (inr ne) = quiet_before s t (unstopped s t first kept cs h before after reached follows) (place t x) c l.number k z no_fork (let le = l.last in omega arith)
 
-    fault_stopped : StoppedAt s t first kept cs h before after reached follows (place t x) (want.Fault kind) (λ m. false)
+    pub fault_stopped : StoppedAt s t first kept cs h before after reached follows (place t x) (want.Fault kind) (λ m. false)
     fault_stopped = record {
       there = here.there;
       stands = wants;

@@ -106,10 +106,10 @@ same_cells (x ∷ xs) (y ∷ ys) l h =
 module _ {A : Type 0} (s : Strands A) (deep : IsDeep s) (first : List ℤ) (budget : ℕ) (t : List Node) (kept : List (List Entry)) (cs : List Conflict) (h : IsHistory t first kept cs) (before after reached : ℕ → A) (follows : Follows s t before after reached) where
   -- ## A run that finished
 
-  abbrev done_run : Run s t 0
+  abbrev pub done_run : Run s t 0
   done_run = unstopped_run s t first kept cs h before after reached follows
 
-  abbrev done : Machine A
+  abbrev pub done : Machine A
   done = last_machine s deep t 0 done_run first kept cs h
 
   module _ (memory outputs : List ℤ) (none : (n : ℕ) → n < length t → is_pending t n ≡ false) (all_ended : (x : ℕ) → x < length t → IsTrue (is_strand t x && is_live t x) → StrandEnded s t before after reached x) where
@@ -127,7 +127,7 @@ module _ {A : Type 0} (s : Strands A) (deep : IsDeep s) (first : List ℤ) (budg
       by (item i) u = map_in item i (Order t 0 done_run.laid) (stands t 0 done_run.laid i u.there (of_proper s t 0 done_run i u.proper)
           (around (node_of i) u.there (λ a f. let le : a ≤ node_of i = ancestor_le t h.tree.rooted a (node_of i) u.there f in let hi = u.there in (u.kept a (root_ancestor t h.tree.rooted a (omega arith)) f).0)))
 
-    strands_ended : (a : A) × (ended s done.strands ≡ Some a)
+    pub strands_ended : (a : A) × (ended s done.strands ≡ Some a)
     strands_ended = (
       _,
       ap (ended s) (last_strands s deep t 0 done_run first kept cs h)
@@ -138,7 +138,7 @@ module _ {A : Type 0} (s : Strands A) (deep : IsDeep s) (first : List ℤ) (budg
     access_there : (c u : ℕ) → In u (live_accesses t c) → In (Does u) (Order t 0 done_run.laid)
     access_there c u g = let l = live_of s t 0 done_run c u g in stands t 0 done_run.laid (Does u) l.there l.act (around u l.there l.live)
 
-    memory_same : IsMemory t first memory → done.memory ≡ memory
+    pub memory_same : IsMemory t first memory → done.memory ≡ memory
     memory_same is =
         let len = memory_len s deep t 0 done_run first kept cs h in
         same_cells done.memory memory (len ∙ sym is.len) (λ c low.

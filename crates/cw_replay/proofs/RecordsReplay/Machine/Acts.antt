@@ -146,7 +146,7 @@ module _ (t : List Node) (memory : List ℤ) where
     by (Some x) h = answers_kind memory x.kind h
   answers (Ends n) h = refl
 
-  stops_item : {A : Type 0} (s : Strands A) (i : OrderItem) → HasItem t memory i → Stops s (wanted_item t i)
+  pub stops_item : {A : Type 0} (s : Strands A) (i : OrderItem) → HasItem t memory i → Stops s (wanted_item t i)
   stops_item s (Begins n) h = (refl, refl)
   stops_item s (Does n) h = by (slice_get t n) h where
     by : (o : Option Node) → HasNode memory o → Stops s (wanted_node o)
@@ -179,7 +179,7 @@ module _ {A : Type 0} (s : Strands A) (deep : IsDeep s) (t : List Node) (at_stop
   abbrev pub next_machine : Machine A → OrderItem → A → List Begun → Machine A
   next_machine m i b cs = made m i b (wanted_item t i) (given_item t i) cs
 
-  picks_item : (m : Machine A) (i : OrderItem) (b : A) (cs : List Begun) → at s m.strands (doer t i) ≡ Some b → may_pick m.begun (doer t i) ≡ true → s.want b ≡ wanted_item t i → blocks t i m.begun ≡ Some cs → HasItem t m.memory i
+  pub picks_item : (m : Machine A) (i : OrderItem) (b : A) (cs : List Begun) → at s m.strands (doer t i) ≡ Some b → may_pick m.begun (doer t i) ≡ true → s.want b ≡ wanted_item t i → blocks t i m.begun ≡ Some cs → HasItem t m.memory i
       → pick s m (doer t i) ≡ Some (next_machine m i b cs)
   picks_item m i b cs here may wants begun has =
       ap (pick_at s m (doer t i)) here
@@ -194,7 +194,7 @@ module _ {A : Type 0} (s : Strands A) (deep : IsDeep s) (t : List Node) (at_stop
       let P : Want → Type 0 = λ w. Stops s w in
       ap (at s (threads u c)) z.named ∙ at_step u deep c z.after z.turns i z.state (subst P (sym z.wants) g) z.step
 
-  next_threads : (m : Machine A) (c : Way Act A) (i : OrderItem) (z : Next u [] c (item i)) (cs : List Begun) → m.strands ≡ threads u c → Stops s (wanted_item t i) → (next_machine m i z.state cs).strands ≡ threads u z.after
+  pub next_threads : (m : Machine A) (c : Way Act A) (i : OrderItem) (z : Next u [] c (item i)) (cs : List Begun) → m.strands ≡ threads u c → Stops s (wanted_item t i) → (next_machine m i z.state cs).strands ≡ threads u z.after
   next_threads m c i z cs e g =
       let P : Want → Type 0 = λ w. Stops s w in
       ap (λ x. put s x (doer t i) (s.answer z.state (given_item t i))) e

@@ -78,7 +78,7 @@ module _ {A : Type 0} (s : Strands A) (deep : IsDeep s) (t : List Node) (p : ℕ
   no_twice : (c u : ℕ) → Ahead u u (live_accesses t c) → ⊥
   no_twice c u e = never_itself u (live_accesses t c) (journal_once s t p r c) e
 
-  order_remembers : Remembers t first (Order t p r.laid)
+  pub order_remembers : Remembers t first (Order t p r.laid)
   order_remembers = remembers t (length first) h.cells total no_twice (Order t p r.laid) (λ i. ⊥) first first_track (journals_respected s t p r (length first) h.cells h.ended)
 
   -- the machine behind all items

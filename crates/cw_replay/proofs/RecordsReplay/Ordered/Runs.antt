@@ -39,7 +39,7 @@ module _ {A : Type 0} (s : Strands A) (t : List Node) (p : ℕ) (r : Run s t p) 
 
   -- ## Nothing follows where a strand stopped
 
-  not_calm : (n : ℕ) → r.account.stop.at n ≡ true → Calm s t r.account n → ⊥
+  pub not_calm : (n : ℕ) → r.account.stop.at n ≡ true → Calm s t r.account n → ⊥
   not_calm n e c =
       let z = r.account.stops n e in
       elim z.kind [

@@ -43,7 +43,7 @@ module _ {I A : Type 0} (u : Doing I A) where
     pub next_left : (seen : I → Type 0) (c : Way I A) (j : I) → Left whole seen c → Has j whole → ((i : I) → Before i j whole → seen i) → (seen j → ⊥) → Next u [] c j
     next_left seen c j l h r n = next_way u deep c [] j l.fits (l.all j h n) (first_minimal seen c j l r)
 
-    left_step : (seen : I → Type 0) (c : Way I A) (j : I) → Left whole seen c → (z : Next u [] c j) → Left whole (λ i. (i ≡ j) ⊎ seen i) z.after
+    pub left_step : (seen : I → Type 0) (c : Way I A) (j : I) → Left whole seen c → (z : Next u [] c j) → Left whole (λ i. (i ≡ j) ⊎ seen i) z.after
     left_step seen c j l z = record {
       unseen = λ i h g. elim g [
         | inl e ↦ gone u c z.after z.turns j z.state z.step l.once (let P : I → Type 0 = λ x. HasWay x z.after in subst P e h)

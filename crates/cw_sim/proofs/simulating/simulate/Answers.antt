@@ -4,6 +4,7 @@ use Rattle.cw_record.specs.Records.{job_of_record}
 use Rattle.cw_sim.specs.Runs.{IsRecordOf, simulation_of}
 use Rattle.cw_job.specs.Jobs.{Job}
 use Rattle.cw_sim.proofs.OneWorker.Records.{built_unrefused}
+use Rattle.cw_sim.proofs.OneWorker.DepthFirst.{built_depth_first}
 use Rattle.cw_sim.proofs.InMemory.Records.{moved_same, closed_has_record, built_coherent, built_numbered, built_replays, built_spent}
 use Rattle.cw_sim.proofs.simulating.simulate.Goals as goal
 
@@ -45,3 +46,10 @@ pub returns-clause-one_worker : goal.returns-clause-one_worker
 returns-clause-one_worker c =
     let is : IfOk c.build.result (λ r. IsRecordOf (simulation_of (job_of_record r) c.args.workers c.args.schedule.now) r) = search rules in
     built_unrefused c.args.program c.args.words c.args.limits c.args.workers c.args.schedule.now c.requires.compiled c.requires.words c.requires.strands c.requires.listed c.build.result c.build.ensures.program c.build.ensures.words c.build.ensures.limits is
+
+pub returns-clause-depth_first : goal.returns-clause-depth_first
+returns-clause-depth_first c =
+    let to = c.in_ok-closed in
+    let moved = moved_same c.args.program c.args.limits c.as_slice.result.now c.args.words c.args.workers c.args.schedule.now to.closed to.spent c.as_slice.ensures (record { closed = to.ensures.closed; spends = to.ensures.spent; few = to.ensures.few }) in
+    let is : IfOk c.build.result (λ r. IsRecordOf (simulation_of (job_of_record r) c.args.workers c.args.schedule.now) r) = search rules in
+    built_depth_first c.args.program c.args.words c.args.limits c.args.workers c.args.schedule.now c.requires.compiled c.requires.words c.requires.strands c.requires.listed moved.few c.build.result c.build.ensures.program c.build.ensures.words c.build.ensures.limits is c.build.ensures.outputs
