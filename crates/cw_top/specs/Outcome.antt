@@ -115,10 +115,12 @@ pub record IsOfOneWorker (r : Record) : Type 0 where
   pub ended : HasEnded r.end
   pub blocks : BlocksEnded r.tree r.end
 
--- The moves of so many workers did it, in the turns of a schedule, and it is their record. If there is one worker, nothing was refused.
+-- The moves of so many workers did it, in the turns of a schedule, and it is their record. If there is one worker, nothing was refused, and
+-- unless its moves were spent the strands went depth first, to the end or to the first fault.
 pub record IsOfMoves (workers : ℕ) (schedule : Schedule) (r : Record) : Type 0 where
   pub moves : IsRecordOf (simulation_of (job_of_record r) workers schedule) r
   pub one_worker : workers ≡ 1 → IsUnrefused r
+  pub depth_first : workers ≡ 1 → HasEnded r.end → IsDepthFirst r
 
 -- How a command's run is done: by one worker, depth first, or by the moves of so many.
 abbrev pub IsDoneBy : Command → Record → Type 0

@@ -247,7 +247,7 @@ pub fn cwstm<R: Threads + Wait + Sync, S: Source, K: Sink, G: Gate>(
 
     // What is kept is a run of the command: it is coherent, and one memory does the same. Of `run` it is the depth-first one, in which
     // nothing is refused; of `sim` it is the record of the moves of the command's workers, in the turns of its schedule: if there is one, nothing
-    // is refused either.
+    // is refused either, and it is the depth-first one too, unless the moves were spent.
     ensures run { IfSome result.kept (IsRunOf (command_in words.now) (S.left source.old)) }
     ensures done { IfSome result.kept (IsDoneAs (command_in words.now)) }
     ensures whole { OnSome result.kept (ReadsWhole (command_in words.now) (S.left source.old) (S.left source.new)) }
