@@ -16,16 +16,17 @@ for name in cw_base cw_text cw_code cw_strand cw_compile cw_job cw_tree cw_open 
 done
 cd "$copy"
 rt new crates/order_bench start_io > new.log
-echo 'order_bench: cw_base cw_text cw_code cw_compile cw_job cw_tree cw_serial cw_record' >> crates.txt
+echo 'order_bench: cw_base cw_text cw_code cw_strand cw_compile cw_job cw_tree cw_record' >> crates.txt
 cd crates/order_bench
 rm -rf specs proofs src stdin stdout
 mkdir src
 cat > src/main.rt <<'PROGRAM'
-//! Runs a source of transfers, and makes the order of its record again: the words are how many transfers, and of which tree.
+//! Runs a source, and makes the order of its record again: the words are of which tree, or that it is not made, and the source.
 #![tactic(auto)]
 
-ghost use Rattle.std.specs.Prelude.{IfOk, IfSome, length};
+ghost use Rattle.std.specs.Prelude.{IfSome};
 ghost use Rattle.cw_job.specs.Jobs.{TakesWords};
+ghost use Rattle.cw_strand.specs.Programs.{IsCompiled};
 
 use cw_base::{OutOfMemory, Seq};
 use cw_code::{Limits, Program};
@@ -37,8 +38,6 @@ use cw_tree::{Kind, Tree};
 use std::alloc::Global;
 use std::{env, io};
 
-const SOURCE: &str = "cell c[64] = 1000000; fn main(n) { let i = 0; while i < n { spawn { atomic { c[i % 64] = c[i % 64] - 1; c[(i * 7 + 1) % 64] = c[(i * 7 + 1) % 64] + 1; } } i = i + 1; } }";
-
 const LIMITS: Limits = Limits {
     fuel: 1_000_000_000,
     size: 10_000_000,
@@ -47,21 +46,28 @@ const LIMITS: Limits = Limits {
     moves: 1,
 };
 
-fn program(alloc: Global) -> Option<Program>
-    ensures { IfSome result (λ p. TakesWords p 1) }
+fn program(alloc: Global, source: &str) -> Option<Program>
+    ensures compiled { IfSome result IsCompiled }
+    ensures words { IfSome result (λ p. TakesWords p 0) }
 {
-    let ast = read_program(alloc, SOURCE.as_bytes()).ok()?;
-    let program = compile(alloc, &ast).ok()?;
-    if takes_words(&program, 1) { Some(program) } else { None }
+    let Ok(ast) = read_program(alloc, source.as_bytes()) else {
+        return None;
+    };
+    let Ok(program) = compile(alloc, &ast) else {
+        return None;
+    };
+    if takes_words(&program, 0) { Some(program) } else { None }
 }
 
-/// The tree of the run of so many transfers.
-fn run(alloc: Global, transfers: u32) -> Option<Tree> {
-    let program = program(alloc)?;
-    let mut words = Vec::new(alloc);
-    words.push(i64::from(transfers)).ok()?;
-    let record = depth_first(alloc, program, Seq::from_vec(words), LIMITS).ok()?;
-    Some(record.tree)
+/// The tree of the run of a source.
+fn run(alloc: Global, source: &str) -> Option<Tree> {
+    let Some(program) = program(alloc, source) else {
+        return None;
+    };
+    match depth_first(alloc, program, Seq::new(alloc), LIMITS) {
+        Ok(record) => Some(record.tree),
+        Err(_) => None,
+    }
 }
 
 /// A stamp, where the first half of all are those of one worker and the rest those of another, and they make theirs in turn.
@@ -106,26 +112,27 @@ fn two_halves(alloc: Global, tree: &Tree) -> Result<Tree, OutOfMemory> {
 
 /// How many picks the order has.
 fn picks(alloc: Global, tree: &Tree) -> Result<usize, OutOfMemory> {
-    let end = RecordEnd::Moves;
-    let picks = order_of(alloc, tree, &[], 1, &end)?;
+    // a hint to the prover: the root is a strand
+    let _ = tree.nodes();
+    let picks = order_of(alloc, tree, &[], 1, &RecordEnd::Moves)?;
     Ok(picks.list.len())
 }
 
 fn main(rt: HostRuntime) -> io::Result<()> {
     let alloc = rt.alloc();
     let mut which = String::new(alloc);
-    let mut transfers = 0;
+    let mut source = String::new(alloc);
     for (at, word) in env::args(&rt)?.enumerate() {
         if at == 1 {
             which = word;
-        } else if let Ok(number) = word.as_str().parse::<u32>() {
-            transfers = number;
+        } else if at == 2 {
+            source = word;
         }
     }
     if which.as_str() == "none" {
         return println!(&rt; "0 0");
     }
-    let Some(tree) = run(alloc, transfers) else {
+    let Some(tree) = run(alloc, source.as_str()) else {
         return println!(&rt; "no run");
     };
     let tree = if which.as_str() == "halves" || which.as_str() == "halved" {
@@ -140,7 +147,7 @@ fn main(rt: HostRuntime) -> io::Result<()> {
     println!(&rt; "{} {made}", tree.nodes().len())
 }
 PROGRAM
-rt run -- none 0 > "$copy/log" 2>&1 || { tail -40 "$copy/log"; exit 1; }
+rt run -- none none > "$copy/log" 2>&1 || { tail -40 "$copy/log"; exit 1; }
 program=out/order_bench
 
 # cost WORD..: what the program costs with these words
@@ -159,12 +166,12 @@ cost() {
   echo "$least"
 }
 
-empty=$(cost none 0)
+empty=$(cost none none)
 for transfers in 5000 20000; do
-  run=$(cost run "$transfers")
+  source="cell c[64]; fn main() { let i = 0; while i < $transfers { spawn { atomic { c[i % 64] = c[i % 64] - 1; c[(i * 7 + 1) % 64] = c[(i * 7 + 1) % 64] + 1; } } i = i + 1; } }"
+  run=$(cost run "$source")
   read -r nodes _ < "$copy/text"
-  order=$(($(cost order "$transfers") - run))
-  halved=$(cost halved "$transfers")
-  halves=$(($(cost halves "$transfers") - halved))
+  order=$(($(cost order "$source") - run))
+  halves=$(($(cost halves "$source") - $(cost halved "$source")))
   echo "$transfers transfers, $nodes nodes: run $((run - empty - order)), $(((run - empty - order) / nodes)) a node; order $order, $((order / nodes)) a node; with two workers' stamps $halves, $((halves / nodes)) a node"
 done

@@ -14,10 +14,10 @@ use Rattle.cw_tree.specs.Walks.{IsNumbered, is_ancestor}
 use Rattle.cw_tree.specs.Series.{strand_of}
 use Rattle.cw_tree.specs.ForkCounts.{one_if}
 use Rattle.cw_tree.proofs.Counting.{count, count_none, count_le}
-use Rattle.cw_tree.proofs.NodeKinds.{aborted_block, strand_no_block, strand_no_fork}
+use Rattle.cw_tree.proofs.NodeKinds.{strand_no_fork}
 use Rattle.cw_tree.proofs.Lists.{get_map_below, length_map_below}
-use Rattle.cw_tree.proofs.Walks.Ancestors.{ancestor_step, ancestor_le, ancestor_trans, ancestor_root}
-use Rattle.cw_tree.proofs.Walks.Strands.{strand_of_root, strand_of_strand, strand_of_other, strand_of_le}
+use Rattle.cw_tree.proofs.Walks.Ancestors.{ancestor_step, ancestor_le, ancestor_trans}
+use Rattle.cw_tree.proofs.Walks.Strands.{strand_of_strand, strand_of_other, strand_of_le}
 use Rattle.cw_record.specs.Plain.{IsPlainAt, UndoneAt, strands_before, forks_before, number_at, plain_name, IsPassed}
 use Rattle.cw_record.proofs.StrandIs.{strand_is}
 use Rattle.cw_record.proofs.Orders.Listing.{below_push}
@@ -28,31 +28,6 @@ abbrev pub made_by : List Node → ℕ → ℕ → Bool
 made_by t s g = is_fork t g && nat_eq (strand_of t g) s
 
 module _ (t : List Node) (w : IsNumbered t) where
-  -- ## The root
-
-  pub undone_root : UndoneAt t 0 1
-  undone_root a over b = absurd (let P : ℕ → Type 0 = λ m. is_aborted t m ≡ true in let no = strand_no_block t 0 w.root in let yes = aborted_block t 0 (subst P (ancestor_root t a over) b) in cc (no, yes))
-
-  root_alone : filter (is_strand t) (below 1) ≡ 0 ∷ []
-  root_alone = ap (λ b. cond b (0 ∷ []) []) w.root
-
-  root_counted : strands_before t 1 ≡ 1
-  root_counted = sym (length-filter (is_strand t) (below 1)) ∙ ap length root_alone
-
-  pub passed_root : IsPassed t 1 (record { parent = 0; fork = 0; right = false } ∷ []) (0 ∷ []) (0 ∷ [])
-  passed_root = record {
-    some = omega arith;
-    plain = λ m p h. absurd (omega arith);
-    named = sym (ap (map (plain_name t)) root_alone);
-    forks_len = sym root_counted;
-    forked = λ s h e. root_forks s (let z : s ≡ 0 = omega arith in z);
-    numbered = ap (λ k. k ∷ []) (sym (ap (strands_before t) (strand_of_root t)));
-  } where
-    root_forks : (s : ℕ) → s ≡ 0 → get_or (0 ∷ []) (strands_before t s) 0 ≡ forks_before t s 1
-    root_forks s e =
-        let none : forks_before t s 1 ≡ 0 = count_none (made_by t s) 1 (λ g h. let z : g ≡ 0 = omega arith in ap (λ b. b && nat_eq (strand_of t g) s) (ap (is_fork t) z ∙ strand_no_fork t 0 w.root)) in
-        ap (λ k. get_or (0 ∷ []) (strands_before t k) 0) e ∙ sym none
-
   -- a fork that comes before the outermost one is in none
   pub fork_kept : (n : ℕ) → n < length t → (u : ℕ) → UndoneAt t n u → n < u → (a : ℕ) → is_ancestor t a n ≡ true → is_aborted t a ≡ false
   fork_kept n there u around less a over =

@@ -33,10 +33,6 @@ module _ (t : List Node) (w : IsNumbered t) (plain : (m : ℕ) → 0 < m → m <
   pub beneath : (i m n : ℕ) → i ≤ m → m ≤ n → n < length t → is_ancestor t i n ≡ true → is_ancestor t i m ≡ true
   beneath i m n le more h over = between t w.rooted hang i (n - m) m n (omega arith) le h over
 
-  -- two children of one node that stand above one node, or have one above the other, are one
-  same_child : (c d n : ℕ) → n < length t → 0 < c → 0 < d → parent_of t c ≡ parent_of t d → is_ancestor t c n ≡ true → is_ancestor t d n ≡ true → c ≡ d
-  same_child c d n h p q e f g = children_apart t w.rooted c d n h p q e f g
-
   -- a child of a fork that stands above a node is a strand, and no strand around that node is farther out
   under_fork : (f n : ℕ) → n < length t → is_fork t f ≡ true → (b : Branch t w.rooted f n) → (is_strand t b.child ≡ true) × (b.child ≤ strand_of t n)
   under_fork f n h fork b =
@@ -58,7 +54,7 @@ module _ (t : List Node) (w : IsNumbered t) (plain : (m : ℕ) → 0 < m → m <
           | inr ge ↦
               (let le : s.second ≤ n = ancestor_le t w.rooted s.second n h s.over_second in
               let under : is_ancestor t s.first s.second ≡ true = beneath s.first s.second g (omega arith) (omega arith) l s.over_first in
-              let same = same_child s.first s.second s.second (omega arith) o.some (omega arith) o.same under (ancestor_self t s.second) in
+              let same = children_apart t w.rooted s.first s.second s.second (omega arith) o.some (omega arith) o.same under (ancestor_self t s.second) in
               absurd (omega arith))
         ]
 
@@ -98,7 +94,7 @@ module _ (t : List Node) (w : IsNumbered t) (plain : (m : ℕ) → 0 < m → m <
             let out : is_ancestor t c.child (strand_of t g) ≡ true = ancestor_linear t w.rooted c.child (strand_of t g) g (omega arith) c.over (strand_over t w.rooted g (omega arith)) z.1 in
             let P : ℕ → Type 0 = λ s. is_ancestor t s n ≡ true in
             let over : is_ancestor t c.child n ≡ true = ancestor_trans t w.rooted c.child (strand_of t g) n h out (subst P (sym same) (strand_over t w.rooted n h)) in
-            apart (same_child c.child d.child n h c.some d.some (c.parent ∙ sym d.parent) over d.over))
+            apart (children_apart t w.rooted c.child d.child n h c.some d.some (c.parent ∙ sym d.parent) over d.over))
 
         ordered : c.child < d.child
         ordered = elim (cases_lt c.child d.child) [
@@ -106,7 +102,7 @@ module _ (t : List Node) (w : IsNumbered t) (plain : (m : ℕ) → 0 < m → m <
           | inr ge ↦
               (let le = c_le in
               let over : is_ancestor t d.child g ≡ true = beneath d.child g n (omega arith) (omega arith) h d.over in
-              absurd (apart (same_child c.child d.child g (omega arith) c.some d.some (c.parent ∙ sym d.parent) c.over over)))
+              absurd (apart (children_apart t w.rooted c.child d.child g (omega arith) c.some d.some (c.parent ∙ sym d.parent) c.over over)))
         ]
 
         comes_before : is_before t g n ≡ true
@@ -207,5 +203,5 @@ module _ (t : List Node) (w : IsNumbered t) (plain : (m : ℕ) → 0 < m → m <
         let next : up + 1 ≡ suc up = omega arith in
         let first : is_ancestor t (suc up) (s - 1) ≡ true = subst P next ((plain s some there).side strand (omega arith)) in
         let under : is_ancestor t (suc up) m ≡ true = beneath (suc up) m (s - 1) (omega arith) (omega arith) (omega arith) first in
-        let same = same_child (suc up) m m (omega arith) (omega arith) (omega arith) (next_up (omega arith) ∙ sym e) under (ancestor_self t m) in
+        let same = children_apart t w.rooted (suc up) m m (omega arith) (omega arith) (omega arith) (next_up (omega arith) ∙ sym e) under (ancestor_self t m) in
         omega arith
