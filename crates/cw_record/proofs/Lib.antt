@@ -5,6 +5,7 @@ pub mod ClosedRun
 pub mod Coherent
 pub mod OneWorker
 pub mod Orders
+pub mod Plain
 pub mod Replay
 pub mod Walked
 pub mod WorkedClosed

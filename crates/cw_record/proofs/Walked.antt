@@ -1,4 +1,3 @@
 pub mod Found
 pub mod Named
-pub mod Rising
 pub mod SameNames

@@ -4,6 +4,7 @@ pub mod Listed
 pub mod Order
 pub mod Drawn
 pub mod Walked
+pub mod Plain
 pub mod Replay
 pub mod OneWorker
 pub mod Coherent

@@ -1,5 +1,5 @@
 -- What the passes over a tree find: the first node with a name, and where a name stands first.
-use Rattle.std.specs.Prelude.{◌≡◌, ℕ, suc, ◌+◌, ◌*◌, ◌%◌, ◌^◌, ◌<◌, Bool, List, [], ◌∷◌, length, map, Option, Some, None, option_map, if◌then◌else◌, slice_index_or, All, IsTrue}
+use Rattle.std.specs.Prelude.{◌≡◌, ℕ, suc, ◌<◌, Bool, List, [], ◌∷◌, length, map, Option, Some, None, option_map, if◌then◌else◌, slice_index_or, All, IsTrue}
 use Rattle.std.specs.declared.cmp.Ordering.{Ordering}
 use Rattle.std.specs.Ordering.{ordering_then, nat_cmp, bool_cmp}
 use Rattle.cw_tree.specs.declared.node.Node.{Node}
@@ -24,10 +24,6 @@ NameStep = ℕ × ℕ × Bool
 
 abbrev pub step_cmp : NameStep → NameStep → Ordering
 step_cmp a b = ordering_then (ordering_then (nat_cmp a.0 b.0) (nat_cmp a.1 b.1)) (bool_cmp a.2 b.2)
-
--- the place of a step among those of one strand, the left one of each fork first
-abbrev pub rank : Turn → ℕ
-rank x = (2 * x.fork + (if x.right then 1 else 0)) % 2 ^ 32
 
 -- strands with all names, each once, and for each node that is the first with its name the place of that name among them
 pub record AreFirsts (t : List Node) (strands : List ℕ) (places : List (Option ℕ)) : Type 0 where

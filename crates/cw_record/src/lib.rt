@@ -6,7 +6,8 @@
 //! `specs/WorkedRecord.antt` and `specs/WorkedEnds.antt` (small records that are, the latter of strands of `specs/Scripts.antt`), and
 //! `specs/WorkedClosed.antt` (small closed runs).
 //! Private ones cite `specs/Levels.antt` (how items are
-//! found), `specs/Walked.antt` (what the passes over a tree find), `specs/Replaying.antt` (what a check finds, step by step),
+//! found), `specs/Walked.antt` (what the passes over a tree find), `specs/Plain.antt`
+//! (plain trees, for which one pass is enough), `specs/Replaying.antt` (what a check finds, step by step),
 //! `specs/Drawn.antt` (what each step makes of the tree and the journals) and `specs/OneWorker.antt` (what one worker holds).
 #![tactic(auto)]
 
@@ -24,6 +25,7 @@ mod levels;
 mod links;
 mod listed;
 mod order;
+mod passing;
 mod place;
 mod record;
 mod record_end;

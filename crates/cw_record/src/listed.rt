@@ -1,4 +1,4 @@
-ghost use Rattle.std.specs.Prelude.{◌≡◌, ◌<◌, ◌^◌, length, map, slice_index_or, if◌then◌else◌, unwrap_or, Some, None, IfOk, IfSome, OnOk, IsTrue};
+ghost use Rattle.std.specs.Prelude.{◌≡◌, ◌<◌, ◌^◌, length, map, slice_index_or, if◌then◌else◌, unwrap_or, Some, None, IfOk, OnOk, IsTrue};
 ghost use Rattle.std.specs.Option.{option_or};
 ghost use Rattle.std.specs.Ordering.{is_eq};
 ghost use Rattle.std.specs.BTreeMap.{get};
@@ -6,8 +6,9 @@ ghost use Rattle.cw_tree.specs.Nodes.{all_nodes, is_strand};
 ghost use Rattle.cw_tree.specs.Series.{strand_of};
 ghost use Rattle.cw_tree.specs.Names.{fork_number, is_right, turn, name_of};
 ghost use Rattle.cw_record.specs.Listed.{names, listed_name, listed_names, strand_number};
-ghost use Rattle.cw_record.specs.Walked.{NameStep, step_cmp, first_named, rank, AreFirsts};
+ghost use Rattle.cw_record.specs.Walked.{NameStep, step_cmp, first_named, AreFirsts};
 
+use crate::passing::listed_plain;
 use crate::strands::strands;
 use cw_base::OutOfMemory;
 use cw_tree::{Name, Tree, Turn};
@@ -23,6 +24,17 @@ pub(crate) struct Listed {
 
 impl Listed {
     pub(crate) fn of_tree(alloc: Global, tree: &Tree) -> Result<Listed, OutOfMemory>
+        ensures names { IfOk result (λ l. l.names.items ≡ listed_names tree.now) }
+        ensures numbers { IfOk result (λ l. l.numbers.items ≡ map (λ n. strand_number tree.now (strand_of tree.now n)) (all_nodes tree.now)) }
+    {
+        match listed_plain(alloc, tree)? {
+            Some(listed) => Ok(listed),
+            None => Listed::of_any_tree(alloc, tree),
+        }
+    }
+
+    // The same, also where strands have the same name.
+    fn of_any_tree(alloc: Global, tree: &Tree) -> Result<Listed, OutOfMemory>
         ensures names { IfOk result (λ l. l.names.items ≡ listed_names tree.now) }
         ensures numbers { IfOk result (λ l. l.numbers.items ≡ map (λ n. strand_number tree.now (strand_of tree.now n)) (all_nodes tree.now)) }
     {
@@ -106,45 +118,6 @@ impl Turns {
         requires sides { self.now.sides.items ≡ map (is_right tree.now) (all_nodes tree.now) }
         ensures { IfOk result (λ same. same.items ≡ map (first_named tree.now) (all_nodes tree.now)) }
     {
-        match self.rising_names(alloc, tree)? {
-            Some(same) => Ok(same),
-            None => self.known_names(alloc, tree),
-        }
-    }
-
-    // The same where the strands that each strand forked come by rising steps, so that no two have the same name. It is so where no
-    // attempt with a fork in it was rolled back.
-    fn rising_names(&self, alloc: Global, tree: &Tree) -> Result<Option<Vec<u32>>, OutOfMemory>
-        requires forks { self.now.forks.items ≡ map (fork_number tree.now) (all_nodes tree.now) }
-        requires sides { self.now.sides.items ≡ map (is_right tree.now) (all_nodes tree.now) }
-        ensures { IfOk result (λ r. IfSome r (λ same. same.items ≡ map (first_named tree.now) (all_nodes tree.now))) }
-    {
-        let count = tree.nodes().len();
-        let mut same = vec![in alloc; 0u32; count]?;
-        // the last step that led from a strand
-        let mut steps = vec![in alloc; 0u32; count]?;
-        for n in 1..count as u32 {
-            let above = same[tree.parent(n) as usize];
-            if tree.is_strand(n) {
-                let step = rank(self.at(tree, n));
-                if step <= steps[above as usize] {
-                    return Ok(None);
-                }
-                steps[above as usize] = step;
-                same[n as usize] = n;
-            } else {
-                same[n as usize] = above;
-            }
-        }
-        Ok(Some(same))
-    }
-
-    // The same, where strands with the same name are found again.
-    fn known_names(&self, alloc: Global, tree: &Tree) -> Result<Vec<u32>, OutOfMemory>
-        requires forks { self.now.forks.items ≡ map (fork_number tree.now) (all_nodes tree.now) }
-        requires sides { self.now.sides.items ≡ map (is_right tree.now) (all_nodes tree.now) }
-        ensures { IfOk result (λ same. same.items ≡ map (first_named tree.now) (all_nodes tree.now)) }
-    {
         let count = tree.nodes().len();
         let mut same = vec![in alloc; 0u32; count]?;
         let mut strands = BTreeMap::new(alloc);
@@ -158,15 +131,6 @@ impl Turns {
         }
         Ok(same)
     }
-}
-
-// Steps of one strand by their forks, the left one of each first.
-fn rank(turn: Turn) -> u32
-    ensures { result ≡ rank turn }
-{
-    turn.fork
-        .wrapping_mul(2)
-        .wrapping_add(u32::from(turn.right))
 }
 
 // The first strand that was put at a step, which is this one where there was none.

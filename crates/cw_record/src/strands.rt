@@ -59,9 +59,9 @@ fn is_in_order(tree: &Tree) -> bool
     true
 }
 
-// Whether a node hangs from the one before it, or from a node above that one. Where all before it do, those that are passed on the way
-// up are done with: a node after it hangs from none of them.
-fn hangs(tree: &Tree, n: u32) -> bool
+/// Whether a node hangs from the one before it, or from a node above that one. Where all before it do, those that are passed on the way
+/// up are done with: a node after it hangs from none of them.
+pub(crate) fn hangs(tree: &Tree, n: u32) -> bool
     requires there { n < length tree.now }
     requires child { 0 < n }
     ensures { IsTrue result → IsTrue (is_ancestor tree.now (parent_of tree.now n) (n - 1)) }

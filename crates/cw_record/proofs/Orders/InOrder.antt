@@ -41,7 +41,7 @@ above_too t r a n q s l h e over =
 
 module _ (t : List Node) (r : IsRooted t) (hangs : HangsFrom t (length t)) where
   -- what lies between a node and one beneath it is beneath it
-  between : (i k m n : ℕ) → n ≡ m + k → i ≤ m → n < length t → is_ancestor t i n ≡ true → is_ancestor t i m ≡ true
+  pub between : (i k m n : ℕ) → n ≡ m + k → i ≤ m → n < length t → is_ancestor t i n ≡ true → is_ancestor t i m ≡ true
   between i zero m n e le l a =
       let P : ℕ → Type 0 = λ x. is_ancestor t i x ≡ true in
       let same : n ≡ m = omega arith in

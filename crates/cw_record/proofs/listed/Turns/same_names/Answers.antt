@@ -2,8 +2,8 @@ use Rattle.std.proofs.Common.{arith, ap, sym, ◌∙◌, ◌<◌, length, Some, 
 use Rattle.std.specs.BTreeMap.{get}
 use Rattle.cw_record.specs.Walked.{step_cmp}
 use Rattle.cw_record.proofs.Walked.SameNames.{named_start, named_end, named_other, named_strand, step_is, above_is}
-use Rattle.cw_record.proofs.listed.Turns.known_names.Goals as goal
-use Rattle.cw_record.proofs.listed.Turns.known_names.Goals.{then-is_strand+in_ok-first, else-is_strand}
+use Rattle.cw_record.proofs.listed.Turns.same_names.Goals as goal
+use Rattle.cw_record.proofs.listed.Turns.same_names.Goals.{then-is_strand+in_ok-first, else-is_strand}
 
 pub loop-n-init : goal.loop-n-init
 loop-n-init c =

@@ -3,7 +3,7 @@ use Rattle.cw_tree.specs.Nodes.{below}
 use Rattle.cw_tree.specs.Series.{strand_of}
 use Rattle.cw_tree.specs.Names.{name_of}
 use Rattle.cw_record.specs.Listed.{strand_number, names, listed_name}
-use Rattle.cw_record.proofs.listed.Listed.of_tree.Given as goal
+use Rattle.cw_record.proofs.listed.Listed.of_any_tree.Given as goal
 
 -- the nodes below this one have their numbers
 abbrev pub invariant-loop-first : goal.invariant-loop-first

@@ -3,7 +3,7 @@ use Rattle.cw_tree.specs.Series.{strand_of}
 use Rattle.cw_record.specs.Listed.{strand_number}
 use Rattle.cw_record.proofs.Walked.Found.{first_le}
 use Rattle.cw_record.proofs.Orders.Listing.{same_at, same_length, number_read, met_there, names_read, numbers_read, below_push}
-use Rattle.cw_record.proofs.listed.Listed.of_tree.Goals as goal
+use Rattle.cw_record.proofs.listed.Listed.of_any_tree.Goals as goal
 
 pub number-requires : goal.number-requires
 number-requires c =
