@@ -8,3 +8,5 @@ pub mod Faulting
 pub mod Laying
 pub mod Together
 pub mod States
+pub mod Renaming
+pub mod Coherent

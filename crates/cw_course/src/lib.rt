@@ -5,7 +5,7 @@
 //! `proofs/Trails`, for whoever runs strands.
 #![tactic(auto)]
 
-ghost use Rattle.cw_course.specs.Closings.{CoursesFollow};
+ghost use Rattle.cw_course.specs.Closings.{CoursesFollow, WorkedAreCoherent};
 ghost use Rattle.cw_course.specs.Courses.{CoursesGoOn};
 
 /// A strand that goes by a course goes on as the law of strands says, with as many blocks begun as before.
@@ -17,4 +17,9 @@ pub fn courses_go_on<S>()
 /// goes to its end each live strand has ended, and the strand of a fault stands at it.
 pub fn courses_follow<S>()
     ensures { CoursesFollow S }
+{}
+
+/// Logs that strands wrote, each what its strand did, and what a board gives when it is closed with them, are a coherent record.
+pub fn worked_are_coherent<S>()
+    ensures { WorkedAreCoherent S }
 {}
