@@ -1,2 +1,3 @@
 mod Closings
 mod Courses
+pub mod Trails
