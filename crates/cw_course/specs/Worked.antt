@@ -8,12 +8,16 @@ use Rattle.cw_strand.specs.Strands.{Strands}
 use Rattle.cw_tree.specs.declared.node.Node.{Node}
 use Rattle.cw_tree.specs.declared.node.Kind.TheVariants.{Strand, Fork, Read, Write, Out, Tried}
 use Rattle.cw_tree.specs.declared.node.BlockState.TheVariants.{Pending, Committed, Aborted}
-use Rattle.cw_tree.specs.Worked.{plain, committed, aborted}
+use Rattle.cw_tree.specs.declared.closed.Closed.{Closed}
+use Rattle.cw_tree.specs.declared.closed.Halt.TheVariants.{Budget}
+use Rattle.cw_tree.specs.Worked.{plain, pending, committed, aborted}
 use Rattle.cw_log.specs.declared.log.Log.{Log}
+use Rattle.cw_log.specs.declared.token.Stop.{Stop}
+use Rattle.cw_record.specs.WorkedEnds as ends
 use Rattle.cw_record.specs.Scripts as script
 use Rattle.cw_record.specs.Scripts.{Script, scripted}
 use Rattle.cw_course.specs.Courses.{Course, Goes, Stops, nothing, act, block, fork, logs_of}
-use Rattle.cw_course.specs.Closings.{tree_of, HasStates, AreWorked}
+use Rattle.cw_course.specs.Closings.{tree_of, HasStates, AreWorked, IsClosing}
 
 -- a log without conflicts
 abbrev pub log : (column from at : ℕ) → List Node → Log
@@ -165,10 +169,41 @@ pub record Mixes : Type 0 where
   -- not where a log hangs from another fork
   pub hung : AreWorked (scripted mixes) (logs_at 2) None → ⊥
 
-pub record Courses : Type 0 where
+-- ## Logs of a run that stopped, and a board that is closed with them
+--
+-- cell c; fn main() { spawn { atomic { c = 1; } } atomic { spawn { c = 2; } } }
+
+-- the strand that the right one spawned was refused in the block of that, which has no attempt left
+abbrev pub spent : Course
+spent =
+    fork nothing (Some 1) 1 (block nothing Pending 2 0 (written 1 3))
+    (block nothing Pending 4 0 (fork nothing (Some 2) 5 (act nothing (Tried 0) 0) nothing))
+
+abbrev pub spent_logs : List Log
+spent_logs =
+    log 0 0 0 (plain 0 Strand 0 ∷ plain 0 Fork 1 ∷ plain 1 Strand 0 ∷ pending 2 2 ∷ plain 3 (Write 0 (pos 1)) 3 ∷ [])
+    ∷ record (log 1 0 1 (plain 0 Strand 0 ∷ pending 0 4 ∷ plain 1 Fork 5 ∷ plain 2 Strand 0 ∷ plain 3 (Tried 0) 0 ∷ [])) { conflicts = record ends.refused_in_block { asker = 4 } ∷ [] }
+    ∷ log 2 1 2 (plain 0 Strand 0 ∷ []) ∷ []
+
+-- it stopped where it was refused
+abbrev pub stopped : Stop
+stopped = record { halt = Budget 0; column = 1; strand = 3 }
+
+-- a board that tells this strand as the one that spent its budget
+abbrev pub closed_by : (strand : ℕ) → Closed
+closed_by x = record { tree = ends.spawned; journals = (ends.entry 3 (pos 1) (pos 0) ∷ []) ∷ []; conflicts = ends.refused_in_block ∷ []; halt = Some (Budget x) }
+
+pub record Closes : Type 0 where
+  pub worked : AreWorked (scripted ends.spawns) spent_logs (Some stopped)
+  -- it is the strand that began the victim, and not the one that was refused
+  pub closing : IsClosing (pos 0 ∷ []) 1 spent_logs (Some stopped) (closed_by 5)
+  pub refused : IsClosing (pos 0 ∷ []) 1 spent_logs (Some stopped) (closed_by 8) → ⊥
+
+pub record WorkedCourses : Type 0 where
   pub reads : Reads
   pub forks : Forks
   pub blocks : Blocks
   pub sums : Sums
   pub nests : Nests
   pub mixes : Mixes
+  pub closes : Closes

@@ -1,4 +1,4 @@
--- Where a strand stands, in depth-first order.
+-- What strands did, and where one stands, in depth-first order.
 use Rattle.std.proofs.Common.{◌≡◌, ℕ, zero, suc, ◌<◌, List, length, refl, ap, sym, ◌∙◌, subst, arith, Bool, true, false, Option, Some, None, inl, inr}
 use Rattle.std.specs.Prelude.{◌||◌, option_map}
 use Rattle.cw_strand.specs.Strands.{Strands}
@@ -15,8 +15,9 @@ use Rattle.cw_tree.proofs.InOrder.DepthFirst.{IsChild}
 use Rattle.cw_tree.proofs.InOrder.Renumbered.{in_order_numbered}
 use Rattle.cw_tree.proofs.InOrder.Renaming.{root_stays, parent_stays, renamed_some, renamed_apart}
 use Rattle.cw_open.proofs.Reordered.Renamed.{each_number, low, strand_kept, fork_kept, block_kept, pending_kept}
-use Rattle.cw_record.specs.Coherent.{IsJoined, HasNoOpenFork}
-use Rattle.cw_record.proofs.ClosedRun.RenamedStrands.{moved, last_renamed, last_is_child, joined_at}
+use Rattle.cw_record.specs.Coherent.{IsJoined, HasNoOpenFork, Follows}
+use Rattle.cw_record.proofs.ClosedRun.RenamedStrands.{moved, moved_at, last_renamed, last_is_child, follows_at, ended_at, joined_at}
+use Rattle.cw_course.specs.Closings.{MovedStates, StrandsStay}
 use Rattle.cw_course.proofs.Closings.Chains.{Chain, here, down, Down, AreInPlaces, place_is}
 
 module _ (t : List Node) (w : IsNumbered t) where
@@ -79,3 +80,17 @@ module _ (t : List Node) (w : IsNumbered t) where
           let l = last_is_child s t w before after reached p j q in
           let Q : ℕ → Type 0 = λ n. IsJoined s new (moved s t w before after reached before) (moved s t w before after reached after) (moved s t w before after reached reached) n in
           subst Q same (joined_at s t w before after reached j l (shut j q (sym (fork_kept t w j l) ∙ ap (is_fork new) same ∙ is)))
+
+    pub states_moved : Follows s t before after reached → MovedStates s t before after reached
+    states_moved q = record {
+      new_before = moved s t w before after reached before;
+      new_after = moved s t w before after reached after;
+      new_reached = moved s t w before after reached reached;
+      same = λ n h. (moved_at s t w before after reached before n h, moved_at s t w before after reached after n h, moved_at s t w before after reached reached n h);
+      follows = follows_at s t w before after reached q;
+      ended = ended_at s t w before after reached;
+      shut = shut_renamed;
+    }
+
+pub strands_stay : {A : Type 0} → StrandsStay A
+strands_stay s t before after reached w q = states_moved t w s before after reached q

@@ -114,6 +114,20 @@ module _ (all : List Log) where
   hung_is : (rs : Course) (base under : ℕ) → hung base under (fresh_node 0 Strand 0 ∷ laid rs 1 0) ≡ fresh_node under Strand 0 ∷ laid rs (base + 1) base
   hung_is rs base under = ap (λ xs. fresh_node under Strand 0 ∷ xs) (laid_shifted base rs 1 0 ∙ same_laid rs _ _ _ _ refl (omega arith))
 
+  -- the log of a right strand, and those beside it
+  right_is : (rs : Course) (right column n m v : ℕ) (more : List Log) (ns : List Node) → base_of all column + n ≡ m → put_together all (v + 1 + size rs) more ≡ ns
+      → put_together all v (own_log rs right column n ∷ more) ≡ fresh_node m Strand 0 ∷ (laid rs (v + 1) v ++ ns)
+  right_is rs right column n m v more ns at rest =
+      let own = fresh_node 0 Strand 0 ∷ laid rs 1 0 in
+      let long : v + length own ≡ v + 1 + size rs = omega (arith, laid_many rs 1 0) in
+      ap (λ xs. xs ++ put_together all (v + length own) more) (hung_is rs v (base_of all column + n))
+      ∙ ap (λ q. fresh_node q Strand 0 ∷ (laid rs (v + 1) v ++ put_together all (v + length own) more)) at
+      ∙ ap (λ xs. fresh_node m Strand 0 ∷ (laid rs (v + 1) v ++ xs)) (ap (λ q. put_together all q more) long ∙ rest)
+
+  -- two lists of logs, one after the other
+  both_are : (xs ys : List Log) (cs bs : List Node) (to u : ℕ) → to + total xs ≡ u → put_together all to xs ≡ cs → put_together all u ys ≡ bs → put_together all to (xs ++ ys) ≡ cs ++ bs
+  both_are xs ys cs bs to u e f g = together_append xs ys to u e ∙ ap (λ zs. zs ++ put_together all u ys) f ∙ ap (λ zs. cs ++ zs) g
+
   -- the logs of a course's right strands stand beside it
   beside_is : (cs : Course) (column base own to : ℕ) → base_of all column ≡ own → Found to (rights cs column base) → put_together all to (rights cs column base) ≡ beside cs (own + base) to
   beside_is nothing column base own to e f = refl
@@ -122,9 +136,8 @@ module _ (all : List Log) where
       let n = base + size cs in
       let more : to + total (rights cs column base) ≡ to + width cs = omega (arith, rights_many cs column base) in
       let z = found_split (rights cs column base) (rights js column (n + 1)) to (to + width cs) more f in
-      together_append (rights cs column base) (rights js column (n + 1)) to (to + width cs) more
-      ∙ ap (λ xs. xs ++ put_together all (to + width cs) (rights js column (n + 1))) (beside_is cs column base own to e z.0)
-      ∙ ap (λ xs. beside cs (own + base) to ++ xs) (beside_is js column (n + 1) own (to + width cs) e z.1 ∙ same_beside js _ _ _ _ (omega arith) refl)
+      both_are (rights cs column base) (rights js column (n + 1)) _ _ to (to + width cs) more (beside_is cs column base own to e z.0)
+      (beside_is js column (n + 1) own (to + width cs) e z.1 ∙ same_beside js _ _ _ _ (omega arith) refl)
   beside_is (fork cs None stamp ls rs) column base own to e f =
       let n = base + size cs in
       let l = rights ls column (n + 3) in
@@ -134,15 +147,11 @@ module _ (all : List Log) where
       let next : u + total l ≡ u + width ls = omega (arith, rights_many ls column (n + 3)) in
       let z = found_split (rights cs column base) (l ++ r) to u more f in
       let y = found_split l r u (u + width ls) next z.1 in
-      together_append (rights cs column base) (l ++ r) to u more
-      ∙ ap (λ xs. xs ++ put_together all u (l ++ r)) (beside_is cs column base own to e z.0)
-      ∙ ap (λ xs. beside cs (own + base) to ++ xs)
-      (together_append l r u (u + width ls) next
-      ∙ ap (λ xs. xs ++ put_together all (u + width ls) r) (beside_is ls column (n + 3) own u e y.0 ∙ same_beside ls _ _ _ _ (omega arith) refl)
-      ∙ ap (λ xs. beside ls (own + base + size cs + 3) u ++ xs) (beside_is rs column (n + 3 + size ls) own (u + width ls) e y.1 ∙ same_beside rs _ _ _ _ (omega arith) refl))
+      both_are (rights cs column base) (l ++ r) _ _ to u more (beside_is cs column base own to e z.0)
+      (both_are l r _ _ u (u + width ls) next (beside_is ls column (n + 3) own u e y.0 ∙ same_beside ls _ _ _ _ (omega arith) refl)
+      (beside_is rs column (n + 3 + size ls) own (u + width ls) e y.1 ∙ same_beside rs _ _ _ _ (omega arith) refl))
   beside_is (fork cs (Some right) stamp ls rs) column base own to e f =
       let n = base + size cs in
-      let m = own + base + size cs in
       let l = rights ls column (n + 2) in
       let r = own_log rs right column n ∷ rights rs right 1 in
       let u = to + width cs in
@@ -152,19 +161,10 @@ module _ (all : List Log) where
       let z = found_split (rights cs column base) (l ++ r) to u more f in
       let y = found_split l r u v next z.1 in
       let long : v + length (fresh_node 0 Strand 0 ∷ laid rs 1 0) ≡ v + 1 + size rs = omega (arith, laid_many rs 1 0) in
-      let at : base_of all column + n ≡ m = omega arith in
-      let P : ℕ → Type 0 = λ k. Found k (rights rs right 1) in
-      let beside_right : put_together all (v + length (fresh_node 0 Strand 0 ∷ laid rs 1 0)) (rights rs right 1) ≡ beside rs (v + 1) (v + 1 + size rs) =
-      ap (λ k. put_together all k (rights rs right 1)) long ∙ beside_is rs right 1 v (v + 1 + size rs) y.1.0 (subst P long y.1.1) in
-      together_append (rights cs column base) (l ++ r) to u more
-      ∙ ap (λ xs. xs ++ put_together all u (l ++ r)) (beside_is cs column base own to e z.0)
-      ∙ ap (λ xs. beside cs (own + base) to ++ xs)
-      (together_append l r u v next
-      ∙ ap (λ xs. xs ++ put_together all v r) (beside_is ls column (n + 2) own u e y.0 ∙ same_beside ls _ _ _ _ (omega arith) refl)
-      ∙ ap (λ xs. beside ls (m + 2) u ++ xs)
-      (ap (λ xs. xs ++ put_together all (v + length (fresh_node 0 Strand 0 ∷ laid rs 1 0)) (rights rs right 1)) (hung_is rs v (base_of all column + n))
-      ∙ ap (λ k. fresh_node k Strand 0 ∷ (laid rs (v + 1) v ++ put_together all (v + length (fresh_node 0 Strand 0 ∷ laid rs 1 0)) (rights rs right 1))) at
-      ∙ ap (λ xs. fresh_node m Strand 0 ∷ (laid rs (v + 1) v ++ xs)) beside_right))
+      both_are (rights cs column base) (l ++ r) _ _ to u more (beside_is cs column base own to e z.0)
+      (both_are l r _ _ u v next (beside_is ls column (n + 2) own u e y.0 ∙ same_beside ls _ _ _ _ (omega arith) refl)
+      (right_is rs right column n (own + base + size cs) v (rights rs right 1) _ (omega arith)
+      (beside_is rs right 1 v (v + 1 + size rs) y.1.0 (found_at (rights rs right 1) _ _ long y.1.1))))
   beside_is (fault cs kind) column base own to e f = beside_is cs column base own to e f
 
   -- ## Faults

@@ -7,16 +7,18 @@ use Rattle.cw_strand.specs.declared.want.Want.TheVariants.{Load, Out as Shows, E
 use Rattle.cw_tree.specs.declared.node.Kind.TheVariants.{Out}
 use Rattle.cw_tree.specs.declared.node.BlockState.TheVariants.{Committed}
 use Rattle.cw_tree.specs.declared.node.Node.{Node}
+use Rattle.cw_tree.specs.declared.closed.Halt.{Halt}
+use Rattle.cw_tree.specs.declared.closed.Halt.TheVariants.{Budget}
 use Rattle.cw_tree.specs.Nodes.{parent_of, is_strand}
 use Rattle.cw_tree.specs.Walks.{IsNumbered}
 use Rattle.cw_tree.proofs.Worked.Checks.{all_below, each_below, implied, rooted_test}
 use Rattle.cw_log.specs.declared.log.Log.{Log}
-use Rattle.cw_record.specs.Coherent.{Follows}
+use Rattle.cw_record.proofs.WorkedEnds.Victim.{at_victim}
 use Rattle.cw_record.specs.Scripts as script
 use Rattle.cw_record.specs.Scripts.{Script, scripted, wants_of, right_of}
 use Rattle.cw_course.specs.Courses.{Goes, Stops, starts, acts, commits, aborts, joins, there, within, apart, nothing, act, block, logs_of}
 use Rattle.cw_course.specs.Closings.{tree_of, HasStates, AreWorked, AreApart}
-use Rattle.cw_course.specs.Worked.{Reader, reader, reader_wants, reads, shows, showed, over, Reads, Forks, Blocks, Sums, Nests, Mixes, Courses, spawns, shown, spawned, shows_in_block, sums, nests, mixes, mixed, logs_at}
+use Rattle.cw_course.specs.Worked.{Reader, reader, reader_wants, reads, shows, showed, over, Reads, Forks, Blocks, Sums, Nests, Mixes, Closes, WorkedCourses, spawns, shown, spawned, shows_in_block, sums, nests, mixes, mixed, logs_at, spent, spent_logs}
 use Rattle.cw_course.proofs.Closings.States.{has_states}
 
 -- what is shown
@@ -135,5 +137,32 @@ mixes_all = record {
   hung = not_hung;
 }
 
-pub courses : Courses
-courses = record { reads = reads_go; forks = forks_go; blocks = blocks_go; sums = sums_go; nests = nests_go; mixes = mixes_all }
+-- ## A board that is closed
+
+abbrev told : Option Halt → ℕ
+told (Some (Budget x)) = x
+told h = 0
+
+closes_all : Closes
+closes_all = record {
+  worked = record {
+    course = spent;
+    written = refl;
+    ends = apart starts refl (within starts refl (there (acts starts (refl, refl)))) (within starts refl (apart starts refl (there (acts starts (refl, refl))) (there starts)));
+  };
+  closing = record {
+    apart = ((other 0 1 (lit< tt), (other 0 2 (lit< tt), tt)), ((other 1 2 (lit< tt), tt), (tt, tt)));
+    numbered = numbered (tree_of spent_logs) refl refl (lit< tt);
+    tree = refl;
+    conflicts = refl;
+    halt = refl;
+    history = at_victim.holds.history;
+    faulted = tt;
+    spent = at_victim.holds.spent;
+    finished = λ e. absurd (cc e);
+  };
+  refused = λ w. less 5 8 (lit< tt) (sym (ap told w.halt));
+}
+
+pub courses : WorkedCourses
+courses = record { reads = reads_go; forks = forks_go; blocks = blocks_go; sums = sums_go; nests = nests_go; mixes = mixes_all; closes = closes_all }
