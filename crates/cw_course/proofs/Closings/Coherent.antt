@@ -1,5 +1,5 @@
 -- Logs that strands wrote, and a board that is closed so with them, give a coherent record.
-use Rattle.std.proofs.Common.{◌≡◌, ℕ, ◌+◌, ◌<◌, List, [], ◌∷◌, ◌++◌, map, length, cond, refl, ap, sym, ◌∙◌, subst, arith, Bool, true, false, Option, Some, None, nat_eq}
+use Rattle.std.proofs.Common.{◌≡◌, ℕ, ◌+◌, ◌<◌, List, [], ◌∷◌, ◌++◌, map, length, cond, refl, ap, sym, ◌∙◌, subst, true, false, Option, Some, None, nat_eq}
 use Rattle.std.specs.Prelude.{◌&&◌, ℤ}
 use Rattle.cw_code.specs.declared.FaultKind.{FaultKind}
 use Rattle.cw_strand.specs.declared.want.Want.TheVariants as want
@@ -10,11 +10,10 @@ use Rattle.cw_tree.specs.declared.closed.Halt.{Halt}
 use Rattle.cw_tree.specs.declared.closed.Halt.TheVariants.{Fault, Budget, Memory}
 use Rattle.cw_tree.specs.Nodes.{is_strand}
 use Rattle.cw_tree.specs.Accesses.{is_live}
-use Rattle.cw_tree.specs.Series.{place}
 use Rattle.cw_tree.specs.Walks.{IsRooted}
-use Rattle.cw_tree.specs.Shape.{PendingLast, NonePending}
+use Rattle.cw_tree.specs.Shape.{PendingLast}
 use Rattle.cw_tree.specs.Refusals.{MayFault, MaySpend}
-use Rattle.cw_tree.specs.InOrder.{renamed, in_order, halt_in_order}
+use Rattle.cw_tree.specs.InOrder.{renamed, in_order}
 use Rattle.cw_tree.proofs.Walks.There.{strand_there}
 use Rattle.cw_open.proofs.Reordered.Renamed.{each_number, strand_kept, live_renamed}
 use Rattle.cw_log.specs.declared.log.Log.{Log}
@@ -27,10 +26,10 @@ use Rattle.cw_record.specs.Coherent.{StrandEnded, HasNoOpenFork, Follows, EndSta
 use Rattle.cw_record.proofs.ClosedRun.LeftMemory.{memory_is_left}
 use Rattle.cw_record.proofs.ClosedRun.RenamedStrands.{moved, moved_at, follows_at, ended_at}
 use Rattle.cw_course.specs.Courses.{Course, Goes, Stops, there, size, logs_of}
-use Rattle.cw_course.specs.Closings.{hung, base_of, put_together, tree_of, HasNone, AreApart, bare, halt_in, FaultsIn, Ends, AreWorked, IsClosing, WorkedAreCoherent}
+use Rattle.cw_course.specs.Closings.{hung, base_of, put_together, tree_of, HasNone, AreApart, bare, FaultsIn, Ends, IsClosing, WorkedAreCoherent}
 use Rattle.cw_course.proofs.Closings.Following.{B, F, R}
 use Rattle.cw_course.proofs.Closings.Trees.{IsTreeOf, all_held, follows, live_ended}
-use Rattle.cw_course.proofs.Closings.Faulting.{Faults, AtFault, at_fault}
+use Rattle.cw_course.proofs.Closings.Faulting.{Faults, at_fault}
 use Rattle.cw_course.proofs.Closings.Laying.{laid_tree}
 use Rattle.cw_course.proofs.Closings.Together.{tree_is, faults_in_tree}
 use Rattle.cw_course.proofs.Closings.Renaming.{chain_low, place_renamed, shut_renamed}

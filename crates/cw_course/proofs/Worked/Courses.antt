@@ -1,9 +1,9 @@
 -- Small programs and what their strands did.
-use Rattle.std.proofs.Common.{◌≡◌, ℕ, zero, suc, ◌<◌, List, [], ◌∷◌, length, refl, ap, sym, ◌∙◌, subst, arith, lit<, pos, Option, Some, None, true, false}
-use Rattle.std.specs.Prelude.{IsTrue, ◌^◌}
+use Rattle.std.proofs.Common.{◌≡◌, ℕ, ◌<◌, List, length, refl, ap, sym, ◌∙◌, subst, arith, lit<, pos, Option, Some, None, true}
+use Rattle.std.specs.Prelude.{◌^◌}
 use Rattle.std.proofs.lemmas.Bool.{lt-ltb, ltb-true}
 use Rattle.cw_strand.specs.declared.want.Want.{Want}
-use Rattle.cw_strand.specs.declared.want.Want.TheVariants.{Load, Out as Shows, End}
+use Rattle.cw_strand.specs.declared.want.Want.TheVariants.{Out as Shows}
 use Rattle.cw_tree.specs.declared.node.Kind.TheVariants.{Out}
 use Rattle.cw_tree.specs.declared.node.BlockState.TheVariants.{Committed}
 use Rattle.cw_tree.specs.declared.node.Node.{Node}
@@ -15,10 +15,10 @@ use Rattle.cw_tree.proofs.Worked.Checks.{all_below, each_below, implied, rooted_
 use Rattle.cw_log.specs.declared.log.Log.{Log}
 use Rattle.cw_record.proofs.WorkedEnds.Victim.{at_victim}
 use Rattle.cw_record.specs.Scripts as script
-use Rattle.cw_record.specs.Scripts.{Script, scripted, wants_of, right_of}
-use Rattle.cw_course.specs.Courses.{Goes, Stops, starts, acts, commits, aborts, joins, there, within, apart, nothing, act, block, logs_of}
+use Rattle.cw_record.specs.Scripts.{scripted, wants_of, right_of}
+use Rattle.cw_course.specs.Courses.{Goes, Stops, starts, acts, commits, aborts, joins, there, within, apart, nothing, act, block}
 use Rattle.cw_course.specs.Closings.{tree_of, HasStates, AreWorked, AreApart}
-use Rattle.cw_course.specs.Worked.{Reader, reader, reader_wants, reads, shows, showed, over, Reads, Forks, Blocks, Sums, Nests, Mixes, Closes, WorkedCourses, spawns, shown, spawned, shows_in_block, sums, nests, mixes, mixed, logs_at, spent, spent_logs}
+use Rattle.cw_course.specs.Worked.{Reader, reader, reader_wants, reads, shows, showed, Reads, Forks, Blocks, Sums, Nests, Mixes, Closes, WorkedCourses, spawns, shown, spawned, shows_in_block, sums, nests, mixes, mixed, logs_at, spent, spent_logs}
 use Rattle.cw_course.proofs.Closings.States.{has_states}
 
 -- what is shown
