@@ -16,7 +16,7 @@ use Rattle.cw_course.proofs.Closings.Faulting.{Faults}
 
 -- ## Numbers that are shifted
 
-same_laid : (cs : Course) (a b c d : ℕ) → a ≡ b → c ≡ d → laid cs a c ≡ laid cs b d
+pub same_laid : (cs : Course) (a b c d : ℕ) → a ≡ b → c ≡ d → laid cs a c ≡ laid cs b d
 same_laid cs a b c d e f = ap (λ k. laid cs k c) e ∙ ap (laid cs b) f
 
 abbrev shifted : ℕ → Node → Node

@@ -10,6 +10,7 @@ use Rattle.cw_tree.proofs.NextNodes.Growing.{get_next}
 use Rattle.cw_course.specs.Courses.{Course, nothing, act, block, fork, size, laid}
 use Rattle.cw_course.specs.Trails.{Trail, Page, in_block, in_left, in_right, behind, page, place_of, nodes_of, strands_with}
 use Rattle.cw_course.proofs.Closings.Laying.{laid_many}
+use Rattle.cw_course.proofs.Closings.Together.{same_laid}
 
 set_next : {A : Type 0} → (xs ys : List A) (y z : A) → slice_set (xs ++ y ∷ ys) (length xs) z ≡ xs ++ z ∷ ys
 set_next [] ys y z = refl
@@ -17,9 +18,6 @@ set_next (x ∷ xs) ys y z = ap (λ us. x ∷ us) (set_next xs ys y z)
 
 closed_at : (t : List Node) (b : ℕ) (state : BlockState) (end : ℕ) (x : Node) → slice_get t b ≡ Some x → closed t b state end ≡ slice_set t b (record x { state = state; end = end })
 closed_at t b state end x e = rw e refl
-
-same_laid : (cs : Course) (a b c d : ℕ) → a ≡ b → c ≡ d → laid cs a c ≡ laid cs b d
-same_laid cs a b c d e f = ap (λ k. laid cs k c) e ∙ ap (laid cs b) f
 
 -- so many nodes stand behind a course
 behind_many : (p : Page) (cs : Course) → length (behind p cs) ≡ length p.nodes + size cs
