@@ -1,0 +1,12 @@
+pub mod Children
+pub mod Told
+pub mod Shown
+pub mod Following
+pub mod Trees
+pub mod Chains
+pub mod Faulting
+pub mod Laying
+pub mod Together
+pub mod States
+pub mod Renaming
+pub mod Coherent

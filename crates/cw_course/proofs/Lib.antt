@@ -1,0 +1,4 @@
+mod Closings
+mod Courses
+pub mod Trails
+mod Worked
