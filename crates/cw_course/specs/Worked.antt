@@ -146,6 +146,7 @@ mixes =
 abbrev pub written : (value stamp : ℕ) → Course
 written value stamp = act nothing (Write 0 (pos value)) stamp
 
+-- what its strands did: of the strands alone, since no conflict says why the block was rolled back
 abbrev pub mixed : Course
 mixed = fork (block (block nothing Aborted 1 3 (fork nothing (Some 1) 2 nothing nothing)) Committed 4 8 (fork nothing (Some 2) 5 (written 1 6) (written 2 7))) None 9 (shown 1 10) (shown 2 11)
 
