@@ -59,7 +59,8 @@ fn make(tier: &mut Tier, gaps: &mut Gaps, call: Call) {
 /// What is answered on an access, within the bounds of both calls.
 fn answer<K: Ledger, L: Ledger>(
     alloc: Global,
-    held: &mut Held<'_>,
+    tier: &Tier,
+    gaps: &Gaps,
     last: Mark,
     question: Question,
     looks: &mut Steps<K>,
@@ -70,11 +71,15 @@ fn answer<K: Ledger, L: Ledger>(
 {
     Ok(match question {
         Question::Ask(asker) => {
-            let verdict = ask(held.tier, held.gaps, last, asker, looks, compares);
+            let verdict = ask(tier, gaps, last, asker, looks, compares);
             format!(in alloc; "{verdict:?} ")?
         }
         Question::Block(stamp, strand) => {
-            let above = contains_by(held, Mark { strand, stamp }, last, looks, compares);
+            let mut held = Held {
+                tier: tier.reader(),
+                gaps: gaps.reader(),
+            };
+            let above = contains_by(&mut held, Mark { strand, stamp }, last, looks, compares);
             format!(in alloc; "{above} ")?
         }
     })
@@ -99,14 +104,18 @@ fn answers<K: Ledger, L: Ledger>(
     for call in calls {
         make(&mut tier, &mut gaps, *call);
     }
-    let mut held = Held {
-        tier: tier.reader(),
-        gaps: gaps.reader(),
-    };
     let mut text = String::new(alloc);
     for &(strand, stamp, question) in questions {
         let last = Mark { strand, stamp };
-        let line = answer(alloc, &mut held, last, question, &mut looks, &mut compares)?;
+        let line = answer(
+            alloc,
+            &tier,
+            &gaps,
+            last,
+            question,
+            &mut looks,
+            &mut compares,
+        )?;
         text.push_str(line.as_str())?;
     }
     Ok(text)
