@@ -1,4 +1,4 @@
-//! What a board's calls ask of a token, looked up in it.
+//! What a board's calls ask of a token, looked up in it. Where memory is wanting, nothing is said to be met.
 ghost use Rattle.std.specs.Prelude.{◌≡◌, IsTrue, All, IfOk, MatchBool, IfSome, ℕ, true};
 ghost use Rattle.cw_code.specs.declared.FaultKind.{FaultKind};
 ghost use Rattle.cw_tree.specs.declared.closed.Halt.TheVariants.{Fault};
@@ -112,22 +112,28 @@ impl StrandToken {
         )
     }
 
-    pub fn goes(&self, budget: u32) -> Result<bool, OutOfMemory>
-        ensures { IfOk result (λ b. IsTrue b → Goes budget self.now) }
+    pub fn goes(&self, budget: u32) -> bool
+        ensures { IsTrue result → Goes budget self.now }
     {
-        if self.phase != Phase::Going || self.dies()? {
-            return Ok(false);
+        if self.phase != Phase::Going {
+            return false;
         }
-        Ok(self.is_on(budget))
+        match self.dies() {
+            Ok(false) => self.is_on(budget),
+            _ => false,
+        }
     }
 
-    pub fn goes_back(&self, budget: u32) -> Result<bool, OutOfMemory>
-        ensures { IfOk result (λ b. IsTrue b → GoesBack budget self.now) }
+    pub fn goes_back(&self, budget: u32) -> bool
+        ensures { IsTrue result → GoesBack budget self.now }
     {
-        if self.phase != Phase::Going || !self.dies()? {
-            return Ok(false);
+        if self.phase != Phase::Going {
+            return false;
         }
-        Ok(self.is_on(budget))
+        match self.dies() {
+            Ok(true) => self.is_on(budget),
+            _ => false,
+        }
     }
 
     pub fn has_block(&self) -> bool

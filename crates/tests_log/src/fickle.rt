@@ -193,7 +193,9 @@ impl SharedBoard for Fickle {
             };
         }
         let fork = self.number(room);
-        let column = (self.columns.fetch_add(2, Ordering::SeqCst) >> 32) as u32;
+        let Ok(column) = u32::try_from(self.columns.fetch_add(2, Ordering::SeqCst)) else {
+            return Err((token, OutOfMemory));
+        };
         match token.fork(stamp, fork, column) {
             Ok(right) => Ok(Forked::Two {
                 fork,

@@ -146,16 +146,16 @@ impl SharedBoard for OneList {
 /// What a cell holds after a write in a block, read in the right strand of a fork behind the block.
 pub fn read_back<R: Wait>(rt: &R, alloc: Global, value: i64) -> Result<Option<i64>, OutOfMemory> {
     let (board, mut token) = OneList::new(alloc, 2, 3)?;
-    if token.goes(3)? {
+    if token.goes(3) {
         board.begin(&mut token)?;
     }
-    if token.goes(3)? {
+    if token.goes(3) {
         let _ = board.access(rt, &mut token, 1, Some(value))?;
     }
-    if token.goes(3)? && token.has_block() {
+    if token.goes(3) && token.has_block() {
         board.commit(&mut token);
     }
-    if !token.goes(3)? {
+    if !token.goes(3) {
         return Ok(None);
     }
     let Ok(Forked::Inline { token }) = board.fork(rt, token) else {
@@ -165,7 +165,7 @@ pub fn read_back<R: Wait>(rt: &R, alloc: Global, value: i64) -> Result<Option<i6
     if token.is_inline() && token.is_done() {
         board.next_branch(&mut token);
     }
-    if !token.goes(3)? {
+    if !token.goes(3) {
         return Ok(None);
     }
     match board.access(rt, &mut token, 1, None)? {

@@ -5,7 +5,7 @@ ghost use Rattle.cw_log.specs.Tokens.{Goes};
 use crate::{Fickle, Odds, StrandToken};
 use cw_base::OutOfMemory;
 use cw_code::FaultKind;
-use cw_log::{Access, Forked, SharedBoard};
+use cw_log::{Access, Forked, Logs, SharedBoard};
 use cw_tree::Halt;
 use std::alloc::Global;
 use std::sync::Wait;
@@ -140,67 +140,55 @@ struct Walk<'a> {
 
 impl<'a> Walk<'a> {
     /// One call more, where one may be made that is none of a fork.
-    fn calls<R: Wait>(
-        &self,
-        rt: &R,
-        token: &mut StrandToken,
-        draws: &mut Draws,
-    ) -> Result<(), OutOfMemory> {
-        if token.goes_back(BUDGET)? && token.has_block() {
+    fn calls<R: Wait>(&self, rt: &R, token: &mut StrandToken, draws: &mut Draws) {
+        if token.has_block() && token.goes_back(BUDGET) {
             self.board.roll(rt, token);
             one_more(&self.seen.rolled);
-            return Ok(());
-        }
-        if !token.goes(BUDGET)? {
-            return Ok(());
-        }
-        match draws.below(6) {
-            0 => self.board.begin(token),
-            1 => {
-                if token.has_block() {
-                    self.board.commit(token);
+        } else if token.goes(BUDGET) {
+            match draws.below(6) {
+                0 => {
+                    let _ = self.board.begin(token);
                 }
-                Ok(())
+                1 => {
+                    if token.has_block() {
+                        self.board.commit(token);
+                    }
+                }
+                2 => {
+                    let _ = self.board.out(token, 7);
+                }
+                _ => self.accesses(rt, token, draws),
             }
-            2 => self.board.out(token, 7),
-            _ => self.accesses(rt, token, draws),
         }
     }
 
-    fn accesses<R: Wait>(
-        &self,
-        rt: &R,
-        token: &mut StrandToken,
-        draws: &mut Draws,
-    ) -> Result<(), OutOfMemory>
+    fn accesses<R: Wait>(&self, rt: &R, token: &mut StrandToken, draws: &mut Draws)
         requires { Goes 100 token.old }
     {
         let cell = draws.below(u64::from(CELLS)) as u32;
         let write = if draws.below(2) == 0 { None } else { Some(5) };
-        let seen = match self.board.access(rt, token, cell, write)? {
-            Access::Value(_) => &self.seen.values,
-            Access::Conflict(_) => &self.seen.refused,
-        };
-        one_more(seen);
-        Ok(())
+        match self.board.access(rt, token, cell, write) {
+            Ok(Access::Value(_)) => one_more(&self.seen.values),
+            Ok(Access::Conflict(_)) => one_more(&self.seen.refused),
+            Err(_) => {}
+        }
     }
 
     /// Ends the blocks that the token's strand began.
-    fn ends<R: Wait>(&self, rt: &R, token: &mut StrandToken) -> Result<(), OutOfMemory> {
+    fn ends<R: Wait>(&self, rt: &R, token: &mut StrandToken) {
         for _ in 0..u64::MAX {
             if !token.has_block() {
                 break;
             }
-            if token.goes(BUDGET)? {
+            if token.goes(BUDGET) {
                 self.board.commit(token);
-            } else if token.goes_back(BUDGET)? {
+            } else if token.goes_back(BUDGET) {
                 self.board.roll(rt, token);
                 one_more(&self.seen.rolled);
             } else {
                 break;
             }
         }
-        Ok(())
     }
 
     /// From one strand of an inline fork to the next.
@@ -218,13 +206,17 @@ impl<'a> Walk<'a> {
             return left;
         }
         let mut token = self.board.join(left, right);
+        self.merges(rt, &mut token);
+        token
+    }
+
+    fn merges<R: Wait>(&self, rt: &R, token: &mut StrandToken) {
         if let Some(fork) = token.owes() {
             if token.is_on(BUDGET) {
-                self.board.merge(rt, &mut token, fork);
+                self.board.merge(rt, token, fork);
                 one_more(&self.seen.merged);
             }
         }
-        token
     }
 
     fn halts(&self, token: &mut StrandToken, draws: &mut Draws) {
@@ -247,72 +239,99 @@ impl<'a> Walk<'a> {
         &self,
         rt: &R,
         token: StrandToken,
-        draws: &mut Draws,
+        seed: u64,
         depth: u32,
-    ) -> Result<StrandToken, OutOfMemory> {
-        if !token.goes(BUDGET)? {
-            return Ok(token);
+    ) -> StrandToken {
+        if !token.goes(BUDGET) {
+            return token;
         }
         match self.board.fork(rt, token) {
-            Err((token, _)) => Ok(token),
+            Err((token, _)) => token,
             Ok(Forked::Inline { token }) => {
                 one_more(&self.seen.inline);
-                let mut token = token;
-                for _ in 0..2u32 {
-                    token = self.walks(rt, token, draws.below(1 << 30), depth)?;
-                    self.turns(&mut token);
-                }
-                Ok(token)
+                let mut token = self.walks(rt, token, seed, depth);
+                self.turns(&mut token);
+                token = self.walks(rt, token, seed ^ 1, depth);
+                self.turns(&mut token);
+                token
             }
             Ok(Forked::Two { fork, left, right }) => {
                 one_more(&self.seen.two);
-                let (left, right) = self.both(rt, fork, left, right, draws, depth)?;
-                Ok(self.joins(rt, left, right))
+                let mut right = right;
+                if self.splits(rt, &mut right, fork) {
+                    self.beside(rt, left, right, seed, depth)
+                } else {
+                    self.after(rt, left, right, seed, depth)
+                }
             }
         }
     }
 
-    /// Both strands of a fork: beside each other where it is split, else one after the other, and the right one only where the left one
-    /// goes on.
+    /// Whether the right strand of a fork may go on while the left one does.
+    fn splits<R: Wait>(&self, rt: &R, right: &mut StrandToken, fork: u32) -> bool {
+        if !right.may_split(fork) || !right.is_on(BUDGET) {
+            return false;
+        }
+        let is_split = self.board.split(rt, right, fork).is_ok();
+        one_more(if is_split {
+            &self.seen.split
+        } else {
+            &self.seen.early
+        });
+        is_split
+    }
+
+    /// Both strands of a fork that is split.
     #[cycle(strands)]
-    fn both<R: Threads + Wait + Sync>(
+    fn beside<R: Threads + Wait + Sync>(
         &self,
         rt: &R,
-        fork: u32,
         left: StrandToken,
         right: StrandToken,
-        draws: &mut Draws,
+        seed: u64,
         depth: u32,
-    ) -> Result<(StrandToken, StrandToken), OutOfMemory> {
+    ) -> StrandToken {
+        let (left, right) = if self.way.threads {
+            thread::join(
+                rt,
+                || self.walks(rt, left, seed, depth),
+                || self.walks(rt, right, seed ^ 1, depth),
+            )
+        } else {
+            let left = self.walks(rt, left, seed, depth);
+            (left, self.walks(rt, right, seed ^ 1, depth))
+        };
+        self.joins(rt, left, right)
+    }
+
+    /// The left strand of a fork that is not split, and where that goes on, the right one after it.
+    #[cycle(strands)]
+    fn after<R: Threads + Wait + Sync>(
+        &self,
+        rt: &R,
+        left: StrandToken,
+        right: StrandToken,
+        seed: u64,
+        depth: u32,
+    ) -> StrandToken {
+        let mut left = self.walks(rt, left, seed, depth);
         let mut right = right;
-        let (one, other) = (draws.below(1 << 30), draws.below(1 << 30));
-        if right.may_split(fork) && right.is_on(BUDGET) {
-            if self.board.split(rt, &mut right, fork).is_ok() {
-                one_more(&self.seen.split);
-                if !self.way.threads {
-                    let left = self.walks(rt, left, one, depth)?;
-                    return Ok((left, self.walks(rt, right, other, depth)?));
-                }
-                let (left, right) = thread::join(
-                    rt,
-                    || self.walks(rt, left, one, depth),
-                    || self.walks(rt, right, other, depth),
-                );
-                return Ok((left?, right?));
-            }
-            one_more(&self.seen.early);
+        if self.takes_back(&mut left, &mut right) {
+            right = self.walks(rt, right, seed ^ 1, depth);
         }
-        let mut left = self.walks(rt, left, one, depth)?;
-        if left.goes(BUDGET)?
-            && left.is_beside(&right)
-            && left.may_take_back(&right)
+        self.joins(rt, left, right)
+    }
+
+    fn takes_back(&self, left: &mut StrandToken, right: &mut StrandToken) -> bool {
+        let goes = left.goes(BUDGET)
             && right.is_on(BUDGET)
-        {
-            self.board.take_back(&mut left, &mut right);
+            && left.is_beside(right)
+            && left.may_take_back(right);
+        if goes {
+            self.board.take_back(left, right);
             one_more(&self.seen.taken_back);
-            right = self.walks(rt, right, other, depth)?;
         }
-        Ok((left, right))
+        goes
     }
 
     /// A strand, from where its token stands to its end, with forks in it as deep as this.
@@ -323,19 +342,30 @@ impl<'a> Walk<'a> {
         token: StrandToken,
         seed: u64,
         depth: u32,
-    ) -> Result<StrandToken, OutOfMemory> {
+    ) -> StrandToken {
         let mut token = token;
         let mut draws = Draws { state: seed };
         for _ in 0..STEPS {
             if depth > 0 && draws.below(6) == 0 {
-                token = self.forks(rt, token, &mut draws, depth - 1)?;
+                token = self.forks(rt, token, 2 * draws.below(1 << 30), depth - 1);
             }
-            self.calls(rt, &mut token, &mut draws)?;
+            self.calls(rt, &mut token, &mut draws);
             self.halts(&mut token, &mut draws);
         }
-        self.ends(rt, &mut token)?;
-        Ok(token)
+        self.ends(rt, &mut token);
+        token
     }
+}
+
+/// Whether logs and that of the root, which has column 0, have columns that differ.
+fn are_apart(alloc: Global, logs: &Logs) -> Result<bool, OutOfMemory> {
+    let mut columns = Vec::new(alloc);
+    for log in logs.iter() {
+        columns.push(log.column)?;
+    }
+    columns.push(0)?;
+    columns.sort()?;
+    Ok(columns.windows(2).all(|pair| pair[0] < pair[1]))
 }
 
 /// Walks, each from a fresh root, and says what was met.
@@ -353,7 +383,7 @@ pub fn walked<R: Threads + Wait + Sync>(
             seen: &seen,
             way,
         };
-        let token = walk.walks(rt, token, seed, DEPTH)?;
+        let token = walk.walks(rt, token, seed, DEPTH);
         if token.is_done() {
             seen.logs
                 .fetch_add(token.joined.len() as u64 + 1, Ordering::SeqCst);

@@ -31,7 +31,7 @@ fn least(counts: &Counts) -> u64 {
 #[test]
 fn walks_on_one_thread(rt: HostRuntime) -> Result<(), Fail> {
     let counts = walked(&rt, rt.alloc(), ODDS, way(false, false))?;
-    assert!(rt; least(&counts) > 50);
+    assert!(rt; least(&counts) > 20);
     assert_eq!(rt; (counts.stuck, counts.halts), (0, 0));
     assert_eq!(rt;
         (counts.logs, counts.merged),
@@ -44,7 +44,7 @@ fn walks_on_one_thread(rt: HostRuntime) -> Result<(), Fail> {
 #[test]
 fn walks_on_several_threads(rt: HostRuntime) -> Result<(), Fail> {
     let counts = walked(&rt, rt.alloc(), ODDS, way(true, false))?;
-    assert!(rt; least(&counts) > 50);
+    assert!(rt; least(&counts) > 20);
     assert_eq!(rt; (counts.stuck, counts.halts), (0, 0));
     assert_eq!(rt;
         (counts.logs, counts.merged),
