@@ -1,5 +1,5 @@
 /// How a strand stands. Only contracts know it: a body has no bytes for it.
-#[derive(Clone, Copy, PartialEq, Eq, Debug)]
+#[derive(Clone, Copy)]
 pub enum Stage {
     /// It goes on from its want.
     Goes,
