@@ -1,0 +1,74 @@
+-- What a body keeps for what it stands for: where it stands is inside each of the blocks around it.
+use Rattle.std.specs.Prelude.{◌≡◌, ◌≤◌, ◌-◌, ℕ, suc, List, [], ◌∷◌, map}
+use Rattle.cw_code.specs.declared.program.Program.{Program}
+use Rattle.cw_strand.specs.declared.want.Want.TheVariants as want
+use Rattle.cw_strand.specs.Strands.{Strands}
+use Rattle.cw_strand.specs.Saving.{Inside}
+use Rattle.cw_job.specs.declared.standing.Standing.{Standing}
+use Rattle.cw_job.specs.Room.Strands.{StrandState, state_of, IsOf}
+use Rattle.cw_job.specs.Room.Saves.{IsSavedOf}
+use Rattle.cw_body.specs.declared.begin.Begin.{Begin}
+use Rattle.cw_body.specs.declared.stage.Stage.{Stage}
+use Rattle.cw_body.specs.declared.stage.Stage.TheVariants.{Goes, GaveUp, Lost}
+use Rattle.cw_body.specs.declared.body.Body.TheInside as fields
+use Rattle.cw_body.specs.Bodies.{PendingBegin, InBlocks, strands_of_program}
+
+abbrev pub begin_of : Begin → StrandState
+begin_of b = state_of b.at.value
+
+-- what is seen of a begin from a strand that is the right one of so many forks
+abbrev pub shown : (level : ℕ) → Begin → PendingBegin
+shown level b = record { at = begin_of b; forks = level - b.level }
+
+abbrev pub in_blocks : fields.Inside → InBlocks
+in_blocks x = record { program = x.program.value; stage = x.stage.value; state = state_of x.standing; begins = map (shown x.level) x.begins }
+
+-- ## Inside each block
+
+module _ (s : Strands StrandState) where
+  -- A strand of this level is inside the block of this begin, with so many blocks begun inside and not ended.
+  pub record IsInside (level : ℕ) (there : StrandState) (inner : ℕ) (b : Begin) : Type 0 where
+    pub since : b.level ≤ level
+    pub inside : Inside s (begin_of b) (level - b.level) inner there
+
+  -- it is inside each of these, and inside one of them each of those before it is begun and not ended
+  abbrev pub IsInsideEach : (level : ℕ) → (there : StrandState) → (inner : ℕ) → List Begin → Type 0
+  IsInsideEach level there inner [] = Unit {0}
+  IsInsideEach level there inner (b ∷ bs) = IsInside level there inner b × IsInsideEach level there (suc inner) bs
+
+  -- a strand that gave up somewhere inside
+  pub record GaveUpInside (level : ℕ) (there : StrandState) (b : Begin) : Type 0 where
+    pub since : b.level ≤ level
+    pub forks : ℕ
+    pub inner : ℕ
+    pub inside : Inside s (begin_of b) forks inner there
+
+  abbrev pub GaveUpInsideEach : (level : ℕ) → (there : StrandState) → List Begin → Type 0
+  GaveUpInsideEach level there [] = Unit {0}
+  GaveUpInsideEach level there (b ∷ bs) = GaveUpInside level there b × GaveUpInsideEach level there bs
+
+-- ## The whole
+
+module _ (program : Program) where
+  abbrev s : Strands StrandState
+  s = strands_of_program program
+
+  -- each begin was kept, and is inside the blocks around it
+  pub record IsKept (b : Begin) (around : List Begin) : Type 0 where
+    pub saved : IsSavedOf program b.saved (begin_of b)
+    pub begins : s.want (begin_of b) ≡ want.Begin
+    pub inside : IsInsideEach s b.level (begin_of b) 0 around
+
+  abbrev pub AreKept : List Begin → Type 0
+  AreKept [] = Unit {0}
+  AreKept (b ∷ bs) = IsKept b bs × AreKept bs
+
+  -- how a strand stands in these blocks
+  abbrev pub StandsSo : Stage → (level : ℕ) → Standing → List Begin → Type 0
+  StandsSo Goes level x bs = IsOf program x × IsInsideEach s level (state_of x) 0 bs
+  StandsSo GaveUp level x bs = GaveUpInsideEach s level (state_of x) bs
+  StandsSo Lost level x bs = Unit {0}
+
+pub record IsInBlocks (x : fields.Inside) : Type 0 where
+  pub kept : AreKept x.program.value x.begins
+  pub stands : StandsSo x.program.value x.stage.value x.level x.standing x.begins

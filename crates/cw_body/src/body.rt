@@ -1,0 +1,207 @@
+ghost use Rattle.std.specs.Prelude.{◌≡◌, ◌≢◌, ◌<◌, true, length, IfOk, OnOk, OnErr};
+ghost use Rattle.cw_strand.specs.declared.want.Want.TheVariants as Want;
+ghost use Rattle.cw_strand.specs.Strands.{is_over};
+ghost use Rattle.cw_job.specs.Jobs.{Job, TakesWords};
+ghost use Rattle.cw_job.specs.Room.Strands.{strands_of_job};
+ghost use Rattle.cw_job.specs.Room.Saves.{IsSavedOf};
+ghost use Rattle.cw_body.specs.declared.stage.Stage.TheVariants.{Goes, GaveUp, Lost};
+ghost use Rattle.cw_body.specs.Bodies.{AnswersAct, HasNoBlock, IsLost, answered, begun, ended, forgot, gave_up, goes_from, joined, left_of, right_of, want_of, went_back};
+
+use crate::Stage;
+use crate::begin::Begin;
+use cw_base::{OutOfMemory, Stack};
+use cw_code::{Limits, Program};
+use cw_job::Standing;
+use cw_strand::{Given, Saved, Want};
+use std::alloc::Global;
+use std::marker::Model;
+use std::snapshot::Snapshot;
+
+/// A strand at its want, of how many forks it is the right strand since it began as a left one or as main, and the begins of the pending
+/// blocks around it: its own, and those of the strands that it continues as a right one.
+#[derive(Drop)]
+pub struct Body {
+    standing: Standing,
+    level: u64,
+    begins: Stack<Begin>,
+    program: Snapshot<Program>,
+    stage: Snapshot<Stage>,
+}
+
+impl Model for Body {
+    ghost use Rattle.cw_body.specs.Bodies.{InBlocks};
+
+    ghost Value = { InBlocks };
+
+    ghost use Rattle.cw_body.specs.InMemory.{in_blocks, IsInBlocks};
+
+    ghost view = { in_blocks };
+
+    ghost invariant = { IsInBlocks };
+}
+
+impl Body {
+    /// The strand of main, at its first want.
+    pub fn start(
+        alloc: Global,
+        program: &Program,
+        words: &[i64],
+        limits: Limits,
+    ) -> Result<Body, OutOfMemory>
+        requires { TakesWords program.now (length words.now) }
+        ensures { IfOk result (λ body. let job : Job = record { program = program.now; words = words.now; limits = limits } in
+            body ≡ goes_from program.now (strands_of_job job).start) }
+    {
+        let standing = Standing::start(alloc, program, words, limits)?;
+        Ok(Body {
+            standing,
+            level: 0,
+            begins: Stack::new(alloc),
+            program: Snapshot::of(program),
+            stage: Snapshot::of(&Stage::Goes),
+        })
+    }
+
+    /// What it stands at.
+    pub fn want(&self) -> Want
+        ensures { (job : Job) → result ≡ (strands_of_job job).want self.now.state }
+    {
+        self.standing.want()
+    }
+
+    /// Goes on from an access or an output to its next want.
+    pub fn answer(&mut self, given: Given, program: &Program) -> Result<(), OutOfMemory>
+        requires goes { self.old.stage ≡ Goes }
+        requires program { program.now ≡ self.old.program }
+        requires answers { AnswersAct (want_of self.old) given }
+        ensures ok { OnOk result ((job : Job) → job.program ≡ program.now → self.new ≡ answered (strands_of_job job) given self.old) }
+        ensures err { OnErr result (IsLost self.old self.new) }
+    {
+        self.stage = Snapshot::of(&Stage::Lost);
+        self.standing.answer(given, program)?;
+        self.stage = Snapshot::of(&Stage::Goes);
+        Ok(())
+    }
+
+    /// What is kept of the begin that it wants.
+    pub fn save(&self) -> Result<Saved, OutOfMemory>
+        requires goes { self.now.stage ≡ Goes }
+        requires begin { want_of self.now ≡ Want.Begin }
+        ensures { IfOk result (λ saved. IsSavedOf self.now.program saved self.now.state) }
+    {
+        self.standing.save()
+    }
+
+    /// The block that it wants has begun, and this was kept of its begin.
+    pub fn begins(&mut self, saved: Saved, program: &Program) -> Result<(), OutOfMemory>
+        requires goes { self.old.stage ≡ Goes }
+        requires program { program.now ≡ self.old.program }
+        requires begin { want_of self.old ≡ Want.Begin }
+        requires saved { IsSavedOf program.now saved self.old.state }
+        ensures ok { OnOk result ((job : Job) → job.program ≡ program.now → self.new ≡ begun (strands_of_job job) self.old) }
+        ensures err { OnErr result (IsLost self.old self.new) }
+    {
+        let begin = Begin {
+            saved,
+            level: self.level,
+            at: Snapshot::of(&self.standing),
+        };
+        self.stage = Snapshot::of(&Stage::Lost);
+        self.standing.answer(Given::Nothing, program)?;
+        self.begins.push(begin)?;
+        self.stage = Snapshot::of(&Stage::Goes);
+        Ok(())
+    }
+
+    /// Its innermost block, of which it wants the end, has ended.
+    pub fn ends(&mut self, program: &Program) -> Result<(), OutOfMemory>
+        requires goes { self.old.stage ≡ Goes }
+        requires program { program.now ≡ self.old.program }
+        requires end { want_of self.old ≡ Want.End }
+        requires block { 0 < length self.old.begins }
+        ensures ok { OnOk result ((job : Job) → job.program ≡ program.now → self.new ≡ ended (strands_of_job job) self.old) }
+        ensures err { OnErr result (IsLost self.old self.new) }
+    {
+        self.stage = Snapshot::of(&Stage::Lost);
+        self.standing.answer(Given::Nothing, program)?;
+        let _ended = self.begins.pop();
+        self.stage = Snapshot::of(&Stage::Goes);
+        Ok(())
+    }
+
+    /// The left strand of the fork that it wants. This one goes on as the right strand.
+    pub fn fork(&mut self, alloc: Global, program: &Program) -> Result<Body, OutOfMemory>
+        requires goes { self.old.stage ≡ Goes }
+        requires program { program.now ≡ self.old.program }
+        requires fork { want_of self.old ≡ Want.Fork }
+        ensures left { IfOk result (λ left. (job : Job) → job.program ≡ program.now → left ≡ left_of (strands_of_job job) self.old) }
+        ensures right { OnOk result ((job : Job) → job.program ≡ program.now → self.new ≡ right_of (strands_of_job job) self.old) }
+        ensures err { OnErr result (IsLost self.old self.new) }
+    {
+        self.stage = Snapshot::of(&Stage::Lost);
+        let Some(level) = self.level.checked_add(1) else {
+            return Err(OutOfMemory);
+        };
+        let standing = self.standing.fork(program)?;
+        self.level = level;
+        self.stage = Snapshot::of(&Stage::Goes);
+        Ok(Body {
+            standing,
+            level: 0,
+            begins: Stack::new(alloc),
+            program: Snapshot::of(program),
+            stage: Snapshot::of(&Stage::Goes),
+        })
+    }
+
+    /// As the right strand of a fork, at its end, becomes the strand that forked and goes on to its next want. The left strand is at its
+    /// end, too.
+    pub fn join(&mut self, left: Body, program: &Program) -> Result<(), OutOfMemory>
+        requires goes { self.old.stage ≡ Goes }
+        requires program { program.now ≡ self.old.program }
+        requires over { is_over (want_of self.old) ≡ true }
+        requires blocks { HasNoBlock self.old }
+        ensures ok { OnOk result ((job : Job) → job.program ≡ program.now → self.new ≡ joined (strands_of_job job) self.old left) }
+        ensures err { OnErr result (IsLost self.old self.new) }
+    {
+        let Body { standing, .. } = left;
+        self.stage = Snapshot::of(&Stage::Lost);
+        self.standing.join(standing, program)?;
+        self.level = self.level.saturating_sub(1);
+        self.stage = Snapshot::of(&Stage::Goes);
+        Ok(())
+    }
+
+    /// It dies or stops: it goes no further from where it stands.
+    pub fn gives_up(&mut self)
+        requires { self.old.stage ≢ Lost }
+        ensures { self.new ≡ gave_up self.old }
+    {
+        self.stage = Snapshot::of(&Stage::GaveUp);
+    }
+
+    /// Its innermost block was rolled back, and it goes back further than that.
+    pub fn forget(&mut self)
+        requires stage { self.old.stage ≡ GaveUp }
+        requires block { 0 < length self.old.begins }
+        ensures { self.new ≡ forgot self.old }
+    {
+        let _rolled = self.begins.pop();
+    }
+
+    /// Its innermost block was rolled back, and is to be tried again: it stands at its begin. Takes no memory.
+    pub fn back(&mut self)
+        requires stage { self.old.stage ≡ GaveUp }
+        requires block { 0 < length self.old.begins }
+        requires end { want_of self.old ≢ Want.End }
+        ensures back { self.new ≡ went_back self.old }
+        ensures begin { want_of self.new ≡ Want.Begin }
+    {
+        let Some(begin) = self.begins.pop() else {
+            unreachable!()
+        };
+        self.standing.back(&begin.saved);
+        self.level = begin.level;
+        self.stage = Snapshot::of(&Stage::Goes);
+    }
+}
