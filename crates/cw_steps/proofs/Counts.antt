@@ -1,5 +1,5 @@
 -- Sums over the views of all seats (`Totals`), and turns among those of one seat (`turns_of`).
-use Rattle.std.proofs.Common.{◌≡◌, ◌≢◌, ℕ, zero, suc, ◌+◌, ◌<◌, ◌≤◌, List, [], ◌∷◌, ◌++◌, length, refl, ap, sym, ◌∙◌, arith, Bool, true, false, nat_eq, set, inl, inr, eq-eqb}
+use Rattle.std.proofs.Common.{◌≡◌, ◌≢◌, ℕ, zero, suc, ◌+◌, ◌<◌, ◌≤◌, List, [], ◌∷◌, ◌++◌, refl, ap, sym, arith, Bool, set, inl, inr, eq-eqb}
 use Rattle.std.specs.Prelude.{All}
 use Rattle.std.specs.Prelude.{if◌then◌else◌, ◌==◌, Option, Some, unwrap_or}
 use Rattle.std.proofs.lemmas.Bool.Decides.{eqb_tells}

@@ -1,5 +1,5 @@
 -- What is true of the table between any two steps. It is a first small rule: it says nothing yet of what the numbers mean in a tree.
-use Rattle.std.specs.Prelude.{◌≡◌, ℕ, suc, ◌+◌, ◌*◌, ◌^◌, ◌<◌, ◌≤◌, Bool, true, IsTrue, All, List, [], ◌∷◌, length, slice_index, Option, Some, None, is_some}
+use Rattle.std.specs.Prelude.{◌≡◌, ℕ, suc, ◌+◌, ◌*◌, ◌^◌, ◌<◌, ◌≤◌, true, IsTrue, All, List, length, slice_index, Option, Some, None, is_some}
 use mathlib.Core.Option.{some}
 use mathlib.Core.Option as maybe
 use lib.ListN.{get_elem?}

@@ -7,7 +7,7 @@ ghost use Rattle.cw_steps.specs.declared.view.Slot.TheVariants as slot_of;
 ghost use Rattle.cw_steps.specs.Views.{cells_of, cell_in, drew_view, gave_view, held_by, key_of, newest_slot, newest_used, slot_with, view_of, CanDraw, Holding, IsTokenOf, IsWhole, TakesIt};
 
 use crate::draw::{Aim, Draw, Home};
-use crate::law::{Drawing, Draws, Gives, Giving, TokenSeat, Words, Takes, Taking};
+use crate::law::{Drawing, Draws, Gives, Giving, Takes, Taking, TokenSeat, Words};
 use crate::places::{CLOCK, turn_word};
 use crate::table::{Shared, StrandToken};
 use crate::view::Slot;

@@ -1,6 +1,6 @@
 -- Serves `Cells`: the cells at home, after any step.
 use Rattle.std.proofs.Common.{◌≡◌, ℕ, suc, ◌<◌, ◌≤◌, List, arith, ap, inl, inr, sym, ◌∙◌}
-use Rattle.std.specs.Prelude.{◌⊎◌, All, slice_index}
+use Rattle.std.specs.Prelude.{◌⊎◌, slice_index}
 use Rattle.std.proofs.lemmas.List.Elements.{All-weaker}
 use mathlib.Core.Option as maybe
 use lib.ListN.{get_elem?}
@@ -19,7 +19,7 @@ low_more slot.Empty most more le low = low
 pub cells_set : (cells : ℕ) (words words' : List ℕ) (homes homes' : List (maybe.Option Slot))
     → Cells cells words homes → slice_index words 0 ≤ slice_index words' 0
     → ((n : ℕ) → n < cells → slice_index words' (suc n) ≡ 0
-        → ((slice_index words (suc n) ≡ 0) × (get_elem? homes' n ≡ get_elem? homes n)) ⊎ IsCellHome (slice_index words' 0) homes' n)
+    → ((slice_index words (suc n) ≡ 0) × (get_elem? homes' n ≡ get_elem? homes n)) ⊎ IsCellHome (slice_index words' 0) homes' n)
     → Cells cells words' homes'
 cells_set cells words words' homes homes' h grow each = record {
   home = λ n p free. elim (each n p free) [

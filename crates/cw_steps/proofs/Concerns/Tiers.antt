@@ -1,6 +1,6 @@
 -- Serves `Tiers`: the tier at home, and the columns of all seats, after a step of one seat.
-use Rattle.std.proofs.Common.{◌≡◌, ◌≢◌, ℕ, suc, ◌+◌, ◌<◌, ◌≤◌, List, arith, ap, inl, inr, sym, ◌∙◌, set, subst, refl}
-use Rattle.std.specs.Prelude.{◌⊎◌, All, slice_index, Option, Some, None}
+use Rattle.std.proofs.Common.{◌≡◌, ◌≢◌, ℕ, suc, ◌+◌, ◌≤◌, List, arith, inl, inr, ◌∙◌, set, subst}
+use Rattle.std.specs.Prelude.{◌⊎◌, slice_index, Option, Some, None}
 use mathlib.Core.Option.{some}
 use mathlib.Core.Option as maybe
 use lib.ListN.{get_elem?}

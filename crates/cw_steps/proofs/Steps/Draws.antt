@@ -1,21 +1,19 @@
 -- Serves `drew`: a draw keeps the rule.
-use Rattle.std.proofs.Common.{◌≡◌, ◌≢◌, ℕ, suc, ◌+◌, ◌-◌, ◌*◌, ◌%◌, ◌^◌, ◌<◌, ◌≤◌, ◌∙◌, List, [], ◌∷◌, length, arith, ap, sym, refl, set, length-set, nat_eq, true, false, Bool, subst, inl, inr}
-use Rattle.std.specs.Prelude.{slice_index, ◌==◌, if◌then◌else◌, Some, None, All, Option, unwrap_or}
-use Rattle.std.proofs.lemmas.Bool.Decides.{eqb_tells}
+use Rattle.std.proofs.Common.{◌≡◌, ℕ, suc, ◌+◌, ◌*◌, ◌%◌, ◌^◌, ◌<◌, ◌≤◌, ◌∙◌, List, [], ◌∷◌, arith, ap, sym, refl, set, length-set, true, false, Bool, subst, inl}
+use Rattle.std.specs.Prelude.{slice_index, ◌==◌, if◌then◌else◌, Some, All, Option, unwrap_or}
 use Rattle.std.proofs.lemmas.List.Elements.{All-cons, All-head}
 use mathlib.Core.Option.{some, none}
 use lib.ListN.{get_elem?}
 use Rattle.atomic_table.specs.Table.{State, Me, step, stepped, keeps, Allows}
 use Rattle.cw_steps.specs.declared.draw.Draw.{Draw}
 use Rattle.cw_steps.specs.declared.draw.Draw.TheVariants as draw
-use Rattle.cw_steps.specs.declared.view.Coming.{Coming}
 use Rattle.cw_steps.specs.declared.view.Key.{Key}
 use Rattle.cw_steps.specs.declared.view.Slot.{Slot}
 use Rattle.cw_steps.specs.declared.view.Turn.{Turn}
 use Rattle.cw_steps.specs.declared.view.View.{View}
 use Rattle.cw_steps.specs.Totals.{total}
-use Rattle.cw_steps.specs.Views.{cells_of, share, has_turn, turns_of, with_more, newest_slot, newest_used, columns_for, columns_more, coming_for, drew, drew_view, CanDraw, CanFork}
-use Rattle.cw_steps.specs.Rule.{Holds, Tiers, BringsHome, StandsIn, ComesIn}
+use Rattle.cw_steps.specs.Views.{cells_of, share, has_turn, turns_of, with_more, newest_slot, newest_used, columns_for, drew, drew_view, CanDraw, CanFork}
+use Rattle.cw_steps.specs.Rule.{Holds, Tiers, StandsIn, ComesIn}
 use Rattle.cw_steps.proofs.Counts.{total_part, turns_more, newest_brings, newest_is_one, none_of, turn_here}
 use Rattle.cw_steps.proofs.Concerns.Clock.{clock_set}
 use Rattle.cw_steps.proofs.Concerns.Turns.{turns_stay}
@@ -60,8 +58,8 @@ module _ (key : Key) (s : State Slot View) (h : Holds key s) (id : ℕ) (v : Vie
     pub plain_rule : (c : List (ℕ × Slot)) → Holds key (stepped s 0 (next % 2 ^ 64) id c w keeps)
     plain_rule = draw_rule w h.used (omega (arith, room)) seen (λ n. ap (turns_of n) turns) halt told
         (tiers_set (cells_of key) key.columns h.used s.words words s.homes s.homes s.views id w h.tiers (λ free. inl (sym (other (cells_of key)) ∙ free, refl))
-            (subst (All (λ (t : Turn). t.slot ≡ cells_of key → t.used ≡ h.used)) (sym turns) (h.tiers.held id v at))
-            (let b = h.tiers.stands id v at in record { column = omega (arith, b.column, column); gap = omega (arith, b.gap, gap); coming = subst (ComesIn h.used) (sym coming) b.coming }))
+        (subst (All (λ (t : Turn). t.slot ≡ cells_of key → t.used ≡ h.used)) (sym turns) (h.tiers.held id v at))
+        (let b = h.tiers.stands id v at in record { column = omega (arith, b.column, column); gap = omega (arith, b.gap, gap); coming = subst (ComesIn h.used) (sym coming) b.coming }))
 
   -- a fork takes its columns
   module _ (left right gap : ℕ) (can : CanFork key v left right gap) where
@@ -85,8 +83,8 @@ module _ (key : Key) (s : State Slot View) (h : Holds key s) (id : ℕ) (v : Vie
     brings (t ∷ ts) all e one =
         let same : t.slot ≡ cells_of key = ap (λ (o : Option ℕ). unwrap_or o 0) e in
         All-cons (λ (t : Turn). t.slot ≡ cells_of key → t.used ≡ more) (record t { used = t.used + columns_for left right }) ts
-          (λ z. omega (arith, All-head (λ (t : Turn). t.slot ≡ cells_of key → t.used ≡ h.used) t ts all z))
-          (none_of (cells_of key) (λ (u : Turn). u.used ≡ more) ts (omega (arith, one, turn_here (cells_of key) t same)))
+        (λ z. omega (arith, All-head (λ (t : Turn). t.slot ≡ cells_of key → t.used ≡ h.used) t ts all z))
+        (none_of (cells_of key) (λ (u : Turn). u.used ≡ more) ts (omega (arith, one, turn_here (cells_of key) t same)))
 
     stands : (b : Bool) → left ≡ (if b then v.column else h.used) → right ≡ (if b then left else suc left) → gap < h.used + (if b then 0 else 2)
         → (left < h.used + (if b then 0 else 2)) × ComesIn (h.used + (if b then 0 else 2)) (if b then v.coming else Some (record { fork = 0; strand = 0; column = right; gap = gap }))
@@ -101,7 +99,7 @@ module _ (key : Key) (s : State Slot View) (h : Holds key s) (id : ℕ) (v : Vie
     pub fork_rule : (c : List (ℕ × Slot)) → Holds key (stepped s 0 (next % 2 ^ 64) id c w keeps)
     fork_rule = draw_rule w more (omega (arith, some_room)) refl (λ n. turns_more n (columns_for left right) v.turns) refl refl
         (tiers_grow (cells_of key) key.columns h.used more s.words words s.homes s.views id v w at h.turns h.tiers (other (cells_of key)) mine (omega arith) (omega (arith, now, can.few))
-            (brings v.turns (h.tiers.held id v at) can.turn mine) stands_now)
+        (brings v.turns (h.tiers.held id v at) can.turn mine) stands_now)
 
   pub rule_of : (d : Draw) → CanDraw key v d → (c : List (ℕ × Slot)) → Holds key (stepped s 0 (next % 2 ^ 64) id c (drew_view d next v) keeps)
   rule_of (draw.Fork left right gap) can = fork_rule left right gap can

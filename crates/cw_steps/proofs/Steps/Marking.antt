@@ -1,6 +1,6 @@
 -- Serves `marked`, `halted` and `told`: a gap word, the stop word and a look at either keep the rule.
-use Rattle.std.proofs.Common.{◌≡◌, ◌≢◌, ℕ, zero, suc, ◌+◌, ◌^◌, ◌<◌, ◌≤◌, ◌∙◌, List, length, arith, ap, sym, refl, set, length-set, nat_lt, true, false, Bool, subst, inl, inr}
-use Rattle.std.specs.Prelude.{◌⊎◌, ◌||◌, slice_index, All, Some, IsTrue}
+use Rattle.std.proofs.Common.{◌≡◌, ℕ, suc, ◌+◌, ◌<◌, ◌≤◌, ◌∙◌, List, arith, ap, sym, refl, set, length-set, nat_lt, true, false, Bool, subst, inl, inr}
+use Rattle.std.specs.Prelude.{◌⊎◌, ◌||◌, slice_index, All}
 use mathlib.Core.Option.{some, none}
 use lib.ListN.{get_elem?}
 use lib.Seq.{set-get_or}
@@ -9,7 +9,6 @@ use Rattle.cw_tree.specs.declared.closed.Halt.{Halt}
 use Rattle.cw_steps.specs.declared.view.Key.{Key}
 use Rattle.cw_steps.specs.declared.view.Slot.{Slot}
 use Rattle.cw_steps.specs.declared.view.View.{View}
-use Rattle.cw_steps.specs.Places.{stop_word, gap_word}
 use Rattle.cw_steps.specs.Views.{cells_of, turns_of, halted, halted_view, marked, marked_view, told, told_view, found}
 use Rattle.cw_steps.specs.Rule.{Holds, Stops}
 use Rattle.cw_steps.proofs.Concerns.Clock.{clock_set}
@@ -17,7 +16,7 @@ use Rattle.cw_steps.proofs.Concerns.Turns.{turns_stay}
 use Rattle.cw_steps.proofs.Concerns.Cells.{cells_stay}
 use Rattle.cw_steps.proofs.Concerns.Tiers.{tiers_set}
 use Rattle.cw_steps.proofs.Concerns.Stops.{stops_set, stops_stay}
-use Rattle.cw_steps.proofs.Steps.Words.{word_here, word_else}
+use Rattle.cw_steps.proofs.Steps.Words.{word_else}
 
 module _ (key : Key) (s : State Slot View) (h : Holds key s) (id : ℕ) (v : View) (at : get_elem? s.views id ≡ some v) (i x : ℕ) (beyond : cells_of key + 1 < i) where
   other : (n : ℕ) → n ≤ cells_of key → slice_index (set s.words i x) (suc n) ≡ slice_index s.words (suc n)
@@ -48,7 +47,7 @@ marks key slots id me i x beyond s h deep at bound = (
   keeps,
   tt,
   mark_rule key s h id me.0 at i x (omega arith) (marked_view x me.0) refl refl refl refl refl refl
-    (stops_stay (cells_of key) s.words (set s.words i x) s.views id me.0 (marked_view x me.0) at h.stops (word_else s.words i (cells_of key + 2) x (λ e. omega arith)) refl refl) me.1,
+      (stops_stay (cells_of key) s.words (set s.words i x) s.views id me.0 (marked_view x me.0) at h.stops (word_else s.words i (cells_of key + 2) x (λ e. omega arith)) refl refl) me.1,
   refl,
 )
 
@@ -58,7 +57,7 @@ stops_here key halt slots id me i e s h deep at bound = (
   keeps,
   tt,
   mark_rule key s h id me.0 at i 1 (omega arith) (halted_view halt me.0) refl refl refl refl refl refl
-    (stops_set (cells_of key) s.words (set s.words i 1) s.views id me.0 (halted_view halt me.0) at h.stops (λ z. refl) (λ p. inr refl) (λ t. inl t)) me.1,
+      (stops_set (cells_of key) s.words (set s.words i 1) s.views id me.0 (halted_view halt me.0) at h.stops (λ z. refl) (λ p. inr refl) (λ t. inl t)) me.1,
   refl,
 )
 
@@ -77,7 +76,7 @@ module _ (key : Key) (id : ℕ) (me : Me Slot View) (i : ℕ) (beyond : cells_of
     keeps,
     tt,
     looks s h at (told_view (slice_index s.words i) me.0) refl refl refl refl refl refl
-      (stops_set (cells_of key) s.words (set s.words i (slice_index s.words i)) s.views id me.0 (told_view (slice_index s.words i) me.0) at h.stops (λ z. z)
+        (stops_set (cells_of key) s.words (set s.words i (slice_index s.words i)) s.views id me.0 (told_view (slice_index s.words i) me.0) at h.stops (λ z. z)
         (λ p. inl (omega (arith, same_word s (cells_of key + 2)))) (λ t. by_told me.0.told refl t)),
     refl,
   ) where
@@ -91,6 +90,6 @@ module _ (key : Key) (id : ℕ) (me : Me Slot View) (i : ℕ) (beyond : cells_of
     keeps,
     tt,
     looks s h at me.0 refl refl refl refl refl refl
-      (stops_stay (cells_of key) s.words (set s.words i (slice_index s.words i)) s.views id me.0 me.0 at h.stops (same_word s (cells_of key + 2)) refl refl),
+        (stops_stay (cells_of key) s.words (set s.words i (slice_index s.words i)) s.views id me.0 me.0 at h.stops (same_word s (cells_of key + 2)) refl refl),
     refl,
   )

@@ -1,5 +1,5 @@
 -- Serves `Holds`: a new table keeps the rule.
-use Rattle.std.proofs.Common.{◌≡◌, ℕ, ℤ, zero, suc, ◌+◌, ◌*◌, ◌^◌, ◌<◌, ◌≤◌, ◌∙◌, List, [], ◌∷◌, ◌++◌, length, map, arith, ap, sym, refl, subst, false, true, take, get_or}
+use Rattle.std.proofs.Common.{◌≡◌, ℕ, ℤ, zero, suc, ◌+◌, ◌^◌, ◌<◌, ◌≤◌, ◌∙◌, List, [], ◌∷◌, ◌++◌, length, map, arith, ap, sym, refl, subst, true, take, get_or}
 use Rattle.std.specs.Prelude.{slice_index, replicate, All, pos}
 use Rattle.std.proofs.lemmas.List.{take_more, map-append}
 use Rattle.cw_stack.specs.Cells.{CellParts}
@@ -16,7 +16,7 @@ use Rattle.cw_steps.specs.declared.view.Turn.{Turn}
 use Rattle.cw_steps.specs.declared.view.View.{View}
 use Rattle.cw_tree.specs.declared.access.Entry.{Entry}
 use Rattle.cw_steps.specs.Places.{all_words}
-use Rattle.cw_steps.specs.Views.{cells_of, fresh_slot, root_view, IsLowCell, IsTierOf}
+use Rattle.cw_steps.specs.Views.{cells_of, fresh_slot, root_view, IsTierOf}
 use Rattle.cw_steps.specs.Rule.{Holds, IsCellHome, IsTierHome}
 
 zeros : (n i : ℕ) → slice_index (replicate n 0) i ≡ 0
@@ -76,7 +76,7 @@ pub opens_as : (key : Key) (words : List ℕ) (slots : List Slot) (x : Traces) �
     → 0 < key.columns → key.columns < 2 ^ 31 → x.columns ≡ first_tier key.columns → Holds key (opening words slots root_view)
 opens_as key words slots x ew es some_columns few first =
     subst (λ ws. Holds key (opening ws slots root_view)) (sym ew) (subst (λ ys. Holds key (opening (replicate (all_words (cells_of key) key.columns) 0) ys root_view)) (sym es)
-      (opens key (slot.Tier x) some_columns few (ap (λ c. c.room) first, ap used first)))
+    (opens key (slot.Tier x) some_columns few (ap (λ c. c.room) first, ap used first)))
 
 -- ## Cells with their first values
 

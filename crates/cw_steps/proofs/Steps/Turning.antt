@@ -1,6 +1,6 @@
 -- Serves `took` and `gave`: a turn that is taken or given back keeps the rule.
-use Rattle.std.proofs.Common.{◌≡◌, ◌≢◌, ℕ, zero, suc, ◌+◌, ◌-◌, ◌^◌, ◌<◌, ◌≤◌, ◌∙◌, List, [], ◌∷◌, length, arith, ap, sym, refl, set, length-set, nat_eq, true, false, Bool, subst, inl, inr, eq-eqb}
-use Rattle.std.specs.Prelude.{◌⊎◌, slice_index, ◌==◌, if◌then◌else◌, Some, None, All, Option}
+use Rattle.std.proofs.Common.{◌≡◌, ◌≢◌, ℕ, zero, suc, ◌+◌, ◌<◌, ◌≤◌, ◌∙◌, List, ◌∷◌, length, arith, ap, sym, refl, set, length-set, nat_eq, true, false, Bool, subst, inl, inr, eq-eqb}
+use Rattle.std.specs.Prelude.{slice_index, ◌==◌, Some}
 use Rattle.std.proofs.lemmas.Bool.Decides.{eqb_tells}
 use Rattle.std.proofs.lemmas.Bool.{ne_eqb}
 use Rattle.std.proofs.lemmas.List.Elements.{All-cons}
@@ -91,10 +91,10 @@ module _ (key : Key) (s : State Slot View) (h : Holds key s) (id : ℕ) (v : Vie
   took_rule aim free =
       let q = lies free in
       turn_rule (took_view c aim q.0 h.used (slice_index s.words 0) v) 1 (omega arith) refl (omega arith)
-        (omega (arith, free, turn_here c (turn_for c aim q.0 h.used) refl))
-        (λ d ne. omega (arith, turn_else d (turn_for c aim q.0 h.used) (λ e. ne (sym e))))
-        refl refl (All-cons (λ (t : Turn). t.slot ≡ cells_of key → t.used ≡ h.used) (turn_for c aim q.0 h.used) v.turns (λ e. refl) (h.tiers.held id v at)) (let b = h.tiers.stands id v at in record { column = b.column; gap = b.gap; coming = b.coming })
-        (set s.homes c none) (length-set s.homes c none ∙ h.deep) (λ d ne. set_else s.homes c d none ne) (λ z. absurd (omega (arith, z)))
+      (omega (arith, free, turn_here c (turn_for c aim q.0 h.used) refl))
+      (λ d ne. omega (arith, turn_else d (turn_for c aim q.0 h.used) (λ e. ne (sym e))))
+      refl refl (All-cons (λ (t : Turn). t.slot ≡ cells_of key → t.used ≡ h.used) (turn_for c aim q.0 h.used) v.turns (λ e. refl) (h.tiers.held id v at)) (let b = h.tiers.stands id v at in record { column = b.column; gap = b.gap; coming = b.coming })
+      (set s.homes c none) (length-set s.homes c none ∙ h.deep) (λ d ne. set_else s.homes c d none ne) (λ z. absurd (omega (arith, z)))
 
   gap_stays : (m : Home) → v.gap < h.used → v.column < h.used → gap_home m v.column v.gap < h.used
   gap_stays (home.Split fork used) g l = l
@@ -110,20 +110,24 @@ module _ (key : Key) (s : State Slot View) (h : Holds key s) (id : ℕ) (v : Vie
       let b = h.tiers.stands id v at in
       let part : turns_of c v.turns ≤ total (has_turn c) s.views = total_part (has_turn c) s.views id v at in
       turn_rule (gave_view m v) 0 (omega arith) refl (h.clock.seen id v at)
-        (omega (arith, part, h.turns.one c there, h.turns.bits c there, newest_is_one c v.turns held, turns_older c c v.turns held, one c))
-        (λ d ne. omega (arith, turns_older d c v.turns held, zero_else d ne))
-        refl refl (all_older (λ (t : Turn). t.slot ≡ cells_of key → t.used ≡ h.used) v.turns (h.tiers.held id v at))
-        (record { column = b.column; gap = gap_stays m b.gap b.column; coming = b.coming })
-        (set s.homes c (some y)) (length-set s.homes c (some y) ∙ h.deep) (λ d ne. set_else s.homes c d (some y) ne)
-        (λ z. (y, set_here s.homes c (some y) (omega (arith, h.deep, there)), record {
+      (omega (arith, part, h.turns.one c there, h.turns.bits c there, newest_is_one c v.turns held, turns_older c c v.turns held, one c))
+      (λ d ne. omega (arith, turns_older d c v.turns held, zero_else d ne))
+      refl refl (all_older (λ (t : Turn). t.slot ≡ cells_of key → t.used ≡ h.used) v.turns (h.tiers.held id v at))
+      (record { column = b.column; gap = gap_stays m b.gap b.column; coming = b.coming })
+      (set s.homes c (some y)) (length-set s.homes c (some y) ∙ h.deep) (λ d ne. set_else s.homes c d (some y) ne)
+      (λ z. (
+        y,
+        set_here s.homes c (some y) (omega (arith, h.deep, there)),
+        record {
           cell = λ low. low_more y v.seen (slice_index s.words 0) (h.clock.seen id v at) (whole.cell low);
           tier = λ last. subst (λ (k : ℕ). Rattle.cw_steps.specs.Views.IsTierOf key.columns k y) (newest_brings (cells_of key) h.used v.turns (h.tiers.held id v at) (held ∙ ap Some last)) (whole.tier last);
-        })) where
-    one : (k : ℕ) → bit (k == k) ≡ 1
-    one k = ap {B = ℕ} bit (eq-eqb k k refl)
+        },
+      )) where
+        one : (k : ℕ) → bit (k == k) ≡ 1
+        one k = ap {B = ℕ} bit (eq-eqb k k refl)
 
-    zero_else : (d : ℕ) → d ≢ c → bit (c == d) ≡ 0
-    zero_else d ne = ap {B = ℕ} bit (ne_eqb c d (λ e. ne (sym e)))
+        zero_else : (d : ℕ) → d ≢ c → bit (c == d) ≡ 0
+        zero_else d ne = ap {B = ℕ} bit (ne_eqb c d (λ e. ne (sym e)))
 
 pub takes_turn : (key : Key) (aim : Aim) (slots id : ℕ) (me : Me Slot View) (c : ℕ) → c ≤ cells_of key → Allows (Holds key) slots id me (suc c) (λ n. either (n == 0) 1 n) (took key aim c (step slots (suc c) 0 1 none) me)
 takes_turn key aim slots id me c there s h deep at bound = by_word (slice_index s.words (suc c)) refl where

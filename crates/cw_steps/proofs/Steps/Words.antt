@@ -1,5 +1,5 @@
 -- Serves `Places`: where a word is written, the others stay.
-use Rattle.std.proofs.Common.{◌≡◌, ◌≢◌, ℕ, suc, ◌+◌, ◌<◌, ◌≤◌, List, length, arith, set, get_or-set_same, get_or-set_other}
+use Rattle.std.proofs.Common.{◌≡◌, ◌≢◌, ℕ, ◌<◌, List, length, set, get_or-set_same, get_or-set_other}
 use Rattle.std.specs.Prelude.{slice_index}
 
 pub word_here : (words : List ℕ) (i x : ℕ) → i < length words → slice_index (set words i x) i ≡ x

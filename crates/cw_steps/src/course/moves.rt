@@ -161,7 +161,10 @@ impl Course {
         ensures ready { (n : ℕ) → IsReady self.old (added what.now + n) → IsReady self.new n }
     {
         match *what {
-            Draw::Access { cell, wrote, value } => self.add(access_kind(cell, wrote, value), number),
+            Draw::Access { cell, wrote, value } => self.add(
+                access_kind(cell, wrote, value),
+                number,
+            ),
             Draw::Out { value } => self.add(Kind::Out { value }, number),
             Draw::Begin => self.begin(number),
             Draw::End { aborted: true } => self.close(BlockState::Aborted, number),

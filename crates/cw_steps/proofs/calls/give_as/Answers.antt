@@ -1,4 +1,4 @@
-use Rattle.std.proofs.Common.{rules, arith}
+use Rattle.std.proofs.Common.{rules}
 use Rattle.cw_steps.proofs.Steps.Turning.{gives_at}
 use Rattle.cw_steps.proofs.calls.give_as.Goals as goal
 

@@ -1,4 +1,4 @@
-use Rattle.std.proofs.Common.{rules, arith}
+use Rattle.std.proofs.Common.{rules}
 use Rattle.cw_steps.proofs.Steps.Marking.{stops_here}
 use Rattle.cw_steps.proofs.marks.halt_as.Goals as goal
 

@@ -1,4 +1,4 @@
-use Rattle.std.proofs.Common.{rules, arith}
+use Rattle.std.proofs.Common.{rules}
 use Rattle.cw_steps.proofs.Steps.Marking.{marks}
 use Rattle.cw_steps.proofs.marks.mark_as.Goals as goal
 

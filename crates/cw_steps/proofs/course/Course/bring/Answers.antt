@@ -1,4 +1,4 @@
-use Rattle.std.proofs.Common.{◌≡◌, ℕ, ◌+◌, ap, sym, subst}
+use Rattle.std.proofs.Common.{ℕ, ◌+◌, ap, sym, subst}
 use Rattle.cw_steps.specs.Courses.{added_home, IsReady}
 use Rattle.cw_steps.proofs.course.Course.bring.Goals as goal
 

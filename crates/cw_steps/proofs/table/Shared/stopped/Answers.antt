@@ -1,4 +1,4 @@
-use Rattle.std.proofs.Common.{rules, arith}
+use Rattle.std.proofs.Common.{rules}
 use Rattle.cw_steps.proofs.Steps.Marking.{tells}
 use Rattle.cw_steps.proofs.table.Shared.stopped.Goals as goal
 
