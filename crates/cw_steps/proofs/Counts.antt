@@ -16,10 +16,6 @@ module _ {A : Type 0} (f : A → ℕ) where
   total_set (x ∷ xs) zero v w e = let q : f x ≡ f v = ap f (some-injective x v e) in omega arith
   total_set (x ∷ xs) (suc i) v w e = let q : total f (set xs i w) + f v ≡ total f xs + f w = total_set xs i v w e in omega arith
 
-  pub total_snoc : (xs : List A) (w : A) → total f (xs ++ w ∷ []) ≡ total f xs + f w
-  total_snoc [] w = omega arith
-  total_snoc (x ∷ xs) w = let q : total f (xs ++ w ∷ []) ≡ total f xs + f w = total_snoc xs w in omega arith
-
   pub total_part : (xs : List A) (i : ℕ) (v : A) → get_elem? xs i ≡ some v → f v ≤ total f xs
   total_part [] i v e = absurd (some-ne-none v (sym e))
   total_part (x ∷ xs) zero v e = let q : f x ≡ f v = ap f (some-injective x v e) in omega arith

@@ -39,7 +39,7 @@ pub comes_more : (used more : ℕ) (c : Option Coming) → used ≤ more → Com
 comes_more used more None le h = h
 comes_more used more (Some c) le h = (omega (arith, h.0), omega (arith, h.1))
 
-pub stands_more : (used more : ℕ) (v : View) → used ≤ more → StandsIn used v → StandsIn more v
+stands_more : (used more : ℕ) (v : View) → used ≤ more → StandsIn used v → StandsIn more v
 stands_more used more v le h = record { column = omega (arith, h.column); gap = omega (arith, h.gap); coming = comes_more used more v.coming le h.coming }
 
 -- more columns are in use: who has the tier's turn knows it, and nobody else has that
