@@ -1,0 +1,5 @@
+pub mod Clock
+pub mod Turns
+pub mod Cells
+pub mod Tiers
+pub mod Stops

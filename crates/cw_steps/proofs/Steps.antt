@@ -1,0 +1,5 @@
+pub mod Words
+pub mod Draws
+pub mod Turning
+pub mod Opening
+pub mod Marking

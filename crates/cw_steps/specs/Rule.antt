@@ -1,0 +1,80 @@
+-- What is true of the table between any two steps. It is a first small rule: it says nothing yet of what the numbers mean in a tree.
+use Rattle.std.specs.Prelude.{◌≡◌, ℕ, suc, ◌+◌, ◌*◌, ◌^◌, ◌<◌, ◌≤◌, true, IsTrue, All, List, length, slice_index, Option, Some, None, is_some}
+use mathlib.Core.Option.{some}
+use mathlib.Core.Option as maybe
+use lib.ListN.{get_elem?}
+use Rattle.atomic_table.specs.Table.{State}
+use Rattle.cw_steps.specs.declared.view.Key.{Key}
+use Rattle.cw_steps.specs.declared.view.Slot.{Slot}
+use Rattle.cw_steps.specs.declared.view.Coming.{Coming}
+use Rattle.cw_steps.specs.declared.view.Turn.{Turn}
+use Rattle.cw_steps.specs.declared.view.View.{View}
+use Rattle.cw_steps.specs.Places.{turn_word, stop_word, all_words}
+use Rattle.cw_steps.specs.Totals.{total}
+use Rattle.cw_steps.specs.Views.{cells_of, share, has_turn, IsLowCell, IsTierOf}
+
+-- Word 0 is the clock. It has room for all numbers that may still be drawn, with the share of each column that is not in use; and no seat has
+-- seen a greater one.
+pub record Clock (limit used : ℕ) (words : List ℕ) (views : List View) : Type 0 where
+  pub room : slice_index words 0 + total (λ v. v.room) views + share * limit < 2 ^ 64 + share * used
+  pub seen : (k : ℕ) (v : View) → get_elem? views k ≡ some v → v.seen ≤ slice_index words 0
+
+-- A turn is free, or one seat has it.
+pub record Turns (cells : ℕ) (words : List ℕ) (views : List View) : Type 0 where
+  pub bits : (n : ℕ) → n ≤ cells → slice_index words (turn_word n) ≤ 1
+  pub one : (n : ℕ) → n ≤ cells → total (has_turn n) views ≡ slice_index words (turn_word n)
+
+-- a cell is at home, with no stamp above the clock
+abbrev pub IsCellHome : (clock : ℕ) → List (maybe.Option Slot) → ℕ → Type 0
+IsCellHome clock homes n = (y : Slot) × (get_elem? homes n ≡ some (some y)) × IsLowCell clock y
+
+-- A cell whose turn is free is at home.
+pub record Cells (cells : ℕ) (words : List ℕ) (homes : List (maybe.Option Slot)) : Type 0 where
+  pub home : (n : ℕ) → n < cells → slice_index words (turn_word n) ≡ 0 → IsCellHome (slice_index words 0) homes n
+
+-- the tier is at home
+abbrev pub IsTierHome : (limit used : ℕ) → List (maybe.Option Slot) → ℕ → Type 0
+IsTierHome limit used homes n = (y : Slot) × (get_elem? homes n ≡ some (some y)) × IsTierOf limit used y
+
+abbrev pub ComesIn : (used : ℕ) → Option Coming → Type 0
+ComesIn used None = Unit {0}
+ComesIn used (Some c) = (c.column < used) × (c.gap < used)
+
+-- its column is in use, and so is that of its gap; and those of a right strand whose seat is yet to come
+pub record StandsIn (used : ℕ) (v : View) : Type 0 where
+  pub column : v.column < used
+  pub gap : v.gap < used
+  pub coming : ComesIn used v.coming
+
+-- whoever has the tier's turn has to bring it home with so many columns
+abbrev pub BringsHome : (cells used : ℕ) → View → Type 0
+BringsHome cells used v = All (λ (t : Turn). t.slot ≡ cells → t.used ≡ used) v.turns
+
+-- So many columns are in use. The tier is at home where its turn is free, and each seat stands in a column.
+pub record Tiers (cells limit used : ℕ) (words : List ℕ) (homes : List (maybe.Option Slot)) (views : List View) : Type 0 where
+  pub few : used ≤ limit
+  pub home : slice_index words (turn_word cells) ≡ 0 → IsTierHome limit used homes cells
+  pub held : (k : ℕ) (v : View) → get_elem? views k ≡ some v → BringsHome cells used v
+  pub stands : (k : ℕ) (v : View) → get_elem? views k ≡ some v → StandsIn used v
+
+-- some seat has halted
+pub record HasHalted (views : List View) : Type 0 where
+  pub seat : ℕ
+  pub knows : View
+  pub there : get_elem? views seat ≡ some knows
+  pub halted : IsTrue (is_some knows.halt)
+
+-- The stop word is set only where a seat has halted, and only then has any seat been told so.
+pub record Stops (cells : ℕ) (words : List ℕ) (views : List View) : Type 0 where
+  pub word : 0 < slice_index words (stop_word cells) → HasHalted views
+  pub told : (k : ℕ) (v : View) → get_elem? views k ≡ some v → v.told ≡ true → HasHalted views
+
+pub record Holds (key : Key) (s : State Slot View) : Type 0 where
+  pub long : length s.words ≡ all_words (cells_of key) key.columns
+  pub deep : length s.homes ≡ suc (cells_of key)
+  pub used : ℕ
+  pub clock : Clock key.columns used s.words s.views
+  pub turns : Turns (cells_of key) s.words s.views
+  pub cells : Cells (cells_of key) s.words s.homes
+  pub tiers : Tiers (cells_of key) key.columns used s.words s.homes s.views
+  pub stops : Stops (cells_of key) s.words s.views

@@ -1,0 +1,292 @@
+-- What a token knows, and what each step makes of that.
+use Rattle.std.specs.Prelude.{◌≡◌, ℕ, ℤ, zero, suc, ◌+◌, ◌-◌, ◌*◌, ◌^◌, ◌<◌, ◌≤◌, ◌==◌, ◌||◌, nat_lt, true, false, All, List, [], ◌∷◌, length, Option, Some, None, if◌then◌else◌}
+use Rattle.atomic_table.specs.Table.{Me, Step, rest}
+use Rattle.cw_tree.specs.declared.access.Entry.{Entry}
+use Rattle.cw_tree.specs.declared.closed.Halt.{Halt}
+use Rattle.cw_stack.specs.Cells.{CellParts}
+use Rattle.cw_trace.specs.Traces.{Traces}
+use Rattle.cw_trace.specs.Columns as columns
+use Rattle.cw_steps.specs.declared.draw.Draw.{Draw}
+use Rattle.cw_steps.specs.declared.draw.Draw.TheVariants as draw
+use Rattle.cw_steps.specs.declared.draw.Aim.{Aim}
+use Rattle.cw_steps.specs.declared.draw.Home.{Home}
+use Rattle.cw_steps.specs.declared.draw.Home.TheVariants as home
+use Rattle.cw_steps.specs.declared.view.Key.{Key}
+use Rattle.cw_steps.specs.declared.view.Slot.{Slot}
+use Rattle.cw_steps.specs.declared.view.Slot.TheVariants as slot
+use Rattle.cw_steps.specs.declared.view.Coming.{Coming}
+use Rattle.cw_steps.specs.declared.view.Stage.TheVariants.{Goes, Stopped}
+use Rattle.cw_steps.specs.declared.view.Turn.{Turn}
+use Rattle.cw_steps.specs.declared.view.View.{View}
+use Rattle.cw_steps.specs.declared.table.Shared.{Shared}
+use Rattle.cw_steps.specs.declared.table.StrandToken.{StrandToken}
+
+abbrev pub cells_of : Key → ℕ
+cells_of key = length key.first
+
+-- so many numbers belong to a column: a log has at most 2 ^ 32 nodes, of which each takes at most two
+abbrev pub share : ℕ
+share = 2 ^ 33
+
+-- the root's view at the start
+abbrev pub root_view : View
+root_view = record {
+  here = true;
+  stage = Goes;
+  strand = 0;
+  column = 0;
+  gap = 0;
+  word = 0;
+  begun = [];
+  outer = [];
+  coming = None;
+  drawn = 0;
+  ends = false;
+  undoing = false;
+  seen = 0;
+  turns = [];
+  clear = false;
+  found = None;
+  halt = None;
+  told = false;
+  room = share;
+  logs = [];
+  lent = [];
+}
+
+-- ## Turns
+
+-- how many of these turns are that of slot n
+abbrev pub turns_of : ℕ → List Turn → ℕ
+turns_of n [] = 0
+turns_of n (t ∷ ts) = (if t.slot == n then 1 else 0) + turns_of n ts
+
+abbrev pub has_turn : ℕ → View → ℕ
+has_turn n v = turns_of n v.turns
+
+-- the slot of the newest turn
+abbrev pub newest_slot : List Turn → Option ℕ
+newest_slot [] = None
+newest_slot (t ∷ ts) = Some t.slot
+
+-- the number of columns with which the tier has to come home, if its turn is the newest
+abbrev pub newest_used : List Turn → ℕ
+newest_used [] = 0
+newest_used (t ∷ ts) = t.used
+
+-- without the newest
+abbrev pub older : List Turn → List Turn
+older [] = []
+older (t ∷ ts) = ts
+
+-- so many columns more are in use
+abbrev pub with_more : ℕ → List Turn → List Turn
+with_more k [] = []
+with_more k (t ∷ ts) = record t { used = t.used + k } ∷ ts
+
+-- ## What lies in the slots
+
+-- a cell in which no stamp is greater
+abbrev pub IsLowCell : (most : ℕ) → Slot → Type 0
+IsLowCell most (slot.Cell x) = All (λ (e : Entry). e.mark.stamp ≤ most) x.entries
+IsLowCell most (slot.Tier x) = ⊥
+IsLowCell most slot.Empty = ⊥
+
+-- a tier that may have so many columns, of which so many are in use
+abbrev pub IsTierOf : (limit used : ℕ) → Slot → Type 0
+IsTierOf limit used (slot.Tier x) = (x.columns.room ≡ limit) × (columns.used x.columns ≡ used)
+IsTierOf limit used (slot.Cell x) = ⊥
+IsTierOf limit used slot.Empty = ⊥
+
+-- What lies in slot n: below the number of cells a cell, behind them the tier
+pub record IsWhole (key : Key) (most used n : ℕ) (y : Slot) : Type 0 where
+  pub cell : n < cells_of key → IsLowCell most y
+  pub tier : n ≡ cells_of key → IsTierOf key.columns used y
+
+-- ## Tokens
+
+abbrev pub view_of : StrandToken → View
+view_of t = t.seat.me.0
+
+-- the slots that it has in its hands, each with what lies there, newest first
+abbrev pub held_by : StrandToken → List (ℕ × Slot)
+held_by t = t.seat.me.1
+
+abbrev pub IsTokenOf : Shared → StrandToken → Type 0
+IsTokenOf s t = t.seat.table_id ≡ s.table.shared.table_id
+
+abbrev pub key_of : Shared → Key
+key_of s = s.table.shared.key
+
+-- the newest turn is that of slot n, in which y lies
+pub record Holding (t : StrandToken) (n : ℕ) (y : Slot) : Type 0 where
+  pub turn : newest_slot (view_of t).turns ≡ Some n
+  pub slot : held_by t ≡ (n, y) ∷ rest (held_by t)
+
+abbrev pub slot_with : Option CellParts → Slot
+slot_with None = slot.Empty
+slot_with (Some c) = slot.Cell c
+
+abbrev pub cell_in : Slot → Option CellParts
+cell_in (slot.Cell c) = Some c
+cell_in (slot.Tier t) = None
+cell_in slot.Empty = None
+
+-- ## Draws
+
+-- so many columns a fork takes: two, or none where both strands share one
+abbrev pub columns_for : (left right : ℕ) → ℕ
+columns_for left right = if left == right then 0 else 2
+
+abbrev pub columns_more : Draw → ℕ
+columns_more (draw.Fork left right gap) = columns_for left right
+columns_more (draw.Access c wrote v) = 0
+columns_more (draw.Out v) = 0
+columns_more draw.Begin = 0
+columns_more (draw.End aborted) = 0
+
+abbrev pub column_after : Draw → ℕ → ℕ
+column_after (draw.Fork left right gap) own = left
+column_after (draw.Access c wrote v) own = own
+column_after (draw.Out v) own = own
+column_after draw.Begin own = own
+column_after (draw.End aborted) own = own
+
+abbrev pub gap_after : Draw → ℕ → ℕ
+gap_after (draw.Fork left right gap) own = gap
+gap_after (draw.Access c wrote v) own = own
+gap_after (draw.Out v) own = own
+gap_after draw.Begin own = own
+gap_after (draw.End aborted) own = own
+
+abbrev pub word_after : Draw → ℕ → ℕ
+word_after (draw.Fork left right gap) own = if left == right then own else 0
+word_after (draw.Access c wrote v) own = own
+word_after (draw.Out v) own = own
+word_after draw.Begin own = own
+word_after (draw.End aborted) own = own
+
+-- the right strand of a fork with two columns has a seat of its own to come
+abbrev pub coming_for : (left right gap : ℕ) → Option Coming → Option Coming
+coming_for left right gap old = if left == right then old else Some (record { fork = 0; strand = 0; column = right; gap = gap })
+
+abbrev pub coming_after : Draw → Option Coming → Option Coming
+coming_after (draw.Fork left right gap) old = coming_for left right gap old
+coming_after (draw.Access c wrote v) old = old
+coming_after (draw.Out v) old = old
+coming_after draw.Begin old = old
+coming_after (draw.End aborted) old = old
+
+abbrev pub turns_after : Draw → List Turn → List Turn
+turns_after (draw.Fork left right gap) ts = with_more (columns_for left right) ts
+turns_after (draw.Access c wrote v) ts = ts
+turns_after (draw.Out v) ts = ts
+turns_after draw.Begin ts = ts
+turns_after (draw.End aborted) ts = ts
+
+-- after a draw: the number is the greatest seen; a fork takes its columns, with their numbers, and the left strand goes on
+abbrev pub drew_view : Draw → (number : ℕ) → View → View
+drew_view d n v = record v {
+  seen = n;
+  room = v.room - 1 + share * columns_more d;
+  column = column_after d v.column;
+  gap = gap_after d v.gap;
+  word = word_after d v.word;
+  coming = coming_after d v.coming;
+  turns = turns_after d v.turns;
+}
+
+-- Two columns of a fork are the next ones, and those of an inline fork its strand's own; the fork has the tier's turn
+pub record CanFork (key : Key) (v : View) (left right gap : ℕ) : Type 0 where
+  pub turn : newest_slot v.turns ≡ Some (cells_of key)
+  pub one : left ≡ (if left == right then v.column else newest_used v.turns)
+  pub other : right ≡ (if left == right then left else suc left)
+  pub few : newest_used v.turns + columns_for left right ≤ key.columns
+  pub within : gap < newest_used v.turns + columns_for left right
+
+abbrev pub CanDraw : Key → View → Draw → Type 0
+CanDraw key v (draw.Fork left right gap) = CanFork key v left right gap
+CanDraw key v (draw.Access c wrote x) = Unit {0}
+CanDraw key v (draw.Out x) = Unit {0}
+CanDraw key v draw.Begin = Unit {0}
+CanDraw key v (draw.End aborted) = Unit {0}
+
+-- ## Turns taken and given
+
+abbrev pub tier_of : Slot → Option Traces
+tier_of (slot.Tier x) = Some x
+tier_of (slot.Cell x) = None
+tier_of slot.Empty = None
+
+abbrev pub turn_for : (n : ℕ) → Aim → Slot → (used : ℕ) → Turn
+turn_for n aim y used = record { slot = n; aim = aim; cell = cell_in y; tier = tier_of y; used = used }
+
+-- after a take: the clock was here, and this lay in the slot
+abbrev pub took_view : (n : ℕ) → Aim → Slot → (used clock : ℕ) → View → View
+took_view n aim y used clock v = record v { seen = clock; turns = turn_for n aim y used ∷ v.turns }
+
+-- a right strand whose fork was split uses the gap of its own column
+abbrev pub gap_home : Home → (column gap : ℕ) → ℕ
+gap_home (home.Split fork used) column gap = column
+gap_home home.Plain column gap = gap
+gap_home (home.Refused c) column gap = gap
+gap_home (home.Merge fork used) column gap = gap
+gap_home (home.Inline used) column gap = gap
+gap_home (home.Early before used) column gap = gap
+
+abbrev pub gave_view : Home → View → View
+gave_view h v = record v { gap = gap_home h v.column v.gap; turns = older v.turns }
+
+-- ## Gap words and halts
+
+-- the word of its own gap was written
+abbrev pub marked_view : (word : ℕ) → View → View
+marked_view x v = record v { word = x }
+
+abbrev pub halted_view : Halt → View → View
+halted_view h v = record v { stage = Stopped; halt = Some h }
+
+-- the stop word was found
+abbrev pub told_view : (word : ℕ) → View → View
+told_view n v = record v { told = v.told || nat_lt 0 n }
+
+-- ## At the start
+
+-- a cell that nobody has reached
+abbrev pub fresh_slot : ℤ → Slot
+fresh_slot v = slot.Cell (record { first = v; entries = []; cleaned = 0; room = 0 })
+
+-- ## What steps tell
+
+abbrev pub drew : Draw → Step Slot → Me Slot View → ℕ → Me Slot View → Type 0
+drew d st me n me' = (n + 1 < 2 ^ 64) × (me.0.seen ≤ n) × (me' ≡ (drew_view d (n + 1) me.0, me.1))
+
+-- the slot was at home where the turn was free
+pub record TakesIt (key : Key) (aim : Aim) (n : ℕ) (me me' : Me Slot View) : Type 0 where
+  pub lay : Slot
+  pub used : ℕ
+  pub clock : ℕ
+  pub later : me.0.seen ≤ clock
+  pub after : me' ≡ (took_view n aim lay used clock me.0, (n, lay) ∷ me.1)
+  pub whole : IsWhole key clock used n lay
+
+-- the number found in the word of a turn is 0 where it was free
+abbrev pub took : Key → Aim → (n : ℕ) → Step Slot → Me Slot View → ℕ → Me Slot View → Type 0
+took key aim n st me zero me' = TakesIt key aim n me me'
+took key aim n st me (suc k) me' = me' ≡ me
+
+abbrev pub gave : Home → Step Slot → Me Slot View → ℕ → Me Slot View → Type 0
+gave h st me n me' = me' ≡ (gave_view h me.0, rest me.1)
+
+abbrev pub marked : Step Slot → Me Slot View → ℕ → Me Slot View → Type 0
+marked st me n me' = me' ≡ (marked_view n me.0, me.1)
+
+abbrev pub halted : Halt → Step Slot → Me Slot View → ℕ → Me Slot View → Type 0
+halted h st me n me' = me' ≡ (halted_view h me.0, me.1)
+
+abbrev pub told : Step Slot → Me Slot View → ℕ → Me Slot View → Type 0
+told st me n me' = me' ≡ (told_view n me.0, me.1)
+
+-- the rule says nothing yet of what a gap word is
+abbrev pub found : Step Slot → Me Slot View → ℕ → Me Slot View → Type 0
+found st me n me' = me' ≡ me

@@ -1,0 +1,170 @@
+//! One call for each kind of step.
+ghost use Rattle.std.specs.Prelude.{◌≡◌, ℕ, suc, ◌+◌, ◌<◌, ◌≤◌, ◌∷◌, [], true, false, Some};
+ghost use Rattle.atomic_table.specs.Table.{rest};
+ghost use Rattle.cw_steps.specs.Courses.{added, added_home, brought, course_of, drawn, IsReady};
+ghost use Rattle.cw_steps.specs.Places as places;
+ghost use Rattle.cw_steps.specs.declared.view.Slot.TheVariants as slot_of;
+ghost use Rattle.cw_steps.specs.Views.{cells_of, cell_in, drew_view, gave_view, held_by, key_of, newest_slot, newest_used, slot_with, view_of, CanDraw, Holding, IsTokenOf, IsWhole, TakesIt};
+
+use crate::draw::{Aim, Draw, Home};
+use crate::law::{Drawing, Draws, Gives, Giving, Takes, Taking, TokenSeat, Words};
+use crate::places::{CLOCK, turn_word};
+use crate::table::{Shared, StrandToken};
+use crate::view::Slot;
+use cw_stack::Cell;
+use cw_trace::Tier;
+use std::marker::Brand;
+
+fn draw_as<W: Drawing>(table: &Words, seat: &mut TokenSeat, what: &Draw, place: u32) -> u64
+    requires what { (W.what ≡ what.now) × (W.place ≡ place) }
+    requires table { (seat.old.table_id ≡ table.now.table_id) × (0 < table.now.table_id.words) }
+    requires number { 0 < seat.old.me.0.room }
+    requires fits { CanDraw table.now.key seat.old.me.0 what.now }
+    ensures table { (seat.new.table_id ≡ seat.old.table_id) × (seat.new.id ≡ seat.old.id) }
+    ensures later { seat.old.me.0.seen < result }
+    ensures seat { seat.new.me ≡ (drew_view what.now result seat.old.me.0, seat.old.me.1) }
+{
+    let _ = what;
+    let _ = place;
+    let found = table.fetch_add::<Draws<W>>(seat, CLOCK, 1);
+    found + 1
+}
+
+fn take_as<W: Taking>(table: &Words, seat: &mut TokenSeat, slot: u32, aim: Aim, place: u32) -> bool
+    requires what { (W.key ≡ table.now.key) × (W.slot ≡ slot) × (W.aim ≡ aim) × (W.place ≡ place) }
+    requires table { (seat.old.table_id ≡ table.now.table_id) × (places.turn_word slot < table.now.table_id.words) }
+    requires there { slot ≤ cells_of table.now.key }
+    ensures table { (seat.new.table_id ≡ seat.old.table_id) × (seat.new.id ≡ seat.old.id) }
+    ensures taken { result ≡ true → TakesIt table.now.key aim slot seat.old.me seat.new.me }
+    ensures refused { result ≡ false → seat.new.me ≡ seat.old.me }
+{
+    let _ = aim;
+    let _ = place;
+    let word = turn_word(slot);
+    let found = table.compare_exchange::<Takes<W>>(seat, word, 0, 1);
+    found == 0
+}
+
+fn give_as<W: Giving>(table: &Words, seat: &mut TokenSeat, slot: u32, home: &Home, place: u32)
+    requires what { (W.home ≡ home.now) × (W.place ≡ place) }
+    requires table { (seat.old.table_id ≡ table.now.table_id) × (places.turn_word slot < table.now.table_id.words) }
+    requires there { slot ≤ cells_of table.now.key }
+    requires held { (y : _) × (newest_slot seat.old.me.0.turns ≡ Some slot) × (seat.old.me.1 ≡ (slot, y) ∷ rest seat.old.me.1) × IsWhole table.now.key seat.old.me.0.seen (newest_used seat.old.me.0.turns) slot y }
+    ensures table { (seat.new.table_id ≡ seat.old.table_id) × (seat.new.id ≡ seat.old.id) }
+    ensures seat { seat.new.me ≡ (gave_view home.now seat.old.me.0, rest seat.old.me.1) }
+{
+    let _ = home;
+    let _ = place;
+    let word = turn_word(slot);
+    table.store::<Gives<W>>(seat, word, 0);
+}
+
+impl Shared {
+    /// Draws a number, and adds to the token's log what it was drawn for.
+    #[tactic(auto, using(crate::proofs::Courses::drawn_column, crate::proofs::Courses::drawn_gap, crate::proofs::Courses::drawn_word))]
+    pub fn draw(&self, token: &mut StrandToken, what: Draw) -> u64
+        requires table { IsTokenOf self.now token.old }
+        requires number { 0 < (view_of token.old).room }
+        requires fits { CanDraw (key_of self.now) (view_of token.old) what }
+        requires ready { IsReady token.old.course (added what) }
+        ensures table { IsTokenOf self.now token.new }
+        ensures later { (view_of token.old).seen < result }
+        ensures view { view_of token.new ≡ drew_view what result (view_of token.old) }
+        ensures slots { held_by token.new ≡ held_by token.old }
+        ensures course { course_of token.new.course ≡ drawn what result (course_of token.old.course) }
+        ensures ready { (n : ℕ) → IsReady token.old.course (added what + n) → IsReady token.new.course n }
+    {
+        let StrandToken { seat, course, .. } = token;
+        let number = draw_as::<Brand>(&self.table.shared, seat, &what, course.place);
+        course.draw(&what, number);
+        number
+    }
+
+    /// Tries to take the turn of a slot, and with it what lies there. True where it got that; else nothing changed, and somebody had the turn.
+    pub fn take(&self, token: &mut StrandToken, slot: u32, aim: Aim) -> bool
+        requires table { IsTokenOf self.now token.old }
+        requires there { slot ≤ cells_of (key_of self.now) }
+        ensures table { IsTokenOf self.now token.new }
+        ensures taken { result ≡ true → TakesIt (key_of self.now) aim slot token.old.seat.me token.new.seat.me }
+        ensures refused { result ≡ false → token.new.seat.me ≡ token.old.seat.me }
+        ensures course { token.new.course ≡ token.old.course }
+    {
+        let StrandToken { seat, course, .. } = token;
+        take_as::<Brand>(&self.table.shared, seat, slot, aim, course.place)
+    }
+
+    /// Puts another cell, or none, where the cell lies whose turn is held, and answers what lay there.
+    pub fn swap_cell(&self, token: &mut StrandToken, cell: u32, new: Option<Cell>) -> Option<Cell>
+        requires table { IsTokenOf self.now token.old }
+        requires held { (y : _) × Holding token.old cell y }
+        ensures table { IsTokenOf self.now token.new }
+        ensures view { view_of token.new ≡ view_of token.old }
+        ensures out { (y : _) × (held_by token.old ≡ (cell, y) ∷ rest (held_by token.old)) × (result ≡ cell_in y) }
+        ensures slots { held_by token.new ≡ (cell, slot_with new) ∷ rest (held_by token.old) }
+        ensures course { token.new.course ≡ token.old.course }
+    {
+        let slot = match new {
+            Some(cell) => Slot::Cell(cell),
+            None => Slot::Empty,
+        };
+        let StrandToken { seat, .. } = token;
+        match self.table.shared.exchange(seat, cell as usize, slot) {
+            Slot::Cell(cell) => Some(cell),
+            _ => None,
+        }
+    }
+
+    /// Takes the tier out of its slot, whose turn is held.
+    pub fn tier_out(&self, token: &mut StrandToken) -> Tier
+        requires table { IsTokenOf self.now token.old }
+        requires held { (x : _) × Holding token.old (cells_of (key_of self.now)) (slot_of.Tier x) }
+        ensures table { IsTokenOf self.now token.new }
+        ensures view { view_of token.new ≡ view_of token.old }
+        ensures out { held_by token.old ≡ (cells_of (key_of self.now), slot_of.Tier result) ∷ rest (held_by token.old) }
+        ensures slots { held_by token.new ≡ (cells_of (key_of self.now), slot_of.Empty) ∷ rest (held_by token.old) }
+        ensures course { token.new.course ≡ token.old.course }
+    {
+        let StrandToken { seat, .. } = token;
+        match self
+            .table
+            .shared
+            .exchange(seat, self.cells as usize, Slot::Empty)
+        {
+            Slot::Tier(tier) => tier,
+            _ => unreachable!(),
+        }
+    }
+
+    /// Puts the tier into its slot, whose turn is held.
+    pub fn tier_in(&self, token: &mut StrandToken, tier: Tier)
+        requires table { IsTokenOf self.now token.old }
+        requires held { (y : _) × Holding token.old (cells_of (key_of self.now)) y }
+        ensures table { IsTokenOf self.now token.new }
+        ensures view { view_of token.new ≡ view_of token.old }
+        ensures slots { held_by token.new ≡ (cells_of (key_of self.now), slot_of.Tier tier) ∷ rest (held_by token.old) }
+        ensures course { token.new.course ≡ token.old.course }
+    {
+        let StrandToken { seat, .. } = token;
+        self.table
+            .shared
+            .exchange(seat, self.cells as usize, Slot::Tier(tier));
+    }
+
+    /// Gives the newest turn back, with what lies in its slot.
+    #[tactic(auto, using(crate::proofs::Courses::brought_column, crate::proofs::Courses::brought_gap, crate::proofs::Courses::brought_word))]
+    pub fn give(&self, token: &mut StrandToken, slot: u32, home: Home)
+        requires table { IsTokenOf self.now token.old }
+        requires there { slot ≤ cells_of (key_of self.now) }
+        requires held { (y : _) × Holding token.old slot y × IsWhole (key_of self.now) (view_of token.old).seen (newest_used (view_of token.old).turns) slot y }
+        requires ready { IsReady token.old.course (added_home home) }
+        ensures table { IsTokenOf self.now token.new }
+        ensures view { view_of token.new ≡ gave_view home (view_of token.old) }
+        ensures slots { held_by token.new ≡ rest (held_by token.old) }
+        ensures course { course_of token.new.course ≡ brought home (course_of token.old.course) }
+        ensures ready { (n : ℕ) → IsReady token.old.course (added_home home + n) → IsReady token.new.course n }
+    {
+        let StrandToken { seat, course, .. } = token;
+        give_as::<Brand>(&self.table.shared, seat, slot, &home, course.place);
+        course.bring(home);
+    }
+}

@@ -1,0 +1,217 @@
+//! What is added to a log.
+ghost use Rattle.std.specs.Prelude.{◌≡◌, ℕ, ◌+◌, IfOk, OnOk};
+ghost use Rattle.cw_tree.specs.Nodes as nodes;
+ghost use Rattle.cw_steps.specs.Courses.{added, added_home, brought, drawn, begun, closed_at, forked_at, fresh_course, made_at, refused_at, course_of, kind_of_access, IsReady};
+
+use super::{Course, Stood};
+use crate::{Draw, Home};
+use cw_base::{OutOfMemory, put};
+use cw_tree::{BlockState, Conflict, Kind, Node};
+use std::alloc::Global;
+
+fn first_state(kind: &Kind) -> BlockState
+    ensures { result ≡ nodes.first_state kind.now }
+{
+    match kind {
+        Kind::Block => BlockState::Pending,
+        _ => BlockState::Committed,
+    }
+}
+
+fn fresh_node(parent: u32, kind: Kind, stamp: u64) -> Node
+    ensures { result ≡ nodes.fresh_node parent kind stamp }
+{
+    let state = first_state(&kind);
+    Node {
+        parent,
+        kind,
+        state,
+        stamp,
+        end: 0,
+    }
+}
+
+fn access_kind(cell: u32, wrote: bool, value: i64) -> Kind
+    ensures { result ≡ kind_of_access cell wrote value }
+{
+    if wrote {
+        Kind::Write { cell, value }
+    } else {
+        Kind::Read { cell, value }
+    }
+}
+
+impl Course {
+    /// The course of a strand that has done nothing, in a log of its own.
+    pub(crate) fn new(alloc: Global, column: u32, gap: u32) -> Result<Course, OutOfMemory>
+        ensures { IfOk result (λ c. course_of c ≡ fresh_course column gap) }
+    {
+        let mut nodes = Vec::with_capacity(alloc, 1)?;
+        put(&mut nodes, fresh_node(0, Kind::Strand, 0));
+        Ok(Course {
+            nodes,
+            conflicts: Vec::new(alloc),
+            strand: 0,
+            place: 0,
+            column,
+            gap,
+            word: 0,
+            outer: Vec::new(alloc),
+        })
+    }
+
+    /// Takes room for so many nodes, conflicts and forks.
+    pub(crate) fn reserve(&mut self, count: u32) -> Result<(), OutOfMemory>
+        ensures ok { OnOk result (IsReady self.new count) }
+        ensures same { course_of self.new ≡ course_of self.old }
+    {
+        let Course {
+            nodes,
+            conflicts,
+            outer,
+            ..
+        } = self;
+        if nodes.len() + count as usize > u32::MAX as usize {
+            return Err(OutOfMemory);
+        }
+        nodes.reserve(count as usize)?;
+        conflicts.reserve(count as usize)?;
+        outer.reserve(count as usize)?;
+        Ok(())
+    }
+
+    fn add(&mut self, kind: Kind, stamp: u64)
+        requires { IsReady self.old 1 }
+        ensures course { course_of self.new ≡ made_at (course_of self.old) kind stamp }
+        ensures ready { (n : ℕ) → IsReady self.old (1 + n) → IsReady self.new n }
+    {
+        let Course { nodes, place, .. } = self;
+        put(nodes, fresh_node(*place, kind, stamp));
+    }
+
+    fn begin(&mut self, stamp: u64)
+        requires { IsReady self.old 1 }
+        ensures course { course_of self.new ≡ begun (course_of self.old) stamp }
+        ensures ready { (n : ℕ) → IsReady self.old (1 + n) → IsReady self.new n }
+    {
+        let Course { nodes, place, .. } = self;
+        let block = nodes.len() as u32;
+        put(nodes, fresh_node(*place, Kind::Block, stamp));
+        *place = block;
+    }
+
+    fn close(&mut self, state: BlockState, end: u64)
+        ensures course { course_of self.new ≡ closed_at (course_of self.old) state end }
+        ensures ready { (n : ℕ) → IsReady self.old n → IsReady self.new n }
+    {
+        let Course { nodes, place, .. } = self;
+        *place = match nodes.get_mut(*place as usize) {
+            Some(node) => {
+                node.state = state;
+                node.end = end;
+                node.parent
+            }
+            None => 0,
+        };
+    }
+
+    fn fork(&mut self, left: u32, right: u32, gap: u32, stamp: u64)
+        requires { IsReady self.old 3 }
+        ensures course { course_of self.new ≡ forked_at (course_of self.old) left right gap stamp }
+        ensures ready { (n : ℕ) → IsReady self.old (3 + n) → IsReady self.new n }
+    {
+        let Course {
+            nodes,
+            strand,
+            place,
+            column,
+            gap: own_gap,
+            word,
+            outer,
+            ..
+        } = self;
+        put(
+            outer,
+            Stood {
+                strand: *strand,
+                place: *place,
+                column: *column,
+                gap: *own_gap,
+                word: *word,
+            },
+        );
+        let fork = nodes.len() as u32;
+        put(nodes, fresh_node(*place, Kind::Fork, stamp));
+        put(nodes, fresh_node(fork, Kind::Strand, 0));
+        if left == right {
+            put(nodes, fresh_node(fork, Kind::Strand, 0));
+        } else {
+            *word = 0;
+        }
+        *strand = fork + 1;
+        *place = fork + 1;
+        *column = left;
+        *own_gap = gap;
+    }
+
+    /// Adds what a draw shows, with the number that was drawn.
+    pub(crate) fn draw(&mut self, what: &Draw, number: u64)
+        requires { IsReady self.old (added what.now) }
+        ensures course { course_of self.new ≡ drawn what.now number (course_of self.old) }
+        ensures ready { (n : ℕ) → IsReady self.old (added what.now + n) → IsReady self.new n }
+    {
+        match *what {
+            Draw::Access { cell, wrote, value } => self.add(
+                access_kind(cell, wrote, value),
+                number,
+            ),
+            Draw::Out { value } => self.add(Kind::Out { value }, number),
+            Draw::Begin => self.begin(number),
+            Draw::End { aborted: true } => self.close(BlockState::Aborted, number),
+            Draw::End { aborted: false } => self.close(BlockState::Committed, number),
+            Draw::Fork { left, right, gap } => self.fork(left, right, gap, number),
+        }
+    }
+
+    fn refuse(&mut self, conflict: Conflict)
+        requires { IsReady self.old 1 }
+        ensures course { course_of self.new ≡ refused_at (course_of self.old) conflict }
+        ensures ready { (n : ℕ) → IsReady self.old (1 + n) → IsReady self.new n }
+    {
+        let Course {
+            nodes,
+            conflicts,
+            place,
+            ..
+        } = self;
+        let asker = nodes.len() as u32;
+        let kind = Kind::Tried {
+            cell: conflict.cell,
+        };
+        put(nodes, fresh_node(*place, kind, 0));
+        put(conflicts, Conflict { asker, ..conflict });
+    }
+
+    /// Adds what comes with a turn that is given back.
+    pub(crate) fn bring(&mut self, home: Home)
+        requires { IsReady self.old (added_home home) }
+        ensures course { course_of self.new ≡ brought home (course_of self.old) }
+        ensures ready { (n : ℕ) → IsReady self.old (added_home home + n) → IsReady self.new n }
+    {
+        match home {
+            Home::Refused(conflict) => self.refuse(conflict),
+            Home::Split { .. } => self.gap = self.column,
+            _ => {}
+        }
+    }
+
+    /// The stamp of the node at its place.
+    pub(crate) fn stamp(&self) -> u64
+        ensures { result ≡ nodes.stamp_of (course_of self.now).nodes (course_of self.now).place }
+    {
+        match self.nodes.get(self.place as usize) {
+            Some(node) => node.stamp,
+            None => 0,
+        }
+    }
+}

@@ -1,0 +1,187 @@
+//! The rule of the table, and what each step tells. What a step is for is picked by its call, as ghost members.
+use crate::view::{Key, Slot, View};
+use atomic_table::{Play, Seat, Table, TableRule};
+use std::alloc::Global;
+use std::marker::{Brand, PhantomData};
+
+pub struct Law;
+
+impl TableRule<Slot, View, Key> for Law {
+    ghost use Rattle.cw_steps.specs.Rule.{Holds};
+    ghost use Rattle.cw_steps.specs.Views.{root_view};
+
+    ghost holds = { λ key s. Holds key s };
+
+    ghost first = { λ _. root_view };
+}
+
+pub(crate) type Board = Table<Slot, View, Key, Law, Global>;
+
+pub(crate) type Words = atomic_table::Shared<Slot, View, Key, Law>;
+
+pub(crate) type TokenSeat = Seat<Slot, View>;
+
+/// For what a number is drawn, and at which place of the token's log. Each call picks it.
+pub(crate) trait Drawing {
+    ghost use Rattle.std.specs.Prelude.{ℕ};
+    ghost use Rattle.cw_steps.specs.declared.draw.Draw.{Draw};
+
+    ghost what: { Draw };
+
+    ghost place: { ℕ };
+}
+
+impl Drawing for Brand {
+    ghost use Rattle.cw_steps.specs.declared.draw.Draw.TheVariants.{Begin};
+
+    ghost what = { Begin };
+
+    ghost place = { 0 };
+}
+
+pub struct Draws<W> {
+    of: PhantomData<W>,
+}
+
+impl<W: Drawing> Play<Slot, View> for Draws<W> {
+    ghost use Rattle.cw_steps.specs.Views.{drew};
+
+    ghost then = { drew W.what };
+}
+
+/// Which turn is taken, for what, and at which place. Each call picks it.
+pub(crate) trait Taking {
+    ghost use Rattle.std.specs.Prelude.{ℕ};
+    ghost use Rattle.cw_steps.specs.declared.draw.Aim.{Aim};
+    ghost use Rattle.cw_steps.specs.declared.view.Key.{Key};
+
+    ghost key: { Key };
+
+    ghost slot: { ℕ };
+
+    ghost aim: { Aim };
+
+    ghost place: { ℕ };
+}
+
+impl Taking for Brand {
+    ghost use Rattle.std.specs.Prelude.{[]};
+    ghost use Rattle.cw_steps.specs.declared.draw.Aim.TheVariants.{Look};
+
+    ghost key = { record { first = []; columns = 0; aborts = 0 } };
+
+    ghost slot = { 0 };
+
+    ghost aim = { Look };
+
+    ghost place = { 0 };
+}
+
+pub struct Takes<W> {
+    of: PhantomData<W>,
+}
+
+impl<W: Taking> Play<Slot, View> for Takes<W> {
+    ghost use Rattle.cw_steps.specs.Views.{took};
+
+    ghost then = { took W.key W.aim W.slot };
+}
+
+/// What was done while a turn was held, and at which place. Each call picks it.
+pub(crate) trait Giving {
+    ghost use Rattle.std.specs.Prelude.{ℕ};
+    ghost use Rattle.cw_steps.specs.declared.draw.Home.{Home};
+
+    ghost home: { Home };
+
+    ghost place: { ℕ };
+}
+
+impl Giving for Brand {
+    ghost use Rattle.cw_steps.specs.declared.draw.Home.TheVariants.{Plain};
+
+    ghost home = { Plain };
+
+    ghost place = { 0 };
+}
+
+pub struct Gives<W> {
+    of: PhantomData<W>,
+}
+
+impl<W: Giving> Play<Slot, View> for Gives<W> {
+    ghost use Rattle.cw_steps.specs.Views.{gave};
+
+    ghost then = { gave W.home };
+}
+
+/// Which gap's word is written, and at which place. Each call picks it.
+pub(crate) trait Marking {
+    ghost use Rattle.std.specs.Prelude.{ℕ};
+
+    ghost gap: { ℕ };
+
+    ghost place: { ℕ };
+}
+
+impl Marking for Brand {
+    ghost gap = { 0 };
+
+    ghost place = { 0 };
+}
+
+pub struct Marks<W> {
+    of: PhantomData<W>,
+}
+
+impl<W: Marking> Play<Slot, View> for Marks<W> {
+    ghost use Rattle.cw_steps.specs.Views.{marked};
+
+    ghost then = { marked };
+}
+
+/// With which halt the stop word is set, and at which place. Each call picks it.
+pub(crate) trait Halting {
+    ghost use Rattle.std.specs.Prelude.{ℕ};
+    ghost use Rattle.cw_tree.specs.declared.closed.Halt.{Halt};
+
+    ghost halt: { Halt };
+
+    ghost place: { ℕ };
+}
+
+impl Halting for Brand {
+    ghost use Rattle.cw_tree.specs.declared.closed.Halt.TheVariants.{Memory};
+
+    ghost halt = { Memory };
+
+    ghost place = { 0 };
+}
+
+pub struct Halts<W> {
+    of: PhantomData<W>,
+}
+
+impl<W: Halting> Play<Slot, View> for Halts<W> {
+    ghost use Rattle.cw_steps.specs.Views.{halted};
+
+    ghost then = { halted W.halt };
+}
+
+/// A look at the stop word.
+pub struct Tells;
+
+impl Play<Slot, View> for Tells {
+    ghost use Rattle.cw_steps.specs.Views.{told};
+
+    ghost then = { told };
+}
+
+/// A look at a gap word.
+pub struct Finds;
+
+impl Play<Slot, View> for Finds {
+    ghost use Rattle.cw_steps.specs.Views.{found};
+
+    ghost then = { found };
+}

@@ -1,0 +1,141 @@
+//! Gap words, and the stop word.
+ghost use Rattle.std.specs.Prelude.{◌≡◌, ℕ, ◌+◌, ◌<◌, nat_lt, None, Some};
+ghost use Rattle.cw_tree.specs.Nodes.{stamp_of};
+ghost use Rattle.cw_steps.specs.Courses.{course_of, with_word};
+ghost use Rattle.cw_steps.specs.Places as places;
+ghost use Rattle.cw_steps.specs.Views.{cells_of, halted_view, held_by, key_of, marked_view, told_view, view_of, IsTokenOf};
+
+use crate::law::{Finds, Halting, Halts, Marking, Marks, Tells, TokenSeat, Words};
+use crate::places::{Place, gap_word, stop_word};
+use crate::table::{Shared, StrandToken};
+use cw_order::Steps;
+use cw_tree::Halt;
+use std::marker::Brand;
+use std::sync::ledger::Ledger;
+
+fn mark_as<W: Marking>(
+    table: &Words,
+    seat: &mut TokenSeat,
+    cells: u32,
+    gap: u32,
+    stamp: u64,
+    place: u32,
+)
+    requires what { (W.gap ≡ gap) × (W.place ≡ place) }
+    requires table { (seat.old.table_id ≡ table.now.table_id) × (places.gap_word cells gap < table.now.table_id.words) }
+    requires cells { cells ≡ cells_of table.now.key }
+    ensures table { (seat.new.table_id ≡ seat.old.table_id) × (seat.new.id ≡ seat.old.id) }
+    ensures seat { seat.new.me ≡ (marked_view stamp seat.old.me.0, seat.old.me.1) }
+{
+    let _ = place;
+    let word = gap_word(cells, gap);
+    table.store::<Marks<W>>(seat, word, stamp);
+}
+
+fn halt_as<W: Halting>(table: &Words, seat: &mut TokenSeat, cells: u32, halt: Halt, place: u32)
+    requires what { (W.halt ≡ halt) × (W.place ≡ place) }
+    requires table { (seat.old.table_id ≡ table.now.table_id) × (places.stop_word cells < table.now.table_id.words) }
+    requires cells { cells ≡ cells_of table.now.key }
+    ensures table { (seat.new.table_id ≡ seat.old.table_id) × (seat.new.id ≡ seat.old.id) }
+    ensures seat { seat.new.me ≡ (halted_view halt seat.old.me.0, seat.old.me.1) }
+{
+    let _ = halt;
+    let _ = place;
+    let word = stop_word(cells);
+    table.store::<Halts<W>>(seat, word, 1);
+}
+
+impl Shared {
+    /// Writes the begin stamp of the block at the token's place into the word of the gap that its strand uses.
+    pub fn set_gap(&self, token: &mut StrandToken, gap: u32)
+        requires table { IsTokenOf self.now token.old }
+        requires gap { (gap ≡ token.old.course.gap) × (gap < (key_of self.now).columns) }
+        ensures table { IsTokenOf self.now token.new }
+        ensures view { view_of token.new ≡ marked_view (stamp_of (course_of token.old.course).nodes token.old.course.place) (view_of token.old) }
+        ensures slots { held_by token.new ≡ held_by token.old }
+        ensures course { course_of token.new.course ≡ with_word (stamp_of (course_of token.old.course).nodes token.old.course.place) (course_of token.old.course) }
+    {
+        let StrandToken { seat, course, .. } = token;
+        let stamp = course.stamp();
+        mark_as::<Brand>(
+            &self.table.shared,
+            seat,
+            self.cells,
+            gap,
+            stamp,
+            course.place,
+        );
+        course.word = stamp;
+    }
+
+    /// Writes 0 into the word of the gap that the token's strand uses.
+    pub fn clear_gap(&self, token: &mut StrandToken, gap: u32)
+        requires table { IsTokenOf self.now token.old }
+        requires gap { (gap ≡ token.old.course.gap) × (gap < (key_of self.now).columns) }
+        ensures table { IsTokenOf self.now token.new }
+        ensures view { view_of token.new ≡ marked_view 0 (view_of token.old) }
+        ensures slots { held_by token.new ≡ held_by token.old }
+        ensures course { course_of token.new.course ≡ with_word 0 (course_of token.old.course) }
+    {
+        let StrandToken { seat, course, .. } = token;
+        mark_as::<Brand>(&self.table.shared, seat, self.cells, gap, 0, course.place);
+        course.word = 0;
+    }
+
+    /// Sets the stop word, and notes the halt.
+    pub fn stop(&self, token: &mut StrandToken, halt: Halt)
+        requires table { IsTokenOf self.now token.old }
+        ensures table { IsTokenOf self.now token.new }
+        ensures view { view_of token.new ≡ halted_view halt (view_of token.old) }
+        ensures slots { held_by token.new ≡ held_by token.old }
+        ensures course { token.new.course ≡ token.old.course }
+        ensures noted { token.new.halt ≡ Some halt }
+    {
+        let StrandToken {
+            seat,
+            course,
+            halt: noted,
+            ..
+        } = token;
+        halt_as::<Brand>(&self.table.shared, seat, self.cells, halt, course.place);
+        *noted = Some(halt);
+    }
+
+    /// Whether the stop word is set, which it is only where some token has halted.
+    pub fn stopped(&self, token: &mut StrandToken) -> bool
+        requires table { IsTokenOf self.now token.old }
+        ensures table { IsTokenOf self.now token.new }
+        ensures view { (found : ℕ) × (result ≡ nat_lt 0 found) × (view_of token.new ≡ told_view found (view_of token.old)) }
+        ensures slots { held_by token.new ≡ held_by token.old }
+        ensures course { token.new.course ≡ token.old.course }
+    {
+        let StrandToken { seat, .. } = token;
+        let word = stop_word(self.cells);
+        let found = self.table.shared.load::<Tells>(seat, word);
+        found > 0
+    }
+
+    /// Reads a word, and counts that.
+    pub fn load<K: Ledger>(
+        &self,
+        token: &mut StrandToken,
+        at: Place,
+        version: Option<u64>,
+        looks: &mut Steps<K>,
+    ) -> u64
+        requires table { IsTokenOf self.now token.old }
+        requires there { places.IsThere (key_of self.now).columns at }
+        requires version { version ≡ None }
+        ensures table { IsTokenOf self.now token.new }
+        ensures seat { token.new.seat.me ≡ token.old.seat.me }
+        ensures course { token.new.course ≡ token.old.course }
+        ensures looks { looks.new ≡ looks.old + 1 }
+    {
+        let _ = version;
+        looks.tick();
+        let StrandToken { seat, .. } = token;
+        let Place::Gap(gap) = at;
+        let word = gap_word(self.cells, gap);
+        self.table.shared.load::<Finds>(seat, word)
+    }
+}

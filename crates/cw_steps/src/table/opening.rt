@@ -1,0 +1,76 @@
+//! A new table.
+ghost use Rattle.std.specs.Prelude.{◌≡◌, ◌<◌, [], map, replicate, IfOk};
+ghost use Rattle.cw_steps.specs.Courses.{course_of, fresh_course};
+ghost use Rattle.cw_steps.specs.Places.{all_words};
+ghost use Rattle.cw_steps.specs.Views.{fresh_slot, held_by, key_of, root_view, view_of, IsTokenOf};
+
+use super::{Shared, StrandToken};
+use crate::Course;
+use crate::law::Board;
+use crate::view::{Key, Slot};
+use cw_base::{OutOfMemory, Seq};
+use cw_code::Limits;
+use cw_stack::Cell;
+use cw_trace::Tier;
+use std::alloc::Global;
+
+/// A tier has fewer columns than that.
+const MOST_COLUMNS: u32 = 1 << 31;
+
+fn fresh_slots(alloc: Global, init: &[i64]) -> Result<Vec<Slot>, OutOfMemory>
+    ensures { IfOk result (λ slots. slots.items ≡ map fresh_slot init.now) }
+{
+    let mut slots = Vec::new(alloc);
+    for value in init {
+        slots.push(Slot::Cell(Cell::new(alloc, *value)))?;
+    }
+    Ok(slots)
+}
+
+fn fresh_words(alloc: Global, cells: u32, columns: u32) -> Result<Vec<u64>, OutOfMemory>
+    ensures { IfOk result (λ words. words.items ≡ replicate (all_words cells columns) 0) }
+{
+    let count = cells as usize + 3 + columns as usize;
+    Ok(vec![in alloc; 0u64; count]?)
+}
+
+impl Shared {
+    /// A table with these cells and as many columns as the limits say, and the root's token.
+    pub fn new(
+        alloc: Global,
+        init: &[i64],
+        limits: Limits,
+    ) -> Result<(Shared, StrandToken), OutOfMemory>
+        requires { 0 < limits.strands }
+        ensures table { IfOk result (λ r. IsTokenOf r.0 r.1) }
+        ensures key { IfOk result (λ r. key_of r.0 ≡ record { first = init.now; columns = limits.strands; aborts = limits.aborts }) }
+        ensures token { IfOk result (λ r. (view_of r.1 ≡ root_view) × (held_by r.1 ≡ []) × (course_of r.1.course ≡ fresh_course 0 0)) }
+    {
+        if limits.strands >= MOST_COLUMNS {
+            return Err(OutOfMemory);
+        }
+        let Ok(cells) = u32::try_from(init.len()) else {
+            return Err(OutOfMemory);
+        };
+        let course = Course::new(alloc, 0, 0)?;
+        let key = Key {
+            first: Seq::from_vec(Vec::from_slice(alloc, init)?),
+            columns: limits.strands,
+            aborts: limits.aborts,
+        };
+        let words = fresh_words(alloc, cells, limits.strands)?;
+        let mut slots = fresh_slots(alloc, init)?;
+        let tier = Tier::with_strands(alloc, limits.strands)?;
+        slots.push(Slot::Tier(tier))?;
+        let made = Board::new(alloc, words.as_slice(), slots, &key);
+        let Ok((table, seat)) = made else {
+            return Err(OutOfMemory);
+        };
+        let token = StrandToken {
+            seat,
+            course,
+            halt: None,
+        };
+        Ok((Shared { table, cells }, token))
+    }
+}
