@@ -1,4 +1,4 @@
 pub mod Counts
-pub mod Courses
+pub mod Tracks
 pub mod Concerns
 pub mod Steps

@@ -1,5 +1,5 @@
 pub mod Places
 pub mod Totals
-pub mod Courses
+pub mod Tracks
 pub mod Views
 pub mod Rule

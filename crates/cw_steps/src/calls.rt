@@ -1,7 +1,7 @@
 //! One call for each kind of step.
 ghost use Rattle.std.specs.Prelude.{◌≡◌, ℕ, suc, ◌+◌, ◌<◌, ◌≤◌, ◌∷◌, [], true, false, Some};
 ghost use Rattle.atomic_table.specs.Table.{rest};
-ghost use Rattle.cw_steps.specs.Courses.{added, added_home, brought, course_of, drawn, IsReady};
+ghost use Rattle.cw_steps.specs.Tracks.{added, added_home, brought, track_of, drawn, IsReady};
 ghost use Rattle.cw_steps.specs.Places as places;
 ghost use Rattle.cw_steps.specs.declared.view.Slot.TheVariants as slot_of;
 ghost use Rattle.cw_steps.specs.Views.{cells_of, cell_in, drew_view, gave_view, held_by, key_of, newest_slot, newest_used, slot_with, view_of, CanDraw, Holding, IsTokenOf, IsWhole, TakesIt};
@@ -61,22 +61,22 @@ fn give_as<W: Giving>(table: &Words, seat: &mut TokenSeat, slot: u32, home: &Hom
 
 impl Shared {
     /// Draws a number, and adds to the token's log what it was drawn for.
-    #[tactic(auto, using(crate::proofs::Courses::drawn_column, crate::proofs::Courses::drawn_gap, crate::proofs::Courses::drawn_word))]
+    #[tactic(auto, using(crate::proofs::Tracks::drawn_column, crate::proofs::Tracks::drawn_gap, crate::proofs::Tracks::drawn_word))]
     pub fn draw(&self, token: &mut StrandToken, what: Draw) -> u64
         requires table { IsTokenOf self.now token.old }
         requires number { 0 < (view_of token.old).room }
         requires fits { CanDraw (key_of self.now) (view_of token.old) what }
-        requires ready { IsReady token.old.course (added what) }
+        requires ready { IsReady token.old.track (added what) }
         ensures table { IsTokenOf self.now token.new }
         ensures later { (view_of token.old).seen < result }
         ensures view { view_of token.new ≡ drew_view what result (view_of token.old) }
         ensures slots { held_by token.new ≡ held_by token.old }
-        ensures course { course_of token.new.course ≡ drawn what result (course_of token.old.course) }
-        ensures ready { (n : ℕ) → IsReady token.old.course (added what + n) → IsReady token.new.course n }
+        ensures track { track_of token.new.track ≡ drawn what result (track_of token.old.track) }
+        ensures ready { (n : ℕ) → IsReady token.old.track (added what + n) → IsReady token.new.track n }
     {
-        let StrandToken { seat, course, .. } = token;
-        let number = draw_as::<Brand>(&self.table.shared, seat, &what, course.place);
-        course.draw(&what, number);
+        let StrandToken { seat, track, .. } = token;
+        let number = draw_as::<Brand>(&self.table.shared, seat, &what, track.place);
+        track.draw(&what, number);
         number
     }
 
@@ -87,10 +87,10 @@ impl Shared {
         ensures table { IsTokenOf self.now token.new }
         ensures taken { result ≡ true → TakesIt (key_of self.now) aim slot token.old.seat.me token.new.seat.me }
         ensures refused { result ≡ false → token.new.seat.me ≡ token.old.seat.me }
-        ensures course { token.new.course ≡ token.old.course }
+        ensures track { token.new.track ≡ token.old.track }
     {
-        let StrandToken { seat, course, .. } = token;
-        take_as::<Brand>(&self.table.shared, seat, slot, aim, course.place)
+        let StrandToken { seat, track, .. } = token;
+        take_as::<Brand>(&self.table.shared, seat, slot, aim, track.place)
     }
 
     /// Puts another cell, or none, where the cell lies whose turn is held, and answers what lay there.
@@ -101,7 +101,7 @@ impl Shared {
         ensures view { view_of token.new ≡ view_of token.old }
         ensures out { (y : _) × (held_by token.old ≡ (cell, y) ∷ rest (held_by token.old)) × (result ≡ cell_in y) }
         ensures slots { held_by token.new ≡ (cell, slot_with new) ∷ rest (held_by token.old) }
-        ensures course { token.new.course ≡ token.old.course }
+        ensures track { token.new.track ≡ token.old.track }
     {
         let slot = match new {
             Some(cell) => Slot::Cell(cell),
@@ -122,7 +122,7 @@ impl Shared {
         ensures view { view_of token.new ≡ view_of token.old }
         ensures out { held_by token.old ≡ (cells_of (key_of self.now), slot_of.Tier result) ∷ rest (held_by token.old) }
         ensures slots { held_by token.new ≡ (cells_of (key_of self.now), slot_of.Empty) ∷ rest (held_by token.old) }
-        ensures course { token.new.course ≡ token.old.course }
+        ensures track { token.new.track ≡ token.old.track }
     {
         let StrandToken { seat, .. } = token;
         match self
@@ -142,7 +142,7 @@ impl Shared {
         ensures table { IsTokenOf self.now token.new }
         ensures view { view_of token.new ≡ view_of token.old }
         ensures slots { held_by token.new ≡ (cells_of (key_of self.now), slot_of.Tier tier) ∷ rest (held_by token.old) }
-        ensures course { token.new.course ≡ token.old.course }
+        ensures track { token.new.track ≡ token.old.track }
     {
         let StrandToken { seat, .. } = token;
         self.table
@@ -151,20 +151,20 @@ impl Shared {
     }
 
     /// Gives the newest turn back, with what lies in its slot.
-    #[tactic(auto, using(crate::proofs::Courses::brought_column, crate::proofs::Courses::brought_gap, crate::proofs::Courses::brought_word))]
+    #[tactic(auto, using(crate::proofs::Tracks::brought_column, crate::proofs::Tracks::brought_gap, crate::proofs::Tracks::brought_word))]
     pub fn give(&self, token: &mut StrandToken, slot: u32, home: Home)
         requires table { IsTokenOf self.now token.old }
         requires there { slot ≤ cells_of (key_of self.now) }
         requires held { (y : _) × Holding token.old slot y × IsWhole (key_of self.now) (view_of token.old).seen (newest_used (view_of token.old).turns) slot y }
-        requires ready { IsReady token.old.course (added_home home) }
+        requires ready { IsReady token.old.track (added_home home) }
         ensures table { IsTokenOf self.now token.new }
         ensures view { view_of token.new ≡ gave_view home (view_of token.old) }
         ensures slots { held_by token.new ≡ rest (held_by token.old) }
-        ensures course { course_of token.new.course ≡ brought home (course_of token.old.course) }
-        ensures ready { (n : ℕ) → IsReady token.old.course (added_home home + n) → IsReady token.new.course n }
+        ensures track { track_of token.new.track ≡ brought home (track_of token.old.track) }
+        ensures ready { (n : ℕ) → IsReady token.old.track (added_home home + n) → IsReady token.new.track n }
     {
-        let StrandToken { seat, course, .. } = token;
-        give_as::<Brand>(&self.table.shared, seat, slot, &home, course.place);
-        course.bring(home);
+        let StrandToken { seat, track, .. } = token;
+        give_as::<Brand>(&self.table.shared, seat, slot, &home, track.place);
+        track.bring(home);
     }
 }

@@ -1,7 +1,7 @@
 //! Gap words, and the stop word.
 ghost use Rattle.std.specs.Prelude.{◌≡◌, ℕ, ◌+◌, ◌<◌, nat_lt, None, Some};
 ghost use Rattle.cw_tree.specs.Nodes.{stamp_of};
-ghost use Rattle.cw_steps.specs.Courses.{course_of, with_word};
+ghost use Rattle.cw_steps.specs.Tracks.{track_of, with_word};
 ghost use Rattle.cw_steps.specs.Places as places;
 ghost use Rattle.cw_steps.specs.Views.{cells_of, halted_view, held_by, key_of, marked_view, told_view, view_of, IsTokenOf};
 
@@ -49,37 +49,37 @@ impl Shared {
     /// Writes the begin stamp of the block at the token's place into the word of the gap that its strand uses.
     pub fn set_gap(&self, token: &mut StrandToken, gap: u32)
         requires table { IsTokenOf self.now token.old }
-        requires gap { (gap ≡ token.old.course.gap) × (gap < (key_of self.now).columns) }
+        requires gap { (gap ≡ token.old.track.gap) × (gap < (key_of self.now).columns) }
         ensures table { IsTokenOf self.now token.new }
-        ensures view { view_of token.new ≡ marked_view (stamp_of (course_of token.old.course).nodes token.old.course.place) (view_of token.old) }
+        ensures view { view_of token.new ≡ marked_view (stamp_of (track_of token.old.track).nodes token.old.track.place) (view_of token.old) }
         ensures slots { held_by token.new ≡ held_by token.old }
-        ensures course { course_of token.new.course ≡ with_word (stamp_of (course_of token.old.course).nodes token.old.course.place) (course_of token.old.course) }
+        ensures track { track_of token.new.track ≡ with_word (stamp_of (track_of token.old.track).nodes token.old.track.place) (track_of token.old.track) }
     {
-        let StrandToken { seat, course, .. } = token;
-        let stamp = course.stamp();
+        let StrandToken { seat, track, .. } = token;
+        let stamp = track.stamp();
         mark_as::<Brand>(
             &self.table.shared,
             seat,
             self.cells,
             gap,
             stamp,
-            course.place,
+            track.place,
         );
-        course.word = stamp;
+        track.word = stamp;
     }
 
     /// Writes 0 into the word of the gap that the token's strand uses.
     pub fn clear_gap(&self, token: &mut StrandToken, gap: u32)
         requires table { IsTokenOf self.now token.old }
-        requires gap { (gap ≡ token.old.course.gap) × (gap < (key_of self.now).columns) }
+        requires gap { (gap ≡ token.old.track.gap) × (gap < (key_of self.now).columns) }
         ensures table { IsTokenOf self.now token.new }
         ensures view { view_of token.new ≡ marked_view 0 (view_of token.old) }
         ensures slots { held_by token.new ≡ held_by token.old }
-        ensures course { course_of token.new.course ≡ with_word 0 (course_of token.old.course) }
+        ensures track { track_of token.new.track ≡ with_word 0 (track_of token.old.track) }
     {
-        let StrandToken { seat, course, .. } = token;
-        mark_as::<Brand>(&self.table.shared, seat, self.cells, gap, 0, course.place);
-        course.word = 0;
+        let StrandToken { seat, track, .. } = token;
+        mark_as::<Brand>(&self.table.shared, seat, self.cells, gap, 0, track.place);
+        track.word = 0;
     }
 
     /// Sets the stop word, and notes the halt.
@@ -88,16 +88,16 @@ impl Shared {
         ensures table { IsTokenOf self.now token.new }
         ensures view { view_of token.new ≡ halted_view halt (view_of token.old) }
         ensures slots { held_by token.new ≡ held_by token.old }
-        ensures course { token.new.course ≡ token.old.course }
+        ensures track { token.new.track ≡ token.old.track }
         ensures noted { token.new.halt ≡ Some halt }
     {
         let StrandToken {
             seat,
-            course,
+            track,
             halt: noted,
             ..
         } = token;
-        halt_as::<Brand>(&self.table.shared, seat, self.cells, halt, course.place);
+        halt_as::<Brand>(&self.table.shared, seat, self.cells, halt, track.place);
         *noted = Some(halt);
     }
 
@@ -107,7 +107,7 @@ impl Shared {
         ensures table { IsTokenOf self.now token.new }
         ensures view { (found : ℕ) × (result ≡ nat_lt 0 found) × (view_of token.new ≡ told_view found (view_of token.old)) }
         ensures slots { held_by token.new ≡ held_by token.old }
-        ensures course { token.new.course ≡ token.old.course }
+        ensures track { token.new.track ≡ token.old.track }
     {
         let StrandToken { seat, .. } = token;
         let word = stop_word(self.cells);
@@ -128,7 +128,7 @@ impl Shared {
         requires version { version ≡ None }
         ensures table { IsTokenOf self.now token.new }
         ensures seat { token.new.seat.me ≡ token.old.seat.me }
-        ensures course { token.new.course ≡ token.old.course }
+        ensures track { token.new.track ≡ token.old.track }
         ensures looks { looks.new ≡ looks.old + 1 }
     {
         let _ = version;

@@ -5,7 +5,7 @@ ghost use Rattle.cw_steps.specs.Places.{all_words};
 mod opening;
 mod reads;
 
-use crate::Course;
+use crate::Track;
 use crate::law::{Board, TokenSeat};
 use cw_tree::Halt;
 
@@ -23,10 +23,10 @@ pub struct Shared {
 #[derive(Drop)]
 pub struct StrandToken {
     pub(crate) seat: TokenSeat,
-    pub(crate) course: Course,
+    pub(crate) track: Track,
     pub(crate) halt: Option<Halt>,
-    ghost column: { seat.me.0.column ≡ course.column },
-    ghost gap: { seat.me.0.gap ≡ course.gap },
-    ghost word: { seat.me.0.word ≡ course.word },
+    ghost column: { seat.me.0.column ≡ track.column },
+    ghost gap: { seat.me.0.gap ≡ track.gap },
+    ghost word: { seat.me.0.word ≡ track.word },
     ghost halt_is: { seat.me.0.halt ≡ halt },
 }

@@ -1,11 +1,11 @@
 //! A new table.
 ghost use Rattle.std.specs.Prelude.{◌≡◌, ◌<◌, [], map, replicate, IfOk};
-ghost use Rattle.cw_steps.specs.Courses.{course_of, fresh_course};
+ghost use Rattle.cw_steps.specs.Tracks.{track_of, fresh_track};
 ghost use Rattle.cw_steps.specs.Places.{all_words};
 ghost use Rattle.cw_steps.specs.Views.{fresh_slot, held_by, key_of, root_view, view_of, IsTokenOf};
 
 use super::{Shared, StrandToken};
-use crate::Course;
+use crate::Track;
 use crate::law::Board;
 use crate::view::{Key, Slot};
 use cw_base::{OutOfMemory, Seq};
@@ -44,7 +44,7 @@ impl Shared {
         requires { 0 < limits.strands }
         ensures table { IfOk result (λ r. IsTokenOf r.0 r.1) }
         ensures key { IfOk result (λ r. key_of r.0 ≡ record { first = init.now; columns = limits.strands; aborts = limits.aborts }) }
-        ensures token { IfOk result (λ r. (view_of r.1 ≡ root_view) × (held_by r.1 ≡ []) × (course_of r.1.course ≡ fresh_course 0 0)) }
+        ensures token { IfOk result (λ r. (view_of r.1 ≡ root_view) × (held_by r.1 ≡ []) × (track_of r.1.track ≡ fresh_track 0 0)) }
     {
         if limits.strands >= MOST_COLUMNS {
             return Err(OutOfMemory);
@@ -52,7 +52,7 @@ impl Shared {
         let Ok(cells) = u32::try_from(init.len()) else {
             return Err(OutOfMemory);
         };
-        let course = Course::new(alloc, 0, 0)?;
+        let track = Track::new(alloc, 0, 0)?;
         let key = Key {
             first: Seq::from_vec(Vec::from_slice(alloc, init)?),
             columns: limits.strands,
@@ -68,7 +68,7 @@ impl Shared {
         };
         let token = StrandToken {
             seat,
-            course,
+            track,
             halt: None,
         };
         Ok((Shared { table, cells }, token))

@@ -1,6 +1,6 @@
 //! What a token shows, and the room that it takes ahead.
 ghost use Rattle.std.specs.Prelude.{◌≡◌, OnOk};
-ghost use Rattle.cw_steps.specs.Courses.{course_of, IsReady};
+ghost use Rattle.cw_steps.specs.Tracks.{track_of, IsReady};
 
 use super::StrandToken;
 use cw_base::OutOfMemory;
@@ -9,48 +9,48 @@ use cw_tree::{Conflict, Halt, Node};
 impl StrandToken {
     /// Takes room for so many nodes, and as many conflicts and forks, before the steps that add them.
     pub fn reserve(&mut self, nodes: u32) -> Result<(), OutOfMemory>
-        ensures ok { OnOk result (IsReady self.new.course nodes) }
-        ensures course { course_of self.new.course ≡ course_of self.old.course }
+        ensures ok { OnOk result (IsReady self.new.track nodes) }
+        ensures track { track_of self.new.track ≡ track_of self.old.track }
         ensures seat { self.new.seat ≡ self.old.seat }
         ensures halt { self.new.halt ≡ self.old.halt }
     {
-        let StrandToken { course, .. } = self;
-        course.reserve(nodes)
+        let StrandToken { track, .. } = self;
+        track.reserve(nodes)
     }
 
     /// The nodes of its own log.
     pub fn nodes(&self) -> &[Node]
-        ensures { result.now ≡ (course_of self.now.course).nodes }
+        ensures { result.now ≡ (track_of self.now.track).nodes }
     {
-        self.course.nodes.as_slice()
+        self.track.nodes.as_slice()
     }
 
     /// The conflicts of its own log.
     pub fn conflicts(&self) -> &[Conflict]
-        ensures { result.now ≡ (course_of self.now.course).conflicts }
+        ensures { result.now ≡ (track_of self.now.track).conflicts }
     {
-        self.course.conflicts.as_slice()
+        self.track.conflicts.as_slice()
     }
 
     /// The node of its log in which the next one goes.
     pub fn place(&self) -> u32
-        ensures { result ≡ (course_of self.now.course).place }
+        ensures { result ≡ (track_of self.now.track).place }
     {
-        self.course.place
+        self.track.place
     }
 
     /// The column of its strand.
     pub fn column(&self) -> u32
-        ensures { result ≡ (course_of self.now.course).column }
+        ensures { result ≡ (track_of self.now.track).column }
     {
-        self.course.column
+        self.track.column
     }
 
     /// The gap that its strand uses.
     pub fn gap(&self) -> u32
-        ensures { result ≡ (course_of self.now.course).gap }
+        ensures { result ≡ (track_of self.now.track).gap }
     {
-        self.course.gap
+        self.track.gap
     }
 
     /// How it was stopped, if it was.

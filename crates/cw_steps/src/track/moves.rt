@@ -1,9 +1,9 @@
 //! What is added to a log.
 ghost use Rattle.std.specs.Prelude.{◌≡◌, ℕ, ◌+◌, IfOk, OnOk};
 ghost use Rattle.cw_tree.specs.Nodes as nodes;
-ghost use Rattle.cw_steps.specs.Courses.{added, added_home, brought, drawn, begun, closed_at, forked_at, fresh_course, made_at, refused_at, course_of, kind_of_access, IsReady};
+ghost use Rattle.cw_steps.specs.Tracks.{added, added_home, brought, drawn, begun, closed_at, forked_at, fresh_track, made_at, refused_at, track_of, kind_of_access, IsReady};
 
-use super::{Course, Stood};
+use super::{Stood, Track};
 use crate::{Draw, Home};
 use cw_base::{OutOfMemory, put};
 use cw_tree::{BlockState, Conflict, Kind, Node};
@@ -41,14 +41,14 @@ fn access_kind(cell: u32, wrote: bool, value: i64) -> Kind
     }
 }
 
-impl Course {
-    /// The course of a strand that has done nothing, in a log of its own.
-    pub(crate) fn new(alloc: Global, column: u32, gap: u32) -> Result<Course, OutOfMemory>
-        ensures { IfOk result (λ c. course_of c ≡ fresh_course column gap) }
+impl Track {
+    /// The track of a strand that has done nothing, in a log of its own.
+    pub(crate) fn new(alloc: Global, column: u32, gap: u32) -> Result<Track, OutOfMemory>
+        ensures { IfOk result (λ c. track_of c ≡ fresh_track column gap) }
     {
         let mut nodes = Vec::with_capacity(alloc, 1)?;
         put(&mut nodes, fresh_node(0, Kind::Strand, 0));
-        Ok(Course {
+        Ok(Track {
             nodes,
             conflicts: Vec::new(alloc),
             strand: 0,
@@ -63,9 +63,9 @@ impl Course {
     /// Takes room for so many nodes, conflicts and forks.
     pub(crate) fn reserve(&mut self, count: u32) -> Result<(), OutOfMemory>
         ensures ok { OnOk result (IsReady self.new count) }
-        ensures same { course_of self.new ≡ course_of self.old }
+        ensures same { track_of self.new ≡ track_of self.old }
     {
-        let Course {
+        let Track {
             nodes,
             conflicts,
             outer,
@@ -82,29 +82,29 @@ impl Course {
 
     fn add(&mut self, kind: Kind, stamp: u64)
         requires { IsReady self.old 1 }
-        ensures course { course_of self.new ≡ made_at (course_of self.old) kind stamp }
+        ensures track { track_of self.new ≡ made_at (track_of self.old) kind stamp }
         ensures ready { (n : ℕ) → IsReady self.old (1 + n) → IsReady self.new n }
     {
-        let Course { nodes, place, .. } = self;
+        let Track { nodes, place, .. } = self;
         put(nodes, fresh_node(*place, kind, stamp));
     }
 
     fn begin(&mut self, stamp: u64)
         requires { IsReady self.old 1 }
-        ensures course { course_of self.new ≡ begun (course_of self.old) stamp }
+        ensures track { track_of self.new ≡ begun (track_of self.old) stamp }
         ensures ready { (n : ℕ) → IsReady self.old (1 + n) → IsReady self.new n }
     {
-        let Course { nodes, place, .. } = self;
+        let Track { nodes, place, .. } = self;
         let block = nodes.len() as u32;
         put(nodes, fresh_node(*place, Kind::Block, stamp));
         *place = block;
     }
 
     fn close(&mut self, state: BlockState, end: u64)
-        ensures course { course_of self.new ≡ closed_at (course_of self.old) state end }
+        ensures track { track_of self.new ≡ closed_at (track_of self.old) state end }
         ensures ready { (n : ℕ) → IsReady self.old n → IsReady self.new n }
     {
-        let Course { nodes, place, .. } = self;
+        let Track { nodes, place, .. } = self;
         *place = match nodes.get_mut(*place as usize) {
             Some(node) => {
                 node.state = state;
@@ -117,10 +117,10 @@ impl Course {
 
     fn fork(&mut self, left: u32, right: u32, gap: u32, stamp: u64)
         requires { IsReady self.old 3 }
-        ensures course { course_of self.new ≡ forked_at (course_of self.old) left right gap stamp }
+        ensures track { track_of self.new ≡ forked_at (track_of self.old) left right gap stamp }
         ensures ready { (n : ℕ) → IsReady self.old (3 + n) → IsReady self.new n }
     {
-        let Course {
+        let Track {
             nodes,
             strand,
             place,
@@ -157,7 +157,7 @@ impl Course {
     /// Adds what a draw shows, with the number that was drawn.
     pub(crate) fn draw(&mut self, what: &Draw, number: u64)
         requires { IsReady self.old (added what.now) }
-        ensures course { course_of self.new ≡ drawn what.now number (course_of self.old) }
+        ensures track { track_of self.new ≡ drawn what.now number (track_of self.old) }
         ensures ready { (n : ℕ) → IsReady self.old (added what.now + n) → IsReady self.new n }
     {
         match *what {
@@ -175,10 +175,10 @@ impl Course {
 
     fn refuse(&mut self, conflict: Conflict)
         requires { IsReady self.old 1 }
-        ensures course { course_of self.new ≡ refused_at (course_of self.old) conflict }
+        ensures track { track_of self.new ≡ refused_at (track_of self.old) conflict }
         ensures ready { (n : ℕ) → IsReady self.old (1 + n) → IsReady self.new n }
     {
-        let Course {
+        let Track {
             nodes,
             conflicts,
             place,
@@ -195,7 +195,7 @@ impl Course {
     /// Adds what comes with a turn that is given back.
     pub(crate) fn bring(&mut self, home: Home)
         requires { IsReady self.old (added_home home) }
-        ensures course { course_of self.new ≡ brought home (course_of self.old) }
+        ensures track { track_of self.new ≡ brought home (track_of self.old) }
         ensures ready { (n : ℕ) → IsReady self.old (added_home home + n) → IsReady self.new n }
     {
         match home {
@@ -207,7 +207,7 @@ impl Course {
 
     /// The stamp of the node at its place.
     pub(crate) fn stamp(&self) -> u64
-        ensures { result ≡ nodes.stamp_of (course_of self.now).nodes (course_of self.now).place }
+        ensures { result ≡ nodes.stamp_of (track_of self.now).nodes (track_of self.now).place }
     {
         match self.nodes.get(self.place as usize) {
             Some(node) => node.stamp,

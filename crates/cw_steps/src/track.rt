@@ -16,7 +16,7 @@ pub struct Stood {
 /// What a token did, from its begin on, and where its strand stands: the strand, the node in which the next one goes, its column, the gap that
 /// it uses and the word of that; and the strands that wait for forks of this log, innermost last.
 #[derive(Drop)]
-pub struct Course {
+pub struct Track {
     pub(crate) nodes: Vec<Node>,
     pub(crate) conflicts: Vec<Conflict>,
     pub(crate) strand: u32,

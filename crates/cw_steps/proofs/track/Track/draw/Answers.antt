@@ -1,6 +1,6 @@
 use Rattle.std.proofs.Common.{◌≡◌, ℕ, ◌+◌, arith, ap, sym, subst}
-use Rattle.cw_steps.specs.Courses.{added, IsReady}
-use Rattle.cw_steps.proofs.course.Course.draw.Goals as goal
+use Rattle.cw_steps.specs.Tracks.{added, IsReady}
+use Rattle.cw_steps.proofs.track.Track.draw.Goals as goal
 
 pub returns-in-Access-clause-ready : goal.returns-in-Access-clause-ready
 returns-in-Access-clause-ready c = subst (λ (m : ℕ). (n : ℕ) → IsReady c.args.self.now (m + n) → IsReady c.add.new.self n) (sym (ap added c.in-Access.is)) c.add.ensures.ready
