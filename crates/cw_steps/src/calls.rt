@@ -80,7 +80,8 @@ impl Shared {
         number
     }
 
-    /// Tries to take the turn of a slot, and with it what lies there. True where it got that; else nothing changed, and somebody had the turn.
+    /// Tries to take the turn of a slot, and with it what lies there. True where it got that; else nothing changed. That somebody had the turn
+    /// then is not stated yet.
     pub fn take(&self, token: &mut StrandToken, slot: u32, aim: Aim) -> bool
         requires table { IsTokenOf self.now token.old }
         requires there { slot ≤ cells_of (key_of self.now) }

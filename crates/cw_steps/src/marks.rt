@@ -115,7 +115,7 @@ impl Shared {
         found > 0
     }
 
-    /// Reads a word, and counts that.
+    /// Reads a word, and counts that. The rule says nothing of gap words yet, so nothing is told of the value.
     pub fn load<K: Ledger>(
         &self,
         token: &mut StrandToken,
