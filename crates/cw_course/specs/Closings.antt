@@ -159,20 +159,6 @@ abbrev pub CoursesFollow : Type 0 → Type 0
 CoursesFollow A =
     (s : Strands A) (cs : Course) → Stops s s.start cs → AreApart (logs_of cs 0 0 0) → IsNumbered (tree_of (logs_of cs 0 0 0)) → HasStates s cs (logs_of cs 0 0 0)
 
--- These states of a tree's nodes are as well states of the nodes in depth-first order, which follow; strands that have ended have ended
--- there, and where no fork is open none is.
-pub record MovedStates {A : Type 0} (s : Strands A) (t : List Node) (before after reached : ℕ → A) : Type 0 where
-  pub new_before : ℕ → A
-  pub new_after : ℕ → A
-  pub new_reached : ℕ → A
-  pub same : (n : ℕ) → n < length t → (new_before (renamed t n) ≡ before n) × (new_after (renamed t n) ≡ after n) × (new_reached (renamed t n) ≡ reached n)
-  pub follows : Follows s (in_order t) new_before new_after new_reached
-  pub ended : (x : ℕ) → x < length t → StrandEnded s t before after reached x → StrandEnded s (in_order t) new_before new_after new_reached (renamed t x)
-  pub shut : (p : ℕ) → p < length t → HasNoOpenFork s t before after reached p → HasNoOpenFork s (in_order t) new_before new_after new_reached (renamed t p)
-
-abbrev pub StrandsStay : Type 0 → Type 0
-StrandsStay A = (s : Strands A) (t : List Node) (before after reached : ℕ → A) → IsNumbered t → Follows s t before after reached → MovedStates s t before after reached
-
 -- Where strands did what they wrote down, and the board is closed so, the record is coherent. A run that stopped for want of memory has none.
 abbrev pub WorkedAreCoherent : Type 0 → Type 0
 WorkedAreCoherent A =

@@ -5,7 +5,7 @@
 //! `proofs/Trails`, for whoever runs strands.
 #![tactic(auto)]
 
-ghost use Rattle.cw_course.specs.Closings.{CoursesFollow, StrandsStay, WorkedAreCoherent};
+ghost use Rattle.cw_course.specs.Closings.{CoursesFollow, WorkedAreCoherent};
 ghost use Rattle.cw_course.specs.Courses.{CoursesGoOn};
 ghost use Rattle.cw_course.specs.Worked.{WorkedCourses};
 
@@ -23,11 +23,6 @@ pub fn courses_go_on<S>()
 /// goes to its end each live strand has ended, and the strand of a fault stands at it.
 pub fn courses_follow<S>()
     ensures { CoursesFollow S }
-{}
-
-/// What strands did is said as well of a tree in depth-first order: its states are those of the renamed nodes.
-pub fn strands_stay<S>()
-    ensures { StrandsStay S }
 {}
 
 /// Logs that strands wrote, each what its strand did, and what a board gives when it is closed with them, are a coherent record.

@@ -1,6 +1,7 @@
 -- The record of a closed run: which closed runs have one, what it says of memory and outputs, and how it says that the run ended.
 use Rattle.std.specs.Prelude.{◌≡◌, ℕ, ℤ, Bool, IsTrue, List, [], ◌∷◌, Option, Some, None}
 use Rattle.cw_strand.specs.Names.{first_memory}
+use Rattle.cw_strand.specs.Strands.{Strands}
 use Rattle.cw_tree.specs.declared.node.Node.{Node}
 use Rattle.cw_tree.specs.declared.access.Entry.{Entry}
 use Rattle.cw_tree.specs.declared.conflict.Conflict.{Conflict}
@@ -9,6 +10,8 @@ use Rattle.cw_tree.specs.declared.closed.Halt.{Halt}
 use Rattle.cw_tree.specs.declared.closed.Halt.TheVariants as stop
 use Rattle.cw_tree.specs.Nodes.{is_strand}
 use Rattle.cw_tree.specs.Walks.{IsNumbered}
+use Rattle.cw_tree.specs.Histories.{IsHistory}
+use Rattle.cw_tree.specs.Refusals.{MayFault, MaySpend}
 use Rattle.cw_tree.specs.InOrder.{in_order, conflicts_in_order, halt_in_order}
 use Rattle.cw_open.specs.Machine.{OpenMachine}
 use Rattle.cw_job.specs.Jobs.{Job}
@@ -16,7 +19,7 @@ use Rattle.cw_job.specs.Room.Strands.{strands_of_job}
 use Rattle.cw_record.specs.declared.record_end.RecordEnd.{RecordEnd}
 use Rattle.cw_record.specs.declared.record_end.RecordEnd.TheVariants.{Finished}
 use Rattle.cw_record.specs.Items.{items}
-use Rattle.cw_record.specs.Coherent.{outputs_shown}
+use Rattle.cw_record.specs.Coherent.{outputs_shown, Follows, EndStands}
 use Rattle.cw_record.specs.ClosedRun.{IsClosedRun, end_after}
 
 -- A run that stopped for want of memory has no record. A strand at which a run stopped is one of its tree.
@@ -57,3 +60,11 @@ pub record IsLeftBy (job : Job) (spent : Bool) (m : OpenMachine) (h : Option Hal
   pub conflicts : c.conflicts ≡ conflicts_in_order m.tree m.conflicts
   pub halt : c.halt ≡ halt_in_order m.tree h
   pub run : IsClosedRun (strands_of_job job) (first_memory job.program.cells) job.limits.aborts m c.journals h spent
+
+-- This is what strands may leave, over a memory with these first values, where each may have that many attempts: the tree is a history, the
+-- run may have stopped so, and each strand did what it wanted and stands as the end says. How they were run is not said.
+pub record AreLeft {A : Type 0} (s : Strands A) (first : List ℤ) (budget : ℕ) (spent : Bool) (c : Closed) : Type 0 where
+  pub history : IsHistory c.tree first c.journals c.conflicts
+  pub faulted : MayFault c.tree c.halt
+  pub spends : MaySpend c.tree c.conflicts budget c.halt
+  pub strands : (before after reached : ℕ → A) × Follows s c.tree before after reached × EndStands s c.tree before after reached (end_left first budget c spent)

@@ -8,6 +8,7 @@ pub mod Plain
 pub mod Replay
 pub mod OneWorker
 pub mod Coherent
+pub mod Moved
 pub mod ClosedRun
 pub mod Built
 pub mod Records

@@ -3,7 +3,7 @@
 //! Contracts cite `specs/Order.antt` (the order of a record, from `specs/Items.antt` and `specs/Listed.antt`), `specs/Replay.antt` (that
 //! one memory does what a record says), `specs/Checking.antt` (what a check says), `specs/Records.antt` (the run of one worker),
 //! `specs/ClosedRun.antt` and `specs/Built.antt` (closed runs and their records), and `specs/Coherent.antt` (what a coherent record is),
-//! `specs/WorkedRecord.antt` and `specs/WorkedEnds.antt` (small records that are, the latter of strands of `specs/Scripts.antt`), and
+//! `specs/Moved.antt` (what strands did, in depth-first order), `specs/WorkedRecord.antt` and `specs/WorkedEnds.antt` (small records that are, the latter of strands of `specs/Scripts.antt`), and
 //! `specs/WorkedClosed.antt` (small closed runs).
 //! Private ones cite `specs/Levels.antt` (how items are
 //! found), `specs/Walked.antt` (what the passes over a tree find), `specs/Plain.antt`
@@ -13,6 +13,7 @@
 
 ghost use Rattle.cw_job.specs.Room.Strands.{StrandState};
 ghost use Rattle.cw_record.specs.ClosedRun.{ClosedAreCoherent};
+ghost use Rattle.cw_record.specs.Moved.{StrandsStay};
 ghost use Rattle.cw_record.specs.WorkedClosed.{ClosedEarly, ClosedLate};
 ghost use Rattle.cw_record.specs.WorkedEnds.{Ends};
 ghost use Rattle.cw_record.specs.WorkedRecord.{Coherent};
@@ -58,4 +59,9 @@ pub fn worked_closed_runs()
 /// The tree of a closed run in depth-first order, with its journals and conflicts, is coherent, whatever its end.
 pub fn closed_runs()
     ensures { ClosedAreCoherent StrandState }
+{}
+
+/// What strands did is said as well of a tree in depth-first order: its states are those of the renamed nodes.
+pub fn strands_stay<S>()
+    ensures { StrandsStay S }
 {}

@@ -7,7 +7,8 @@ ghost use Rattle.cw_tree.specs.InOrder.{in_order};
 ghost use Rattle.cw_tree.specs.Walks.{IsNumbered};
 ghost use Rattle.cw_open.specs.Machine.{OpenMachine};
 ghost use Rattle.cw_job.specs.Jobs.{TakesWords};
-ghost use Rattle.cw_record.specs.Built.{HasRecord, IsLeftBy, end_left};
+ghost use Rattle.cw_job.specs.Room.Strands.{strands_of_job};
+ghost use Rattle.cw_record.specs.Built.{AreLeft, HasRecord, IsLeftBy, end_left};
 ghost use Rattle.cw_record.specs.Order.{order_of};
 ghost use Rattle.cw_record.specs.Records.{BlocksEnded, HasEnded, HasItsOutputs, IsCoherentRun, IsReplayed, IsDepthFirst, IsNumberedDepthFirst};
 
@@ -106,6 +107,10 @@ pub fn build(
     // what a closed run of the program's strands left in depth-first order is coherent, and so numbered
     ensures coherent { IfOk result (λ r. (m : OpenMachine) (h : Option Halt) →
         IsLeftBy (record { program = program; words = words; limits = limits }) spent m h closed → IsCoherentRun r) }
+
+    // and so is what may be left by strands of the program, however they were run
+    ensures followed { IfOk result (λ r.
+        AreLeft (strands_of_job (record { program = program; words = words; limits = limits })) (first_memory program.cells) limits.aborts spent closed → IsCoherentRun r) }
     ensures numbered { IfOk result (λ r. (t : List Node) →
         IsNumbered t → closed.tree ≡ in_order t → IsNumberedDepthFirst r.tree) }
 {

@@ -12,7 +12,6 @@ use Rattle.cw_tree.specs.Nodes.{is_strand}
 use Rattle.cw_tree.specs.Accesses.{is_live}
 use Rattle.cw_tree.specs.Walks.{IsRooted}
 use Rattle.cw_tree.specs.Shape.{PendingLast}
-use Rattle.cw_tree.specs.Refusals.{MayFault, MaySpend}
 use Rattle.cw_tree.specs.InOrder.{renamed, in_order}
 use Rattle.cw_tree.proofs.Walks.There.{strand_there}
 use Rattle.cw_open.proofs.Reordered.Renamed.{each_number, strand_kept, live_renamed}
@@ -23,8 +22,8 @@ use Rattle.cw_record.specs.declared.record_end.RecordEnd.TheVariants as ends
 use Rattle.cw_record.specs.ClosedRun.{end_after}
 use Rattle.cw_record.specs.Built.{memory_left, outputs_left, end_left}
 use Rattle.cw_record.specs.Coherent.{StrandEnded, HasNoOpenFork, Follows, EndStands, IsCoherent}
-use Rattle.cw_record.proofs.ClosedRun.LeftMemory.{memory_is_left}
-use Rattle.cw_record.proofs.ClosedRun.RenamedStrands.{moved, moved_at, follows_at, ended_at}
+use Rattle.cw_record.proofs.ClosedRun.LeftRuns.{followed_coherent}
+use Rattle.cw_record.proofs.ClosedRun.RenamedStrands.{moved, moved_at, follows_at, ended_at, shut_renamed}
 use Rattle.cw_course.specs.Courses.{Course, Goes, Stops, there, size, logs_of}
 use Rattle.cw_course.specs.Closings.{hung, base_of, put_together, tree_of, HasNone, AreApart, bare, FaultsIn, Ends, IsClosing, WorkedAreCoherent}
 use Rattle.cw_course.proofs.Closings.Following.{B, F, R}
@@ -32,7 +31,7 @@ use Rattle.cw_course.proofs.Closings.Trees.{IsTreeOf, all_held, follows, live_en
 use Rattle.cw_course.proofs.Closings.Faulting.{Faults, at_fault}
 use Rattle.cw_course.proofs.Closings.Laying.{laid_tree}
 use Rattle.cw_course.proofs.Closings.Together.{tree_is, faults_in_tree}
-use Rattle.cw_course.proofs.Closings.Renaming.{chain_low, place_renamed, shut_renamed}
+use Rattle.cw_course.proofs.Closings.Renaming.{chain_low, place_renamed}
 
 -- ## Without conflicts
 
@@ -126,7 +125,7 @@ module _ {A : Type 0} (s : Strands A) (first : List ℤ) (budget : ℕ) (all : L
       let U : List Node → Type 0 = λ u. EndStands s u (in_new before) (in_new after) (in_new reached) (ends.Fault (renamed t x) kind) in
       subst U (sym k.tree)
       (subst Q (sym here)
-      (ap s.want (moved_at s t k.numbered before after reached reached d.place inside) ∙ d.stands.wants, shut_renamed t k.numbered s before after reached d.place inside d.stands.shut))
+      (ap s.want (moved_at s t k.numbered before after reached reached d.place inside) ∙ d.stands.wants, shut_renamed s t k.numbered before after reached d.place inside d.stands.shut))
 
   -- ## The record
 
@@ -135,48 +134,28 @@ module _ {A : Type 0} (s : Strands A) (first : List ℤ) (budget : ℕ) (all : L
       let P : List Node → Type 0 = λ u. Follows s u (in_new before) (in_new after) (in_new reached) in
       subst P (sym k.tree) (follows_at s t k.numbered before after reached (follows t rooted s cs shown st))
 
-  abbrev Coherent : Option Halt → Type 0
-  Coherent h = IsCoherent s first budget c.tree c.journals c.conflicts (end_after h false first_left shown_left)
-
-  coherent_at : (h : Option Halt) → c.halt ≡ h → (h ≡ Some Memory → ⊥) → Stops s s.start cs → Stands (end_after h false first_left shown_left) → Coherent h
-  coherent_at None e memory st stands = record {
-    history = k.history;
-    faulted = tt;
-    spent = tt;
-    memory = memory_is_left c.tree first c.journals k.history.journals;
-    strands = (in_new before, in_new after, in_new reached, follows_new st, stands);
-  }
-  coherent_at (Some (Fault x kind)) e memory st stands = record {
-    history = k.history;
-    faulted = subst (MayFault c.tree) e k.faulted;
-    spent = tt;
-    memory = tt;
-    strands = (in_new before, in_new after, in_new reached, follows_new st, stands);
-  }
-  coherent_at (Some (Budget x)) e memory st stands = record {
-    history = k.history;
-    faulted = tt;
-    spent = subst (MaySpend c.tree c.conflicts budget) e k.spent;
-    memory = tt;
-    strands = (in_new before, in_new after, in_new reached, follows_new st, stands);
-  }
-  coherent_at (Some Memory) e memory st stands = absurd (memory refl)
-
-  coherent_from : (h : Option Halt) → c.halt ≡ h → (c.halt ≡ Some Memory → ⊥) → Stops s s.start cs → Stands (end_after h false first_left shown_left) → Coherent c.halt
-  coherent_from h e memory st stands = subst Coherent (sym e) (coherent_at h e (λ f. memory (e ∙ f)) st stands)
+  coherent_from : (h : Option Halt) → c.halt ≡ h → Stops s s.start cs → Stands (end_after h false first_left shown_left) → IsCoherent s first budget c.tree c.journals c.conflicts (end_left first budget c false)
+  coherent_from h e st stands =
+      followed_coherent s first budget false c
+      (record {
+        history = k.history;
+        faulted = k.faulted;
+        spends = k.spent;
+        strands = (in_new before, in_new after, in_new reached, follows_new st, subst (λ g. Stands (end_after g false first_left shown_left)) (sym e) stands);
+      })
 
 coherent_stopped : {A : Type 0} (s : Strands A) (first : List ℤ) (budget : ℕ) (all : List Log) (h : Halt) (column strand : ℕ) (c : Closed) → (k : IsClosing first budget all (Some (record { halt = h; column = column; strand = strand })) c)
     → (cs : Course) (written : map bare all ≡ logs_of cs 0 0 0) → Ends s (Some (record { halt = h; column = column; strand = strand })) cs → (c.halt ≡ Some Memory → ⊥)
     → IsCoherent s first budget c.tree c.journals c.conflicts (end_left first budget c false)
 coherent_stopped s first budget all (Fault y kind) column strand c k cs written end memory =
-    coherent_from s first budget all _ c k cs written _ k.halt memory end.0 (fault_stands s first budget all _ c k cs written kind column strand end.0 end.1)
-coherent_stopped s first budget all (Budget y) column strand c k cs written end memory = coherent_from s first budget all _ c k cs written _ k.halt memory end tt
+    coherent_from s first budget all _ c k cs written _ k.halt end.0 (fault_stands s first budget all _ c k cs written kind column strand end.0 end.1)
+coherent_stopped s first budget all (Budget y) column strand c k cs written end memory = coherent_from s first budget all _ c k cs written _ k.halt end tt
 coherent_stopped s first budget all Memory column strand c k cs written end memory = absurd (memory k.halt)
 
 coherent_so : {A : Type 0} (s : Strands A) (first : List ℤ) (budget : ℕ) (all : List Log) (stop : Option Stop) (c : Closed) (k : IsClosing first budget all stop c) (cs : Course) (written : map bare all ≡ logs_of cs 0 0 0)
     → Ends s stop cs → (c.halt ≡ Some Memory → ⊥) → IsCoherent s first budget c.tree c.journals c.conflicts (end_left first budget c false)
 coherent_so s first budget all None c k cs written (b, g, o) memory =
-    coherent_from s first budget all None c k cs written None k.halt memory (there g) (finished_stands s first budget all None c k cs written k.halt b g o)
+    coherent_from s first budget all None c k cs written None k.halt (there g) (finished_stands s first budget all None c k cs written k.halt b g o)
 coherent_so s first budget all (Some x) c k cs written end memory = coherent_stopped s first budget all x.halt x.column x.strand c k cs written end memory
 
 pub worked_are_coherent : {A : Type 0} → WorkedAreCoherent A

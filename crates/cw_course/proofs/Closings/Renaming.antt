@@ -1,13 +1,11 @@
--- What strands did, and where one stands, in depth-first order.
+-- Where a strand stands, in depth-first order.
 use Rattle.std.proofs.Common.{◌≡◌, ℕ, zero, suc, ◌<◌, List, length, refl, ap, sym, ◌∙◌, subst, arith, true, false, Option, Some, None}
 use Rattle.std.specs.Prelude.{◌||◌, option_map}
-use Rattle.cw_strand.specs.Strands.{Strands}
 use Rattle.cw_tree.specs.declared.node.Node.{Node}
 use Rattle.cw_tree.specs.Nodes.{parent_of, is_strand, is_fork, is_block, is_pending}
 use Rattle.cw_tree.specs.Walks.{IsNumbered}
 use Rattle.cw_tree.specs.Series.{place}
 use Rattle.cw_tree.specs.Shape.{PendingLast}
-use Rattle.cw_tree.specs.Links.{last_child}
 use Rattle.cw_tree.specs.InOrder.{renamed, in_order}
 use Rattle.cw_tree.proofs.NodeKinds.{block_some, pending_block}
 use Rattle.cw_tree.proofs.Walks.There.{pending_there}
@@ -15,9 +13,6 @@ use Rattle.cw_tree.proofs.InOrder.DepthFirst.{IsChild}
 use Rattle.cw_tree.proofs.InOrder.Renumbered.{in_order_numbered}
 use Rattle.cw_tree.proofs.InOrder.Renaming.{root_stays, parent_stays, renamed_some, renamed_apart}
 use Rattle.cw_open.proofs.Reordered.Renamed.{each_number, low, strand_kept, fork_kept, block_kept, pending_kept}
-use Rattle.cw_record.specs.Coherent.{IsJoined, HasNoOpenFork, Follows}
-use Rattle.cw_record.proofs.ClosedRun.RenamedStrands.{moved, moved_at, last_renamed, last_is_child, follows_at, ended_at, joined_at}
-use Rattle.cw_course.specs.Closings.{MovedStates, StrandsStay}
 use Rattle.cw_course.proofs.Closings.Chains.{Chain, here, down, Down, AreInPlaces, place_is}
 
 module _ (t : List Node) (w : IsNumbered t) where
@@ -67,30 +62,3 @@ module _ (t : List Node) (w : IsNumbered t) where
   -- the strand of which this is the place in the one tree stands there in the other
   pub place_renamed : AreInPlaces t → PendingLast new → (x q : ℕ) → x < length t → is_strand t x ≡ true → Down t x q → place new (f x) ≡ f q
   place_renamed held pl x q h is d = place_is new (in_order_numbered t w) pl (held_renamed held) (f x) (f q) (strand_kept t w x h ∙ is) (down_renamed x q h d)
-
-  module _ {A : Type 0} (s : Strands A) (before after reached : ℕ → A) where
-    -- and no fork is open there
-    pub shut_renamed : (p : ℕ) → p < length t → HasNoOpenFork s t before after reached p
-        → HasNoOpenFork s new (moved s t w before after reached before) (moved s t w before after reached after) (moved s t w before after reached reached) (f p)
-    shut_renamed p h shut g e is = by (last_child t p) refl (sym (last_renamed s t w before after reached p h) ∙ e) where
-      by : (o : Option ℕ) → last_child t p ≡ o → option_map f o ≡ Some g → IsJoined s new (moved s t w before after reached before) (moved s t w before after reached after) (moved s t w before after reached reached) g
-      by None q e = absurd (cc e)
-      by (Some j) q e =
-          let same : f j ≡ g = cc e in
-          let l = last_is_child s t w before after reached p j q in
-          let Q : ℕ → Type 0 = λ n. IsJoined s new (moved s t w before after reached before) (moved s t w before after reached after) (moved s t w before after reached reached) n in
-          subst Q same (joined_at s t w before after reached j l (shut j q (sym (fork_kept t w j l) ∙ ap (is_fork new) same ∙ is)))
-
-    pub states_moved : Follows s t before after reached → MovedStates s t before after reached
-    states_moved q = record {
-      new_before = moved s t w before after reached before;
-      new_after = moved s t w before after reached after;
-      new_reached = moved s t w before after reached reached;
-      same = λ n h. (moved_at s t w before after reached before n h, moved_at s t w before after reached after n h, moved_at s t w before after reached reached n h);
-      follows = follows_at s t w before after reached q;
-      ended = ended_at s t w before after reached;
-      shut = shut_renamed;
-    }
-
-pub strands_stay : {A : Type 0} → StrandsStay A
-strands_stay s t before after reached w q = states_moved t w s before after reached q

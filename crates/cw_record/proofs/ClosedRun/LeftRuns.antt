@@ -1,7 +1,8 @@
 -- What a closed run leaves in depth-first order has a record, and a coherent one.
-use Rattle.std.proofs.Common.{◌≡◌, ℤ, List, refl, sym, ◌∙◌, subst, Bool, Option, Some, None}
+use Rattle.std.proofs.Common.{◌≡◌, ℕ, ℤ, List, refl, sym, ◌∙◌, subst, Bool, true, false, Option, Some, None}
 use Rattle.std.proofs.lemmas.Bool.{and_parts}
 use Rattle.cw_strand.specs.Names.{first_memory}
+use Rattle.cw_strand.specs.Strands.{Strands}
 use Rattle.cw_tree.specs.declared.node.Node.{Node}
 use Rattle.cw_tree.specs.declared.conflict.Conflict.{Conflict}
 use Rattle.cw_tree.specs.declared.closed.Closed.{Closed}
@@ -9,14 +10,15 @@ use Rattle.cw_tree.specs.declared.closed.Halt.{Halt}
 use Rattle.cw_tree.specs.declared.closed.Halt.TheVariants as stop
 use Rattle.cw_tree.specs.Nodes.{is_strand}
 use Rattle.cw_tree.specs.Accesses.{is_live}
+use Rattle.cw_tree.specs.Refusals.{MayFault, MaySpend}
 use Rattle.cw_tree.specs.InOrder.{in_order, conflicts_in_order, halt_in_order}
 use Rattle.cw_open.specs.Machine.{OpenMachine}
 use Rattle.cw_open.proofs.Reordered.Leaving.{histories_left}
 use Rattle.cw_job.specs.Jobs.{Job}
 use Rattle.cw_job.specs.Room.Strands.{strands_of_job}
-use Rattle.cw_record.specs.Coherent.{IsCoherent}
+use Rattle.cw_record.specs.Coherent.{Follows, EndStands, IsCoherent}
 use Rattle.cw_record.specs.ClosedRun.{IsClosedRun, end_after}
-use Rattle.cw_record.specs.Built.{HasRecord, IsLeftBy, memory_left, outputs_left, end_left}
+use Rattle.cw_record.specs.Built.{HasRecord, IsLeftBy, AreLeft, memory_left, outputs_left, end_left}
 use Rattle.cw_record.proofs.ClosedRun.LeftMemory.{memory_is_left}
 use Rattle.cw_record.proofs.ClosedRun.Runs.{coherent_end}
 
@@ -55,3 +57,27 @@ module _ (job : Job) (spent : Bool) (m : OpenMachine) (h : Option Halt) (c : Clo
     by (Some (stop.Fault x kind)) e i = (and_parts (is_strand c.tree x) (is_live c.tree x) i.faulted).0
     by (Some (stop.Budget x)) e i = i.spent.strand
     by (Some stop.Memory) e i = absurd (not_for_memory h l.run (sym e ∙ l.halt))
+
+-- What strands may leave is coherent, however they were run.
+module _ {A : Type 0} (s : Strands A) (first : List ℤ) (budget : ℕ) (spent : Bool) (c : Closed) (l : AreLeft s first budget spent c) where
+  abbrev At : Option Halt → Bool → Type 0
+  At h b =
+      MayFault c.tree h → MaySpend c.tree c.conflicts budget h
+      → ((before after reached : ℕ → A) × Follows s c.tree before after reached × EndStands s c.tree before after reached (end_after h b (memory_left first c.journals) (outputs_left c.tree c.conflicts budget)))
+      → IsCoherent s first budget c.tree c.journals c.conflicts (end_after h b (memory_left first c.journals) (outputs_left c.tree c.conflicts budget))
+
+  coherent_at : (h : Option Halt) (b : Bool) → At h b
+  coherent_at None false faulted spends strands = record {
+    history = l.history;
+    faulted = tt;
+    spent = tt;
+    memory = memory_is_left c.tree first c.journals l.history.journals;
+    strands = strands;
+  }
+  coherent_at None true faulted spends strands = record { history = l.history; faulted = tt; spent = tt; memory = tt; strands = strands }
+  coherent_at (Some (stop.Fault x kind)) b faulted spends strands = record { history = l.history; faulted = faulted; spent = tt; memory = tt; strands = strands }
+  coherent_at (Some (stop.Budget x)) b faulted spends strands = record { history = l.history; faulted = tt; spent = spends; memory = tt; strands = strands }
+  coherent_at (Some stop.Memory) b faulted spends strands = record { history = l.history; faulted = tt; spent = tt; memory = tt; strands = strands }
+
+  pub followed_coherent : IsCoherent s first budget c.tree c.journals c.conflicts (end_left first budget c spent)
+  followed_coherent = coherent_at c.halt spent l.faulted l.spends l.strands

@@ -25,7 +25,8 @@ use Rattle.cw_open.proofs.Reordered.Renamed.{each_number, block_kept, strand_kep
 use Rattle.cw_record.specs.Replay.{IsAccessOf}
 use Rattle.cw_tree.specs.Links.{is_child, last_child}
 use Rattle.cw_tree.proofs.NodeKinds.{fork_no_strand}
-use Rattle.cw_record.specs.Coherent.{InSeries, entered, IsForkOf, IsClosed, IsWanted, StrandEnded, alone, joined, IsJoined, Follows}
+use Rattle.cw_record.specs.Coherent.{InSeries, entered, IsForkOf, IsClosed, IsWanted, StrandEnded, alone, joined, IsJoined, HasNoOpenFork, Follows}
+use Rattle.cw_record.specs.Moved.{MovedStates, StrandsStay}
 
 -- ## The last child
 
@@ -208,3 +209,30 @@ module _ {A : Type 0} (s : Strands A) (t : List Node) (w : IsNumbered t) (before
     fork_some : (g : ℕ) → is_fork t g ≡ true → 0 < g
     fork_some zero e = absurd (let root = w.root in cc (root, fork_no_strand t 0 e))
     fork_some (suc g) e = omega arith
+
+  -- ## Together
+
+  -- Where no fork is open in a place, none is there.
+  pub shut_renamed : (p : ℕ) → p < length t → HasNoOpenFork s t before after reached p → HasNoOpenFork s new (moved before) (moved after) (moved reached) (f p)
+  shut_renamed p h shut g e is = by (last_child t p) refl (sym (last_renamed p h) ∙ e) where
+    by : (o : Option ℕ) → last_child t p ≡ o → option_map f o ≡ Some g → IsJoined s new (moved before) (moved after) (moved reached) g
+    by None q e = absurd (cc e)
+    by (Some j) q e =
+        let same : f j ≡ g = cc e in
+        let l = last_is_child p j q in
+        let Q : ℕ → Type 0 = λ n. IsJoined s new (moved before) (moved after) (moved reached) n in
+        subst Q same (joined_at j l (shut j q (sym (fork_kept t w j l) ∙ ap (is_fork new) same ∙ is)))
+
+  states_moved : Follows s t before after reached → MovedStates s t before after reached
+  states_moved q = record {
+    new_before = moved before;
+    new_after = moved after;
+    new_reached = moved reached;
+    same = λ n h. (moved_at before n h, moved_at after n h, moved_at reached n h);
+    follows = follows_at q;
+    ended = ended_at;
+    shut = shut_renamed;
+  }
+
+pub strands_stay : {A : Type 0} → StrandsStay A
+strands_stay s t before after reached w q = states_moved s t w before after reached q

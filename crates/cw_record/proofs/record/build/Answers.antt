@@ -10,7 +10,7 @@ use Rattle.cw_record.specs.Items.{items}
 use Rattle.cw_record.specs.Order.{order_through}
 use Rattle.cw_record.specs.Records.{IsNumberedDepthFirst}
 use Rattle.cw_record.proofs.ClosedRun.LeftEnds.{same_items, end_is, has_outputs}
-use Rattle.cw_record.proofs.ClosedRun.LeftRuns.{left_coherent}
+use Rattle.cw_record.proofs.ClosedRun.LeftRuns.{left_coherent, followed_coherent}
 use Rattle.cw_record.proofs.ClosedRun.NumberedTrees.{numbered_in_order}
 use Rattle.cw_record.proofs.record.build.Goals as goal
 
@@ -47,6 +47,13 @@ returns-clause-coherent c = λ m h left.
     let job : Job = record { program = c.args.program; words = c.args.words; limits = c.args.limits } in
     let P : RecordEnd → Type 0 = IsCoherent (strands_of_job job) (first_memory job.program.cells) job.limits.aborts c.args.closed.tree c.args.closed.journals c.args.closed.conflicts in
     subst P (sym (returns-clause-end c)) (left_coherent job c.args.spent m h c.args.closed left)
+
+pub returns-clause-followed : goal.returns-clause-followed
+returns-clause-followed c = λ left.
+    let job : Job = record { program = c.args.program; words = c.args.words; limits = c.args.limits } in
+    let first = first_memory job.program.cells in
+    let P : RecordEnd → Type 0 = IsCoherent (strands_of_job job) first job.limits.aborts c.args.closed.tree c.args.closed.journals c.args.closed.conflicts in
+    subst P (sym (returns-clause-end c)) (followed_coherent (strands_of_job job) first job.limits.aborts c.args.spent c.args.closed left)
 
 pub returns-clause-numbered : goal.returns-clause-numbered
 returns-clause-numbered c = λ t w e. subst IsNumberedDepthFirst (sym e) (numbered_in_order t w)

@@ -1,5 +1,0 @@
-use Rattle.cw_course.proofs.Closings.Renaming.{strands_stay}
-use Rattle.cw_course.proofs.strands_stay.Goals as goal
-
-pub returns : goal.returns
-returns g c = λ s t before after reached w q. strands_stay s t before after reached w q
