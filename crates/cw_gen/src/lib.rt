@@ -10,6 +10,8 @@ ghost use Rattle.cw_gen.specs.Worked.{Loads};
 
 mod load;
 mod pieces;
+#[cfg(test)]
+mod tests;
 
 pub use load::load_program;
 

@@ -18,6 +18,7 @@ fn number(value: u32) -> Expr
 }
 
 /// Spawns a call.
+#[tactic(auto, using(crate::proofs::Blocks::inner_is))]
 fn spawned(alloc: Global, name: Word, args: Vec<Expr>) -> Result<Stmt, OutOfMemory>
     ensures { IfOk result (λ s. statement_of s ≡ spawn (block (run name (terms_of args.items) ∷ []))) }
 {
@@ -44,10 +45,10 @@ fn transfer(alloc: Global, draws: &mut Lcg) -> Result<Stmt, OutOfMemory>
 /// So many transfers.
 fn transfers(alloc: Global, draws: &mut Lcg, count: u32) -> Result<Vec<Stmt>, OutOfMemory>
     ensures drawn { OnOk result (draws.new ≡ state_after count draws.old) }
-    ensures calls { IfOk result (λ body. block_of body.items ≡ block (map spawned_transfer (transfers count draws.old))) }
+    ensures calls { IfOk result (λ body. map statement_of body.items ≡ map spawned_transfer (transfers count draws.old)) }
 {
     let mut body = Vec::new(alloc);
-    for _ in 0..count {
+    for _drawn in 0..count {
         body.push(transfer(alloc, draws)?)?;
     }
     Ok(body)
@@ -63,6 +64,7 @@ fn group_name(alloc: Global, group: u32) -> Result<Text, OutOfMemory>
 }
 
 /// A group of so many transfers.
+#[tactic(auto, using(crate::proofs::Blocks::block_is))]
 fn group(alloc: Global, draws: &mut Lcg, group: u32, count: u32) -> Result<Item, OutOfMemory>
     ensures drawn { OnOk result (draws.new ≡ state_after count draws.old) }
     ensures function { IfOk result (λ item. declaration_of item ≡ group_function group (transfers count draws.old)) }
@@ -78,6 +80,14 @@ fn group(alloc: Global, draws: &mut Lcg, group: u32, count: u32) -> Result<Item,
     })
 }
 
+/// So many groups have so many transfers.
+fn group_count(count: u32) -> u32
+    requires { count ≤ 20000 }
+    ensures { result ≡ group_count count }
+{
+    (count + 15) / 16
+}
+
 /// All groups of so many transfers.
 fn push_groups(alloc: Global, items: &mut Vec<Item>, count: u32) -> Result<(), OutOfMemory>
     requires { count ≤ 20000 }
@@ -85,7 +95,7 @@ fn push_groups(alloc: Global, items: &mut Vec<Item>, count: u32) -> Result<(), O
         map declaration_of items.old.items ++ map (λ k. group_function k (group k (transfers count count))) (range_with_len 0 (group_count count))) }
 {
     let mut draws = Lcg::new(u64::from(count));
-    for number in 0..count.div_ceil(16) {
+    for number in 0..group_count(count) {
         let size = (count - 16 * number).min(16);
         items.push(group(alloc, &mut draws, number, size)?)?;
     }
@@ -93,6 +103,7 @@ fn push_groups(alloc: Global, items: &mut Vec<Item>, count: u32) -> Result<(), O
 }
 
 /// `fn t(i, j, x) { .. }`
+#[tactic(auto, using(crate::proofs::Blocks::inner_is))]
 fn transfer_function(alloc: Global) -> Result<Item, OutOfMemory>
     ensures { IfOk result (λ item. declaration_of item ≡ transfer_function) }
 {
@@ -150,6 +161,7 @@ fn zero(alloc: Global, text: &[u8]) -> Result<Stmt, OutOfMemory>
 }
 
 /// `while k < 64 { s = s + a[k]; k = k + 1; }`
+#[tactic(auto, using(crate::proofs::Blocks::inner_is))]
 fn sums(alloc: Global) -> Result<Stmt, OutOfMemory>
     ensures { IfOk result (λ s. statement_of s ≡ summing) }
 {
@@ -217,6 +229,6 @@ pub fn load_program(alloc: Global, count: u32) -> Result<Ast, OutOfMemory>
     items.push(accounts(alloc)?)?;
     items.push(transfer_function(alloc)?)?;
     push_groups(alloc, &mut items, count)?;
-    items.push(main_function(alloc, count.div_ceil(16))?)?;
+    items.push(main_function(alloc, group_count(count))?)?;
     Ok(Ast { items })
 }

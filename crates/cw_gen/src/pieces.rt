@@ -50,5 +50,9 @@ pub(crate) fn changed(alloc: Global, text: &[u8], op: Op) -> Result<Stmt, OutOfM
     let sum = binary(alloc, op, account(alloc, text)?, named(alloc, b"x")?)?;
     let at = named(alloc, text)?;
     let name = word(alloc, b"a")?;
-    Ok(Stmt::AssignAt { name, at, value: sum })
+    Ok(Stmt::AssignAt {
+        name,
+        at,
+        value: sum,
+    })
 }
