@@ -1,0 +1,4 @@
+pub mod Blocks
+pub mod Draws
+pub mod Faults
+pub mod Names

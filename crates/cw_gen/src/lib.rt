@@ -1,0 +1,26 @@
+//! The program of a load: a large valid input from a number.
+//! Stands on `cw_base`, `cw_io`, `cw_text` and `cw_strand`.
+//! Contracts cite `specs/Load.antt` (the tree of a load) and `specs/Worked.antt` (its text, for a few).
+#![tactic(auto)]
+
+ghost use Rattle.std.specs.Prelude.{◌≡◌, ◌≤◌, ℕ, None};
+ghost use Rattle.cw_strand.specs.Names.{naming_fault};
+ghost use Rattle.cw_gen.specs.Load.{load_tree};
+ghost use Rattle.cw_gen.specs.Worked.{Loads};
+
+mod load;
+mod pieces;
+#[cfg(test)]
+mod tests;
+
+pub use load::load_program;
+
+/// Small loads are what is read off their texts.
+pub fn worked_loads()
+    ensures { Loads }
+{}
+
+/// No load has a naming fault.
+pub fn loads_have_no_fault()
+    ensures { (n : ℕ) → n ≤ 20000 → naming_fault (load_tree n) ≡ None }
+{}
