@@ -1,3 +1,4 @@
+pub mod Hands
 pub mod Laws
 pub mod LeftFirst
 pub mod Open

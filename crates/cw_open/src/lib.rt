@@ -4,10 +4,13 @@
 //! Contracts cite `specs/Machine.antt` (the state, and where its strands stand), `specs/Steps.antt` (the steps, and what each does),
 //! `specs/Runs.antt` (what each step needs, and runs), `specs/Open.antt` (nodes that are still open), `specs/Laws.antt` (what is true of
 //! every state that a run leads to), `specs/Reads.antt` (what live reads met), `specs/Times.antt` (when stamps are drawn),
-//! `specs/Refused.antt` (what is true of refused accesses), `specs/LeftFirst.antt` (runs in which none is), `specs/Left.antt` (what a run
-//! leaves) and `specs/Reordered.antt` (that it is true in depth-first order); `specs/Worked.antt` and `specs/WorkedTimes.antt` try them.
+//! `specs/Refused.antt` (what is true of refused accesses), `specs/LeftFirst.antt` (runs in which each fork's left strand finishes before
+//! its right one steps: none is refused, and what stands to the left of a stamp is older than it), `specs/Left.antt` (what a run leaves),
+//! `specs/Reordered.antt` (that it is true in depth-first order) and `specs/Hands.antt` (what the steps of others leave of a strand, and of
+//! what it has drawn); `specs/Worked.antt` and `specs/WorkedTimes.antt` try them.
 #![tactic(auto)]
 
+ghost use Rattle.cw_open.specs.Hands.{PlacesPart};
 ghost use Rattle.cw_open.specs.Laws.{AtOnceIsAtAnyTime, BlocksHaveEnded, CellsFit, ClocksAreLatest, DyingRollBack, FreeAreSafe, ListsAreChains, ListsAreLive, ListsHaveAll, ListsRise, OpenAreNested, RefusalsAreTold, StrandsStandAtPlaces, TreesAreSound, VictimsAreAbove};
 ghost use Rattle.cw_open.specs.Left.{HistoriesAreInOrder, HistoriesAreLeft};
 ghost use Rattle.cw_open.specs.LeftFirst.{AtOnceIsWhilePending, LeftFirstAreOlder, LeftFirstHaveFinished, LeftFirstIsUnrefused};
@@ -124,6 +127,11 @@ pub fn stops_are_left_out()
 /// A strand that has spent its budget, and after that made no step, has spent it in depth-first order too.
 pub fn spent_are_in_order()
     ensures spent { SpentAreInOrder }
+{}
+
+/// Two strands that run stand in parallel.
+pub fn places_part()
+    ensures parallel { PlacesPart }
 {}
 
 /// What the definitions say of small runs.
