@@ -1,2 +1,4 @@
+pub mod Alone
 pub mod Apart
 pub mod Beside
+pub mod Drawn

@@ -10,7 +10,7 @@
 //! what it has drawn); `specs/Worked.antt` and `specs/WorkedTimes.antt` try them.
 #![tactic(auto)]
 
-ghost use Rattle.cw_open.specs.Hands.{PlacesPart};
+ghost use Rattle.cw_open.specs.Hands.{DrawnStay, EndStampsStay, NextStampsStay, OthersLeaveAlone, PlacesPart};
 ghost use Rattle.cw_open.specs.Laws.{AtOnceIsAtAnyTime, BlocksHaveEnded, CellsFit, ClocksAreLatest, DyingRollBack, FreeAreSafe, ListsAreChains, ListsAreLive, ListsHaveAll, ListsRise, OpenAreNested, RefusalsAreTold, StrandsStandAtPlaces, TreesAreSound, VictimsAreAbove};
 ghost use Rattle.cw_open.specs.Left.{HistoriesAreInOrder, HistoriesAreLeft};
 ghost use Rattle.cw_open.specs.LeftFirst.{AtOnceIsWhilePending, LeftFirstAreOlder, LeftFirstHaveFinished, LeftFirstIsUnrefused};
@@ -132,6 +132,19 @@ pub fn spent_are_in_order()
 /// Two strands that run stand in parallel.
 pub fn places_part()
     ensures parallel { PlacesPart }
+{}
+
+/// A step of another leaves a strand running where it stands, with the blocks that it began, as free as it was, and rolling back if it did.
+pub fn others_leave_alone()
+    ensures alone { OthersLeaveAlone }
+{}
+
+/// A number that was drawn early stays what it was drawn for, after a step of another that does not bring it: the next stamp at the strand's
+/// place, in time, or the end of its block.
+pub fn drawn_numbers_stay()
+    ensures next { NextStampsStay }
+    ensures drawn { DrawnStay }
+    ensures end { EndStampsStay }
 {}
 
 /// What the definitions say of small runs.
