@@ -116,3 +116,91 @@ MetInTimeStays =
 -- where the newest access of a cell conflicts, and a pending block stands in the way, that is as a conflict tells it
 abbrev pub ConflictsAreTold : Type 0
 ConflictsAreTold = OfEachState (λ first m. (s c : ℕ) (met : Met) → IsTrue (is_running m s) → IsRefused m s c met → IsMet m.tree (place m.tree s) c met × IsNewest m.tree c met)
+
+-- ## A run step by step, with its times
+
+-- the times after steps, one after another
+abbrev pub times_after_all : (ℕ → ℕ) → OpenMachine → List Step → ℕ → ℕ
+times_after_all times m [] = times
+times_after_all times m (e ∷ es) = times_after_all (times_after times m e) (after_open_step m e) es
+
+-- a run whose stamps were drawn in time leads to this state, and its nodes were made, or closed, at these times
+pub record RunsTo (r : Rules) (first : List ℤ) (m : OpenMachine) (times : ℕ → ℕ) : Type 0 where
+  pub steps : List Step
+  pub run : IsRun r (first_machine first) steps
+  pub there : after_all (first_machine first) steps ≡ m
+  pub timely : AreTimely (λ n. 0) (first_machine first) steps
+  pub timed : times_after_all (λ n. 0) (first_machine first) steps ≡ times
+
+-- what is reached so is what is reached in time
+pub record IsInTime (r : Rules) (first : List ℤ) (m : OpenMachine) : Type 0 where
+  pub reached : (times : ℕ → ℕ) → RunsTo r first m times → ReachedInTime r first m
+  pub timed : ReachedInTime r first m → (times : ℕ → ℕ) × RunsTo r first m times
+
+abbrev pub RunsAreInTime : Rules → Type 0
+RunsAreInTime r = (first : List ℤ) (m : OpenMachine) → IsInTime r first m
+
+-- a run goes on by a step that is allowed and in time
+abbrev pub RunsGoOn : Rules → Type 0
+RunsGoOn r =
+    (first : List ℤ) (m : OpenMachine) (times : ℕ → ℕ) (e : Step) → RunsTo r first m times → Allowed r m e → IsTimely times m e
+    → RunsTo r first (after_open_step m e) (times_after times m e)
+
+-- no time is above the clock
+abbrev pub TimesAreLow : Rules → Type 0
+TimesAreLow r = (first : List ℤ) (m : OpenMachine) (times : ℕ → ℕ) → RunsTo r first m times → (n : ℕ) → times n ≤ m.clock
+
+-- a number above the clock may be the next stamp at any place, and was drawn in time; and it may be the end of any block
+pub record IsNextAt (times : ℕ → ℕ) (t : List Node) (p stamp : ℕ) : Type 0 where
+  pub next : IsNextStamp t p stamp
+  pub drawn : IsDrawn times t p stamp
+  pub end : IsEndStamp t p stamp
+
+abbrev pub AheadIsNext : Rules → Type 0
+AheadIsNext r =
+    (first : List ℤ) (m : OpenMachine) (times : ℕ → ℕ) → RunsTo r first m times → (p stamp : ℕ) → p < length m.tree → m.clock < stamp → IsNextAt times m.tree p stamp
+
+-- ## Joins
+
+-- strands l and r finish, each dead or not, and their fork f is joined
+abbrev pub join_steps : (f l r : ℕ) → (left_dead right_dead : Bool) → List Step
+join_steps f l r left_dead right_dead = finishes l left_dead ∷ finishes r right_dead ∷ joins f ∷ []
+
+-- both strands of an open fork run, and stand at themselves
+pub record HaveCome (m : OpenMachine) (f l r : ℕ) : Type 0 where
+  pub fork : IsTrue (is_fork m.tree f && not (has m.joined f))
+  pub strands : children m.tree f ≡ l ∷ r ∷ []
+  pub left : IsTrue (is_running m l && not (in_block m l))
+  pub right : IsTrue (is_running m r && not (in_block m r))
+
+-- the strand that made fork f waits for that alone, and did not stop
+pub record WaitsForAlone (m : OpenMachine) (f : ℕ) : Type 0 where
+  pub alone : (g : ℕ) → IsTrue (is_fork m.tree g) → strand_of m.tree g ≡ strand_of m.tree f → g ≢ f → IsTrue (has m.joined g)
+  pub unstopped : has m.stopped (strand_of m.tree f) ≡ false
+
+-- strands that have come may finish, dead where they are dying, and then their fork may be joined; and so it may however they may finish
+pub record MayJoin (r : Rules) (m : OpenMachine) (f left right : ℕ) : Type 0 where
+  pub as_dying : IsRun r m (join_steps f left right (is_dying m left) (is_dying m right))
+  pub either : (left_dead right_dead : Bool) → Allowed r m (finishes left left_dead) → Allowed r (after_open_step m (finishes left left_dead)) (finishes right right_dead)
+      → IsRun r m (join_steps f left right left_dead right_dead)
+
+abbrev pub StrandsMayJoin : Type 0
+StrandsMayJoin =
+    (asked : List Node → List ℕ → Option ℤ → List ℕ) (first : List ℤ) (m : OpenMachine) → IsReachedBy (at_any_time asked) first m → (f l r : ℕ) → HaveCome m f l r → MayJoin (at_any_time asked) m f l r
+
+-- strand s runs in state k, at place p, with the blocks that it had begun in state m
+pub record RunsAgain (m k : OpenMachine) (s p : ℕ) : Type 0 where
+  pub running : IsTrue (is_running k s)
+  pub place : place k.tree s ≡ p
+  pub begun : begun_in k.tree s ≡ begun_in m.tree s
+
+-- after that the strand that forked runs again, where it forked
+abbrev pub ForkersRunAgain : Type 0
+ForkersRunAgain =
+    OfEachState (λ first m. (f l r : ℕ) (left_dead right_dead : Bool) → HaveCome m f l r → WaitsForAlone m f
+    → RunsAgain m (after_all m (join_steps f l r left_dead right_dead)) (strand_of m.tree f) (parent_of m.tree f))
+
+-- and others are left alone
+abbrev pub JoinsLeaveAlone : Type 0
+JoinsLeaveAlone =
+    OfEachState (λ first m. (f l r s : ℕ) (left_dead right_dead : Bool) → s ≢ l → s ≢ r → IsTrue (is_running m s) → IsLeftAlone m (after_all m (join_steps f l r left_dead right_dead)) s)

@@ -10,7 +10,7 @@
 //! what it has drawn); `specs/Worked.antt` and `specs/WorkedTimes.antt` try them.
 #![tactic(auto)]
 
-ghost use Rattle.cw_open.specs.Hands.{DrawnStay, EndStampsStay, NextStampsStay, OthersLeaveAlone, PlacesPart};
+ghost use Rattle.cw_open.specs.Hands.{AheadIsNext, BeneathIsOwn, ConflictsAreTold, DrawnStay, EndStampsStay, ForkersRunAgain, JoinsLeaveAlone, MetInTimeStays, MetStays, NextStampsStay, NoneConflictsMore, OthersLeaveAlone, PlacesPart, RunsAreInTime, RunsGoOn, StrandsMayJoin, TimesAreLow};
 ghost use Rattle.cw_open.specs.Laws.{AtOnceIsAtAnyTime, BlocksHaveEnded, CellsFit, ClocksAreLatest, DyingRollBack, FreeAreSafe, ListsAreChains, ListsAreLive, ListsHaveAll, ListsRise, OpenAreNested, RefusalsAreTold, StrandsStandAtPlaces, TreesAreSound, VictimsAreAbove};
 ghost use Rattle.cw_open.specs.Left.{HistoriesAreInOrder, HistoriesAreLeft};
 ghost use Rattle.cw_open.specs.LeftFirst.{AtOnceIsWhilePending, LeftFirstAreOlder, LeftFirstHaveFinished, LeftFirstIsUnrefused};
@@ -20,6 +20,13 @@ ghost use Rattle.cw_open.specs.Refused.{AbortedAreVictims, AheadIsTimely, Askers
 ghost use Rattle.cw_open.specs.Spent.{SpentAreInOrder};
 ghost use Rattle.cw_open.specs.Worked.{Beneath, Inside, InnerCommitted, LeftStrands, Outer, Twice};
 ghost use Rattle.cw_open.specs.WorkedTimes.{DrawnEarly, RefusedLate};
+
+/// The rules of the machine whose runs a law is about: what they are is picked where it is used.
+pub trait Ruled {
+    ghost use Rattle.cw_open.specs.Runs.{Rules};
+
+    ghost rules: { Rules };
+}
 
 /// The tree of every state: it is sound, its open nodes are nested, its running strands stand at places, and the clock is at its latest
 /// stamp or after it.
@@ -145,6 +152,40 @@ pub fn drawn_numbers_stay()
     ensures next { NextStampsStay }
     ensures drawn { DrawnStay }
     ensures end { EndStampsStay }
+{}
+
+/// A run in time goes on step by step, with the times of its nodes: none is above the clock, and a number above the clock may be used next, or
+/// as an end, at any place.
+pub fn runs_go_on<R: Ruled>()
+    ensures on { RunsGoOn R.rules }
+    ensures in_time { RunsAreInTime R.rules }
+    ensures low { TimesAreLow R.rules }
+    ensures ahead { AheadIsNext R.rules }
+{}
+
+/// No step makes an access conflict that did not. What a strand met stays as a conflict tells it, and met in time, whatever others do.
+pub fn met_accesses_stay()
+    ensures none_more { NoneConflictsMore }
+    ensures met { MetStays }
+    ensures in_time { MetInTimeStays }
+{}
+
+/// Where the newest access of a cell conflicts, and a pending block stands in the way, that is as a conflict tells it.
+pub fn conflicts_are_told()
+    ensures told { ConflictsAreTold }
+{}
+
+/// Each node beneath the place of a strand is of that strand, or beneath a fork that it made there and that was joined.
+pub fn beneath_is_own()
+    ensures own { BeneathIsOwn }
+{}
+
+/// Where both strands of a fork run and stand at themselves they may finish, and the fork may be joined. Then the strand that forked, where it
+/// waited for that alone, runs again where it forked, with the blocks that it had begun; others are left alone.
+pub fn strands_join()
+    ensures may { StrandsMayJoin }
+    ensures again { ForkersRunAgain }
+    ensures alone { JoinsLeaveAlone }
 {}
 
 /// What the definitions say of small runs.

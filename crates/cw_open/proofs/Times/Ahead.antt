@@ -42,7 +42,7 @@ newest_split (u ∷ []) s e = ([], e)
 newest_split (u ∷ v ∷ us) s e = let z = newest_split (v ∷ us) s e in (u ∷ z.0, ap (λ ns. u ∷ ns) z.1)
 
 -- the last eight of rising accesses are as a conflict tells them
-newest_told : (t : List Node) (c : ℕ) (us : List ℕ) (met : Met) → Rises us → ((v : ℕ) → In v us → HasAccess t c v) → newest us ≡ met.last ∷ [] → met.chain ≡ last_eight us → IsNewest t c met
+pub newest_told : (t : List Node) (c : ℕ) (us : List ℕ) (met : Met) → Rises us → ((v : ℕ) → In v us → HasAccess t c v) → newest us ≡ met.last ∷ [] → met.chain ≡ last_eight us → IsNewest t c met
 newest_told t c us met rises are last chain =
     let (vs, split) = newest_split us met.last last in
     let n : length us ≡ length vs + 1 = ap length split ∙ length-append vs (met.last ∷ []) in
@@ -79,7 +79,7 @@ at_once_told first es run = told_run first (first_machine first) es (state_openi
 
 -- ## Stamps that are drawn when they are used
 
-clock_on : (m : OpenMachine) (e : Step) → m.clock ≤ (after_open_step m e).clock
+pub clock_on : (m : OpenMachine) (e : Step) → m.clock ≤ (after_open_step m e).clock
 clock_on m (forks s stamp) = omega arith
 clock_on m (begins s stamp) = omega arith
 clock_on m (accesses s c w stamp) = omega arith
