@@ -6,4 +6,5 @@ pub mod Refused
 pub mod Reordered
 pub mod Runs
 pub mod Times
+pub mod WorkedHands
 pub mod WorkedTimes

@@ -13,3 +13,4 @@ pub mod Spent
 pub mod Hands
 pub mod Worked
 pub mod WorkedTimes
+pub mod WorkedHands

@@ -7,7 +7,7 @@
 //! `specs/Refused.antt` (what is true of refused accesses), `specs/LeftFirst.antt` (runs in which each fork's left strand finishes before
 //! its right one steps: none is refused, and what stands to the left of a stamp is older than it), `specs/Left.antt` (what a run leaves),
 //! `specs/Reordered.antt` (that it is true in depth-first order) and `specs/Hands.antt` (what the steps of others leave of a strand, and of
-//! what it has drawn); `specs/Worked.antt` and `specs/WorkedTimes.antt` try them.
+//! what it has drawn); `specs/Worked.antt`, `specs/WorkedTimes.antt` and `specs/WorkedHands.antt` try them.
 #![tactic(auto)]
 
 ghost use Rattle.cw_open.specs.Hands.{AheadIsNext, BeneathIsOwn, ConflictsAreTold, DrawnStay, EndStampsStay, ForkersRunAgain, JoinsLeaveAlone, MetInTimeStays, MetStays, NextStampsStay, NoneConflictsMore, OthersLeaveAlone, PlacesPart, RunsAreInTime, RunsGoOn, StrandsMayJoin, TimesAreLow};
@@ -19,6 +19,7 @@ ghost use Rattle.cw_open.specs.Reordered.{CellsStay, EndsStay, FaultsStay, Journ
 ghost use Rattle.cw_open.specs.Refused.{AbortedAreVictims, AheadIsTimely, AskersAreTried, AtOnceIsTold, CommittedAreSafe, ConflictsAreRecorded, DeadGoBack, DyingGoBack, StopsAreLeftOut, ToldIsAtAnyTime};
 ghost use Rattle.cw_open.specs.Spent.{SpentAreInOrder};
 ghost use Rattle.cw_open.specs.Worked.{Beneath, Inside, InnerCommitted, LeftStrands, Outer, Twice};
+ghost use Rattle.cw_open.specs.WorkedHands.{BroughtByOther, TwoHands};
 ghost use Rattle.cw_open.specs.WorkedTimes.{DrawnEarly, RefusedLate};
 
 /// The rules of the machine whose runs a law is about: what they are is picked where it is used.
@@ -203,4 +204,11 @@ pub fn worked_runs()
 pub fn worked_times()
     ensures late { RefusedLate }
     ensures early { DrawnEarly }
+{}
+
+/// What they say of a small run in which two strands step in turn, one of them with a number that it drew early. Where the other brings that
+/// number it is gone.
+pub fn worked_hands()
+    ensures hands { TwoHands }
+    ensures brought { BroughtByOther }
 {}

@@ -11,7 +11,7 @@ use Rattle.cw_open.specs.Runs.{Rules, Allowed, IsRun, IsReachedBy}
 use Rattle.cw_open.specs.Times.{is_changed, times_after, IsTimely, AreTimely, ReachedInTime}
 use Rattle.cw_open.specs.Hands.{times_after_all, RunsTo, RunsAreInTime, RunsGoOn, TimesAreLow, IsNextAt, AheadIsNext}
 use Rattle.cw_open.proofs.Runs.States.{states}
-use Rattle.cw_open.proofs.Times.Ahead.{clock_on}
+use Rattle.cw_open.proofs.Times.Ahead.{AreLow, low_after}
 
 run_more : (r : Rules) (m : OpenMachine) (es : List Step) (e : Step) → IsRun r m es → Allowed r (after_all m es) e → IsRun r m (es ++ e ∷ [])
 run_more r m [] e h a = (a, tt)
@@ -50,18 +50,9 @@ runs_are_in_time r first m = record {
 
 -- ## Times and the clock
 
-abbrev AreLow : (ℕ → ℕ) → OpenMachine → Type 0
-AreLow times m = (n : ℕ) → times n ≤ m.clock
-
-low_more : (times : ℕ → ℕ) (m : OpenMachine) (e : Step) → AreLow times m → AreLow (times_after times m e) (after_open_step m e)
-low_more times m e low n = elim (cases_Bool (is_changed m e n)) [
-  | inl came ↦ omega (arith, ap (λ b. cond b (after_open_step m e).clock (times n)) came)
-  | inr same ↦ omega (arith, ap (λ b. cond b (after_open_step m e).clock (times n)) same, low n, clock_on m e)
-]
-
 low_all : (times : ℕ → ℕ) (m : OpenMachine) (es : List Step) → AreLow times m → AreLow (times_after_all times m es) (after_all m es)
 low_all times m [] low = low
-low_all times m (e ∷ es) low = low_all (times_after times m e) (after_open_step m e) es (low_more times m e low)
+low_all times m (e ∷ es) low = low_all (times_after times m e) (after_open_step m e) es (low_after times m e low)
 
 pub times_are_low : (r : Rules) → TimesAreLow r
 times_are_low r first m times w n =
