@@ -1,6 +1,6 @@
 -- The run with two strands that step in turn.
-use Rattle.std.proofs.Common.{◌≡◌, ℕ, ◌<◌, ◌≤◌, List, [], ◌∷◌, refl, arith, true, false, inl, inr}
-use Rattle.std.specs.Prelude.{◌==◌, ◌&&◌, ◌||◌, not}
+use Rattle.std.proofs.Common.{List, [], ◌∷◌, refl, arith}
+use Rattle.std.specs.Prelude.{◌==◌}
 use Rattle.std.proofs.lemmas.Bool.{eqb-true}
 use Rattle.cw_tree.specs.declared.node.Node.{Node}
 use Rattle.cw_tree.specs.Nodes.{is_fork}
@@ -10,13 +10,10 @@ use Rattle.cw_tree.specs.NextNodes.{IsNextStamp}
 use Rattle.cw_tree.proofs.Worked.Checks.{each_below, implies, implied, all_one}
 use Rattle.cw_tree.proofs.Walks.There.{fork_there}
 use Rattle.cw_open.specs.Steps.{Met, begins, first_machine}
-use Rattle.cw_open.specs.Runs.{IsRun, IsMet, IsRefused, IsReachedBy, at_any_time}
-use Rattle.cw_open.specs.Times.{AreTimely}
+use Rattle.cw_open.specs.Runs.{IsRun, IsMet, at_any_time}
 use Rattle.cw_open.specs.Refused.{IsNewest, as_told}
 use Rattle.cw_open.specs.Hands.{WaitsForAlone}
 use Rattle.cw_open.specs.WorkedHands.{one_cell, led_by, times_of, forked, left_wrote, right_showed, left_ended, met_left, right_read, rejoined, TwoHands, AllNextStampsStay, BroughtByOther}
-use Rattle.cw_open.proofs.Runs.States.{states}
-use Rattle.cw_open.proofs.Times.Ahead.{newest_told}
 use Rattle.cw_open.proofs.WorkedTimes.Checks.{next_stamp, end_stamp, comes_last, drawn, met_in_time, are_timely}
 
 forked_run : IsRun (at_any_time (λ t us w. newest us)) (first_machine one_cell) forked

@@ -3,7 +3,7 @@
 use Rattle.std.specs.Prelude.{◌≡◌, ◌≢◌, ◌⊎◌, ℕ, ℤ, ◌<◌, ◌≤◌, ◌==◌, ◌&&◌, Bool, false, not, IsTrue, List, [], ◌∷◌, length, filter, Option}
 use Rattle.cw_tree.specs.declared.node.Node.{Node}
 use Rattle.cw_tree.specs.Nodes.{parent_of, is_fork, is_pending, all_nodes}
-use Rattle.cw_tree.specs.Walks.{has, is_ancestor, is_above}
+use Rattle.cw_tree.specs.Walks.{has, is_above}
 use Rattle.cw_tree.specs.Series.{strand_of, children, place, parallel}
 use Rattle.cw_tree.specs.AccessStacks.{conflict_at}
 use Rattle.cw_tree.specs.NextNodes.{IsNextStamp, IsEndStamp}

@@ -1,6 +1,6 @@
 -- A small run with two strands that step in turn, one of them with a number that it drew early: what the laws on several hands ask for is so in
 -- it, and what they would say of a number that the step of the other brings is not.
-use Rattle.std.specs.Prelude.{◌≡◌, ◌<◌, ◌≤◌, ℕ, ℤ, List, [], ◌∷◌, ◌++◌, Option, Some, None, true, false, pos}
+use Rattle.std.specs.Prelude.{◌≡◌, ℕ, ℤ, List, [], ◌∷◌, ◌++◌, Some, None, true, false, pos}
 use Rattle.cw_tree.specs.Nodes.{is_pending}
 use Rattle.cw_tree.specs.Walks.{has, is_above}
 use Rattle.cw_tree.specs.Series.{strand_of, place, parallel}
@@ -8,7 +8,7 @@ use Rattle.cw_tree.specs.AccessStacks.{conflict_at}
 use Rattle.cw_tree.specs.NextNodes.{IsNextStamp, IsEndStamp}
 use Rattle.cw_tree.specs.Newest.{newest}
 use Rattle.cw_open.specs.Machine.{OpenMachine, is_running, is_free}
-use Rattle.cw_open.specs.Steps.{Met, Step, forks, begins, accesses, refuses, outputs, commits, finishes, joins, after_open_step, after_all, first_machine}
+use Rattle.cw_open.specs.Steps.{Met, Step, forks, begins, accesses, refuses, outputs, commits, after_open_step, after_all, first_machine}
 use Rattle.cw_open.specs.Runs.{IsMet, IsRefused}
 use Rattle.cw_open.specs.Times.{IsDrawn, IsMetInTime}
 use Rattle.cw_open.specs.Refused.{IsNewest, as_told}

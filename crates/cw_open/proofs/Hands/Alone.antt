@@ -1,5 +1,5 @@
 -- A step of another leaves a running strand where it stands, as free as it was, with the blocks that it began.
-use Rattle.std.proofs.Common.{◌≡◌, ◌≢◌, ℕ, ◌<◌, ◌≤◌, List, [], ◌∷◌, ◌++◌, length, refl, ap, sym, ◌∙◌, subst, arith, Bool, true, false, inl, inr, nat_eq, nat_lt, append-nil}
+use Rattle.std.proofs.Common.{◌≡◌, ℕ, ◌<◌, ◌≤◌, List, [], ◌∷◌, ◌++◌, length, refl, ap, sym, ◌∙◌, subst, arith, Bool, true, false, inl, inr, nat_eq, append-nil}
 use Rattle.std.specs.Prelude.{◌⊎◌, ◌&&◌, ◌||◌, not, unwrap_or, slice_get, All}
 use Rattle.std.specs.List.{list_any}
 use Rattle.std.specs.Option.{option_map_or}
@@ -18,7 +18,7 @@ use Rattle.cw_tree.proofs.NextNodes.Growing.{length_more}
 use Rattle.cw_tree.proofs.Walks.There.{fork_there, strand_there}
 use Rattle.cw_tree.proofs.Walks.Kin.{ancestor_linear}
 use Rattle.cw_tree.proofs.Walks.Ancestors.{above_ancestor, ancestor_le, ancestor_trans}
-use Rattle.cw_open.specs.Machine.{OpenMachine, has_finished, waits, is_running, in_block, falls, is_dying, is_free, leads_back, rolls_back}
+use Rattle.cw_open.specs.Machine.{OpenMachine, has_finished, waits, is_running, in_block, falls, is_dying, leads_back}
 use Rattle.cw_open.specs.Steps.{Step, forks, begins, accesses, refuses, outputs, commits, undoes, aborts, finishes, joins, stops, after_open_step, refusal}
 use Rattle.cw_open.specs.Runs.{Rules, Allowed, at_any_time}
 use Rattle.cw_open.specs.Hands.{is_step_of, brought, begun_in, IsLeftAlone, OthersLeaveAlone}

@@ -1,10 +1,9 @@
 -- Two strands that run stand in parallel.
-use Rattle.std.proofs.Common.{◌≡◌, ◌≢◌, ℕ, ◌<◌, ◌≤◌, ◌+◌, List, length, ap, sym, ◌∙◌, arith, true, false}
+use Rattle.std.proofs.Common.{◌≡◌, ◌≢◌, ℕ, ◌<◌, ◌≤◌, List, length, ap, sym, ◌∙◌, arith, true, false}
 use Rattle.std.proofs.lemmas.Bool.{false_from_ne_true, true_from_ne_false}
 use Rattle.cw_tree.specs.declared.node.Node.{Node}
-use Rattle.cw_tree.specs.Nodes.{parent_of}
 use Rattle.cw_tree.specs.Walks.{IsRooted, is_ancestor}
-use Rattle.cw_tree.specs.Series.{place, parallel, is_before, strand_of}
+use Rattle.cw_tree.specs.Series.{place, parallel, strand_of}
 use Rattle.cw_tree.specs.ForkCounts.{one_if}
 use Rattle.cw_tree.proofs.Walks.Kin.{branch}
 use Rattle.cw_tree.proofs.Walks.Ancestors.{ancestor_le}

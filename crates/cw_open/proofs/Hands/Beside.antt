@@ -1,14 +1,14 @@
 -- What the step of another does to the tree, seen from where a strand stands: nodes come beside it, or a block is closed beside it.
-use Rattle.std.proofs.Common.{◌≡◌, ◌≢◌, ℕ, zero, suc, ◌<◌, ◌≤◌, List, [], ◌∷◌, ◌++◌, length, refl, ap, sym, ◌∙◌, subst, arith, Bool, true, false, Some, inl, inr, nat_eq, nat_lt}
+use Rattle.std.proofs.Common.{◌≡◌, ◌≢◌, ℕ, zero, suc, ◌<◌, ◌≤◌, List, [], ◌∷◌, ◌++◌, length, refl, ap, sym, ◌∙◌, subst, arith, true, false, Some, inl, inr, nat_eq, nat_lt}
 use Rattle.std.specs.Prelude.{◌⊎◌, ◌&&◌, not, ℤ, slice_get}
 use Rattle.std.proofs.lemmas.Bool.{and_parts, cases_eq, not-true, false_from_ne_true, ne_eqb, eq-eqb}
 use Rattle.cw_tree.specs.declared.node.Node.{Node}
-use Rattle.cw_tree.specs.declared.node.Kind.TheVariants.{Strand, Fork, Block, Out, Tried}
+use Rattle.cw_tree.specs.declared.node.Kind.TheVariants.{Block, Out, Tried}
 use Rattle.cw_tree.specs.declared.node.BlockState.{BlockState}
 use Rattle.cw_tree.specs.declared.node.BlockState.TheVariants.{Committed, Aborted}
-use Rattle.cw_tree.specs.Nodes.{is_pending_state, touches_kind, passes, number_in, parent_of, stamp_of, end_of, is_strand, is_fork, is_pending, touches, fresh_node, closed}
-use Rattle.cw_tree.specs.Walks.{IsRooted, lca, is_ancestor, is_above}
-use Rattle.cw_tree.specs.Series.{strand_of, place, parallel, is_before}
+use Rattle.cw_tree.specs.Nodes.{is_pending_state, touches_kind, passes, number_in, stamp_of, end_of, is_strand, is_fork, is_pending, touches, fresh_node, closed}
+use Rattle.cw_tree.specs.Walks.{IsRooted, lca, is_ancestor}
+use Rattle.cw_tree.specs.Series.{strand_of, place, is_before}
 use Rattle.cw_tree.specs.AccessStacks.{access_kind}
 use Rattle.cw_tree.specs.NextNodes.{IsPlace, fork_nodes}
 use Rattle.cw_tree.proofs.Lists.{In}
@@ -16,11 +16,10 @@ use Rattle.cw_tree.proofs.Walks.Climbs.{by_parent}
 use Rattle.cw_tree.proofs.Walks.Ancestors.{ancestor_step}
 use Rattle.cw_tree.proofs.Walks.Meets.{lca_is_meet}
 use Rattle.cw_tree.proofs.Walks.Strands.{strand_of_strand, strand_of_other}
-use Rattle.cw_tree.proofs.Names.Forks.{same_truth}
 use Rattle.cw_tree.proofs.NextNodes.Before.{before_closed}
 use Rattle.cw_tree.proofs.NextNodes.Closing.{closed_other, node_closed, end_closed, rooted_closed}
 use Rattle.cw_tree.proofs.NextNodes.Pending.{end_of_place, pending_closed}
-use Rattle.cw_open.specs.Machine.{OpenMachine, live_value, is_running, in_block, is_dying, is_free, rolls_back}
+use Rattle.cw_open.specs.Machine.{OpenMachine, live_value, is_running, in_block, is_free, rolls_back}
 use Rattle.cw_open.specs.Steps.{Step, forks, begins, accesses, refuses, outputs, commits, undoes, aborts, finishes, joins, stops, after_open_step}
 use Rattle.cw_open.specs.Runs.{Rules, Allowed}
 use Rattle.cw_open.specs.Hands.{is_step_of, brought}

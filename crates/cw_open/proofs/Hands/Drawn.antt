@@ -1,9 +1,9 @@
 -- A number that was drawn early stays what it was drawn for, as others step.
-use Rattle.std.proofs.Common.{◌≡◌, ◌≢◌, ℕ, ◌<◌, ◌≤◌, List, length, refl, ap, sym, ◌∙◌, subst, arith, Bool, true, false, inl, inr}
+use Rattle.std.proofs.Common.{◌≡◌, ◌≢◌, ℕ, ◌<◌, ◌≤◌, List, length, ap, sym, ◌∙◌, subst, arith, true, false, inl, inr}
 use Rattle.std.specs.Prelude.{◌⊎◌, ◌&&◌, ◌||◌, not, ℤ, slice_get}
 use Rattle.std.proofs.lemmas.Bool.{and_parts, and_from, or_cases, cases_lt, false_from_ne_true}
 use Rattle.cw_tree.specs.declared.node.Node.{Node}
-use Rattle.cw_tree.specs.Nodes.{passes, number_in, is_block_kind, is_pending_state, stamp_of, end_of, is_block, is_pending}
+use Rattle.cw_tree.specs.Nodes.{passes, number_in, is_block_kind, is_pending_state, end_of, is_block, is_pending}
 use Rattle.cw_tree.specs.Walks.{is_ancestor, is_above}
 use Rattle.cw_tree.specs.Series.{place, is_before}
 use Rattle.cw_tree.specs.NextNodes.{is_before_at, IsFresh, IsNextStamp, IsEndStamp}

@@ -1,27 +1,27 @@
 -- Both strands of a fork finish, the fork is joined, and the strand that forked runs again where it did.
-use Rattle.std.proofs.Common.{◌≡◌, ◌≢◌, ℕ, ◌<◌, ◌≤◌, ◌+◌, List, [], ◌∷◌, length, refl, ap, sym, ◌∙◌, subst, arith, Bool, true, false, inl, inr, nat_eq}
+use Rattle.std.proofs.Common.{◌≡◌, ◌≢◌, ℕ, ◌<◌, ◌≤◌, List, [], ◌∷◌, length, refl, ap, sym, ◌∙◌, subst, arith, Bool, true, false, inl, inr, nat_eq}
 use Rattle.std.specs.Prelude.{◌⊎◌, ◌&&◌, ◌||◌, not, ℤ, Option, if◌then◌else◌}
 use Rattle.std.specs.List.{list_any, list_all}
 use Rattle.std.proofs.lemmas.Bool.{and_parts, and_from, or_cases, or_left, or_right, cases_eq, not-true, not_from_false, false_from_ne_true, true_from_ne_false, eqb-true, eq-eqb, ne_eqb}
 use Rattle.cw_tree.specs.declared.node.Node.{Node}
 use Rattle.cw_tree.specs.Nodes.{is_block_kind, is_pending_state, parent_of, is_strand, is_fork, is_block, is_pending, all_nodes}
-use Rattle.cw_tree.specs.Walks.{IsRooted, has, lca, is_ancestor, is_above}
-use Rattle.cw_tree.specs.Series.{strand_of, children, place, parallel, is_before}
+use Rattle.cw_tree.specs.Walks.{IsRooted, has, lca, is_ancestor}
+use Rattle.cw_tree.specs.Series.{strand_of, children, place, parallel}
 use Rattle.cw_tree.specs.ForkCounts.{one_if}
-use Rattle.cw_tree.proofs.Lists.{In, any_in, all_from}
+use Rattle.cw_tree.proofs.Lists.{In, any_in}
 use Rattle.cw_tree.proofs.InOrder.DepthFirst.{child_is}
-use Rattle.cw_tree.proofs.Walks.There.{node_there, fork_there, strand_there}
-use Rattle.cw_tree.proofs.Walks.Ancestors.{ancestor_self, ancestor_le, ancestor_past, ancestor_trans, above_ancestor}
-use Rattle.cw_tree.proofs.Walks.Kin.{branch, ancestor_linear, fork_child}
+use Rattle.cw_tree.proofs.Walks.There.{node_there, fork_there}
+use Rattle.cw_tree.proofs.Walks.Ancestors.{ancestor_le, ancestor_past}
+use Rattle.cw_tree.proofs.Walks.Kin.{branch, fork_child}
 use Rattle.cw_tree.proofs.Walks.Meets.{lca_is_meet}
 use Rattle.cw_tree.proofs.Walks.Parting.{series_or_parallel}
 use Rattle.cw_tree.proofs.Walks.Strands.{strand_of_other, strand_of_le, strand_over, strand_innermost, strand_itself}
 use Rattle.cw_tree.proofs.NodeKinds.{strand_no_block, fork_no_strand, fork_no_block, fork_some, pending_block}
 use Rattle.cw_open.specs.Machine.{OpenMachine, has_finished, waits, is_running, in_block, is_dying}
-use Rattle.cw_open.specs.Steps.{Step, finishes, joins, after_open_step, after_all}
+use Rattle.cw_open.specs.Steps.{finishes, after_open_step, after_all}
 use Rattle.cw_open.specs.Runs.{Rules, Allowed, IsRun, left_died, at_any_time}
 use Rattle.cw_open.specs.Open.{is_open}
-use Rattle.cw_open.specs.Hands.{begun_in, join_steps, HaveCome, WaitsForAlone, MayJoin, StrandsMayJoin, RunsAgain, ForkersRunAgain, IsLeftAlone, JoinsLeaveAlone}
+use Rattle.cw_open.specs.Hands.{join_steps, HaveCome, WaitsForAlone, MayJoin, StrandsMayJoin, RunsAgain, ForkersRunAgain, IsLeftAlone, JoinsLeaveAlone}
 use Rattle.cw_open.proofs.Open.Trees.{IsWell}
 use Rattle.cw_open.proofs.Open.Standing.{StandsAt, stands_at, open_over, open_last, open_block, pending_open, runs}
 use Rattle.cw_open.proofs.Laws.Named.{strand_is}

@@ -1,10 +1,10 @@
 -- What an access met stays what a conflict tells of it, and no step makes an access conflict that did not.
-use Rattle.std.proofs.Common.{◌≡◌, ◌≢◌, ℕ, ◌<◌, ◌≤◌, List, length, refl, ap, sym, ◌∙◌, subst, arith, Bool, true, false, inl, inr}
-use Rattle.std.specs.Prelude.{◌⊎◌, ◌&&◌, not, ℤ, Option, All}
+use Rattle.std.proofs.Common.{◌≡◌, ℕ, ◌<◌, ◌≤◌, List, length, refl, ap, sym, ◌∙◌, subst, arith, true, false, inl, inr}
+use Rattle.std.specs.Prelude.{◌⊎◌, ◌&&◌, not, ℤ, Option}
 use Rattle.std.proofs.lemmas.Bool.{and_parts, and_from, cases_Bool}
 use Rattle.std.proofs.lemmas.List.Elements.{All-weaker}
 use Rattle.cw_tree.specs.declared.node.Node.{Node}
-use Rattle.cw_tree.specs.Nodes.{is_block_kind, touches_kind, stamp_of, end_of, is_block, is_pending, touches}
+use Rattle.cw_tree.specs.Nodes.{is_block_kind, touches_kind, stamp_of, is_block, is_pending, touches}
 use Rattle.cw_tree.specs.Walks.{IsRooted, is_ancestor, is_above}
 use Rattle.cw_tree.specs.Series.{place, parallel}
 use Rattle.cw_tree.specs.Accesses.{HasAccess}

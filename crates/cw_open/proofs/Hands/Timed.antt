@@ -1,15 +1,12 @@
 -- A run goes on by one step in time; no time is above the clock, and a number above it may be used anywhere.
-use Rattle.std.proofs.Common.{◌≡◌, ℕ, ◌<◌, ◌≤◌, ◌+◌, List, [], ◌∷◌, ◌++◌, length, refl, ap, sym, ◌∙◌, subst, arith, Bool, true, false, cond, inl, inr}
-use Rattle.std.specs.Prelude.{ℤ}
-use Rattle.std.proofs.lemmas.Bool.{cases_Bool}
-use Rattle.cw_tree.specs.declared.node.Node.{Node}
+use Rattle.std.proofs.Common.{◌≡◌, ℕ, ◌<◌, List, [], ◌∷◌, ◌++◌, length, refl, ap, sym, ◌∙◌, subst, arith}
 use Rattle.cw_tree.specs.Nodes.{stamp_of, end_of}
 use Rattle.cw_tree.specs.NextNodes.{IsNextStamp, IsEndStamp}
 use Rattle.cw_open.specs.Machine.{OpenMachine}
 use Rattle.cw_open.specs.Steps.{Step, after_open_step, after_all, first_machine}
 use Rattle.cw_open.specs.Runs.{Rules, Allowed, IsRun, IsReachedBy}
-use Rattle.cw_open.specs.Times.{is_changed, times_after, IsTimely, AreTimely, ReachedInTime}
-use Rattle.cw_open.specs.Hands.{times_after_all, RunsTo, RunsAreInTime, RunsGoOn, TimesAreLow, IsNextAt, AheadIsNext}
+use Rattle.cw_open.specs.Times.{times_after, IsTimely, AreTimely}
+use Rattle.cw_open.specs.Hands.{times_after_all, RunsAreInTime, RunsGoOn, TimesAreLow, AheadIsNext}
 use Rattle.cw_open.proofs.Runs.States.{states}
 use Rattle.cw_open.proofs.Times.Ahead.{AreLow, low_after}
 

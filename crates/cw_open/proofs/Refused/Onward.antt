@@ -1,7 +1,7 @@
 -- A tree that goes on from another: what came, and what was closed, came after what was there. Times are those of nodes: the clock when one
 -- was made, or closed.
 use Rattle.std.proofs.Common.{◌≡◌, ℕ, ◌<◌, ◌≤◌, List, length, refl, ap, sym, ◌∙◌, arith, true, false, Option, Some, None, inl, inr}
-use Rattle.std.specs.Prelude.{◌⊎◌, ◌&&◌, not, unwrap_or, option_map}
+use Rattle.std.specs.Prelude.{◌⊎◌, ◌&&◌, not, option_map}
 use Rattle.std.proofs.lemmas.Bool.{and_parts, and_from, cases_lt, cases_Bool, false_from_ne_true}
 use Rattle.std.proofs.lemmas.List.Elements.{All-weaker}
 use Rattle.cw_tree.specs.declared.node.Node.{Node}
@@ -10,7 +10,7 @@ use Rattle.cw_tree.specs.declared.node.Kind.TheVariants.{Strand, Fork, Block, Re
 use Rattle.cw_tree.specs.declared.node.BlockState.{BlockState}
 use Rattle.cw_tree.specs.declared.conflict.Conflict.{Conflict}
 use Rattle.cw_tree.specs.Nodes.{is_block_kind, is_pending_state, tries_kind, touches_kind, parent_of, stamp_of, end_of, is_fork, is_block, is_pending, is_aborted, touches, tries}
-use Rattle.cw_tree.specs.Walks.{IsRooted, above, lca, is_ancestor, is_above, outermost}
+use Rattle.cw_tree.specs.Walks.{IsRooted, above, is_above, outermost}
 use Rattle.cw_tree.specs.Series.{parallel, is_before}
 use Rattle.cw_tree.specs.Shape.{PendingLast}
 use Rattle.cw_tree.specs.Attempts.{tried_cell, attempt_of}
@@ -19,10 +19,9 @@ use Rattle.cw_tree.specs.Refusals.{outermost_apart, IsRefusal}
 use Rattle.cw_tree.proofs.Walks.There.{node_there}
 use Rattle.cw_tree.proofs.Walks.Kin.{in_above, before_of}
 use Rattle.cw_tree.proofs.Walks.Ancestors.{ancestor_self, above_ancestor, ancestor_le}
-use Rattle.cw_tree.proofs.Walks.Meets.{lca_is_meet}
-use Rattle.cw_tree.proofs.NextNodes.Kept.{above_kept, find_path_kept}
+use Rattle.cw_tree.proofs.NextNodes.Kept.{above_kept}
 use Rattle.cw_tree.proofs.NodeKinds.{node_tells}
-use Rattle.cw_open.proofs.Open.Staying.{Stays, keeps, above_stays, ancestor_stays, parallel_stays}
+use Rattle.cw_open.proofs.Open.Staying.{Stays, keeps, above_stays, parallel_stays}
 use Rattle.cw_open.proofs.Refused.Victims.{outermost_in}
 use Rattle.cw_open.proofs.Refused.Attempted.{IsElder, attempt_stays, outermost_agrees}
 
