@@ -132,15 +132,24 @@ pub record RunsTo (r : Rules) (first : List ℤ) (m : OpenMachine) (times : ℕ 
   pub timely : AreTimely (λ n. 0) (first_machine first) steps
   pub timed : times_after_all (λ n. 0) (first_machine first) steps ≡ times
 
--- what is reached so is what is reached in time
+-- what is reached so is what is reached in time, and is reached where accesses may be refused at any time
 pub record IsInTime (r : Rules) (first : List ℤ) (m : OpenMachine) : Type 0 where
   pub reached : (times : ℕ → ℕ) → RunsTo r first m times → ReachedInTime r first m
   pub timed : ReachedInTime r first m → (times : ℕ → ℕ) × RunsTo r first m times
+  pub any_time : (times : ℕ → ℕ) → RunsTo r first m times → IsReachedBy (at_any_time r.asked) first m
 
 abbrev pub RunsAreInTime : Rules → Type 0
 RunsAreInTime r = (first : List ℤ) (m : OpenMachine) → IsInTime r first m
 
--- a run goes on by a step that is allowed and in time
+-- so the laws on steps are of what a rule allows, whatever it asks of a refusal
+abbrev pub AllowedAtAnyTime : Rules → Type 0
+AllowedAtAnyTime r = (m : OpenMachine) (e : Step) → Allowed r m e → Allowed (at_any_time r.asked) m e
+
+-- a run begins before the first step, with no time yet
+abbrev pub RunsBegin : Rules → Type 0
+RunsBegin r = (first : List ℤ) → RunsTo r first (first_machine first) (λ n. 0)
+
+-- it goes on by a step that is allowed and in time
 abbrev pub RunsGoOn : Rules → Type 0
 RunsGoOn r =
     (first : List ℤ) (m : OpenMachine) (times : ℕ → ℕ) (e : Step) → RunsTo r first m times → Allowed r m e → IsTimely times m e

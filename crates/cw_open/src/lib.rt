@@ -10,7 +10,7 @@
 //! what it has drawn); `specs/Worked.antt`, `specs/WorkedTimes.antt` and `specs/WorkedHands.antt` try them.
 #![tactic(auto)]
 
-ghost use Rattle.cw_open.specs.Hands.{AheadIsNext, BeneathIsOwn, ConflictsAreTold, DrawnStay, EndStampsStay, ForkersRunAgain, JoinsLeaveAlone, MetInTimeStays, MetStays, NextStampsStay, NoneConflictsMore, OthersLeaveAlone, PlacesPart, RunsAreInTime, RunsGoOn, StrandsMayJoin, TimesAreLow};
+ghost use Rattle.cw_open.specs.Hands.{AheadIsNext, AllowedAtAnyTime, BeneathIsOwn, ConflictsAreTold, DrawnStay, EndStampsStay, ForkersRunAgain, JoinsLeaveAlone, MetInTimeStays, MetStays, NextStampsStay, NoneConflictsMore, OthersLeaveAlone, PlacesPart, RunsAreInTime, RunsBegin, RunsGoOn, StrandsMayJoin, TimesAreLow};
 ghost use Rattle.cw_open.specs.Laws.{AtOnceIsAtAnyTime, BlocksHaveEnded, CellsFit, ClocksAreLatest, DyingRollBack, FreeAreSafe, ListsAreChains, ListsAreLive, ListsHaveAll, ListsRise, OpenAreNested, RefusalsAreTold, StrandsStandAtPlaces, TreesAreSound, VictimsAreAbove};
 ghost use Rattle.cw_open.specs.Left.{HistoriesAreInOrder, HistoriesAreLeft};
 ghost use Rattle.cw_open.specs.LeftFirst.{AtOnceIsWhilePending, LeftFirstAreOlder, LeftFirstHaveFinished, LeftFirstIsUnrefused};
@@ -22,12 +22,7 @@ ghost use Rattle.cw_open.specs.Worked.{Beneath, Inside, InnerCommitted, LeftStra
 ghost use Rattle.cw_open.specs.WorkedHands.{BroughtByOther, TwoHands};
 ghost use Rattle.cw_open.specs.WorkedTimes.{DrawnEarly, RefusedLate};
 
-/// The rules of the machine whose runs a law is about: what they are is picked where it is used.
-pub trait Ruled {
-    ghost use Rattle.cw_open.specs.Runs.{Rules};
-
-    ghost rules: { Rules };
-}
+use std::marker::Brand;
 
 /// The tree of every state: it is sound, its open nodes are nested, its running strands stand at places, and the clock is at its latest
 /// stamp or after it.
@@ -155,10 +150,25 @@ pub fn drawn_numbers_stay()
     ensures end { EndStampsStay }
 {}
 
+/// The rules of the machine whose runs a law is about: a call picks them.
+pub trait Ruled {
+    ghost use Rattle.cw_open.specs.Runs.{Rules};
+
+    ghost rules: { Rules };
+}
+
+impl Ruled for Brand {
+    ghost use Rattle.cw_open.specs.Runs.{at_once};
+
+    ghost rules = { at_once };
+}
+
 /// A run in time goes on step by step, with the times of its nodes: none is above the clock, and a number above the clock may be used next, or
 /// as an end, at any place.
 pub fn runs_go_on<R: Ruled>()
+    ensures begin { RunsBegin R.rules }
     ensures on { RunsGoOn R.rules }
+    ensures allowed { AllowedAtAnyTime R.rules }
     ensures in_time { RunsAreInTime R.rules }
     ensures low { TimesAreLow R.rules }
     ensures ahead { AheadIsNext R.rules }

@@ -4,10 +4,10 @@ use Rattle.cw_tree.specs.Nodes.{stamp_of, end_of}
 use Rattle.cw_tree.specs.NextNodes.{IsNextStamp, IsEndStamp}
 use Rattle.cw_open.specs.Machine.{OpenMachine}
 use Rattle.cw_open.specs.Steps.{Step, after_open_step, after_all, first_machine}
-use Rattle.cw_open.specs.Runs.{Rules, Allowed, IsRun, IsReachedBy}
+use Rattle.cw_open.specs.Runs.{Rules, Allowed, IsRun, IsReachedBy, at_any_time}
 use Rattle.cw_open.specs.Times.{times_after, IsTimely, AreTimely}
-use Rattle.cw_open.specs.Hands.{times_after_all, RunsAreInTime, RunsGoOn, TimesAreLow, AheadIsNext}
-use Rattle.cw_open.proofs.Runs.States.{states}
+use Rattle.cw_open.specs.Hands.{times_after_all, RunsAreInTime, RunsBegin, RunsGoOn, TimesAreLow, AheadIsNext}
+use Rattle.cw_open.proofs.Runs.States.{by_rules, at_any_step, states}
 use Rattle.cw_open.proofs.Times.Ahead.{AreLow, low_after}
 
 run_more : (r : Rules) (m : OpenMachine) (es : List Step) (e : Step) → IsRun r m es → Allowed r (after_all m es) e → IsRun r m (es ++ e ∷ [])
@@ -26,6 +26,9 @@ times_more : (times : ℕ → ℕ) (m : OpenMachine) (es : List Step) (e : Step)
 times_more times m [] e = refl
 times_more times m (x ∷ es) e = times_more (times_after times m x) (after_open_step m x) es e
 
+pub runs_begin : (r : Rules) → RunsBegin r
+runs_begin r first = record { steps = []; run = tt; there = refl; timely = tt; timed = refl }
+
 pub runs_go_on : (r : Rules) → RunsGoOn r
 runs_go_on r first m times e w a b =
     let P : OpenMachine → Type 0 = λ z. Allowed r z e in
@@ -42,6 +45,7 @@ runs_go_on r first m times e w a b =
 pub runs_are_in_time : (r : Rules) → RunsAreInTime r
 runs_are_in_time r first m = record {
   reached = λ times w. record { steps = w.steps; run = w.run; there = w.there; timely = w.timely };
+  any_time = λ times w. by_rules r (at_any_time r.asked) first (at_any_step r) m (record { steps = w.steps; run = w.run; there = w.there });
   timed = λ w. (times_after_all (λ n. 0) (first_machine first) w.steps, record { steps = w.steps; run = w.run; there = w.there; timely = w.timely; timed = refl });
 }
 
