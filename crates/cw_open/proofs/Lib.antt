@@ -1,3 +1,4 @@
+pub mod Hands
 pub mod Laws
 pub mod LeftFirst
 pub mod Open
@@ -5,4 +6,5 @@ pub mod Refused
 pub mod Reordered
 pub mod Runs
 pub mod Times
+pub mod WorkedHands
 pub mod WorkedTimes

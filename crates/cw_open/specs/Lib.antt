@@ -10,5 +10,7 @@ pub mod Reads
 pub mod Left
 pub mod Reordered
 pub mod Spent
+pub mod Hands
 pub mod Worked
 pub mod WorkedTimes
+pub mod WorkedHands

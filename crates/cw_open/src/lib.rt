@@ -4,10 +4,13 @@
 //! Contracts cite `specs/Machine.antt` (the state, and where its strands stand), `specs/Steps.antt` (the steps, and what each does),
 //! `specs/Runs.antt` (what each step needs, and runs), `specs/Open.antt` (nodes that are still open), `specs/Laws.antt` (what is true of
 //! every state that a run leads to), `specs/Reads.antt` (what live reads met), `specs/Times.antt` (when stamps are drawn),
-//! `specs/Refused.antt` (what is true of refused accesses), `specs/LeftFirst.antt` (runs in which none is), `specs/Left.antt` (what a run
-//! leaves) and `specs/Reordered.antt` (that it is true in depth-first order); `specs/Worked.antt` and `specs/WorkedTimes.antt` try them.
+//! `specs/Refused.antt` (what is true of refused accesses), `specs/LeftFirst.antt` (runs in which each fork's left strand finishes before
+//! its right one steps: none is refused, and what stands to the left of a stamp is older than it), `specs/Left.antt` (what a run leaves),
+//! `specs/Reordered.antt` (that it is true in depth-first order) and `specs/Hands.antt` (what the steps of others leave of a strand, and of
+//! what it has drawn); `specs/Worked.antt`, `specs/WorkedTimes.antt` and `specs/WorkedHands.antt` try them.
 #![tactic(auto)]
 
+ghost use Rattle.cw_open.specs.Hands.{AheadIsNext, AllowedAtAnyTime, BeneathIsOwn, ConflictsAreTold, DrawnStay, EndStampsStay, ForkersRunAgain, JoinsLeaveAlone, MetInTimeStays, MetStays, NextStampsStay, NoneConflictsMore, OthersLeaveAlone, PlacesPart, RunsAreInTime, RunsBegin, RunsGoOn, StrandsMayJoin, TimesAreLow};
 ghost use Rattle.cw_open.specs.Laws.{AtOnceIsAtAnyTime, BlocksHaveEnded, CellsFit, ClocksAreLatest, DyingRollBack, FreeAreSafe, ListsAreChains, ListsAreLive, ListsHaveAll, ListsRise, OpenAreNested, RefusalsAreTold, StrandsStandAtPlaces, TreesAreSound, VictimsAreAbove};
 ghost use Rattle.cw_open.specs.Left.{HistoriesAreInOrder, HistoriesAreLeft};
 ghost use Rattle.cw_open.specs.LeftFirst.{AtOnceIsWhilePending, LeftFirstAreOlder, LeftFirstHaveFinished, LeftFirstIsUnrefused};
@@ -16,7 +19,10 @@ ghost use Rattle.cw_open.specs.Reordered.{CellsStay, EndsStay, FaultsStay, Journ
 ghost use Rattle.cw_open.specs.Refused.{AbortedAreVictims, AheadIsTimely, AskersAreTried, AtOnceIsTold, CommittedAreSafe, ConflictsAreRecorded, DeadGoBack, DyingGoBack, StopsAreLeftOut, ToldIsAtAnyTime};
 ghost use Rattle.cw_open.specs.Spent.{SpentAreInOrder};
 ghost use Rattle.cw_open.specs.Worked.{Beneath, Inside, InnerCommitted, LeftStrands, Outer, Twice};
+ghost use Rattle.cw_open.specs.WorkedHands.{BroughtByOther, TwoHands};
 ghost use Rattle.cw_open.specs.WorkedTimes.{DrawnEarly, RefusedLate};
+
+use std::marker::Brand;
 
 /// The tree of every state: it is sound, its open nodes are nested, its running strands stand at places, and the clock is at its latest
 /// stamp or after it.
@@ -126,6 +132,73 @@ pub fn spent_are_in_order()
     ensures spent { SpentAreInOrder }
 {}
 
+/// Two strands that run stand in parallel.
+pub fn places_part()
+    ensures parallel { PlacesPart }
+{}
+
+/// A step of another leaves a strand running where it stands, with the blocks that it began, as free as it was, and rolling back if it did.
+pub fn others_leave_alone()
+    ensures alone { OthersLeaveAlone }
+{}
+
+/// A number that was drawn early stays what it was drawn for, after a step of another that does not bring it: the next stamp at the strand's
+/// place, in time, or the end of its block.
+pub fn drawn_numbers_stay()
+    ensures next { NextStampsStay }
+    ensures drawn { DrawnStay }
+    ensures end { EndStampsStay }
+{}
+
+/// The rules of the machine whose runs a law is about: a call picks them.
+pub trait Ruled {
+    ghost use Rattle.cw_open.specs.Runs.{Rules};
+
+    ghost rules: { Rules };
+}
+
+impl Ruled for Brand {
+    ghost use Rattle.cw_open.specs.Runs.{at_once};
+
+    ghost rules = { at_once };
+}
+
+/// A run in time goes on step by step, with the times of its nodes: none is above the clock, and a number above the clock may be used next, or
+/// as an end, at any place.
+pub fn runs_go_on<R: Ruled>()
+    ensures begin { RunsBegin R.rules }
+    ensures on { RunsGoOn R.rules }
+    ensures allowed { AllowedAtAnyTime R.rules }
+    ensures in_time { RunsAreInTime R.rules }
+    ensures low { TimesAreLow R.rules }
+    ensures ahead { AheadIsNext R.rules }
+{}
+
+/// No step makes an access conflict that did not. What a strand met stays as a conflict tells it, and met in time, whatever others do.
+pub fn met_accesses_stay()
+    ensures none_more { NoneConflictsMore }
+    ensures met { MetStays }
+    ensures in_time { MetInTimeStays }
+{}
+
+/// Where the newest access of a cell conflicts, and a pending block stands in the way, that is as a conflict tells it.
+pub fn conflicts_are_told()
+    ensures told { ConflictsAreTold }
+{}
+
+/// Each node beneath the place of a strand is of that strand, or beneath a fork that it made there and that was joined.
+pub fn beneath_is_own()
+    ensures own { BeneathIsOwn }
+{}
+
+/// Where both strands of a fork run and stand at themselves they may finish, and the fork may be joined. Then the strand that forked, where it
+/// waited for that alone, runs again where it forked, with the blocks that it had begun; others are left alone.
+pub fn strands_join()
+    ensures may { StrandsMayJoin }
+    ensures again { ForkersRunAgain }
+    ensures alone { JoinsLeaveAlone }
+{}
+
 /// What the definitions say of small runs.
 pub fn worked_runs()
     ensures inside { Inside }
@@ -141,4 +214,11 @@ pub fn worked_runs()
 pub fn worked_times()
     ensures late { RefusedLate }
     ensures early { DrawnEarly }
+{}
+
+/// What they say of a small run in which two strands step in turn, one of them with a number that it drew early. Where the other brings that
+/// number it is gone.
+pub fn worked_hands()
+    ensures hands { TwoHands }
+    ensures brought { BroughtByOther }
 {}

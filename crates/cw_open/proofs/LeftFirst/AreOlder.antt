@@ -1,13 +1,13 @@
 -- Where left strands go first, what stands to the left of a stamp is older.
 use Rattle.std.proofs.Common.{◌≡◌, ℕ, suc, ◌<◌, ◌≤◌, List, [], ◌∷◌, ◌++◌, length, refl, ap, sym, ◌∙◌, subst, arith, true, false, inl, inr}
-use Rattle.std.specs.Prelude.{◌&&◌, ◌||◌, not, nat_lt, ℤ}
+use Rattle.std.specs.Prelude.{◌&&◌, ◌||◌, nat_lt, ℤ}
 use Rattle.std.specs.List.{list_all}
 use Rattle.std.proofs.lemmas.Bool.{and_parts, or_left, lt-ltb, not-true, false_from_ne_true, true_from_ne_false}
 use Rattle.cw_tree.specs.declared.node.Node.{Node}
 use Rattle.cw_tree.specs.declared.node.Kind.TheVariants.{Strand, Fork, Block, Out, Tried}
 use Rattle.cw_tree.specs.declared.node.BlockState.TheVariants.{Committed, Aborted}
 use Rattle.cw_tree.specs.Nodes.{parent_of, stamp_of, end_of, is_strand, is_fork, is_pending, is_tried, fresh_node}
-use Rattle.cw_tree.specs.Walks.{IsRooted, has, is_ancestor}
+use Rattle.cw_tree.specs.Walks.{IsRooted, is_ancestor}
 use Rattle.cw_tree.specs.Series.{place}
 use Rattle.cw_tree.specs.AccessStacks.{access_kind}
 use Rattle.cw_tree.specs.NextNodes.{fork_nodes}

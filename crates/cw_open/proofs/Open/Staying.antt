@@ -1,20 +1,21 @@
 -- What stays of the nodes of a tree as others come and as blocks are closed.
 use Rattle.std.proofs.Common.{◌≡◌, ℕ, ◌+◌, ◌<◌, ◌≤◌, List, length, refl, ap, sym, ◌∙◌, arith, true, false, inl, inr, nat_eq, nat_lt}
-use Rattle.std.specs.Prelude.{◌&&◌, filter}
+use Rattle.std.specs.Prelude.{◌&&◌, not, filter, unwrap_or}
 use Rattle.std.specs.List.{list_any}
 use Rattle.std.proofs.lemmas.Bool.{and_from, lt-ltb, ltb-true, eq-eqb, cases_lt, false_from_ne_true}
 use Rattle.cw_tree.specs.declared.node.Node.{Node}
 use Rattle.cw_tree.specs.declared.node.BlockState.{BlockState}
 use Rattle.cw_tree.specs.Nodes.{passes, is_strand_kind, is_fork_kind, is_block_kind, is_tried_kind, number_in, parent_of, stamp_of, is_strand, is_fork, is_block, is_tried, all_nodes, closed}
-use Rattle.cw_tree.specs.Walks.{IsRooted, is_ancestor, is_above}
-use Rattle.cw_tree.specs.Series.{strand_of, children, has_later, is_before}
+use Rattle.cw_tree.specs.Walks.{IsRooted, lca, is_ancestor, is_above}
+use Rattle.cw_tree.specs.Series.{strand_of, children, parallel, has_later, is_before}
 use Rattle.cw_tree.proofs.Lists.{any_in, any_from}
 use Rattle.cw_tree.proofs.Members.{filter_same, below_in, filter_in}
-use Rattle.cw_tree.proofs.NextNodes.Kept.{KeepsParents, is_above_kept, ancestor_kept, strand_of_kept}
+use Rattle.cw_tree.proofs.NextNodes.Kept.{KeepsParents, find_path_kept, is_above_kept, ancestor_kept, strand_of_kept}
 use Rattle.cw_tree.proofs.NextNodes.Closing.{length_closed, all_nodes_closed, node_closed, number_closed}
 use Rattle.cw_tree.proofs.InOrder.DepthFirst.{child_is}
 use Rattle.cw_tree.proofs.Walks.Kin.{before_of}
-use Rattle.cw_tree.proofs.Walks.Ancestors.{ancestor_self}
+use Rattle.cw_tree.proofs.Walks.Ancestors.{ancestor_self, ancestor_le}
+use Rattle.cw_tree.proofs.Walks.Meets.{lca_is_meet}
 use Rattle.cw_open.proofs.Open.Growth.{IsGrowth}
 
 -- the nodes of tree t are in tree u what they were, but for the states and ends of blocks
@@ -61,6 +62,19 @@ module _ (t u : List Node) (s : Stays t u) where
 
   pub strand_stays : (n : ℕ) → n < length t → strand_of u n ≡ strand_of t n
   strand_stays = strand_of_kept t u keeps s.strands
+
+module _ (t u : List Node) (s : Stays t u) (x v : ℕ) (low_x : x < length t) (low_v : v < length t) where
+  fork_stays : is_fork u (lca u x v) ≡ is_fork t (lca t x v)
+  fork_stays =
+      let one : lca u x v ≡ lca t x v = ap (λ o. unwrap_or o 0) (find_path_kept t u (keeps t u s) (λ m. is_ancestor u m v) (λ m. is_ancestor t m v) (λ m h. ancestor_stays t u s m v low_v) x low_x) in
+      let le = ancestor_le t s.rooted (lca t x v) x low_x (lca_is_meet t s.rooted x v low_x low_v).left in
+      ap (is_fork u) one ∙ s.forks (lca t x v) (omega (arith, low_x))
+
+  pub parallel_stays : parallel u x v ≡ parallel t x v
+  parallel_stays =
+      ap (λ k. not k && not (is_ancestor u v x) && is_fork u (lca u x v)) (ancestor_stays t u s x v low_v)
+      ∙ ap (λ k. not (is_ancestor t x v) && not k && is_fork u (lca u x v)) (ancestor_stays t u s v x low_x)
+      ∙ ap (λ k. not (is_ancestor t x v) && not (is_ancestor t v x) && k) fork_stays
 
 -- ## Later siblings
 

@@ -1,7 +1,7 @@
 -- A tree that goes on from another: what came, and what was closed, came after what was there. Times are those of nodes: the clock when one
 -- was made, or closed.
 use Rattle.std.proofs.Common.{◌≡◌, ℕ, ◌<◌, ◌≤◌, List, length, refl, ap, sym, ◌∙◌, arith, true, false, Option, Some, None, inl, inr}
-use Rattle.std.specs.Prelude.{◌⊎◌, ◌&&◌, not, unwrap_or, option_map}
+use Rattle.std.specs.Prelude.{◌⊎◌, ◌&&◌, not, option_map}
 use Rattle.std.proofs.lemmas.Bool.{and_parts, and_from, cases_lt, cases_Bool, false_from_ne_true}
 use Rattle.std.proofs.lemmas.List.Elements.{All-weaker}
 use Rattle.cw_tree.specs.declared.node.Node.{Node}
@@ -10,7 +10,7 @@ use Rattle.cw_tree.specs.declared.node.Kind.TheVariants.{Strand, Fork, Block, Re
 use Rattle.cw_tree.specs.declared.node.BlockState.{BlockState}
 use Rattle.cw_tree.specs.declared.conflict.Conflict.{Conflict}
 use Rattle.cw_tree.specs.Nodes.{is_block_kind, is_pending_state, tries_kind, touches_kind, parent_of, stamp_of, end_of, is_fork, is_block, is_pending, is_aborted, touches, tries}
-use Rattle.cw_tree.specs.Walks.{IsRooted, above, lca, is_ancestor, is_above, outermost}
+use Rattle.cw_tree.specs.Walks.{IsRooted, above, is_above, outermost}
 use Rattle.cw_tree.specs.Series.{parallel, is_before}
 use Rattle.cw_tree.specs.Shape.{PendingLast}
 use Rattle.cw_tree.specs.Attempts.{tried_cell, attempt_of}
@@ -19,10 +19,9 @@ use Rattle.cw_tree.specs.Refusals.{outermost_apart, IsRefusal}
 use Rattle.cw_tree.proofs.Walks.There.{node_there}
 use Rattle.cw_tree.proofs.Walks.Kin.{in_above, before_of}
 use Rattle.cw_tree.proofs.Walks.Ancestors.{ancestor_self, above_ancestor, ancestor_le}
-use Rattle.cw_tree.proofs.Walks.Meets.{lca_is_meet}
-use Rattle.cw_tree.proofs.NextNodes.Kept.{above_kept, find_path_kept}
+use Rattle.cw_tree.proofs.NextNodes.Kept.{above_kept}
 use Rattle.cw_tree.proofs.NodeKinds.{node_tells}
-use Rattle.cw_open.proofs.Open.Staying.{Stays, keeps, above_stays, ancestor_stays}
+use Rattle.cw_open.proofs.Open.Staying.{Stays, keeps, above_stays, parallel_stays}
 use Rattle.cw_open.proofs.Refused.Victims.{outermost_in}
 use Rattle.cw_open.proofs.Refused.Attempted.{IsElder, attempt_stays, outermost_agrees}
 
@@ -132,17 +131,8 @@ module _ (times after : ℕ → ℕ) (was clock : ℕ) (t u : List Node) (g : Go
     low_b : b < length t
     low_b = node_there (λ y. is_block_kind y.kind) t b block_b
 
-    fork_same : is_fork u (lca u x v) ≡ is_fork t (lca t x v)
-    fork_same =
-        let one : lca u x v ≡ lca t x v = ap (λ o. unwrap_or o 0) (find_path_kept t u (keeps t u s) (λ m. is_ancestor u m v) (λ m. is_ancestor t m v) (λ m h. ancestor_stays t u s m v low_v) x low_x) in
-        let le = ancestor_le t s.rooted (lca t x v) x low_x (lca_is_meet t s.rooted x v low_x low_v).left in
-        ap (is_fork u) one ∙ s.forks (lca t x v) (omega (arith, low_x))
-
     parallel_same : parallel u x v ≡ parallel t x v
-    parallel_same =
-        ap (λ k. not k && not (is_ancestor u v x) && is_fork u (lca u x v)) (ancestor_stays t u s x v low_v)
-        ∙ ap (λ k. not (is_ancestor t x v) && not k && is_fork u (lca u x v)) (ancestor_stays t u s v x low_x)
-        ∙ ap (λ k. not (is_ancestor t x v) && not (is_ancestor t v x) && k) fork_same
+    parallel_same = parallel_stays t u s x v low_x low_v
 
     outermost_stays : outermost_apart u x v ≡ outermost_apart t x v
     outermost_stays =

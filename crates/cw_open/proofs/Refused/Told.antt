@@ -16,9 +16,9 @@ use Rattle.cw_tree.proofs.Walks.Ancestors.{above_ancestor, ancestor_above, ances
 use Rattle.cw_tree.proofs.Walks.Kin.{of_before, before_of, branch, ancestor_linear}
 use Rattle.cw_tree.proofs.Walks.Parting.{series_or_parallel}
 use Rattle.cw_tree.proofs.NodeKinds.{pending_block}
-use Rattle.cw_open.specs.Machine.{OpenMachine, live, is_free}
+use Rattle.cw_open.specs.Machine.{OpenMachine, live, is_running, is_free}
 use Rattle.cw_open.specs.Steps.{Met, refuses}
-use Rattle.cw_open.specs.Runs.{IsMet, Allowed, at_once, IsReachedBy}
+use Rattle.cw_open.specs.Runs.{IsMet, IsRefused, Allowed, at_once, IsReachedBy}
 use Rattle.cw_open.proofs.Open.Trees.{stands_well}
 use Rattle.cw_open.proofs.Open.TreeSteps.{free_runs}
 use Rattle.cw_open.proofs.Laws.Named.{access_named}
@@ -106,15 +106,13 @@ module _ (t : List Node) (s : IsSound t) (c u b p : ℕ) (access : touches t c u
       let one = series_or_parallel t r u p low there not_over not_under in
       omega (arith, one, ap one_if e, ap one_if not_earlier, ap one_if (place.last u low)))
 
--- what a refused access met
-pub met_is : (first : List ℤ) (m : OpenMachine) (s c : ℕ) (write : Option ℤ) (met : Met) → IsState first m → Allowed at_once m (refuses s c write met) → IsMet m.tree (place m.tree s) c met
-met_is first m s c write met state a =
+-- what an access met that conflicts with the newest one while a pending block stands in the way
+pub met_where : (first : List ℤ) (m : OpenMachine) (s c : ℕ) (met : Met) → IsState first m → is_running m s ≡ true → IsRefused m s c met → IsMet m.tree (place m.tree s) c met
+met_where first m s c met state running w =
     let well = state.well in
     let t = m.tree in
-    let z = and_parts (is_free m s) (nat_lt c (length m.lists)) a.0 in
-    let w = a.1 in
     let p = place t s in
-    let at = stands_well m well s (free_runs m s z.0) in
+    let at = stands_well m well s running in
     let acc = state.listed.accesses c met.last (newest_in (live m c) met.last w.last) in
     let named : access_at t met.last ≡ acc.0 = ap (access_at t) (sym acc.2) ∙ access_named t well.sound.stamps c acc.0 acc.1 in
     let u = access_at t met.last in
@@ -128,6 +126,10 @@ met_is first m s c write met state a =
       parallel = are_parallel t well.sound c u b p touched x.0 x.1 at off;
       block = (b, and_from (is_block t b && is_above t b u) (not (is_ancestor t b p)) (and_from (is_block t b) (is_above t b u) (pending_block t b x.0) x.1) y.1, stamped);
     }
+
+-- what a refused access met
+pub met_is : (first : List ℤ) (m : OpenMachine) (s c : ℕ) (write : Option ℤ) (met : Met) → IsState first m → Allowed at_once m (refuses s c write met) → IsMet m.tree (place m.tree s) c met
+met_is first m s c write met state a = met_where first m s c met state (free_runs m s (and_parts (is_free m s) (nat_lt c (length m.lists)) a.0).0) a.1
 
 pub told : (first : List ℤ) (m : OpenMachine) (s c : ℕ) (write : Option ℤ) (met : Met) → IsReachedBy at_once first m → Allowed at_once m (refuses s c write met) → IsMet m.tree (place m.tree s) c met
 told first m s c write met reached a = met_is first m s c write met (states at_once first m reached) a

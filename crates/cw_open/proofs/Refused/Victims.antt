@@ -196,11 +196,11 @@ module _ (first : List ℤ) (m : OpenMachine) (w : IsToldState first m) where
     same_strand : strand_of t p ≡ s
     same_strand = (stands m well.sound.tree well.nested s running).strand
 
-    over_place : is_ancestor t s p ≡ true
+    pub over_place : is_ancestor t s p ≡ true
     over_place = let P : ℕ → Type 0 = λ x. is_ancestor t x p ≡ true in subst P same_strand (strand_over t r p there)
 
     -- a fork between a running strand and its place would be one of that strand, and open
-    no_fork_between : (f : ℕ) → is_fork t f ≡ true → is_ancestor t s f ≡ true → is_ancestor t f p ≡ true → ⊥
+    pub no_fork_between : (f : ℕ) → is_fork t f ≡ true → is_ancestor t s f ≡ true → is_ancestor t f p ≡ true → ⊥
     no_fork_between f fork below above =
         let h = node_there (λ n. is_fork_kind n.kind) t f fork in
         let open_f = open_over m well.sound.tree well.nested f p there above (place_open m well.sound.tree well.nested s running) in

@@ -15,11 +15,11 @@ use Rattle.cw_tree.proofs.ChainLaws.LiveAccesses.{live_rises}
 use Rattle.cw_tree.proofs.Rising.{rises_increase, rises_same}
 use Rattle.cw_tree.proofs.Walks.Kin.{has_in}
 use Rattle.cw_open.specs.Machine.{OpenMachine, live}
-use Rattle.cw_open.specs.Steps.{Step, forks, begins, accesses, refuses, outputs, commits, undoes, aborts, finishes, joins, stops}
+use Rattle.cw_open.specs.Steps.{Step}
 use Rattle.cw_open.specs.Runs.{Allowed, at_once, at_any_time}
 use Rattle.cw_open.specs.Laws.{TreesAreSound, OpenAreNested, StrandsStandAtPlaces, ClocksAreLatest, CellsFit, ListsRise, ListsAreLive, ListsHaveAll, NoneUndone, ListsAreChains, BlocksHaveEnded, AtOnceIsAtAnyTime, RefusalsAreTold}
 use Rattle.cw_open.proofs.Open.Trees.{stands_well}
-use Rattle.cw_open.proofs.Runs.States.{IsState, states, by_rules}
+use Rattle.cw_open.proofs.Runs.States.{IsState, states, by_rules, at_any_step}
 use Rattle.cw_open.proofs.Laws.ChainStates.{newest_alone, chain_states}
 use Rattle.cw_open.proofs.Refused.Told.{told}
 
@@ -103,17 +103,7 @@ ended first m r c = ((chain_states first m r).chained c).ended
 -- ## Refused at once
 
 pub any_time : (m : OpenMachine) (e : Step) → Allowed at_once m e → Allowed newest_alone m e
-any_time m (forks s stamp) a = a
-any_time m (begins s stamp) a = a
-any_time m (accesses s c w stamp) a = a
-any_time m (refuses s c w met) a = (a.0, tt)
-any_time m (outputs s v stamp) a = a
-any_time m (commits s stamp) a = a
-any_time m (undoes s c) a = a
-any_time m (aborts s stamp) a = a
-any_time m (finishes s dead) a = a
-any_time m (joins f) a = a
-any_time m (stops s) a = a
+any_time = at_any_step at_once
 
 pub at_any : AtOnceIsAtAnyTime
 at_any first m r = by_rules at_once newest_alone first any_time m r

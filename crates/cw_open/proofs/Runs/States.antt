@@ -14,7 +14,7 @@ use Rattle.cw_tree.proofs.Worked.Checks.{is_tree, are_stamps, pending_last}
 use Rattle.cw_tree.proofs.Rising.{Rises}
 use Rattle.cw_open.specs.Machine.{OpenMachine, live}
 use Rattle.cw_open.specs.Steps.{Step, forks, begins, accesses, refuses, outputs, commits, undoes, aborts, finishes, joins, stops, after_open_step, after_all, first_machine}
-use Rattle.cw_open.specs.Runs.{Rules, Allowed, IsRun, IsReachedBy}
+use Rattle.cw_open.specs.Runs.{Rules, Allowed, IsRun, IsReachedBy, at_any_time}
 use Rattle.cw_open.proofs.Open.Trees.{IsWell}
 use Rattle.cw_open.proofs.Open.TreeSteps.{well_after}
 use Rattle.cw_open.proofs.Laws.Listing.{AreListed}
@@ -35,6 +35,20 @@ by_rules r q first f m reached = record { steps = reached.steps; run = go (first
   go : (m : OpenMachine) (es : List Step) → IsRun r m es → IsRun q m es
   go m [] h = tt
   go m (e ∷ es) h = (f m e h.0, go (after_open_step m e) es h.1)
+
+-- what any rule allows is allowed where accesses may be refused at any time
+pub at_any_step : (r : Rules) (m : OpenMachine) (e : Step) → Allowed r m e → Allowed (at_any_time r.asked) m e
+at_any_step r m (forks s stamp) a = a
+at_any_step r m (begins s stamp) a = a
+at_any_step r m (accesses s c w stamp) a = a
+at_any_step r m (refuses s c w met) a = (a.0, tt)
+at_any_step r m (outputs s v stamp) a = a
+at_any_step r m (commits s stamp) a = a
+at_any_step r m (undoes s c) a = a
+at_any_step r m (aborts s stamp) a = a
+at_any_step r m (finishes s dead) a = a
+at_any_step r m (joins f) a = a
+at_any_step r m (stops s) a = a
 
 -- ## The opening
 

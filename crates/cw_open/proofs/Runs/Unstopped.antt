@@ -8,9 +8,9 @@ use Rattle.cw_tree.specs.Walks.{has}
 use Rattle.cw_tree.specs.Nodes.{is_strand}
 use Rattle.cw_open.specs.Machine.{OpenMachine, has_finished, waits, is_running, in_block, is_dying, is_free, leads_back, rolls_back}
 use Rattle.cw_open.specs.Steps.{Step, forks, begins, accesses, refuses, outputs, commits, undoes, aborts, finishes, joins, stops, after_open_step, after_all, first_machine}
-use Rattle.cw_open.specs.Runs.{Rules, Allowed, IsRun, is_undone, at_any_time}
+use Rattle.cw_open.specs.Runs.{Rules, IsRun, is_undone, at_any_time}
 use Rattle.cw_open.specs.Refused.{as_told, unstopped, StopsAreLeftOut, ToldIsAtAnyTime}
-use Rattle.cw_open.proofs.Runs.States.{by_rules}
+use Rattle.cw_open.proofs.Runs.States.{by_rules, at_any_step}
 
 runs_on : (m : OpenMachine) (s : ℕ) → is_running m s ≡ true → is_running (unstopped m) s ≡ true
 runs_on m s e = and_from (is_strand m.tree s && not (has_finished m s) && not (waits m s)) true (and_parts (is_strand m.tree s && not (has_finished m s) && not (waits m s)) (not (has m.stopped s)) e).0 refl
@@ -73,18 +73,5 @@ stops_left_out asked first m reached =
     let z = unstopped_run asked (first_machine first) reached.steps reached.run in
     record { steps = without asked reached.steps; run = z.0; there = z.1 ∙ ap unstopped reached.there }
 
-any_step : (asked : List Node → List ℕ → Option ℤ → List ℕ) (m : OpenMachine) (e : Step) → Allowed (as_told asked) m e → Allowed (at_any_time asked) m e
-any_step asked m (forks s stamp) a = a
-any_step asked m (begins s stamp) a = a
-any_step asked m (accesses s c w stamp) a = a
-any_step asked m (refuses s c w met) a = (a.0, tt)
-any_step asked m (outputs s v stamp) a = a
-any_step asked m (commits s stamp) a = a
-any_step asked m (undoes s c) a = a
-any_step asked m (aborts s stamp) a = a
-any_step asked m (finishes s dead) a = a
-any_step asked m (joins f) a = a
-any_step asked m (stops s) a = a
-
 pub told_any_time : ToldIsAtAnyTime
-told_any_time asked first m reached = by_rules (as_told asked) (at_any_time asked) first (any_step asked) m (record { steps = reached.steps; run = reached.run; there = reached.there })
+told_any_time asked first m reached = by_rules (as_told asked) (at_any_time asked) first (at_any_step (as_told asked)) m (record { steps = reached.steps; run = reached.run; there = reached.there })

@@ -1,8 +1,8 @@
 -- Where an access is refused as soon as it conflicts, its conflict can tell what it met; and where each stamp is drawn by the step that uses
 -- it, all are drawn in time.
-use Rattle.std.proofs.Common.{◌≡◌, ℕ, zero, suc, ◌+◌, ◌-◌, ◌<◌, ◌≤◌, List, [], ◌∷◌, ◌++◌, length, drop, ap, sym, ◌∙◌, subst, arith, cond, inl, inr, nat_le, length-append}
+use Rattle.std.proofs.Common.{◌≡◌, ℕ, zero, suc, ◌+◌, ◌-◌, ◌<◌, ◌≤◌, List, [], ◌∷◌, ◌++◌, length, drop, ap, sym, ◌∙◌, subst, arith, cond, inl, inr, length-append}
 use Rattle.std.specs.Prelude.{◌&&◌, not, ℤ, All}
-use Rattle.std.proofs.lemmas.Bool.{and_parts, or_parts, cases_Bool, cases_lt, le-leb}
+use Rattle.std.proofs.lemmas.Bool.{and_parts, cases_Bool}
 use Rattle.std.proofs.lemmas.List.{length-drop, drop-append-le}
 use Rattle.std.specs.List.Sorted.{IsStrictlyIncreasing}
 use Rattle.cw_tree.specs.declared.node.Node.{Node}
@@ -42,7 +42,7 @@ newest_split (u ∷ []) s e = ([], e)
 newest_split (u ∷ v ∷ us) s e = let z = newest_split (v ∷ us) s e in (u ∷ z.0, ap (λ ns. u ∷ ns) z.1)
 
 -- the last eight of rising accesses are as a conflict tells them
-newest_told : (t : List Node) (c : ℕ) (us : List ℕ) (met : Met) → Rises us → ((v : ℕ) → In v us → HasAccess t c v) → newest us ≡ met.last ∷ [] → met.chain ≡ last_eight us → IsNewest t c met
+pub newest_told : (t : List Node) (c : ℕ) (us : List ℕ) (met : Met) → Rises us → ((v : ℕ) → In v us → HasAccess t c v) → newest us ≡ met.last ∷ [] → met.chain ≡ last_eight us → IsNewest t c met
 newest_told t c us met rises are last chain =
     let (vs, split) = newest_split us met.last last in
     let n : length us ≡ length vs + 1 = ap length split ∙ length-append vs (met.last ∷ []) in
@@ -93,21 +93,17 @@ clock_on m (joins f) = omega arith
 clock_on m (stops s) = omega arith
 
 -- no time is above the clock
-abbrev AreLow : (ℕ → ℕ) → OpenMachine → Type 0
-AreLow times m = (n : ℕ) → n < length m.tree → times n ≤ m.clock
+abbrev pub AreLow : (ℕ → ℕ) → OpenMachine → Type 0
+AreLow times m = (n : ℕ) → times n ≤ m.clock
 
-low_after : (times : ℕ → ℕ) (m : OpenMachine) (e : Step) → AreLow times m → AreLow (times_after times m e) (after_open_step m e)
-low_after times m e low n h =
-    elim (cases_Bool (is_changed m e n)) [
-      | inl yes_changed ↦ omega (arith, ap (λ b. cond b (after_open_step m e).clock (times n)) yes_changed)
-      | inr same ↦ elim (cases_lt n (length m.tree)) [
-        | inl old ↦ omega (arith, ap (λ b. cond b (after_open_step m e).clock (times n)) same, low n old, clock_on m e)
-        | inr le ↦ absurd (cc ((or_parts (nat_le (length m.tree) n) (is_pending m.tree n && not (is_pending (after_open_step m e).tree n)) same).0, le-leb (length m.tree) n le))
-      ]
-    ]
+pub low_after : (times : ℕ → ℕ) (m : OpenMachine) (e : Step) → AreLow times m → AreLow (times_after times m e) (after_open_step m e)
+low_after times m e low n = elim (cases_Bool (is_changed m e n)) [
+  | inl came ↦ omega (arith, ap (λ b. cond b (after_open_step m e).clock (times n)) came)
+  | inr same ↦ omega (arith, ap (λ b. cond b (after_open_step m e).clock (times n)) same, low n, clock_on m e)
+]
 
 drawn : (times : ℕ → ℕ) (m : OpenMachine) (p stamp : ℕ) → AreLow times m → m.clock < stamp → IsDrawn times m.tree p stamp
-drawn times m p stamp low less n h e = let le = low n h in omega arith
+drawn times m p stamp low less n h e = let le = low n in omega arith
 
 met_now : (times : ℕ → ℕ) (m : OpenMachine) (s c : ℕ) (met : Met) → IsRefused m s c met → IsMetInTime times m.tree (place m.tree s) met
 met_now times m s c met w =
@@ -134,4 +130,4 @@ timely_run times m [] low run ahead = tt
 timely_run times m (e ∷ es) low run ahead = (timely_step times m e low run.0 ahead.0, timely_run (times_after times m e) (after_open_step m e) es (low_after times m e low) run.1 ahead.1)
 
 pub ahead_timely : AheadIsTimely
-ahead_timely first es run ahead = timely_run (λ n. 0) (first_machine first) es (λ n h. omega arith) run ahead
+ahead_timely first es run ahead = timely_run (λ n. 0) (first_machine first) es (λ n. omega arith) run ahead

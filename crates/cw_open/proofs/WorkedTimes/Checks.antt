@@ -1,5 +1,5 @@
 -- What steps need, and when stamps are drawn, by tests that compute.
-use Rattle.std.proofs.Common.{◌≡◌, ℕ, ◌<◌, ◌≤◌, List, [], ◌∷◌, length, Bool, true, inl, inr, nat_lt, nat_le}
+use Rattle.std.proofs.Common.{◌≡◌, ℕ, List, [], ◌∷◌, length, Bool, true, inl, inr, nat_lt, nat_le}
 use Rattle.std.specs.Prelude.{◌&&◌, ◌||◌, not, ◌==◌, unwrap_or}
 use Rattle.std.specs.List.{list_all}
 use Rattle.std.proofs.lemmas.Bool.{and_parts, or_cases, ltb-true, leb-true, eqb-true, not-true}
@@ -71,7 +71,7 @@ module _ (t : List Node) where
     abbrev pub drawn_test : (p s n : ℕ) → Bool
     drawn_test p s n = implies (is_before_at t n p) (nat_lt (times n) s)
 
-    drawn : (p s : ℕ) → each_node (drawn_test p s) → IsDrawn times t p s
+    pub drawn : (p s : ℕ) → each_node (drawn_test p s) → IsDrawn times t p s
     drawn p s e n h f = ltb-true _ _ (implied _ _ (each_below (drawn_test p s) (length t) e n h) f)
 
     abbrev pub later_test : (p b n : ℕ) → Bool
@@ -89,7 +89,7 @@ module _ (t : List Node) where
     abbrev pub met_test : (p b stamp : ℕ) → Bool
     met_test p b stamp = is_block t b && (stamp_of t b == stamp) && (is_pending t b || (all_below (later_test p b) (length t) && all_below (around_test p b) (length t)))
 
-    met_in_time : (p b : ℕ) (met : Met) → met_test p b met.block ≡ true → IsMetInTime times t p met
+    pub met_in_time : (p b : ℕ) (met : Met) → met_test p b met.block ≡ true → IsMetInTime times t p met
     met_in_time p b met e =
         let z = and_parts (is_block t b && (stamp_of t b == met.block)) _ e in
         let y = and_parts (is_block t b) (stamp_of t b == met.block) z.0 in (
@@ -130,11 +130,6 @@ are_timely times m [] h = tt
 are_timely times m (e ∷ es) h =
     let z = and_parts (step_test times m e) (timely_test (times_after times m e) (after_open_step m e) es) h in
     (is_timely times m e z.0, are_timely (times_after times m e) (after_open_step m e) es z.1)
-
--- the times after some steps
-abbrev pub times_of : (ℕ → ℕ) → OpenMachine → List Step → ℕ → ℕ
-times_of times m [] = times
-times_of times m (e ∷ es) = times_of (times_after times m e) (after_open_step m e) es
 
 -- where no block is pending no undo is under way
 pub none_undone : (m : OpenMachine) → all_below (λ b. not (is_pending m.tree b)) (length m.tree) ≡ true → NoneUndone m

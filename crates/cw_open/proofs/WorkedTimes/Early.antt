@@ -1,10 +1,8 @@
 -- The run in which a stamp is drawn early, and its sibling.
-use Rattle.std.proofs.Common.{◌≡◌, ℕ, ◌<◌, List, [], ◌∷◌, refl, arith, Option}
-use Rattle.cw_tree.specs.declared.node.Node.{Node}
+use Rattle.std.proofs.Common.{[], refl, arith}
 use Rattle.cw_tree.specs.Newest.{newest}
 use Rattle.cw_tree.specs.Histories.{IsHistory}
 use Rattle.cw_tree.specs.Shape.{AreStamps}
-use Rattle.cw_tree.proofs.Lists.{In}
 use Rattle.cw_tree.proofs.Worked.Checks.{each_below, is_tree, are_stamps, pending_last, are_refusals, rolls_back}
 use Rattle.cw_tree.proofs.Worked.KeptParts.{both_at, are_journals, is_entry, ended_between}
 use Rattle.cw_tree.proofs.Worked.KeptRuns.{ended_one}

@@ -1,5 +1,5 @@
 -- The run in which an access is refused late, and its sibling.
-use Rattle.std.proofs.Common.{◌≡◌, ℕ, ◌<◌, ◌≤◌, List, [], ◌∷◌, ◌++◌, length, refl, sym, arith, true, inl, inr, pos, subst}
+use Rattle.std.proofs.Common.{◌≡◌, ℕ, ◌≤◌, List, [], ◌∷◌, ◌++◌, length, refl, sym, arith, true, inl, inr, pos, subst}
 use Rattle.std.specs.Prelude.{◌==◌}
 use Rattle.std.proofs.lemmas.Bool.{and_parts, eqb-true}
 use Rattle.std.proofs.lemmas.List.Elements.{All-head}
@@ -19,10 +19,11 @@ use Rattle.cw_open.specs.Steps.{outputs, after_all}
 use Rattle.cw_open.specs.Runs.{IsRun, IsMet}
 use Rattle.cw_open.specs.Times.{IsMetInTime, AreTimely}
 use Rattle.cw_open.specs.Refused.{as_told, IsNewest}
+use Rattle.cw_open.specs.Hands.{times_after_all}
 use Rattle.cw_open.specs.Left.{AreEntriesAt, AreKept}
 use Rattle.cw_open.specs.WorkedTimes.{one_cell, opening, left_goes_on, late_steps, late, late_tree, late_conflict, late_entries, late_with_output, too_late, RefusedLate}
 use Rattle.cw_open.proofs.Refused.Recorded.{conflicts_recorded}
-use Rattle.cw_open.proofs.WorkedTimes.Checks.{next_stamp, end_stamp, comes_last, times_of, are_timely, none_undone}
+use Rattle.cw_open.proofs.WorkedTimes.Checks.{next_stamp, end_stamp, comes_last, are_timely, none_undone}
 
 -- ## The run
 
@@ -116,7 +117,7 @@ module _ (t : List Node) (only : all_below (λ b. implies (is_block t b) (b == 4
 
 -- the access would have to meet it while it was pending, but it was closed, and the output came after that
 abbrev times : ℕ → ℕ
-times = times_of (λ n. 0) opening (left_goes_on ++ outputs 3 (pos 2) 6 ∷ [])
+times = times_after_all (λ n. 0) opening (left_goes_on ++ outputs 3 (pos 2) 6 ∷ [])
 
 not_met : IsMetInTime times shown.tree 3 (record { last = 3; block = 2; chain = 3 ∷ [] }) → ⊥
 not_met (b, block, stamp, met) =
