@@ -13,3 +13,4 @@ pub mod Runs
 pub mod Told
 pub mod Query
 pub mod Verdicts
+pub mod Hands
