@@ -6,3 +6,4 @@ pub mod Query
 pub mod Segments
 pub mod Stands
 pub mod ManyHands
+pub mod Worked

@@ -14,3 +14,4 @@ pub mod Told
 pub mod Query
 pub mod Verdicts
 pub mod Hands
+pub mod Worked
