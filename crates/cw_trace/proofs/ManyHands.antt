@@ -1,2 +1,3 @@
 pub mod Differ
 pub mod Loads
+pub mod Later

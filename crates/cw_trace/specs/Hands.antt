@@ -1,15 +1,18 @@
--- Laws on tiers where several strands go on: whose trace and gap word is whose, and what a query tells of whose two loads others step between.
-use Rattle.std.specs.Prelude.{◌≡◌, ◌<◌, ◌&&◌, ℕ, Bool, true, false, not, IsTrue, Option, Some, None, List, ◌∷◌, [], ◌++◌, length, slice_index, if◌then◌else◌}
+-- Laws on tiers where several strands go on: whose trace and gap word is whose, what a query tells between whose two loads others step, and
+-- what stays of a number that was drawn early.
+use Rattle.std.specs.Prelude.{◌≡◌, ◌+◌, ◌<◌, ◌≤◌, ◌%◌, ◌&&◌, ℕ, Bool, true, false, not, IsTrue, Option, Some, None, List, ◌∷◌, [], ◌++◌, length, slice_index, if◌then◌else◌}
 use Rattle.cw_tree.specs.declared.node.Node.{Node}
 use Rattle.cw_tree.specs.declared.access.Mark.{Mark}
-use Rattle.cw_tree.specs.Nodes.{parent_of, is_fork, is_strand_kind, is_fork_kind, touches}
+use Rattle.cw_tree.specs.declared.node.BlockState.{BlockState}
+use Rattle.cw_tree.specs.NextNodes.{fork_nodes}
+use Rattle.cw_tree.specs.Nodes.{parent_of, stamp_of, is_fork, is_strand_kind, is_fork_kind, touches, closed}
 use Rattle.cw_tree.specs.Shape.{IsTree, AreStamps}
 use Rattle.cw_trace.specs.declared.verdict.Verdict.{Verdict}
 use Rattle.cw_trace.specs.declared.verdict.Verdict.TheVariants.{Against}
-use Rattle.cw_trace.specs.Columns.{ColumnTable, used, owner, gap, lead, up, begun_word, closed_word}
+use Rattle.cw_trace.specs.Columns.{ColumnTable, used, owner, gap, lead, up, is_trace, before_split, forked, split_at, merged, begun_word, closed_word}
 use Rattle.cw_trace.specs.Stands.{column, word_of}
 use Rattle.cw_trace.specs.Keeps.{Keeps}
-use Rattle.cw_trace.specs.Running.{IsOrdered, MayGoOn}
+use Rattle.cw_trace.specs.Running.{IsOrdered, MayGoOn, IsUnstarted, IsDone}
 use Rattle.cw_trace.specs.Query.{came_before, stands_in, verdict_of, verdict_around}
 use Rattle.cw_trace.specs.Verdicts.{Tells, TellsOfTree}
 
@@ -92,3 +95,43 @@ LastLoadDecides =
 abbrev pub NoLoadDecides : Type 0
 NoLoadDecides =
     (c : ColumnTable) (first second words : List ℕ) (last : Mark) (asker : ℕ) → lead c (owner c last.strand) ≡ None → loads_second c first last asker ≡ false → TellsOfTree c words last asker (verdict_between c first second last asker)
+
+-- ## What was drawn is later
+
+-- no stamp of the trace in which place p stands is above the number, as it has to be where a block begins with it
+abbrev pub IsLater : ColumnTable → List Node → ℕ → ℕ → Type 0
+IsLater c t p number = (m : ℕ) → m < length t → trace_at c t m ≡ trace_at c t p → stamp_of t m ≤ number
+
+-- it stays so as another strand makes a node that is neither strand nor fork, at place q
+abbrev pub LaterWithNode : Type 0
+LaterWithNode =
+    (c : ColumnTable) (words : List ℕ) (t : List Node) (cuts joins : List ℕ) (is_open : ℕ → Bool) (p q number : ℕ) (x : Node) → StandsInOrder c words t cuts joins is_open → MayGoOn c t cuts is_open p → MayGoOn c t cuts is_open q → (p ≡ q → ⊥)
+    → x.parent ≡ q → is_strand_kind x.kind ≡ false → is_fork_kind x.kind ≡ false → IsLater c t p number → IsLater c (t ++ x ∷ []) p number
+
+-- as another strand forks, while there are columns left
+abbrev pub LaterWithFork : Type 0
+LaterWithFork =
+    (c : ColumnTable) (words : List ℕ) (t : List Node) (cuts joins : List ℕ) (is_open : ℕ → Bool) (p q word stamp number : ℕ) → StandsInOrder c words t cuts joins is_open → MayGoOn c t cuts is_open p → MayGoOn c t cuts is_open q → (p ≡ q → ⊥)
+    → used c + 2 ≤ c.room → IsLater c t p number → IsLater (forked word (column t (used c) q) c) (t ++ fork_nodes (length t) q stamp) p number
+
+-- and while there are none
+abbrev pub LaterWithInline : Type 0
+LaterWithInline =
+    (c : ColumnTable) (words : List ℕ) (t : List Node) (cuts joins : List ℕ) (is_open : ℕ → Bool) (p q stamp number : ℕ) → StandsInOrder c words t cuts joins is_open → MayGoOn c t cuts is_open p → MayGoOn c t cuts is_open q → (p ≡ q → ⊥)
+    → c.room < used c + 2 → IsLater c t p number → IsLater c (t ++ fork_nodes (length t) q stamp) p number
+
+-- as any block is closed
+abbrev pub LaterClosed : Type 0
+LaterClosed = (c : ColumnTable) (t : List Node) (p q end number : ℕ) (state : BlockState) → IsTree t → p < length t → IsLater c t p number → IsLater c (closed t q state end) p number
+
+-- as any fork is split that may be
+abbrev pub LaterSplit : Type 0
+LaterSplit =
+    (c : ColumnTable) (words : List ℕ) (t : List Node) (cuts joins : List ℕ) (f p number : ℕ) → Keeps c words t cuts joins → IsTree t → f < used c → f % 2 ≡ 1 → is_trace c f ≡ false → before_split c f ≡ None → IsUnstarted t joins f → p < length t → IsLater c t p number
+    → IsLater (split_at f c) t p number
+
+-- and as the traces of any fork are merged, though traces become one: the strand of p is in none of them
+abbrev pub LaterMerged : Type 0
+LaterMerged =
+    (c : ColumnTable) (words : List ℕ) (t : List Node) (cuts joins : List ℕ) (is_open : ℕ → Bool) (f p number : ℕ) → StandsInOrder c words t cuts joins is_open → MayGoOn c t cuts is_open p → f < used c → f % 2 ≡ 1 → is_trace c f ≡ true → IsDone t is_open f → IsLater c t p number
+    → IsLater (merged f c) t p number

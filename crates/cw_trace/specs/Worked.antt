@@ -7,11 +7,11 @@ use Rattle.cw_tree.specs.Nodes.{touches}
 use Rattle.cw_tree.specs.Shape.{AreStamps}
 use Rattle.cw_tree.specs.Worked.{plain, pending}
 use Rattle.cw_trace.specs.declared.verdict.Verdict.TheVariants.{Against}
-use Rattle.cw_trace.specs.Columns.{ColumnTable, first_tier, forked, split_at, up}
+use Rattle.cw_trace.specs.Columns.{ColumnTable, first_tier, forked, split_at, merged, up}
 use Rattle.cw_trace.specs.Query.{stands_in}
-use Rattle.cw_trace.specs.Running.{MayGoOn}
+use Rattle.cw_trace.specs.Running.{MayGoOn, IsDone}
 use Rattle.cw_trace.specs.Verdicts.{mark_of}
-use Rattle.cw_trace.specs.Hands.{StandsInOrder, trace_at, gap_at, IsInnermost, InnermostDiffer, loads_second, verdict_between}
+use Rattle.cw_trace.specs.Hands.{StandsInOrder, trace_at, gap_at, IsInnermost, InnermostDiffer, IsLater, loads_second, verdict_between}
 
 -- all nodes are open that are numbered below n
 abbrev pub open_below : ℕ → ℕ → Bool
@@ -62,7 +62,7 @@ abbrev pub accessed : List Node
 accessed = two_forks ++ plain 6 (Write 0 (pos 1)) 4 ∷ []
 
 abbrev pub begun_since : List Node
-begun_since = accessed ++ pending 6 5 ∷ []
+begun_since = accessed ++ pending 6 6 ∷ []
 
 abbrev pub stolen_twice : ColumnTable
 stolen_twice = split_at 3 (forked 2 1 stolen_once)
@@ -72,7 +72,7 @@ abbrev pub at_access : List ℕ
 at_access = 2 ∷ 0 ∷ 0 ∷ 0 ∷ 0 ∷ []
 
 abbrev pub since_then : List ℕ
-since_then = 2 ∷ 0 ∷ 0 ∷ 5 ∷ 0 ∷ []
+since_then = 2 ∷ 0 ∷ 0 ∷ 6 ∷ 0 ∷ []
 
 abbrev pub open_since : ℕ → Bool
 open_since m = open_below 8 m || (m == 9)
@@ -88,3 +88,15 @@ pub record TwoLoads : Type 0 where
   pub outside : stands_in stolen_twice 2 1 ≡ false
   pub loads : loads_second stolen_twice at_access (mark_of stolen_twice begun_since 8) 2 ≡ true
   pub verdict : verdict_between stolen_twice at_access since_then (mark_of stolen_twice begun_since 8) 2 ≡ Against 2
+
+-- that strand draws 5 for the begin of a block, and the other one begins its block at 6
+pub record DrawnEarly : Type 0 where
+  pub drawn : IsLater stolen_twice accessed 3 5
+  pub still : IsLater stolen_twice begun_since 3 5
+  -- which is not said of the trace in which the other one stands
+  pub not_there : IsLater stolen_twice begun_since 6 5 → ⊥
+  -- or both strands of the second fork finish, and its traces are merged
+  pub finished : StandsInOrder stolen_twice at_access accessed (3 ∷ 1 ∷ []) [] (open_below 6)
+  pub goes_on : MayGoOn stolen_twice accessed (3 ∷ 1 ∷ []) (open_below 6) 3
+  pub done : IsDone accessed (open_below 6) 3
+  pub merged : IsLater (merged 3 stolen_twice) accessed 3 5

@@ -24,7 +24,7 @@ use Rattle.cw_trace.proofs.Segments.Alike.{SamePending, segments_alike, ups_alik
 use Rattle.cw_trace.proofs.Stands.UpsKept.{cut_of}
 use Rattle.cw_trace.proofs.Keeps.Meaning.{column_low, first_of_both, odd_column}
 
-pub get_last : {A : Type 0} → (xs : List A) (x : A) → slice_get (xs ++ x ∷ []) (length xs) ≡ Some x
+get_last : {A : Type 0} → (xs : List A) (x : A) → slice_get (xs ++ x ∷ []) (length xs) ≡ Some x
 get_last [] x = refl
 get_last (y ∷ xs) x = get_last xs x
 

@@ -1,6 +1,6 @@
 -- Strands that may go on are in different traces and use different gaps, so one leaves the word of another's gap and makes no node in its trace.
 use Rattle.std.proofs.Common.{◌≡◌, ◌≢◌, ℕ, ◌<◌, List, [], ◌∷◌, ◌++◌, length, refl, ap, sym, ◌∙◌, arith, Bool, true, false, nat_eq, length-append}
-use Rattle.std.specs.Prelude.{slice_index, slice_set, if◌then◌else◌}
+use Rattle.std.specs.Prelude.{slice_get, slice_index, slice_set, Some, if◌then◌else◌}
 use Rattle.std.proofs.lemmas.List.{get_or-set_other}
 use Rattle.cw_tree.specs.declared.node.Node.{Node}
 use Rattle.cw_tree.specs.Nodes.{is_strand_kind, passes, number_in}
@@ -8,7 +8,6 @@ use Rattle.cw_tree.specs.Shape.{IsTree}
 use Rattle.cw_trace.specs.Columns.{ColumnTable, used, owner}
 use Rattle.cw_trace.specs.Stands.{column}
 use Rattle.cw_trace.specs.Hands.{gap_at, HandsDiffer, WordsStay, NodesApart}
-use Rattle.cw_trace.proofs.Keeps.Adding.{get_last}
 use Rattle.cw_trace.proofs.Keeps.GoingOn.{owners_differ, gaps_differ}
 use Rattle.cw_trace.proofs.Keeps.Grow.{column_append}
 use Rattle.cw_trace.proofs.Keeps.Owners.{column_other}
@@ -28,15 +27,19 @@ words_stay c words t cuts joins is_open p q stamp s m n ne =
     let apart : gap_at c t p ≢ gap_at c t q = (hands_differ c words t cuts joins is_open p q s m n ne).1 in
     (set_elsewhere (nat_eq (slice_index words (gap_at c t q)) 0) words (gap_at c t q) (gap_at c t p) stamp apart, set_elsewhere (nat_eq (slice_index words (gap_at c t q)) stamp) words (gap_at c t q) (gap_at c t p) 0 apart)
 
--- the column of a node that is made at place q, and is neither a strand nor a fork
-pub column_here : (c : ColumnTable) (t : List Node) (tr : IsTree t) (q : ℕ) (x : Node) → q < length t → IsTree (t ++ x ∷ []) → x.parent ≡ q → is_strand_kind x.kind ≡ false → column (t ++ x ∷ []) (used c) (length t) ≡ column t (used c) q
-column_here c t tr q x h tr2 under ns =
+get_next : {A : Type 0} → (xs : List A) (x : A) (ys : List A) → slice_get (xs ++ x ∷ ys) (length xs) ≡ Some x
+get_next [] x ys = refl
+get_next (y ∷ xs) x ys = get_next xs x ys
+
+-- the column of a node that is made at place q, and is no strand
+pub column_next : (size : ℕ) (t : List Node) (tr : IsTree t) (q : ℕ) (x : Node) (more : List Node) → IsTree (t ++ x ∷ more) → x.parent ≡ q → is_strand_kind x.kind ≡ false → column (t ++ x ∷ more) size (length t) ≡ column (t ++ x ∷ more) size q
+column_next size t tr q x more tr2 under ns =
     let some = tr.some in
-    column_other (t ++ x ∷ []) tr2 (used c) (length t) (omega arith) (omega (arith, length-append t (x ∷ []))) (ap (passes (λ y. is_strand_kind y.kind)) (get_last t x) ∙ ns)
-    ∙ ap (column (t ++ x ∷ []) (used c)) (ap (number_in (λ y. y.parent)) (get_last t x) ∙ under)
-    ∙ column_append t (x ∷ []) tr.rooted (used c) q h
+    column_other (t ++ x ∷ more) tr2 size (length t) (omega arith) (omega (arith, length-append t (x ∷ more))) (ap (passes (λ y. is_strand_kind y.kind)) (get_next t x more) ∙ ns)
+    ∙ ap (column (t ++ x ∷ more) size) (ap (number_in (λ y. y.parent)) (get_next t x more) ∙ under)
 
 pub nodes_apart : NodesApart
 nodes_apart c words t cuts joins is_open p q x s m n ne under ns nf e =
     let tr2 : IsTree (t ++ x ∷ []) = tree_one_more t s.tree q n.there (may_have c t cuts joins is_open s.ordered q n) x under ns nf in
-    (hands_differ c words t cuts joins is_open p q s m n ne).0 (sym (ap (owner c) (column_append t (x ∷ []) s.tree.rooted (used c) p m.there)) ∙ sym e ∙ ap (owner c) (column_here c t s.tree q x n.there tr2 under ns))
+    let here : column (t ++ x ∷ []) (used c) (length t) ≡ column t (used c) q = column_next (used c) t s.tree q x [] tr2 under ns ∙ column_append t (x ∷ []) s.tree.rooted (used c) q n.there in
+    (hands_differ c words t cuts joins is_open p q s m n ne).0 (sym (ap (owner c) (column_append t (x ∷ []) s.tree.rooted (used c) p m.there)) ∙ sym e ∙ ap (owner c) here)

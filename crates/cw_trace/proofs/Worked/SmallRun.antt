@@ -1,5 +1,5 @@
 -- The small run, step by step, and what holds of its states.
-use Rattle.std.proofs.Common.{◌≡◌, ℕ, zero, suc, ◌<◌, List, [], ◌∷◌, length, refl, arith, Bool, true, false, nat_lt, nat_eq, pos}
+use Rattle.std.proofs.Common.{◌≡◌, ℕ, zero, suc, ◌<◌, ◌≤◌, List, [], ◌∷◌, length, refl, arith, Bool, true, false, nat_lt, nat_eq, pos}
 use Rattle.std.specs.Prelude.{not, slice_index}
 use Rattle.std.proofs.lemmas.Bool.{ltb-true, lt-ltb, eq-eqb, not-true}
 use Rattle.cw_tree.specs.declared.node.Node.{Node}
@@ -9,12 +9,12 @@ use Rattle.cw_tree.specs.Names.{is_right}
 use Rattle.cw_tree.specs.Shape.{IsTree}
 use Rattle.cw_tree.specs.Worked.{plain}
 use Rattle.cw_tree.proofs.Worked.Checks.{all_below, each_below, implies, implied, is_tree, are_stamps}
-use Rattle.cw_trace.specs.Columns.{ColumnTable, first_tier, forked}
+use Rattle.cw_trace.specs.Columns.{ColumnTable, first_tier, forked, merged}
 use Rattle.cw_trace.specs.Stands.{fork_column}
 use Rattle.cw_trace.specs.Running.{IsOrdered, MayGoOn, IsUnstarted}
 use Rattle.cw_trace.specs.Runs.{ReachedTier, start, fork, split, leaf, begin}
 use Rattle.cw_trace.specs.Hands.{StandsInOrder, IsInnermost, InnermostDiffer}
-use Rattle.cw_trace.specs.Worked.{open_below, no_words, one_fork, forked_once, Unready, stolen_once, TwoHands, in_block, two_forks, accessed, begun_since, stolen_twice, at_access, since_then, open_since, TwoLoads}
+use Rattle.cw_trace.specs.Worked.{open_below, no_words, one_fork, forked_once, Unready, stolen_once, TwoHands, in_block, two_forks, accessed, begun_since, stolen_twice, at_access, since_then, open_since, TwoLoads, DrawnEarly}
 use Rattle.cw_trace.proofs.Keeps.WholeRuns.{each_run_stands}
 use Rattle.cw_trace.proofs.Worked.Checks.{ordered, innermost, goes, place, newest}
 
@@ -141,7 +141,7 @@ order_access = ordered stolen_twice accessed (3 ∷ 1 ∷ []) [] (open_below 8) 
 -- ## It begins a block
 
 run_since : ReachedTier stolen_twice since_then begun_since (3 ∷ 1 ∷ []) []
-run_since = begin stolen_twice at_access accessed (3 ∷ 1 ∷ []) [] 6 5 run_access (place stolen_twice accessed (3 ∷ 1 ∷ []) [] (open_below 8) 6 tree_access order_access (goes stolen_twice accessed (3 ∷ 1 ∷ []) [] (open_below 8) 6 (innermost stolen_twice accessed (3 ∷ 1 ∷ []) [] (open_below 8) 6 refl refl refl refl) refl) refl) (omega arith) (newest stolen_twice accessed (3 ∷ 1 ∷ []) [] (open_below 8) 6 5 refl)
+run_since = begin stolen_twice at_access accessed (3 ∷ 1 ∷ []) [] 6 6 run_access (place stolen_twice accessed (3 ∷ 1 ∷ []) [] (open_below 8) 6 tree_access order_access (goes stolen_twice accessed (3 ∷ 1 ∷ []) [] (open_below 8) 6 (innermost stolen_twice accessed (3 ∷ 1 ∷ []) [] (open_below 8) 6 refl refl refl refl) refl) refl) (omega arith) (newest stolen_twice accessed (3 ∷ 1 ∷ []) [] (open_below 8) 6 6 refl)
 
 pub two_loads : TwoLoads
 two_loads = record {
@@ -154,4 +154,23 @@ two_loads = record {
   outside = refl;
   loads = refl;
   verdict = refl;
+}
+
+pub drawn_early : DrawnEarly
+drawn_early = record {
+  drawn = newest stolen_twice accessed (3 ∷ 1 ∷ []) [] (open_below 8) 3 5 refl;
+  still = newest stolen_twice begun_since (3 ∷ 1 ∷ []) [] open_since 3 5 refl;
+  not_there = λ l. (let le : 6 ≤ 5 = l 9 (omega arith) refl in omega arith);
+  finished = record { tree = tree_access; keeps = each_run_stands _ _ _ _ _ run_access; ordered = ordered stolen_twice accessed (3 ∷ 1 ∷ []) [] (open_below 6) refl refl refl refl refl refl refl refl };
+  goes_on = goes stolen_twice accessed (3 ∷ 1 ∷ []) [] (open_below 6) 3 (innermost stolen_twice accessed (3 ∷ 1 ∷ []) [] (open_below 6) 3 refl refl refl refl) refl;
+  done = record {
+    fork = 5;
+    is = refl;
+    at = refl;
+    done = λ s p h e. (
+        let test : ℕ → Bool = λ s. implies (nat_eq (parent_of accessed s) 5) (not (open_below 6 s)) in
+        let all : all_below test 9 ≡ true = refl in
+        not-true _ (implied _ _ (each_below test 9 all s h) (eq-eqb (parent_of accessed s) 5 e)));
+  };
+  merged = newest (merged 3 stolen_twice) accessed (3 ∷ 1 ∷ []) (3 ∷ []) (open_below 6) 3 5 refl;
 }
