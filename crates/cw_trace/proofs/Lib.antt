@@ -5,3 +5,5 @@ pub mod Outward
 pub mod Query
 pub mod Segments
 pub mod Stands
+pub mod ManyHands
+pub mod Worked

@@ -13,3 +13,5 @@ pub mod Runs
 pub mod Told
 pub mod Query
 pub mod Verdicts
+pub mod Hands
+pub mod Worked

@@ -4,3 +4,4 @@ pub mod Renaming
 pub mod Renumbered
 pub mod Sound
 pub mod Visits
+pub mod OneTree

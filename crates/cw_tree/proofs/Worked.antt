@@ -1,3 +1,4 @@
 pub mod Checks
 pub mod KeptParts
 pub mod KeptRuns
+pub mod OneTreeRows

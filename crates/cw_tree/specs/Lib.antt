@@ -20,3 +20,4 @@ pub mod Newest
 pub mod InOrder
 pub mod Links
 pub mod OrderLaws
+pub mod OneTree

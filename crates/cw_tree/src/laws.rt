@@ -1,5 +1,6 @@
 ghost use Rattle.cw_tree.specs.ChainLaws.{ConflictsAt, ConflictsGrow, ConflictsClose, NewestGrow, NewestClose, ChainsGrow, ChainsClose, ChainsExtend, PartsAreChains, EachFollows, SomeAreChains, BeneathIsEnd, StampsGrow, StampsClose, StampsExtend, PartsOfStamps, EachStampFollows, SomeOfStamps, StampsBeneath, StampConflictsGrow, StampConflictsClose, StacksGrow, StacksClose, FrontsOfStacks, StacksTell};
 ghost use Rattle.cw_tree.specs.NextNodes.{SoundCloses, SoundForks, SoundGrows, SoundRefuses};
+ghost use Rattle.cw_tree.specs.OneTree.{OneList, OneNumber, OneTree, OneTreeRows};
 ghost use Rattle.cw_tree.specs.OrderLaws.{AncestorsStay, NodesStay, NumberedDepthFirst, NumbersDiffer, SeriesStay, SiblingsStay, SoundStays, TreesStay};
 ghost use Rattle.cw_tree.specs.VictimsAt.{VictimsAt, VictimsGrow, VictimRows};
 
@@ -70,4 +71,13 @@ pub fn orders_rename()
     ensures numbered { NumberedDepthFirst }
     ensures series { SeriesStay }
     ensures sound { SoundStays }
+{}
+
+/// Two trees that differ in the numbers of their nodes alone are one tree in depth-first order, with one list of conflicts; and what that says
+/// of a small one.
+pub fn trees_are_one()
+    ensures tree { OneTree }
+    ensures number { OneNumber }
+    ensures conflicts { OneList }
+    ensures rows { OneTreeRows }
 {}

@@ -6,7 +6,8 @@
 //! there hold what the layers above say of a tree, its accesses and its conflicts, and `AccessStacks` the accesses of a cell with their
 //! entries; `Laws` and `ChainLaws` are laws on them, `VictimsAt` says who falls for an access at a place, `NextNodes` where a node may
 //! be made next and with which stamp, `Newest` which accesses are newest, `InOrder` what a tree, its conflicts and its end are with the
-//! nodes numbered depth first, of which `OrderLaws` are laws, `Worked` and `WorkedRun` try them.
+//! nodes numbered depth first, of which `OrderLaws` are laws, `OneTree` when two trees are one but for the numbers of their nodes,
+//! `Worked` and `WorkedRun` try them.
 #![tactic(auto)]
 
 ghost use Rattle.cw_tree.specs.Laws.{SeriesOrParallel};
@@ -25,7 +26,7 @@ pub use access::{Entry, Mark};
 pub use closed::{Closed, Halt};
 pub use conflict::Conflict;
 pub use laws::{
-    chains_by_stamps, chains_stay, conflicts_at_places, orders_rename, stacks_stay,
+    chains_by_stamps, chains_stay, conflicts_at_places, orders_rename, stacks_stay, trees_are_one,
     trees_stay_sound, victims_at_places,
 };
 pub use node::{BlockState, Kind, Node};

@@ -19,7 +19,7 @@ use Rattle.cw_trace.specs.Keeps.{Keeps}
 use Rattle.cw_trace.specs.Running.{IsUnsplit, IsOrdered, MayGoOn}
 use Rattle.cw_trace.proofs.Stands.Counting.{fork_column_lt, pending_no_strand}
 use Rattle.cw_trace.proofs.Keeps.Owners.{column_other, owners_descend}
-use Rattle.cw_trace.proofs.Segments.Lines.{order, le_or_lt, left_of_odd, left_of_next, used_some, own_le, start_after, is_split, unsplit, right_used}
+use Rattle.cw_trace.proofs.Segments.Lines.{order, le_or_lt, left_of_odd, left_of_next, used_some, own_le, own_trace, start_after, is_split, unsplit, right_used}
 use Rattle.cw_trace.proofs.Keeps.Sides.{child_to, above_all, right_of, is_left, strand_in, bare, left, right, side}
 use Rattle.cw_trace.proofs.Keeps.Meaning.{column_low, stands_of, odd_column}
 
@@ -167,7 +167,7 @@ module _ (c : ColumnTable) (words : List ℕ) (t : List Node) (cuts joins : List
 
   module _ (p : ℕ) (m : MayGoOn c t cuts is_open p) where
     -- the two strands at which a strand that may go on and something open part
-    never : (x : ℕ) → x < length t → is_open x ≡ true → is_strand t x ≡ false → own x ≡ own p → Parted p x → ⊥
+    never : (x : ℕ) → x < length t → is_open x ≡ true → (is_strand t x ≡ false) ⊎ MayGoOn c t cuts is_open x → own x ≡ own p → Parted p x → ⊥
     never x hx ox no_strand same z = by_columns (le_or_lt (fork_column t z.fork + 2) (used c)) where
       one_open : is_open z.one ≡ true
       one_open = open_above z.one p m.there m.opened z.one_above
@@ -190,9 +190,17 @@ module _ (c : ColumnTable) (words : List ℕ) (t : List Node) (cuts joins : List
       when_unsplit : IsUnsplit c t cuts z.fork → ⊥
       when_unsplit u = by_order (order z.one z.other) where
         by_order : (z.one < z.other) ⊎ ((z.one ≡ z.other) ⊎ (z.other < z.one)) → ⊥
-        by_order (inl l) =
-            let w = at_fork z.other z.other_in u in
-            cc (o.left_first z.one z.other x z.one_pos l z.other_low (z.one_in ∙ sym z.other_in) w.0 w.1 hx z.other_above (λ q. cc (ap (is_strand t) q, no_strand, other_strand)), one_open)
+        by_order (inl l) = elim (cases_eq x z.other) [
+          | inr ne ↦ (
+              let w = at_fork z.other z.other_in u in
+              cc (o.left_first z.one z.other x z.one_pos l z.other_low (z.one_in ∙ sym z.other_in) w.0 w.1 hx z.other_above ne, one_open))
+          | inl q ↦ elim no_strand [
+            | inl plain ↦ cc (ap (is_strand t) q, plain, other_strand)
+            | inr also ↦ (
+                let w = at_fork x (ap (parent_of t) q ∙ z.other_in) u in
+                cc (also.left_done z.one z.one_pos (omega (arith, q)) (z.one_in ∙ sym (ap (parent_of t) q ∙ z.other_in)) w.0 w.1, one_open))
+          ]
+        ]
         by_order (inr (inl q)) = z.differ q
         by_order (inr (inr l)) = elim (cases_eq p z.one) [
           | inl q ↦ (
@@ -244,7 +252,23 @@ module _ (c : ColumnTable) (words : List ℕ) (t : List Node) (cuts joins : List
           | inl q ↦ (let P : ℕ → Type 0 = λ y. is_ancestor t x y ≡ true in subst P (sym q) (ancestor_self t x))
           | inr q ↦ (let z = child_to t tr p x hx e q in absurd (m.innermost z.0 z.1 z.2 z.3 (open_above z.0 x hx ox z.4)))
         ]
-        | inr z ↦ absurd (never x hx ox no_strand same z)
+        | inr z ↦ absurd (never x hx ox (inl no_strand) same z)
+      ]
+    ]
+
+    -- two strands that may go on are in different traces
+    pub owners_differ : (q : ℕ) → MayGoOn c t cuts is_open q → own q ≡ own p → q ≡ p
+    owners_differ q also same = elim (meet q also.there also.opened p m.there m.opened) [
+      | inl e ↦ elim (cases_eq q p) [
+        | inl w ↦ w
+        | inr ne ↦ (let z = child_to t tr q p m.there e (λ w. ne w) in absurd (also.innermost z.0 z.1 z.2 z.3 (open_above z.0 p m.there m.opened z.4)))
+      ]
+      | inr w ↦ elim w [
+        | inl e ↦ elim (cases_eq p q) [
+          | inl z ↦ sym z
+          | inr ne ↦ (let z = child_to t tr p q also.there e (λ w. ne w) in absurd (m.innermost z.0 z.1 z.2 z.3 (open_above z.0 q also.there also.opened z.4)))
+        ]
+        | inr z ↦ absurd (never q also.there also.opened (inr also) same z)
       ]
     ]
 
@@ -396,3 +420,13 @@ module _ (c : ColumnTable) (words : List ℕ) (t : List Node) (cuts joins : List
             | inr q ↦ (let z = fork_above s q in let le : fork_column t z.0 ≤ w.start = w.last z.0 z.1 z.3 z.4 z.5 in omega (arith, z.2))
           ];
         }
+
+  -- and use different gaps
+  pub gaps_differ : (p q : ℕ) → MayGoOn c t cuts is_open p → MayGoOn c t cuts is_open q → gap c (col p) ≡ gap c (col q) → p ≡ q
+  gaps_differ p q m n e =
+      let a = active p m in
+      let b = active q n in
+      let same : own p ≡ own q =
+      g.one_trace (own p) (own q) a.start b.start (own_trace c cuts joins (is_pending t) col g (col p) (low p)) (own_trace c cuts joins (is_pending t) col g (col q) (low q)) a.starts b.starts
+      (λ h w f. a.uncut h w) (λ h w f. b.uncut h w) (sym a.same ∙ e ∙ b.same) in
+      sym (owners_differ p m q n (sym same))

@@ -110,8 +110,8 @@ module _ (c : ColumnTable) (words : List ℕ) (t : List Node) (cuts joins : List
         omega arith
 
     -- nothing that is open stands in the traces
-    nothing_open : (x : ℕ) → x < length t → is_open x ≡ true → (owner c (column t (used c) x) ≡ f) ⊎ (owner c (column t (used c) x) ≡ f + 1) → (is_strand t x ≡ false) → ⊥
-    nothing_open x h ox e ns =
+    pub nothing_open : (x : ℕ) → x < length t → is_open x ≡ true → (owner c (column t (used c) x) ≡ f) ⊎ (owner c (column t (used c) x) ≡ f + 1) → ⊥
+    nothing_open x h ox e =
         let st = stands_of c words t cuts joins k in
         let some : 0 < owner c (column t (used c) x) = elim e [ inl q ↦ omega (arith, q, odd_pos f left) | inr q ↦ omega (arith, q) ] in
         let is_left : left_column_of (owner c (column t (used c) x)) ≡ f = elim e [ inl q ↦ ap left_column_of q ∙ left_of_odd f left | inr q ↦ ap left_column_of q ∙ left_of_next f left ] in
@@ -135,7 +135,7 @@ module _ (c : ColumnTable) (words : List ℕ) (t : List Node) (cuts joins : List
       left = left;
       unjoined = unjoined;
       cut = is_cut;
-      no_block = λ b p. ((λ e. nothing_open b (pending_there t b p) (o.pending b p) (inl e) (pending_no_strand t b p)), (λ e. nothing_open b (pending_there t b p) (o.pending b p) (inr e) (pending_no_strand t b p)));
+      no_block = λ b p. ((λ e. nothing_open b (pending_there t b p) (o.pending b p) (inl e)), (λ e. nothing_open b (pending_there t b p) (o.pending b p) (inr e)));
       no_fork = λ s. ((λ w. in_fork s w (inl w.outside)), (λ w. in_fork s w (inr w.outside)));
     } where
       in_fork : {x : ℕ} (s : ℕ) → IsOpen c joins x s → (around c s ≡ f) ⊎ (around c s ≡ f + 1) → ⊥
@@ -146,7 +146,7 @@ module _ (c : ColumnTable) (words : List ℕ) (t : List Node) (cuts joins : List
           let pair : fork_column t z.node + 1 < used c = let l = left_pair s p w.low in omega (arith, z.at) in
           let opened = o.forks z.node z.is pair (ap (has joins) (z.at ∙ own_left) ∙ w.unjoined) in
           let same : owner c (column t (used c) z.node) ≡ around c s = ap (owner c) (sym z.from ∙ ap (slice_index c.parents) own_left) in
-          nothing_open z.node (fork_there t z.node z.is) opened (elim e [ inl q ↦ inl (same ∙ q) | inr q ↦ inr (same ∙ q) ]) (fork_no_strand t z.node z.is)
+          nothing_open z.node (fork_there t z.node z.is) opened (elim e [ inl q ↦ inl (same ∙ q) | inr q ↦ inr (same ∙ q) ])
 
     pub merge_keeps : Keeps (merged f c) words t cuts (f ∷ joins)
     merge_keeps = keeps_merge c words t cuts joins k tr f may_merge

@@ -138,6 +138,22 @@ module _ (c : ColumnTable) (words : List ℕ) (t : List Node) (cuts merges : Lis
           | inr q ↦ owner_between c words t cuts merges tr st b a g z.there ha f.there (x.innermost b bu f.pending) q f.pending (f.owner ∙ sym z.owner) ∙ z.owner
         ])
 
+    -- the word of the trace around tells that the access conflicts now, whatever the last accessor's own trace has begun since
+    pub against_around : (y : ℕ) → up c (own u) ≡ Some y → stands_in c (column t (used c) p) y ≡ false → Says t u p (Against (word_of words (lead c y)))
+    against_around y e off = by_up (let P : Option ℕ → Type 0 = λ o. UpFrom c words t cuts merges tr st u o in subst P e (ups_of c words t cuts merges tr st u hu)) where
+      by_up : UpFrom c words t cuts merges tr st u (Some y) → Says t u p (Against (word_of words (lead c y)))
+      by_up w =
+          let g : ℕ = w.0 in
+          let b : ℕ = w.1 in
+          let z = w.2 in
+          let f = first_some c words t cuts merges tr st y b z.first in
+          let bg : is_ancestor t b g ≡ true = st.contains_cut b g f.there f.pending z.fork (ap (λ x. is_cut_at c cuts merges x (fork_column t g)) f.owner ∙ z.cut) in
+          let bu : is_ancestor t b u ≡ true = ancestor_trans t tr.rooted b g u hu bg z.above in
+          let word : word_of words (lead c y) ≡ stamp_of t b = lead_word y b f.there f.owner ∙ ap (stamp_or_0 t) z.first in
+          let near = nearest b f.pending bu in
+          let no : is_ancestor t b p ≡ true → ⊥ = λ h. within_no y b f.there f.owner off (elim (owners_descend c words t cuts merges tr st b p hp h) [ inl q ↦ inl (q ∙ f.owner) | inr q ↦ inr (let P : ℕ → Type 0 = λ x. Descends c x (own p) in subst P f.owner q) ]) in
+          (near.0, b, near.1, false_from_ne_true _ (λ h. no (ancestor_trans t tr.rooted b near.0 p hp (near.2.innermost b bu f.pending) h)), f.pending, over b f.pending bu, false_from_ne_true _ no, sym word)
+
     -- the verdict is the definition: one stamp and at most two gap words decide
     pub query : Says t u p (verdict c words (record { strand = column t (used c) u; stamp = stamp_of t u }) (column t (used c) p))
     query = by_word (word_of words (lead c (own u))) (lead_word (own u) u hu refl) where

@@ -39,7 +39,7 @@ module _ (t : List Node) (r : IsRooted t) where
       inr (ahead_piece (walk t k) c d z.0 (children t n) z.1 (walk_ahead k z.0 m c d (omega arith) z.2 x y l))
 
 -- what is made of renamed pieces
-flat_of_map : (g h : ℕ → List ℕ) (f : ℕ → ℕ) (xs : List ℕ) → ((x : ℕ) → In x xs → g (f x) ≡ map f (h x)) → flat_map g (map f xs) ≡ map f (flat_map h xs)
+pub flat_of_map : (g h : ℕ → List ℕ) (f : ℕ → ℕ) (xs : List ℕ) → ((x : ℕ) → In x xs → g (f x) ≡ map f (h x)) → flat_map g (map f xs) ≡ map f (flat_map h xs)
 flat_of_map g h f [] e = refl
 flat_of_map g h f (x ∷ xs) e =
     ap (λ ys. ys ++ flat_map g (map f xs)) (e x (inl refl)) ∙ ap (λ ys. map f (h x) ++ ys) (flat_of_map g h f xs (λ y i. e y (inr i))) ∙ sym (map-append f (h x) (flat_map h xs))

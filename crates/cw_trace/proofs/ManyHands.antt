@@ -1,0 +1,3 @@
+pub mod Differ
+pub mod Loads
+pub mod Later

@@ -1,0 +1,36 @@
+ghost use Rattle.cw_trace.specs.Hands.{HandsDiffer, WordsStay, NodesApart, OneWordDecides, LastLoadDecides, NoLoadDecides, LaterWithNode, LaterWithFork, LaterWithInline, LaterClosed, LaterSplit, LaterMerged};
+ghost use Rattle.cw_trace.specs.Worked.{Unready, TwoHands, TwoLoads, DrawnEarly};
+
+/// Strands that may go on at two places are in different traces and use different gaps: so neither changes the word of the other one's gap,
+/// nor makes a node in its trace.
+pub fn hands_differ()
+    ensures differ { HandsDiffer }
+    ensures words { WordsStay }
+    ensures nodes { NodesApart }
+{}
+
+/// A query whose two words are loaded at different moments, between which others begin and close blocks, answers right for its last load.
+pub fn loads_decide()
+    ensures one_word { OneWordDecides }
+    ensures last_load { LastLoadDecides }
+    ensures no_load { NoLoadDecides }
+{}
+
+/// A number that was drawn early, and is above all stamps of its strand's trace, stays so until the strand uses it, whatever others do.
+pub fn later_stays()
+    ensures node { LaterWithNode }
+    ensures fork { LaterWithFork }
+    ensures inline { LaterWithInline }
+    ensures closed { LaterClosed }
+    ensures split { LaterSplit }
+    ensures merged { LaterMerged }
+{}
+
+/// What the definitions say of a small run in which two strands go on, and that the right strand of a fork that is not split would be in the
+/// trace of the left one and use its gap.
+pub fn worked_hands()
+    ensures unready { Unready }
+    ensures hands { TwoHands }
+    ensures loads { TwoLoads }
+    ensures early { DrawnEarly }
+{}
