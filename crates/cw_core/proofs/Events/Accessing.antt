@@ -35,7 +35,8 @@ use Rattle.cw_core.specs.State.{CoreState, joined_columns, waits_for_left, colum
 use Rattle.cw_core.specs.Events.{is_met, met_by, against}
 use Rattle.cw_core.specs.Laws.{IsCore}
 use Rattle.cw_core.proofs.Events.Complete.{HasAll, none_of, all_quiet}
-use Rattle.cw_core.proofs.Events.Going.{reached_more, state, well, all_listed, next_stamp, forks_grown, column_place, in_order, goes, at_place, leaf_stands, node_left}
+use Rattle.cw_open.proofs.Runs.More.{reached_more}
+use Rattle.cw_core.proofs.Events.Going.{state, well, all_listed, next_stamp, forks_grown, column_place, in_order, goes, at_place, leaf_stands, node_left}
 use Rattle.cw_core.proofs.Events.Making.{IsKept}
 
 access_no : (c : ℕ) (write : Option ℤ) (v : ℤ) → (is_strand_kind (access_kind c write v) ≡ false) × (is_fork_kind (access_kind c write v) ≡ false) × ((is_block_kind (access_kind c write v) && is_pending_state (first_state (access_kind c write v))) ≡ false)

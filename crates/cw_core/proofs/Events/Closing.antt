@@ -33,7 +33,8 @@ use Rattle.cw_core.specs.Laws.{IsLeftFirst, IsCore}
 use Rattle.cw_core.proofs.Events.Joined.{joins_of, joins_same}
 use Rattle.cw_core.proofs.Laws.LeftFirst.{left_shut}
 use Rattle.cw_core.proofs.Events.Complete.{none_of, all_fewer}
-use Rattle.cw_core.proofs.Events.Going.{reached_more, well, all_listed, end_stamp, pending_stamped, column_place, in_order, goes, at_place}
+use Rattle.cw_open.proofs.Runs.More.{reached_more}
+use Rattle.cw_core.proofs.Events.Going.{well, all_listed, end_stamp, pending_stamped, column_place, in_order, goes, at_place}
 use Rattle.cw_core.proofs.Events.Making.{IsKept}
 
 -- ## The block at a place is closed

@@ -35,7 +35,8 @@ use Rattle.cw_core.proofs.Events.Joined.{joins_of, joins_more, joins_no_more}
 use Rattle.cw_core.proofs.Events.Ordering.{columns_used, unjoined, open_fork, ordered, closed_strand}
 use Rattle.cw_core.proofs.Laws.LeftFirst.{left_tier, left_shut}
 use Rattle.cw_core.proofs.Events.Complete.{none_of}
-use Rattle.cw_core.proofs.Events.Going.{reached_more, well, all_listed, root_open}
+use Rattle.cw_open.proofs.Runs.More.{reached_more}
+use Rattle.cw_core.proofs.Events.Going.{well, all_listed, root_open}
 use Rattle.cw_core.proofs.Events.Making.{IsKept}
 use Rattle.cw_core.proofs.Events.Closing.{same_shape}
 

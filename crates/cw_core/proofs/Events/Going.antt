@@ -5,7 +5,7 @@ use Rattle.std.proofs.lemmas.Bool.{and_parts, or_cases, ltb-true, not-true}
 use Rattle.cw_tree.specs.declared.node.Node.{Node}
 use Rattle.cw_tree.specs.declared.node.Kind.{Kind}
 use Rattle.cw_tree.specs.declared.node.Kind.TheVariants.{Strand, Fork, Block, Read, Write, Out, Tried}
-use Rattle.cw_tree.specs.Nodes.{passes, is_strand_kind, is_fork_kind, is_block_kind, is_tried_kind, is_pending_state, parent_of, stamp_of, end_of, is_fork, is_strand, is_block, is_pending}
+use Rattle.cw_tree.specs.Nodes.{passes, is_strand_kind, is_fork_kind, is_block_kind, is_tried_kind, is_pending_state, parent_of, stamp_of, is_fork, is_strand, is_block, is_pending}
 use Rattle.cw_tree.specs.Walks.{has}
 use Rattle.cw_tree.specs.Series.{strand_of, place}
 use Rattle.cw_tree.specs.Shape.{has_stamp}
@@ -23,12 +23,12 @@ use Rattle.cw_trace.specs.Running.{IsUnsplit, IsOrdered, MayGoOn}
 use Rattle.cw_trace.proofs.Keeps.TierLaws.{leaf}
 use Rattle.cw_trace.proofs.Keeps.Grow.{fork_column_append}
 use Rattle.cw_open.specs.Machine.{OpenMachine, has_finished, is_running}
-use Rattle.cw_open.specs.Steps.{Step, after_open_step, after_all, first_machine}
-use Rattle.cw_open.specs.Runs.{Rules, IsRun, IsReachedBy, at_once}
+use Rattle.cw_open.specs.Runs.{at_once}
 use Rattle.cw_open.specs.Open.{is_open}
 use Rattle.cw_open.proofs.Open.Standing.{runs, stands, place_open, open_over}
 use Rattle.cw_open.proofs.Open.Trees.{IsWell, stands_well, open_more}
 use Rattle.cw_open.proofs.Runs.States.{IsState, states}
+use Rattle.cw_open.proofs.Runs.Clock.{next_above, end_above}
 use Rattle.cw_core.specs.State.{CoreState, joined_columns, waits_for_left}
 use Rattle.cw_core.specs.Laws.{IsLeftFirst, IsCore}
 use Rattle.cw_core.proofs.Events.Joined.{joins_of, joins_same}
@@ -36,25 +36,7 @@ use Rattle.cw_core.proofs.Events.Ordering.{ordered, may_go_on}
 use Rattle.cw_core.proofs.Laws.LeftFirst.{left_more}
 use Rattle.cw_core.proofs.Events.Complete.{HasAll, all_of}
 
--- ## Runs
-
-pub run_more : (r : Rules) (m : OpenMachine) (es fs : List Step) → IsRun r m es → IsRun r (after_all m es) fs → IsRun r m (es ++ fs)
-run_more r m [] fs h g = g
-run_more r m (e ∷ es) fs h g = (h.0, run_more r (after_open_step m e) es fs h.1 g)
-
-pub after_more : (m : OpenMachine) (es fs : List Step) → after_all m (es ++ fs) ≡ after_all (after_all m es) fs
-after_more m [] fs = refl
-after_more m (e ∷ es) fs = after_more (after_open_step m e) es fs
-
--- a run from a state that is reached leads to one that is
-pub reached_more : (r : Rules) (first : List ℤ) (m : OpenMachine) (es : List Step) → IsReachedBy r first m → IsRun r m es → IsReachedBy r first (after_all m es)
-reached_more r first m es reached run =
-    let P : OpenMachine → Type 0 = λ x. IsRun r x es in
-    record {
-      steps = reached.steps ++ es;
-      run = run_more r (first_machine first) reached.steps es reached.run (subst P (sym reached.there) run);
-      there = after_more (first_machine first) reached.steps es ∙ ap (λ x. after_all x es) reached.there;
-    }
+-- ## Where a strand may go on
 
 no_stamp : (k : Kind) → is_block_kind k ≡ true → not (is_strand_kind k || is_tried_kind k) ≡ true
 no_stamp Block e = refl
@@ -90,24 +72,14 @@ module _ (first : List ℤ) (k : CoreState) (core : IsCore first k) where
 
   -- ## Stamps
 
+  ahead : m.clock < m.clock + 1
+  ahead = omega arith
+
   pub next_stamp : (p : ℕ) → IsNextStamp t p (m.clock + 1)
-  next_stamp p =
-      let low : (n : ℕ) → n < length t → (stamp_of t n < m.clock + 1) × (end_of t n < m.clock + 1) = λ n h. (let z = well.clock n h in (omega (arith, z.0), omega (arith, z.1))) in
-      record {
-        some = omega arith;
-        fresh = λ n h. (let z = low n h in (omega (arith, z.0), omega (arith, z.1)));
-        series = λ n h e. low n h;
-        begun = λ b h e. (low b h).0;
-      }
+  next_stamp = next_above m well (m.clock + 1) ahead
 
   pub end_stamp : (b : ℕ) → b < length t → IsEndStamp t b (m.clock + 1)
-  end_stamp b here =
-      let low : (n : ℕ) → n < length t → (stamp_of t n < m.clock + 1) × (end_of t n < m.clock + 1) = λ n h. (let z = well.clock n h in (omega (arith, z.0), omega (arith, z.1))) in
-      record {
-        fresh = λ n h. (let z = low n h in (omega (arith, z.0), omega (arith, z.1)));
-        begun = (low b here).0;
-        beneath = λ n h e. low n h;
-      }
+  end_stamp = end_above m well (m.clock + 1) ahead
 
   -- a pending block has a stamp, and another one
   pub pending_stamped : (b : ℕ) → is_pending t b ≡ true → 0 < stamp_of t b

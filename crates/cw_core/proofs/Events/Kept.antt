@@ -29,7 +29,8 @@ use Rattle.cw_core.specs.declared.event.Event.TheVariants as event
 use Rattle.cw_core.specs.State.{CoreState, joined_columns, start as begin_with, waits_for_left, has_columns, is_split, spent, last_refusal}
 use Rattle.cw_core.specs.Events.{fits, fits_now, is_stop, is_unstarted, may_stop, after_event, steps_of, all_fit, after_events, steps_of_all}
 use Rattle.cw_core.specs.Laws.{IsCore, StartsAreCores, EventsAreRuns, ListsAreRuns, CellsAreChains, StrandsGoOn}
-use Rattle.cw_core.proofs.Events.Going.{run_more, after_more, well, column_place, in_order, goes}
+use Rattle.cw_open.proofs.Runs.More.{run_more, after_more}
+use Rattle.cw_core.proofs.Events.Going.{well, column_place, in_order, goes}
 use Rattle.cw_core.proofs.Events.Making.{IsKept, keeps_out, keeps_begin, keeps_fork}
 use Rattle.cw_core.proofs.Events.Closing.{keeps_commit, keeps_finish, keeps_stop}
 use Rattle.cw_core.proofs.Events.Forks.{keeps_split, keeps_join}

@@ -28,7 +28,8 @@ use Rattle.cw_core.specs.Laws.{IsLeftFirst, IsCore}
 use Rattle.cw_core.proofs.Events.Joined.{joins_of}
 use Rattle.cw_core.proofs.Laws.LeftFirst.{left_more, left_tier}
 use Rattle.cw_core.proofs.Events.Complete.{none_of, all_quiet}
-use Rattle.cw_core.proofs.Events.Going.{reached_more, well, all_listed, next_stamp, pending_stamped, joins_grown, forks_grown, column_place, in_order, goes, at_place, leaf_stands, node_left}
+use Rattle.cw_open.proofs.Runs.More.{reached_more}
+use Rattle.cw_core.proofs.Events.Going.{well, all_listed, next_stamp, pending_stamped, joins_grown, forks_grown, column_place, in_order, goes, at_place, leaf_stands, node_left}
 
 -- what holds of a core after an event
 pub record IsKept (first : List ℤ) (k : CoreState) (e : Event) : Type 0 where

@@ -27,7 +27,8 @@ use Rattle.cw_core.specs.State.{CoreState, waits_for_left}
 use Rattle.cw_core.specs.Events.{steps_of, after_event, touched, next}
 use Rattle.cw_core.specs.Laws.{IsCore}
 use Rattle.cw_core.proofs.Events.Complete.{HasAll, none_of}
-use Rattle.cw_core.proofs.Events.Going.{run_more, after_more, reached_more, well, all_listed, end_stamp, at_place}
+use Rattle.cw_open.proofs.Runs.More.{run_more, after_more, reached_more}
+use Rattle.cw_core.proofs.Events.Going.{well, all_listed, end_stamp, at_place}
 use Rattle.cw_core.proofs.Events.Making.{IsKept}
 use Rattle.cw_core.proofs.Events.Closing.{pending, closed_forks, closed_left, closed_stands, was_live}
 

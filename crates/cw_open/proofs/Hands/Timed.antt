@@ -1,22 +1,14 @@
 -- A run goes on by one step in time; no time is above the clock, and a number above it may be used anywhere.
 use Rattle.std.proofs.Common.{◌≡◌, ℕ, ◌<◌, List, [], ◌∷◌, ◌++◌, length, refl, ap, sym, ◌∙◌, subst, arith}
-use Rattle.cw_tree.specs.Nodes.{stamp_of, end_of}
-use Rattle.cw_tree.specs.NextNodes.{IsNextStamp, IsEndStamp}
 use Rattle.cw_open.specs.Machine.{OpenMachine}
 use Rattle.cw_open.specs.Steps.{Step, after_open_step, after_all, first_machine}
 use Rattle.cw_open.specs.Runs.{Rules, Allowed, IsRun, IsReachedBy, at_any_time}
 use Rattle.cw_open.specs.Times.{times_after, IsTimely, AreTimely}
 use Rattle.cw_open.specs.Hands.{times_after_all, RunsAreInTime, RunsBegin, RunsGoOn, TimesAreLow, AheadIsNext}
 use Rattle.cw_open.proofs.Runs.States.{by_rules, at_any_step, states}
+use Rattle.cw_open.proofs.Runs.More.{run_more, after_more}
+use Rattle.cw_open.proofs.Runs.Clock.{next_above, end_above}
 use Rattle.cw_open.proofs.Times.Ahead.{AreLow, low_after}
-
-run_more : (r : Rules) (m : OpenMachine) (es : List Step) (e : Step) → IsRun r m es → Allowed r (after_all m es) e → IsRun r m (es ++ e ∷ [])
-run_more r m [] e h a = (a, tt)
-run_more r m (x ∷ es) e h a = (h.0, run_more r (after_open_step m x) es e h.1 a)
-
-after_more : (m : OpenMachine) (es : List Step) (e : Step) → after_all m (es ++ e ∷ []) ≡ after_open_step (after_all m es) e
-after_more m [] e = refl
-after_more m (x ∷ es) e = after_more (after_open_step m x) es e
 
 timely_more : (times : ℕ → ℕ) (m : OpenMachine) (es : List Step) (e : Step) → AreTimely times m es → IsTimely (times_after_all times m es) (after_all m es) e → AreTimely times m (es ++ e ∷ [])
 timely_more times m [] e h a = (a, tt)
@@ -36,8 +28,8 @@ runs_go_on r first m times e w a b =
     let R : OpenMachine → Type 0 = λ z. IsTimely times z e in
     record {
       steps = w.steps ++ e ∷ [];
-      run = run_more r (first_machine first) w.steps e w.run (subst P (sym w.there) a);
-      there = after_more (first_machine first) w.steps e ∙ ap (λ z. after_open_step z e) w.there;
+      run = run_more r (first_machine first) w.steps (e ∷ []) w.run (subst P (sym w.there) a, tt);
+      there = after_more (first_machine first) w.steps (e ∷ []) ∙ ap (λ z. after_open_step z e) w.there;
       timely = timely_more (λ n. 0) (first_machine first) w.steps e w.timely (subst Q (sym w.timed) (subst R (sym w.there) b));
       timed = times_more (λ n. 0) (first_machine first) w.steps e ∙ ap (λ f. times_after f (after_all (first_machine first) w.steps) e) w.timed ∙ ap (λ z. times_after times z e) w.there;
     }
@@ -62,10 +54,9 @@ times_are_low r first m times w n =
 pub ahead_is_next : (r : Rules) → AheadIsNext r
 ahead_is_next r first m times w p stamp there less =
     let reached : IsReachedBy r first m = record { steps = w.steps; run = w.run; there = w.there } in
-    let low : (n : ℕ) → n < length m.tree → (stamp_of m.tree n < stamp) × (end_of m.tree n < stamp) = λ n h. (let z = (states r first m reached).well.clock n h in (omega (arith, z.0), omega (arith, z.1))) in
-    let fresh : Rattle.cw_tree.specs.NextNodes.IsFresh m.tree stamp = λ n h. (let z = low n h in (λ e. omega (arith, z.0, e), λ e. omega (arith, z.1, e))) in
+    let well = (states r first m reached).well in
     record {
-      next = record { some = omega arith; fresh = fresh; series = λ n h e. low n h; begun = λ b h e. (low b h).0 };
+      next = next_above m well stamp less p;
       drawn = λ n h e. omega (arith, times_are_low r first m times w n);
-      end = record { fresh = fresh; begun = (low p there).0; beneath = λ n h e. low n h };
+      end = end_above m well stamp less p there;
     }
