@@ -10,7 +10,9 @@ use Rattle.cw_tree.specs.declared.node.Kind.TheVariants.{Strand, Fork, Read, Wri
 use Rattle.cw_tree.specs.declared.node.BlockState.TheVariants.{Pending, Committed, Aborted}
 use Rattle.cw_tree.specs.declared.closed.Closed.{Closed}
 use Rattle.cw_tree.specs.declared.closed.Halt.TheVariants.{Budget}
+use Rattle.cw_tree.specs.declared.conflict.Conflict.{Conflict}
 use Rattle.cw_tree.specs.Worked.{plain, pending, committed, aborted}
+use Rattle.cw_tree.specs.WorkedRun.{two_blocks, two_writes, refused_write}
 use Rattle.cw_log.specs.declared.log.Log.{Log}
 use Rattle.cw_log.specs.declared.token.Stop.{Stop}
 use Rattle.cw_record.specs.WorkedEnds as ends
@@ -133,6 +135,25 @@ pub record Nests : Type 0 where
       ≡ plain 0 Strand 0 ∷ plain 0 Fork 1 ∷ plain 1 Strand 0 ∷ committed 2 2 6 ∷ plain 3 (Write 0 (pos 1)) 3
       ∷ plain 1 Strand 0 ∷ aborted 5 4 8 ∷ aborted 6 5 7 ∷ plain 7 (Tried 0) 0 ∷ committed 5 9 13 ∷ committed 9 10 12 ∷ plain 10 (Write 0 (pos 2)) 11 ∷ []
 
+-- the logs, with the conflict that the board told of the refused access
+abbrev pub nested_logs : List Log
+nested_logs =
+    log 0 0 0 (plain 0 Strand 0 ∷ plain 0 Fork 1 ∷ plain 1 Strand 0 ∷ committed 2 2 6 ∷ plain 3 (Write 0 (pos 1)) 3 ∷ [])
+    ∷ record (log 1 0 1
+    (plain 0 Strand 0 ∷ aborted 0 4 8 ∷ aborted 1 5 7 ∷ plain 2 (Tried 0) 0 ∷ committed 0 9 13 ∷ committed 4 10 12 ∷ plain 5 (Write 0 (pos 2)) 11 ∷ []))
+    { conflicts = record refused_write { asker = 3 } ∷ [] }
+    ∷ []
+
+-- a board that is closed with them, and tells these conflicts
+abbrev pub finished_with : List Conflict → Closed
+finished_with cs = record { tree = two_blocks; journals = two_writes ∷ []; conflicts = cs; halt = None }
+
+pub record Finishes : Type 0 where
+  pub worked : AreWorked (scripted nests) nested_logs None
+  pub closing : IsClosing (pos 0 ∷ []) 2 nested_logs None (finished_with (refused_write ∷ []))
+  -- not where the conflict is not told
+  pub silent : IsClosing (pos 0 ∷ []) 2 nested_logs None (finished_with []) → ⊥
+
 -- ## A block that was rolled back, a fork in it whose right strand has a log of its own, and an inline fork behind it
 --
 -- cell c; fn main() { atomic { spawn { c = 1; } c = 2; } spawn { out 1; } out 2; }
@@ -206,5 +227,6 @@ pub record WorkedCourses : Type 0 where
   pub blocks : Blocks
   pub sums : Sums
   pub nests : Nests
+  pub finishes : Finishes
   pub mixes : Mixes
   pub closes : Closes

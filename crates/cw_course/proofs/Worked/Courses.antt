@@ -1,5 +1,5 @@
 -- Small programs and what their strands did.
-use Rattle.std.proofs.Common.{◌≡◌, ℕ, ◌<◌, List, length, refl, ap, sym, ◌∙◌, subst, arith, lit<, pos, Option, Some, None, true}
+use Rattle.std.proofs.Common.{◌≡◌, ℕ, ◌<◌, List, [], ◌∷◌, length, refl, ap, sym, ◌∙◌, subst, arith, lit<, pos, Option, Some, None, true}
 use Rattle.std.specs.Prelude.{◌^◌}
 use Rattle.std.proofs.lemmas.Bool.{lt-ltb, ltb-true}
 use Rattle.cw_strand.specs.declared.want.Want.{Want}
@@ -11,6 +11,9 @@ use Rattle.cw_tree.specs.declared.closed.Halt.{Halt}
 use Rattle.cw_tree.specs.declared.closed.Halt.TheVariants.{Budget}
 use Rattle.cw_tree.specs.Nodes.{parent_of, is_strand}
 use Rattle.cw_tree.specs.Walks.{IsNumbered}
+use Rattle.cw_tree.specs.declared.conflict.Conflict.{Conflict}
+use Rattle.cw_tree.specs.WorkedRun.{refused_write}
+use Rattle.cw_tree.proofs.Worked.KeptRuns.{holds}
 use Rattle.cw_tree.proofs.Worked.Checks.{all_below, each_below, implied, rooted_test}
 use Rattle.cw_log.specs.declared.log.Log.{Log}
 use Rattle.cw_record.proofs.WorkedEnds.Victim.{at_victim}
@@ -18,7 +21,7 @@ use Rattle.cw_record.specs.Scripts as script
 use Rattle.cw_record.specs.Scripts.{scripted, wants_of, right_of}
 use Rattle.cw_course.specs.Courses.{Goes, Stops, starts, acts, commits, aborts, joins, there, within, apart, nothing, act, block}
 use Rattle.cw_course.specs.Closings.{tree_of, HasStates, AreWorked, AreApart}
-use Rattle.cw_course.specs.Worked.{Reader, reader, reader_wants, reads, shows, showed, Reads, Forks, Blocks, Sums, Nests, Mixes, Closes, WorkedCourses, spawns, shown, spawned, shows_in_block, sums, nests, mixes, mixed, logs_at, spent, spent_logs}
+use Rattle.cw_course.specs.Worked.{Reader, reader, reader_wants, reads, shows, showed, Reads, Forks, Blocks, Sums, Nests, Mixes, Closes, WorkedCourses, spawns, shown, spawned, shows_in_block, sums, nests, nested, nested_logs, Finishes, mixes, mixed, logs_at, spent, spent_logs}
 use Rattle.cw_course.proofs.Closings.States.{has_states}
 
 -- what is shown
@@ -28,6 +31,16 @@ number w = 0
 
 less : (a b : ℕ) → a < b → a ≡ b → ⊥
 less a b h e = omega arith
+
+other : (a b : ℕ) → a < b → b ≡ a → ⊥
+other a b h e = less a b h (sym e)
+
+numbered : (t : List Node) → is_strand t 0 ≡ true → all_below (rooted_test t) (length t) ≡ true → length t < 2 ^ 32 → IsNumbered t
+numbered t root rooted few = record {
+  root = root;
+  rooted = λ n p h. ltb-true (parent_of t n) n (implied _ _ (each_below (rooted_test t) (length t) rooted n h) (lt-ltb 0 n p));
+  few = few;
+}
 
 -- ## A value that is read
 
@@ -84,12 +97,33 @@ sums_go = record {
 
 -- ## The outer one of two blocks is a victim
 
+nested_goes : Goes (scripted nests) nests nested script.done
+nested_goes =
+    joins starts refl (commits starts refl (acts starts (refl, refl)) refl) refl
+    (commits (aborts starts refl (there (aborts starts refl (there (acts starts (refl, refl)))))) refl
+    (commits starts refl (acts starts (refl, refl)) refl) refl) refl
+
 nests_go : Nests
-nests_go = record {
-  goes = joins starts refl (commits starts refl (acts starts (refl, refl)) refl) refl
-      (commits (aborts starts refl (there (aborts starts refl (there (acts starts (refl, refl)))))) refl
-      (commits starts refl (acts starts (refl, refl)) refl) refl) refl;
-  tree = refl;
+nests_go = record { goes = nested_goes; tree = refl }
+
+none_is_not_one : (c : Conflict) (cs : List Conflict) → [] ≡ c ∷ cs → ⊥
+none_is_not_one c cs e = absurd (cc e)
+
+finishes_all : Finishes
+finishes_all = record {
+  worked = record { course = nested; written = refl; ends = (script.done, nested_goes, refl) };
+  closing = record {
+    apart = ((other 0 1 (lit< tt), tt), (tt, tt));
+    numbered = numbered (tree_of nested_logs) refl refl (lit< tt);
+    tree = refl;
+    conflicts = refl;
+    halt = refl;
+    history = holds.history;
+    faulted = tt;
+    spent = tt;
+    finished = λ e. holds.none_pending;
+  };
+  silent = λ k. none_is_not_one refused_write [] k.conflicts;
 }
 
 -- ## All of it
@@ -101,18 +135,8 @@ mixes_go =
     (joins starts refl (acts starts (refl, refl)) refl (acts starts (refl, refl)) refl) refl)
     refl (acts starts (refl, refl)) refl (acts starts (refl, refl)) refl
 
-other : (a b : ℕ) → a < b → b ≡ a → ⊥
-other a b h e = less a b h (sym e)
-
 logs_apart : (at : ℕ) → AreApart (logs_at at)
 logs_apart at = ((other 0 1 (lit< tt), (other 0 2 (lit< tt), tt)), ((other 1 2 (lit< tt), tt), (tt, tt)))
-
-numbered : (t : List Node) → is_strand t 0 ≡ true → all_below (rooted_test t) (length t) ≡ true → length t < 2 ^ 32 → IsNumbered t
-numbered t root rooted few = record {
-  root = root;
-  rooted = λ n p h. ltb-true (parent_of t n) n (implied _ _ (each_below (rooted_test t) (length t) rooted n h) (lt-ltb 0 n p));
-  few = few;
-}
 
 mixes_stand : HasStates (scripted mixes) mixed (logs_at 5)
 mixes_stand = has_states (scripted mixes) mixed (there mixes_go) (logs_apart 5) (numbered (tree_of (logs_at 5)) refl refl (lit< tt))
@@ -165,4 +189,4 @@ closes_all = record {
 }
 
 pub courses : WorkedCourses
-courses = record { reads = reads_go; forks = forks_go; blocks = blocks_go; sums = sums_go; nests = nests_go; mixes = mixes_all; closes = closes_all }
+courses = record { reads = reads_go; forks = forks_go; blocks = blocks_go; sums = sums_go; nests = nests_go; finishes = finishes_all; mixes = mixes_all; closes = closes_all }
