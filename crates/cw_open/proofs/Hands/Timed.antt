@@ -1,7 +1,7 @@
 -- A run goes on by one step in time; no time is above the clock, and a number above it may be used anywhere.
 use Rattle.std.proofs.Common.{◌≡◌, ℕ, ◌<◌, List, [], ◌∷◌, ◌++◌, length, refl, ap, sym, ◌∙◌, subst, arith}
 use Rattle.cw_tree.specs.Nodes.{stamp_of, end_of}
-use Rattle.cw_tree.specs.NextNodes.{IsNextStamp, IsEndStamp}
+use Rattle.cw_tree.specs.NextNodes.{IsNextStamp, IsEndStamp, IsFresh}
 use Rattle.cw_open.specs.Machine.{OpenMachine}
 use Rattle.cw_open.specs.Steps.{Step, after_open_step, after_all, first_machine}
 use Rattle.cw_open.specs.Runs.{Rules, Allowed, IsRun, IsReachedBy, at_any_time}
@@ -63,7 +63,7 @@ pub ahead_is_next : (r : Rules) → AheadIsNext r
 ahead_is_next r first m times w p stamp there less =
     let reached : IsReachedBy r first m = record { steps = w.steps; run = w.run; there = w.there } in
     let low : (n : ℕ) → n < length m.tree → (stamp_of m.tree n < stamp) × (end_of m.tree n < stamp) = λ n h. (let z = (states r first m reached).well.clock n h in (omega (arith, z.0), omega (arith, z.1))) in
-    let fresh : Rattle.cw_tree.specs.NextNodes.IsFresh m.tree stamp = λ n h. (let z = low n h in (λ e. omega (arith, z.0, e), λ e. omega (arith, z.1, e))) in
+    let fresh : IsFresh m.tree stamp = λ n h. (let z = low n h in (λ e. omega (arith, z.0, e), λ e. omega (arith, z.1, e))) in
     record {
       next = record { some = omega arith; fresh = fresh; series = λ n h e. low n h; begun = λ b h e. (low b h).0 };
       drawn = λ n h e. omega (arith, times_are_low r first m times w n);
