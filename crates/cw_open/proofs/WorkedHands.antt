@@ -9,7 +9,7 @@ use Rattle.cw_tree.specs.Newest.{newest}
 use Rattle.cw_tree.specs.NextNodes.{IsNextStamp}
 use Rattle.cw_tree.proofs.Worked.Checks.{each_below, implies, implied, all_one}
 use Rattle.cw_tree.proofs.Walks.There.{fork_there}
-use Rattle.cw_open.specs.Steps.{Met, begins, first_machine}
+use Rattle.cw_open.specs.Steps.{Met, begins, first_machine, forks}
 use Rattle.cw_open.specs.Runs.{IsRun, IsMet, at_any_time}
 use Rattle.cw_open.specs.Refused.{IsNewest, as_told}
 use Rattle.cw_open.specs.Hands.{WaitsForAlone}
@@ -89,7 +89,7 @@ two_hands = record {
 
 -- ## A number that the step of the other brings
 
-gone : IsNextStamp (led_by (begins 0 1 ∷ Rattle.cw_open.specs.Steps.forks 0 2 ∷ begins 3 3 ∷ [])).tree 4 3 → ⊥
+gone : IsNextStamp (led_by (begins 0 1 ∷ forks 0 2 ∷ begins 3 3 ∷ [])).tree 4 3 → ⊥
 gone w = (w.fresh 5 (omega arith)).0 refl
 
 not_all : AllNextStampsStay → ⊥

@@ -1,12 +1,12 @@
 -- A step of another leaves a running strand where it stands, as free as it was, with the blocks that it began.
 use Rattle.std.proofs.Common.{◌≡◌, ℕ, ◌<◌, ◌≤◌, List, [], ◌∷◌, ◌++◌, length, refl, ap, sym, ◌∙◌, subst, arith, Bool, true, false, inl, inr, nat_eq, append-nil}
-use Rattle.std.specs.Prelude.{◌⊎◌, ◌&&◌, ◌||◌, not, unwrap_or, slice_get, All}
+use Rattle.std.specs.Prelude.{◌⊎◌, ◌&&◌, ◌||◌, not, unwrap_or, slice_get, All, ℤ}
 use Rattle.std.specs.List.{list_any}
 use Rattle.std.specs.Option.{option_map_or}
 use Rattle.std.proofs.lemmas.Bool.{and_parts, and_from, and_left, and_right, or_right, cases_lt, cases_Bool, not-true, not_from_false, false_from_ne_true, eqb-true, ne_eqb}
 use Rattle.cw_tree.specs.declared.node.Node.{Node}
 use Rattle.cw_tree.specs.declared.conflict.Conflict.{Conflict}
-use Rattle.cw_tree.specs.Nodes.{passes, number_in, is_fork_kind, is_block_kind, is_pending_state, stamp_of, is_strand, is_fork, is_block, is_pending, all_nodes}
+use Rattle.cw_tree.specs.Nodes.{passes, number_in, is_fork_kind, is_block_kind, is_pending_state, stamp_of, is_strand, is_fork, is_block, is_pending, all_nodes, fresh_node}
 use Rattle.cw_tree.specs.Walks.{IsRooted, has, is_ancestor, is_above}
 use Rattle.cw_tree.specs.Series.{strand_of, place}
 use Rattle.cw_tree.specs.Refusals.{victim_of, is_victim}
@@ -23,10 +23,11 @@ use Rattle.cw_open.specs.Steps.{Step, forks, begins, accesses, refuses, outputs,
 use Rattle.cw_open.specs.Runs.{Rules, Allowed, at_any_time}
 use Rattle.cw_open.specs.Hands.{is_step_of, brought, begun_in, IsLeftAlone, OthersLeaveAlone}
 use Rattle.cw_open.proofs.Open.Trees.{IsWell}
-use Rattle.cw_open.proofs.Open.Standing.{stands, runs}
+use Rattle.cw_open.proofs.Open.Standing.{stands, runs, Runs}
 use Rattle.cw_open.proofs.Open.Staying.{ancestor_stays, above_stays, strand_stays}
 use Rattle.cw_open.proofs.Refused.Victims.{IsTold, IsToldState, told_states, told_state_after, victim_above, over_place}
 use Rattle.cw_open.proofs.Hands.Beside.{IsBeside, ShutBeside, beside}
+use Rattle.cw_tree.specs.declared.node.Kind.TheVariants.{Tried}
 
 -- ## The place, and the blocks that were begun
 
@@ -92,7 +93,7 @@ new_askers m (forks s stamp) c i = absurd i
 new_askers m (begins s stamp) c i = absurd i
 new_askers m (accesses s d w stamp) c i = absurd i
 new_askers m (refuses s d w met) c i = elim i [
-  | inl e ↦ (omega (arith, ap (λ x. x.asker) e), omega (arith, ap (λ x. x.asker) e, length_more m.tree (Rattle.cw_tree.specs.Nodes.fresh_node (place m.tree s) (Rattle.cw_tree.specs.declared.node.Kind.TheVariants.Tried d) 0)))
+  | inl e ↦ (omega (arith, ap (λ x. x.asker) e), omega (arith, ap (λ x. x.asker) e, length_more m.tree (fresh_node (place m.tree s) (Tried d) 0)))
   | inr z ↦ absurd z
 ]
 new_askers m (outputs s v stamp) c i = absurd i
@@ -154,7 +155,8 @@ joined_stays m (stops u) f j = j
 
 -- ## The strand
 
-module _ (rules : Rules) (first : List Rattle.std.specs.Prelude.ℤ) (m : OpenMachine) (w : IsToldState first m) (e : Step) (a : Allowed rules m e) (s : ℕ) (running : is_running m s ≡ true) (o : is_step_of s e ≡ false) where
+module _ (rules : Rules) (first : List ℤ) (m : OpenMachine) (w : IsToldState first m) (e : Step) (a : Allowed rules m e)
+    (s : ℕ) (running : is_running m s ≡ true) (o : is_step_of s e ≡ false) where
   abbrev t : List Node
   t = m.tree
 
@@ -176,7 +178,7 @@ module _ (rules : Rules) (first : List Rattle.std.specs.Prelude.ℤ) (m : OpenMa
   low : p < length t
   low = (stands m well.sound.tree well.nested s running).there
 
-  was : Rattle.cw_open.proofs.Open.Standing.Runs m well.sound.tree well.nested s running
+  was : Runs m well.sound.tree well.nested s running
   was = runs m well.sound.tree well.nested s running
 
   low_strand : s < length t

@@ -1,7 +1,7 @@
 -- What the step of another does to the tree, seen from where a strand stands: nodes come beside it, or a block is closed beside it.
 use Rattle.std.proofs.Common.{◌≡◌, ◌≢◌, ℕ, zero, suc, ◌<◌, ◌≤◌, List, [], ◌∷◌, ◌++◌, length, refl, ap, sym, ◌∙◌, subst, arith, true, false, Some, inl, inr, nat_eq, nat_lt}
 use Rattle.std.specs.Prelude.{◌⊎◌, ◌&&◌, not, ℤ, slice_get}
-use Rattle.std.proofs.lemmas.Bool.{and_parts, cases_eq, not-true, false_from_ne_true, ne_eqb, eq-eqb}
+use Rattle.std.proofs.lemmas.Bool.{and_parts, cases_eq, not-true, false_from_ne_true, ne_eqb, eq-eqb, cases_Bool}
 use Rattle.cw_tree.specs.declared.node.Node.{Node}
 use Rattle.cw_tree.specs.declared.node.Kind.TheVariants.{Block, Out, Tried}
 use Rattle.cw_tree.specs.declared.node.BlockState.{BlockState}
@@ -17,7 +17,7 @@ use Rattle.cw_tree.proofs.Walks.Ancestors.{ancestor_step}
 use Rattle.cw_tree.proofs.Walks.Meets.{lca_is_meet}
 use Rattle.cw_tree.proofs.Walks.Strands.{strand_of_strand, strand_of_other}
 use Rattle.cw_tree.proofs.NextNodes.Before.{before_closed}
-use Rattle.cw_tree.proofs.NextNodes.Closing.{closed_other, node_closed, end_closed, rooted_closed}
+use Rattle.cw_tree.proofs.NextNodes.Closing.{closed_other, node_closed, end_closed, rooted_closed, length_closed}
 use Rattle.cw_tree.proofs.NextNodes.Pending.{end_of_place, pending_closed}
 use Rattle.cw_open.specs.Machine.{OpenMachine, live_value, is_running, in_block, is_free, rolls_back}
 use Rattle.cw_open.specs.Steps.{Step, forks, begins, accesses, refuses, outputs, commits, undoes, aborts, finishes, joins, stops, after_open_step}
@@ -31,6 +31,8 @@ use Rattle.cw_open.proofs.Open.Staying.{Stays, grown_stays, closed_stays, ancest
 use Rattle.cw_open.proofs.Refused.OnwardSteps.{before_grown}
 use Rattle.cw_open.proofs.Refused.Victims.{IsToldState, no_fork_between, over_place}
 use Rattle.cw_open.proofs.Hands.Apart.{places_parallel}
+use Rattle.cw_tree.proofs.Walks.There.{strand_there}
+use Rattle.cw_tree.specs.declared.node.Kind.{Kind}
 
 -- node n came beside strand s, which stands at place p
 pub record CameBeside (u : List Node) (s p number n : ℕ) : Type 0 where
@@ -83,7 +85,7 @@ module _ (t xs : List Node) (q number : ℕ) (r : IsRooted t) (g : IsGrowth t (t
   strand_new n h =
       by_parent u g.rooted (λ n. length t ≤ n → strand_of u n ≢ s) (λ le. absurd (omega arith))
       (λ n some h more le e.
-      elim (Rattle.std.proofs.lemmas.Bool.cases_Bool (is_strand u n)) [
+      elim (cases_Bool (is_strand u n)) [
         | inl is ↦ absurd (let own = strand_of_strand u g.rooted n some h is in omega (arith, own, e))
         | inr plain ↦ (
             let up = strand_of_other u g.rooted n some h plain in
@@ -154,7 +156,7 @@ module _ (first : List ℤ) (m : OpenMachine) (w : IsToldState first m) (s : ℕ
   low = (stands m well.sound.tree well.nested s running).there
 
   low_strand : s < length t
-  low_strand = Rattle.cw_tree.proofs.Walks.There.strand_there t s (runs m well.sound.tree well.nested s running).strand
+  low_strand = strand_there t s (runs m well.sound.tree well.nested s running).strand
 
   module _ (u : ℕ) (ne : u ≢ s) (runs_u : is_running m u ≡ true) where
     abbrev q : ℕ
@@ -176,7 +178,7 @@ module _ (first : List ℤ) (m : OpenMachine) (w : IsToldState first m) (s : ℕ
         let meet = lca_is_meet t r p q low at.there in
         absurd (no_fork_between first m w s running (lca t p q) parted.1 (meet.innermost s (over_place first m w s running) e) meet.left))
 
-    leaf_beside : (kind : Rattle.cw_tree.specs.declared.node.Kind.Kind) (stamp : ℕ) → IsBeside t (t ++ fresh_node q kind stamp ∷ []) s p stamp
+    leaf_beside : (kind : Kind) (stamp : ℕ) → IsBeside t (t ++ fresh_node q kind stamp ∷ []) s p stamp
     leaf_beside kind stamp =
         grown_beside t (fresh_node q kind stamp ∷ []) q stamp r (growth_leaf t r q (end_of_place t q at) kind stamp) (λ x i. elim i [ inl e ↦ (inr (ap (λ y. y.stamp) e), ap (λ y. y.end) e) | inr z ↦ absurd z ]) s p low_strand low at.there own outside
 
@@ -201,7 +203,7 @@ module _ (first : List ℤ) (m : OpenMachine) (w : IsToldState first m) (s : ℕ
         | inr other ↦ inl (closed_other t q state end n other)
         | inl e ↦ (let P : ℕ → Type 0 = λ n. ShutBeside t (closed t q state end) s p end n in inr (subst P (sym e) it))
       ];
-      new = λ n le h. absurd (let len = Rattle.cw_tree.proofs.NextNodes.Closing.length_closed t q state end in omega arith);
+      new = λ n le h. absurd (let len = length_closed t q state end in omega arith);
     } where
       it : ShutBeside t (closed t q state end) s p end q
       it = record {

@@ -1,7 +1,7 @@
 -- A number that was drawn early stays what it was drawn for, as others step.
 use Rattle.std.proofs.Common.{◌≡◌, ◌≢◌, ℕ, ◌<◌, ◌≤◌, List, length, ap, sym, ◌∙◌, subst, arith, true, false, inl, inr}
-use Rattle.std.specs.Prelude.{◌⊎◌, ◌&&◌, ◌||◌, not, ℤ, slice_get}
-use Rattle.std.proofs.lemmas.Bool.{and_parts, and_from, or_cases, cases_lt, false_from_ne_true}
+use Rattle.std.specs.Prelude.{◌⊎◌, ◌&&◌, ◌||◌, not, ℤ, slice_get, Option}
+use Rattle.std.proofs.lemmas.Bool.{and_parts, and_from, or_cases, cases_lt, false_from_ne_true, or_right, or_left}
 use Rattle.cw_tree.specs.declared.node.Node.{Node}
 use Rattle.cw_tree.specs.Nodes.{passes, number_in, is_block_kind, is_pending_state, end_of, is_block, is_pending}
 use Rattle.cw_tree.specs.Walks.{is_ancestor, is_above}
@@ -59,13 +59,13 @@ module _ (t u : List Node) (s p number : ℕ) (b : IsBeside t u s p number) (low
 
   pub was_before : (n : ℕ) → n < length u → is_before_at u n p ≡ true → WasBefore n
   was_before n h e = elim (or_cases (is_above u p n) (is_before u n p) e) [
-    | inl q ↦ (let z = was_beneath n h q in record { there = z.there; before = Rattle.std.proofs.lemmas.Bool.or_left (is_above t p n) (is_before t n p) z.beneath; end = z.end; pending = z.pending })
+    | inl q ↦ (let z = was_beneath n h q in record { there = z.there; before = or_left (is_above t p n) (is_before t n p) z.beneath; end = z.end; pending = z.pending })
     | inr q ↦ elim (cases_lt n (length t)) [
       | inr le ↦ absurd (cc (q, (b.new n le h).later))
       | inl old ↦ (
           let was = sym (b.before n p old low) ∙ q in
           let z = same_end n old (inr was) in
-          record { there = old; before = Rattle.std.proofs.lemmas.Bool.or_right (is_above t p n) (is_before t n p) was; end = z.0; pending = z.1 })
+          record { there = old; before = or_right (is_above t p n) (is_before t n p) was; end = z.0; pending = z.1 })
     ]
   ]
 
@@ -107,7 +107,8 @@ module _ (t u : List Node) (s p number : ℕ) (b : IsBeside t u s p number) (low
 
 -- ## The laws
 
-module _ (asked : List Node → List ℕ → Rattle.std.specs.Prelude.Option ℤ → List ℕ) (first : List ℤ) (m : OpenMachine) (w : IsToldState first m) (e : Step) (a : Allowed (at_any_time asked) m e) (s : ℕ) (running : is_running m s ≡ true) (o : is_step_of s e ≡ false) where
+module _ (asked : List Node → List ℕ → Option ℤ → List ℕ) (first : List ℤ) (m : OpenMachine) (w : IsToldState first m) (e : Step)
+    (a : Allowed (at_any_time asked) m e) (s : ℕ) (running : is_running m s ≡ true) (o : is_step_of s e ≡ false) where
   abbrev t : List Node
   t = m.tree
 

@@ -1,8 +1,8 @@
 -- Both strands of a fork finish, the fork is joined, and the strand that forked runs again where it did.
 use Rattle.std.proofs.Common.{◌≡◌, ◌≢◌, ℕ, ◌<◌, ◌≤◌, List, [], ◌∷◌, length, refl, ap, sym, ◌∙◌, subst, arith, Bool, true, false, inl, inr, nat_eq}
-use Rattle.std.specs.Prelude.{◌⊎◌, ◌&&◌, ◌||◌, not, ℤ, Option, if◌then◌else◌}
+use Rattle.std.specs.Prelude.{◌⊎◌, ◌&&◌, ◌||◌, not, ℤ, Option, if◌then◌else◌, nat_lt}
 use Rattle.std.specs.List.{list_any, list_all}
-use Rattle.std.proofs.lemmas.Bool.{and_parts, and_from, or_cases, or_left, or_right, cases_eq, not-true, not_from_false, false_from_ne_true, true_from_ne_false, eqb-true, eq-eqb, ne_eqb}
+use Rattle.std.proofs.lemmas.Bool.{and_parts, and_from, or_cases, or_left, or_right, cases_eq, not-true, not_from_false, false_from_ne_true, true_from_ne_false, eqb-true, eq-eqb, ne_eqb, cases_lt}
 use Rattle.cw_tree.specs.declared.node.Node.{Node}
 use Rattle.cw_tree.specs.Nodes.{is_block_kind, is_pending_state, parent_of, is_strand, is_fork, is_block, is_pending, all_nodes}
 use Rattle.cw_tree.specs.Walks.{IsRooted, has, lca, is_ancestor}
@@ -17,7 +17,7 @@ use Rattle.cw_tree.proofs.Walks.Meets.{lca_is_meet}
 use Rattle.cw_tree.proofs.Walks.Parting.{series_or_parallel}
 use Rattle.cw_tree.proofs.Walks.Strands.{strand_of_other, strand_of_le, strand_over, strand_innermost, strand_itself}
 use Rattle.cw_tree.proofs.NodeKinds.{strand_no_block, fork_no_strand, fork_no_block, fork_some, pending_block}
-use Rattle.cw_open.specs.Machine.{OpenMachine, has_finished, waits, is_running, in_block, is_dying}
+use Rattle.cw_open.specs.Machine.{OpenMachine, has_finished, waits, is_running, in_block, is_dying, leads_back}
 use Rattle.cw_open.specs.Steps.{finishes, after_open_step, after_all}
 use Rattle.cw_open.specs.Runs.{Rules, Allowed, IsRun, left_died, at_any_time}
 use Rattle.cw_open.specs.Open.{is_open}
@@ -26,6 +26,7 @@ use Rattle.cw_open.proofs.Open.Trees.{IsWell}
 use Rattle.cw_open.proofs.Open.Standing.{StandsAt, stands_at, open_over, open_last, open_block, pending_open, runs}
 use Rattle.cw_open.proofs.Laws.Named.{strand_is}
 use Rattle.cw_open.proofs.Runs.States.{states}
+use Rattle.cw_tree.proofs.Rising.{Rises, below_rises, rises_filter}
 
 -- ## Strands that have come
 
@@ -42,7 +43,7 @@ two_strands m w f l r c =
     let both : In l (children t f) × In r (children t f) = subst In_children (sym c.strands) (inl refl, inr (inl refl)) in
     let at_l = child_is t f l both.0 in
     let at_r = child_is t f r both.1 in
-    let rises : Rattle.cw_tree.proofs.Rising.Rises (l ∷ r ∷ []) = (let P : List ℕ → Type 0 = λ cs. Rattle.cw_tree.proofs.Rising.Rises cs in subst P c.strands (Rattle.cw_tree.proofs.Rising.rises_filter (λ n. Rattle.std.specs.Prelude.nat_lt 0 n && nat_eq (parent_of t n) f) (all_nodes t) (Rattle.cw_tree.proofs.Rising.below_rises (length t)))) in
+    let rises : Rises (l ∷ r ∷ []) = subst Rises c.strands (rises_filter (λ n. nat_lt 0 n && nat_eq (parent_of t n) f) (all_nodes t) (below_rises (length t))) in
     record {
       left = (let up : parent_of t l < l = w.sound.tree.rooted l at_l.some at_l.there in omega (arith, at_l.parent));
       right = (let up : parent_of t r < r = w.sound.tree.rooted r at_r.some at_r.there in omega (arith, at_r.parent));
@@ -137,7 +138,7 @@ module _ (m : OpenMachine) (f l r : ℕ) (dl dr : Bool) where
           place = refl;
           begun = refl;
           free = ap (λ q. q && not (is_dying m s)) (now ∙ sym running);
-          rolls_back = ap (λ q. q && in_block m s && Rattle.cw_open.specs.Machine.leads_back m s (place t s)) (now ∙ sym running);
+          rolls_back = ap (λ q. q && in_block m s && leads_back m s (place t s)) (now ∙ sym running);
         }
 
     -- of two open nodes of one strand the first is above the second
@@ -226,7 +227,7 @@ module _ (m : OpenMachine) (f l r : ℕ) (dl dr : Bool) where
           let high : z.child < length t = omega arith in
           let open_c = open_over m w.sound.tree w.nested z.child b hb z.over open_b in
           let plain : is_fork t (parent_of t z.child) ≡ false = ap (is_fork t) z.parent ∙ no_fork_q in
-          by_order z.child z.some high z.parent z.over open_c plain (Rattle.std.proofs.lemmas.Bool.cases_lt z.child f) where
+          by_order z.child z.some high z.parent z.over open_c plain (cases_lt z.child f) where
             by_order : (c : ℕ) → 0 < c → c < length t → parent_of t c ≡ q → is_ancestor t c b ≡ true → is_open m c ≡ true → is_fork t (parent_of t c) ≡ false → (c < f) ⊎ (f ≤ c) → ⊥
             by_order c some_c hc at_c over open_c plain (inl l) = cc (open_c, w.nested.last c f some_c l low at_c plain)
             by_order c some_c hc at_c over open_c plain (inr le) = elim (cases_eq c f) [
@@ -250,7 +251,7 @@ module _ (m : OpenMachine) (f l r : ℕ) (dl dr : Bool) where
           let lowest : s ≤ q = (let z = strand_of_le t rooted q (let h = low in let u = up in omega arith) in omega (arith, own)) in
           elim (cases_eq p q) [
             | inl e ↦ e
-            | inr ne ↦ elim (Rattle.std.proofs.lemmas.Bool.cases_lt q p) [
+            | inr ne ↦ elim (cases_lt q p) [
               | inl less ↦ elim at.kind [
                 | inl e ↦ absurd (omega arith)
                 | inr pending ↦ absurd (none_later p less pending at.strand)

@@ -12,7 +12,7 @@ use Rattle.cw_tree.specs.AccessStacks.{access_at, conflict_at}
 use Rattle.cw_tree.proofs.ChainLaws.Change.{conflicts_grow, conflicts_close}
 use Rattle.cw_tree.proofs.Walks.There.{node_there}
 use Rattle.cw_tree.proofs.Walks.Ancestors.{ancestor_le}
-use Rattle.cw_open.specs.Machine.{OpenMachine, is_running}
+use Rattle.cw_open.specs.Machine.{OpenMachine, is_running, live}
 use Rattle.cw_open.specs.Steps.{Met, Step, forks, begins, accesses, refuses, outputs, commits, undoes, aborts, finishes, joins, stops, after_open_step}
 use Rattle.cw_open.specs.Runs.{IsMet, Allowed, at_any_time}
 use Rattle.cw_open.specs.Times.{times_after, ClosedLater, IsMetInTime}
@@ -51,7 +51,8 @@ none_conflicts_more asked first m reached e a u p hu hp none = none_more m (stat
 
 -- ## What was met stays
 
-module _ (asked : List Node → List ℕ → Option ℤ → List ℕ) (first : List ℤ) (m : OpenMachine) (w : IsToldState first m) (e : Step) (a : Allowed (at_any_time asked) m e) (s : ℕ) (running : is_running m s ≡ true) (o : is_step_of s e ≡ false) where
+module _ (asked : List Node → List ℕ → Option ℤ → List ℕ) (first : List ℤ) (m : OpenMachine) (w : IsToldState first m) (e : Step)
+    (a : Allowed (at_any_time asked) m e) (s : ℕ) (running : is_running m s ≡ true) (o : is_step_of s e ≡ false) where
   abbrev t : List Node
   t = m.tree
 
@@ -169,4 +170,4 @@ met_in_time_stays asked first m reached e a s running o = in_time_then asked fir
 pub conflicts_are_told : ConflictsAreTold
 conflicts_are_told asked first m reached s c met running w =
     let state = states (at_any_time asked) first m reached in
-    (met_where first m s c met state running w, newest_told m.tree c (Rattle.cw_open.specs.Machine.live m c) met (state.listed.rises c) (state.listed.accesses c) w.last w.chain)
+    (met_where first m s c met state running w, newest_told m.tree c (live m c) met (state.listed.rises c) (state.listed.accesses c) w.last w.chain)
