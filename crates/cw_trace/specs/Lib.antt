@@ -15,3 +15,4 @@ pub mod Query
 pub mod Verdicts
 pub mod Hands
 pub mod Worked
+pub mod OrderedRuns

@@ -2,7 +2,6 @@
 use Rattle.std.specs.Prelude.{◌≡◌, ℕ, ◌==◌, ◌||◌, Bool, true, false, nat_lt, IsTrue, List, [], ◌∷◌, ◌++◌, Some, pos}
 use Rattle.cw_tree.specs.declared.node.Node.{Node}
 use Rattle.cw_tree.specs.declared.node.Kind.TheVariants.{Strand, Fork, Write}
-use Rattle.cw_tree.specs.declared.access.Mark.{Mark}
 use Rattle.cw_tree.specs.Nodes.{touches}
 use Rattle.cw_tree.specs.Shape.{AreStamps}
 use Rattle.cw_tree.specs.Worked.{plain, pending}
@@ -11,6 +10,7 @@ use Rattle.cw_trace.specs.Columns.{ColumnTable, first_tier, forked, split_at, me
 use Rattle.cw_trace.specs.Query.{stands_in}
 use Rattle.cw_trace.specs.Running.{MayGoOn, IsDone}
 use Rattle.cw_trace.specs.Verdicts.{mark_of}
+use Rattle.cw_trace.specs.OrderedRuns.{Moment, GoesOnAt, shuts, fork_opens, RunsInOrder}
 use Rattle.cw_trace.specs.Hands.{StandsInOrder, trace_at, gap_at, IsInnermost, InnermostDiffer, IsLater, loads_second, verdict_between}
 
 -- all nodes are open that are numbered below n
@@ -49,6 +49,24 @@ pub record TwoHands : Type 0 where
   pub right : MayGoOn stolen_once one_fork (1 ∷ []) (open_below 4) 3
   pub traces : (trace_at stolen_once one_fork 2 ≡ 1) × (trace_at stolen_once one_fork 3 ≡ 2)
   pub gaps : (gap_at stolen_once one_fork 2 ≡ 0) × (gap_at stolen_once one_fork 3 ≡ 2)
+
+-- ## Both strands finish there, and the traces are merged
+
+abbrev pub main_alone : Moment
+main_alone = record { columns = first_tier 5; words = no_words; tree = plain 0 Strand 0 ∷ []; cuts = []; joins = []; is_open = λ m. m == 0 }
+
+abbrev pub both_finished : Moment
+both_finished = record { columns = stolen_once; words = no_words; tree = one_fork; cuts = 1 ∷ []; joins = []; is_open = shuts 3 (shuts 2 (fork_opens main_alone)) }
+
+abbrev pub put_together : Moment
+put_together = record { columns = merged 1 stolen_once; words = no_words; tree = one_fork; cuts = 1 ∷ []; joins = 1 ∷ []; is_open = shuts 1 (shuts 3 (shuts 2 (fork_opens main_alone))) }
+
+-- main may go on only once the traces were merged
+pub record MainWaits : Type 0 where
+  pub finished : RunsInOrder both_finished
+  pub waits : GoesOnAt both_finished 0 → ⊥
+  pub merged : RunsInOrder put_together
+  pub goes_on : GoesOnAt put_together 0
 
 -- ## The left strand begins a block and forks there, and that fork's right strand is stolen; its left one accesses a cell, and begins a block
 

@@ -1,5 +1,6 @@
 ghost use Rattle.cw_trace.specs.Hands.{HandsDiffer, WordsStay, NodesApart, OneWordDecides, LastLoadDecides, NoLoadDecides, LaterWithNode, LaterWithFork, LaterWithInline, LaterClosed, LaterSplit, LaterMerged};
-ghost use Rattle.cw_trace.specs.Worked.{Unready, TwoHands, TwoLoads, DrawnEarly};
+ghost use Rattle.cw_trace.specs.OrderedRuns.{EachMomentStands, OthersGoOn};
+ghost use Rattle.cw_trace.specs.Worked.{Unready, TwoHands, TwoLoads, DrawnEarly, MainWaits};
 
 /// Strands that may go on at two places are in different traces and use different gaps: so neither changes the word of the other one's gap,
 /// nor makes a node in its trace.
@@ -24,6 +25,14 @@ pub fn later_stays()
     ensures closed { LaterClosed }
     ensures split { LaterSplit }
     ensures merged { LaterMerged }
+{}
+
+/// At each moment of a run of tier and tree, whose steps need to know only who may go on, the tier stands for the tree and the open nodes are
+/// ordered; and whoever may go on still may after a step of another. In a small run main waits for the merge of its fork.
+pub fn order_is_kept()
+    ensures stands { EachMomentStands }
+    ensures others { OthersGoOn }
+    ensures row { MainWaits }
 {}
 
 /// What the definitions say of a small run in which two strands go on, and that the right strand of a fork that is not split would be in the

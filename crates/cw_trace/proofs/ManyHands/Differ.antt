@@ -1,11 +1,12 @@
 -- Strands that may go on are in different traces and use different gaps, so one leaves the word of another's gap and makes no node in its trace.
-use Rattle.std.proofs.Common.{◌≡◌, ◌≢◌, ℕ, ◌<◌, List, [], ◌∷◌, ◌++◌, length, refl, ap, sym, ◌∙◌, arith, Bool, true, false, nat_eq, length-append}
-use Rattle.std.specs.Prelude.{slice_get, slice_index, slice_set, Some, if◌then◌else◌}
+use Rattle.std.proofs.Common.{◌≡◌, ◌≢◌, ℕ, List, [], ◌∷◌, ◌++◌, length, refl, ap, sym, ◌∙◌, arith, Bool, true, false, nat_eq, length-append}
+use Rattle.std.specs.Prelude.{slice_index, slice_set, if◌then◌else◌}
 use Rattle.std.proofs.lemmas.List.{get_or-set_other}
 use Rattle.cw_tree.specs.declared.node.Node.{Node}
 use Rattle.cw_tree.specs.Nodes.{is_strand_kind, passes, number_in}
 use Rattle.cw_tree.specs.Shape.{IsTree}
-use Rattle.cw_trace.specs.Columns.{ColumnTable, used, owner}
+use Rattle.cw_tree.proofs.NextNodes.Growing.{get_next}
+use Rattle.cw_trace.specs.Columns.{used, owner}
 use Rattle.cw_trace.specs.Stands.{column}
 use Rattle.cw_trace.specs.Hands.{gap_at, HandsDiffer, WordsStay, NodesApart}
 use Rattle.cw_trace.proofs.Keeps.GoingOn.{owners_differ, gaps_differ}
@@ -26,10 +27,6 @@ pub words_stay : WordsStay
 words_stay c words t cuts joins is_open p q stamp s m n ne =
     let apart : gap_at c t p ≢ gap_at c t q = (hands_differ c words t cuts joins is_open p q s m n ne).1 in
     (set_elsewhere (nat_eq (slice_index words (gap_at c t q)) 0) words (gap_at c t q) (gap_at c t p) stamp apart, set_elsewhere (nat_eq (slice_index words (gap_at c t q)) stamp) words (gap_at c t q) (gap_at c t p) 0 apart)
-
-get_next : {A : Type 0} → (xs : List A) (x : A) (ys : List A) → slice_get (xs ++ x ∷ ys) (length xs) ≡ Some x
-get_next [] x ys = refl
-get_next (y ∷ xs) x ys = get_next xs x ys
 
 -- the column of a node that is made at place q, and is no strand
 pub column_next : (size : ℕ) (t : List Node) (tr : IsTree t) (q : ℕ) (x : Node) (more : List Node) → IsTree (t ++ x ∷ more) → x.parent ≡ q → is_strand_kind x.kind ≡ false → column (t ++ x ∷ more) size (length t) ≡ column (t ++ x ∷ more) size q

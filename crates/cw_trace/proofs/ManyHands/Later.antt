@@ -1,11 +1,8 @@
 -- A number that is above all stamps of a trace stays so as others step, and as forks are split and merged.
-use Rattle.std.proofs.Common.{◌≡◌, ◌≢◌, ℕ, zero, suc, ◌+◌, ◌<◌, ◌≤◌, List, [], ◌∷◌, ◌++◌, length, refl, ap, sym, ◌∙◌, arith, Bool, true, false, None, Some, inl, inr, length-append}
-use Rattle.std.specs.Prelude.{◌⊎◌, ◌%◌}
-use Rattle.std.specs.List.{slice_get}
+use Rattle.std.proofs.Common.{◌≡◌, ◌≢◌, ℕ, zero, suc, ◌+◌, ◌<◌, ◌≤◌, List, [], ◌∷◌, ◌++◌, length, refl, ap, sym, ◌∙◌, arith, true, None, inl, inr, length-append}
 use Rattle.std.proofs.lemmas.Bool.{cases_eq}
 use Rattle.std.proofs.Math.ListN.{get_or-append}
 use Rattle.cw_tree.specs.declared.node.Node.{Node}
-use Rattle.cw_tree.specs.declared.node.BlockState.{BlockState}
 use Rattle.cw_tree.specs.declared.node.Kind.TheVariants.{Strand, Fork}
 use Rattle.cw_tree.specs.Nodes.{stamp_of, number_in, is_fork, is_pending, fresh_node, closed}
 use Rattle.cw_tree.specs.NextNodes.{fork_nodes}
@@ -15,10 +12,8 @@ use Rattle.cw_tree.proofs.NextNodes.Closing.{length_closed}
 use Rattle.cw_tree.proofs.Walks.There.{fork_there}
 use Rattle.cw_trace.specs.Columns.{ColumnTable, used, owner, forked, split_at, merged}
 use Rattle.cw_trace.specs.Stands.{column, fork_column, around}
-use Rattle.cw_trace.specs.Running.{MayGoOn}
-use Rattle.cw_trace.specs.Keeps.{Keeps}
 use Rattle.cw_trace.specs.Segments.{MaySplit, MayMerge, next_outward}
-use Rattle.cw_trace.specs.Hands.{StandsInOrder, trace_at, IsLater, LaterWithNode, LaterWithFork, LaterWithInline, LaterClosed, LaterSplit, LaterMerged}
+use Rattle.cw_trace.specs.Hands.{trace_at, IsLater, LaterWithNode, LaterWithFork, LaterWithInline, LaterClosed, LaterSplit, LaterMerged}
 use Rattle.cw_trace.proofs.Stands.Counting.{fork_column_lt}
 use Rattle.cw_trace.proofs.Segments.Lines.{le_or_lt, used_some}
 use Rattle.cw_trace.proofs.Segments.Split as split

@@ -1,6 +1,6 @@
 -- Claims on the open nodes of a tree, by tests that compute.
 use Rattle.std.proofs.Common.{◌≡◌, ℕ, ◌+◌, ◌<◌, ◌≤◌, List, length, arith, Bool, true, false, inl, inr, nat_lt, nat_eq}
-use Rattle.std.specs.Prelude.{◌⊎◌, ◌&&◌, ◌||◌, not, nat_le}
+use Rattle.std.specs.Prelude.{◌⊎◌, ◌||◌, not, nat_le}
 use Rattle.std.proofs.lemmas.Bool.{ltb-true, lt-ltb, eqb-true, eq-eqb, leb-true, not-true, not_from_false, or_left, or_right, or_cases, cases_Bool}
 use Rattle.cw_tree.specs.declared.node.Node.{Node}
 use Rattle.cw_tree.specs.Nodes.{parent_of, stamp_of, is_fork, is_strand, is_pending}

@@ -1,5 +1,5 @@
 -- The small run, step by step, and what holds of its states.
-use Rattle.std.proofs.Common.{◌≡◌, ℕ, zero, suc, ◌<◌, ◌≤◌, List, [], ◌∷◌, length, refl, arith, Bool, true, false, nat_lt, nat_eq, pos}
+use Rattle.std.proofs.Common.{◌≡◌, ℕ, zero, suc, ◌≤◌, List, [], ◌∷◌, length, refl, arith, Bool, true, nat_lt, nat_eq, pos}
 use Rattle.std.specs.Prelude.{not, slice_index}
 use Rattle.std.proofs.lemmas.Bool.{ltb-true, lt-ltb, eq-eqb, not-true}
 use Rattle.cw_tree.specs.declared.node.Node.{Node}
@@ -9,17 +9,17 @@ use Rattle.cw_tree.specs.Names.{is_right}
 use Rattle.cw_tree.specs.Shape.{IsTree}
 use Rattle.cw_tree.specs.Worked.{plain}
 use Rattle.cw_tree.proofs.Worked.Checks.{all_below, each_below, implies, implied, is_tree, are_stamps}
-use Rattle.cw_trace.specs.Columns.{ColumnTable, first_tier, forked, merged}
+use Rattle.cw_trace.specs.Columns.{first_tier, forked, merged}
 use Rattle.cw_trace.specs.Stands.{fork_column}
 use Rattle.cw_trace.specs.Running.{IsOrdered, MayGoOn, IsUnstarted}
 use Rattle.cw_trace.specs.Runs.{ReachedTier, start, fork, split, leaf, begin}
-use Rattle.cw_trace.specs.Hands.{StandsInOrder, IsInnermost, InnermostDiffer}
+use Rattle.cw_trace.specs.Hands.{StandsInOrder, IsInnermost}
 use Rattle.cw_trace.specs.Worked.{open_below, no_words, one_fork, forked_once, Unready, stolen_once, TwoHands, in_block, two_forks, accessed, begun_since, stolen_twice, at_access, since_then, open_since, TwoLoads, DrawnEarly}
 use Rattle.cw_trace.proofs.Keeps.WholeRuns.{each_run_stands}
 use Rattle.cw_trace.proofs.Worked.Checks.{ordered, innermost, goes, place, newest}
 
 -- nothing stands beneath the right strand of a fork
-unstarted : (t : List Node) (f r : ℕ) → is_fork t f ≡ true → nat_lt 0 r ≡ true → nat_lt r (length t) ≡ true → parent_of t r ≡ f → is_right t r ≡ true → all_below (λ m. implies (nat_lt 0 m) (not (nat_eq (parent_of t m) r))) (length t) ≡ true → IsUnstarted t [] (fork_column t f)
+pub unstarted : (t : List Node) (f r : ℕ) → is_fork t f ≡ true → nat_lt 0 r ≡ true → nat_lt r (length t) ≡ true → parent_of t r ≡ f → is_right t r ≡ true → all_below (λ m. implies (nat_lt 0 m) (not (nat_eq (parent_of t m) r))) (length t) ≡ true → IsUnstarted t [] (fork_column t f)
 unstarted t f r is some low child side nothing = record {
   fork = f;
   is = is;
@@ -33,7 +33,7 @@ unstarted t f r is some low child side nothing = record {
   nothing = λ m p h e. cc (eq-eqb (parent_of t m) r e, not-true _ (implied _ _ (each_below (λ m. implies (nat_lt 0 m) (not (nat_eq (parent_of t m) r))) (length t) nothing m h) (lt-ltb 0 m p)));
 }
 
-zeros : (g : ℕ) → slice_index no_words g ≡ 0
+pub zeros : (g : ℕ) → slice_index no_words g ≡ 0
 zeros zero = refl
 zeros (suc zero) = refl
 zeros (suc (suc zero)) = refl
