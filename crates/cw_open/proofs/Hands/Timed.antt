@@ -1,7 +1,7 @@
 -- A run goes on by one step in time; no time is above the clock, and a number above it may be used anywhere.
 use Rattle.std.proofs.Common.{◌≡◌, ℕ, ◌<◌, List, [], ◌∷◌, ◌++◌, length, refl, ap, sym, ◌∙◌, subst, arith}
 use Rattle.cw_tree.specs.Nodes.{stamp_of, end_of}
-use Rattle.cw_tree.specs.NextNodes.{IsNextStamp, IsEndStamp, IsFresh}
+use Rattle.cw_tree.specs.NextNodes.{IsFresh}
 use Rattle.cw_open.specs.Machine.{OpenMachine}
 use Rattle.cw_open.specs.Steps.{Step, after_open_step, after_all, first_machine}
 use Rattle.cw_open.specs.Runs.{Rules, Allowed, IsRun, IsReachedBy, at_any_time}
