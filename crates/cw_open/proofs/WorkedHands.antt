@@ -9,7 +9,7 @@ use Rattle.cw_tree.specs.Newest.{newest}
 use Rattle.cw_tree.specs.NextNodes.{IsNextStamp}
 use Rattle.cw_tree.proofs.Worked.Checks.{each_below, implies, implied, all_one}
 use Rattle.cw_tree.proofs.Walks.There.{fork_there}
-use Rattle.cw_open.specs.Steps.{Met, begins, first_machine, forks}
+use Rattle.cw_open.specs.Steps.{begins, first_machine, forks}
 use Rattle.cw_open.specs.Runs.{IsRun, IsMet, at_any_time}
 use Rattle.cw_open.specs.Refused.{IsNewest, as_told}
 use Rattle.cw_open.specs.Hands.{WaitsForAlone}

@@ -101,11 +101,12 @@ EndStampsStay =
 abbrev pub NoneConflictsMore : Type 0
 NoneConflictsMore = OfEachStep (λ m e. (u p : ℕ) → u < length m.tree → p < length m.tree → conflict_at m.tree u p ≡ false → conflict_at (after_open_step m e).tree u p ≡ false)
 
--- what a strand met stays as a conflict tells it, whatever others do
+-- what a strand met stays as a conflict tells it, whatever others do, and so do the newest accesses that it is told with
 abbrev pub MetStays : Type 0
-MetStays =
-    OfEachOther (λ m e s. (c : ℕ) (met : Met) → IsMet m.tree (place m.tree s) c met → IsNewest m.tree c met
-    → IsMet (after_open_step m e).tree (place (after_open_step m e).tree s) c met × IsNewest (after_open_step m e).tree c met)
+MetStays = OfEachOther (λ m e s. (c : ℕ) (met : Met) → IsMet m.tree (place m.tree s) c met → IsMet (after_open_step m e).tree (place (after_open_step m e).tree s) c met)
+
+abbrev pub NewestStay : Type 0
+NewestStay = OfEachOther (λ m e s. (c : ℕ) (met : Met) → IsNewest m.tree c met → IsNewest (after_open_step m e).tree c met)
 
 -- and it was met in time
 abbrev pub MetInTimeStays : Type 0

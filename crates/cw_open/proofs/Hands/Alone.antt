@@ -1,12 +1,12 @@
 -- A step of another leaves a running strand where it stands, as free as it was, with the blocks that it began.
 use Rattle.std.proofs.Common.{◌≡◌, ℕ, ◌<◌, ◌≤◌, List, [], ◌∷◌, ◌++◌, length, refl, ap, sym, ◌∙◌, subst, arith, Bool, true, false, inl, inr, nat_eq, append-nil}
-use Rattle.std.specs.Prelude.{◌⊎◌, ◌&&◌, ◌||◌, not, unwrap_or, slice_get, All, ℤ}
+use Rattle.std.specs.Prelude.{◌&&◌, ◌||◌, not, unwrap_or, All, ℤ}
 use Rattle.std.specs.List.{list_any}
 use Rattle.std.specs.Option.{option_map_or}
 use Rattle.std.proofs.lemmas.Bool.{and_parts, and_from, and_left, and_right, or_right, cases_lt, cases_Bool, not-true, not_from_false, false_from_ne_true, eqb-true, ne_eqb}
 use Rattle.cw_tree.specs.declared.node.Node.{Node}
 use Rattle.cw_tree.specs.declared.conflict.Conflict.{Conflict}
-use Rattle.cw_tree.specs.Nodes.{passes, number_in, is_fork_kind, is_block_kind, is_pending_state, stamp_of, is_strand, is_fork, is_block, is_pending, all_nodes, fresh_node}
+use Rattle.cw_tree.specs.Nodes.{passes, number_in, is_block_kind, is_pending_state, is_strand, is_fork, is_pending, all_nodes, fresh_node}
 use Rattle.cw_tree.specs.Walks.{IsRooted, has, is_ancestor, is_above}
 use Rattle.cw_tree.specs.Series.{strand_of, place}
 use Rattle.cw_tree.specs.Refusals.{victim_of, is_victim}

@@ -1,7 +1,7 @@
 -- What the step of another does to the tree, seen from where a strand stands: nodes come beside it, or a block is closed beside it.
 use Rattle.std.proofs.Common.{◌≡◌, ◌≢◌, ℕ, zero, suc, ◌<◌, ◌≤◌, List, [], ◌∷◌, ◌++◌, length, refl, ap, sym, ◌∙◌, subst, arith, true, false, Some, inl, inr, nat_eq, nat_lt}
 use Rattle.std.specs.Prelude.{◌⊎◌, ◌&&◌, not, ℤ, slice_get}
-use Rattle.std.proofs.lemmas.Bool.{and_parts, cases_eq, not-true, false_from_ne_true, ne_eqb, eq-eqb, cases_Bool}
+use Rattle.std.proofs.lemmas.Bool.{and_parts, cases_eq, not-true, false_from_ne_true, eq-eqb, cases_Bool}
 use Rattle.cw_tree.specs.declared.node.Node.{Node}
 use Rattle.cw_tree.specs.declared.node.Kind.TheVariants.{Block, Out, Tried}
 use Rattle.cw_tree.specs.declared.node.BlockState.{BlockState}

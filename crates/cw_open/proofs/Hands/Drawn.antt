@@ -1,6 +1,6 @@
 -- A number that was drawn early stays what it was drawn for, as others step.
 use Rattle.std.proofs.Common.{◌≡◌, ◌≢◌, ℕ, ◌<◌, ◌≤◌, List, length, ap, sym, ◌∙◌, subst, arith, true, false, inl, inr}
-use Rattle.std.specs.Prelude.{◌⊎◌, ◌&&◌, ◌||◌, not, ℤ, slice_get, Option}
+use Rattle.std.specs.Prelude.{◌⊎◌, ◌&&◌, ℤ, Option}
 use Rattle.std.proofs.lemmas.Bool.{and_parts, and_from, or_cases, cases_lt, false_from_ne_true, or_right, or_left}
 use Rattle.cw_tree.specs.declared.node.Node.{Node}
 use Rattle.cw_tree.specs.Nodes.{passes, number_in, is_block_kind, is_pending_state, end_of, is_block, is_pending}

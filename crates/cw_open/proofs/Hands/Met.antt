@@ -17,7 +17,7 @@ use Rattle.cw_open.specs.Steps.{Met, Step, forks, begins, accesses, refuses, out
 use Rattle.cw_open.specs.Runs.{IsMet, Allowed, at_any_time}
 use Rattle.cw_open.specs.Times.{times_after, ClosedLater, IsMetInTime}
 use Rattle.cw_open.specs.Refused.{IsNewest}
-use Rattle.cw_open.specs.Hands.{is_step_of, brought, NoneConflictsMore, MetStays, MetInTimeStays, ConflictsAreTold}
+use Rattle.cw_open.specs.Hands.{is_step_of, brought, NoneConflictsMore, MetStays, NewestStay, MetInTimeStays, ConflictsAreTold}
 use Rattle.cw_open.proofs.Open.Staying.{above_stays, ancestor_stays, parallel_stays}
 use Rattle.cw_open.proofs.Open.Standing.{stands}
 use Rattle.cw_open.proofs.Open.Trees.{IsWell}
@@ -158,9 +158,10 @@ module _ (asked : List Node → List ℕ → Option ℤ → List ℕ) (first : L
       )
 
 pub met_stays : MetStays
-met_stays asked first m reached e a s running o c met z n =
-    let w = told_states (at_any_time asked) first m reached in
-    (met_then asked first m w e a s running o c met z, newest_then asked first m w e a s running o c met n)
+met_stays asked first m reached e a s running o = met_then asked first m (told_states (at_any_time asked) first m reached) e a s running o
+
+pub newest_stay : NewestStay
+newest_stay asked first m reached e a s running o = newest_then asked first m (told_states (at_any_time asked) first m reached) e a s running o
 
 pub met_in_time_stays : MetInTimeStays
 met_in_time_stays asked first m reached e a s running o = in_time_then asked first m (told_states (at_any_time asked) first m reached) e a s running o
