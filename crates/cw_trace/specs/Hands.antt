@@ -13,7 +13,8 @@ use Rattle.cw_trace.specs.Columns.{ColumnTable, used, owner, gap, lead, up, is_t
 use Rattle.cw_trace.specs.Stands.{column, word_of}
 use Rattle.cw_trace.specs.Keeps.{Keeps}
 use Rattle.cw_trace.specs.Running.{IsOrdered, MayGoOn, IsUnstarted, IsDone}
-use Rattle.cw_trace.specs.Query.{came_before, stands_in, verdict_of, verdict_around}
+use Rattle.cw_trace.specs.Told.{Read, Answer, HoldsRead}
+use Rattle.cw_trace.specs.Query.{Gives, came_before, stands_in, verdict_of, verdict_around}
 use Rattle.cw_trace.specs.Verdicts.{Tells, TellsOfTree}
 
 -- the tier and the gap words stand for a tree, whose open nodes are ordered
@@ -95,6 +96,14 @@ LastLoadDecides =
 abbrev pub NoLoadDecides : Type 0
 NoLoadDecides =
     (c : ColumnTable) (first second words : List ℕ) (last : Mark) (asker : ℕ) → lead c (owner c last.strand) ≡ None → loads_second c first last asker ≡ false → TellsOfTree c words last asker (verdict_between c first second last asker)
+
+-- each answer that was told is what the columns hold, and the gap words at some moment
+abbrev pub IsToldOf : ColumnTable → (words : ℕ → List ℕ) → (told : Read → Answer → Type 0) → Type 0
+IsToldOf c words told = (r : Read) (a : Answer) → told r a → (n : ℕ) × HoldsRead c (words n) r a
+
+-- a verdict is right of the tree at some moment
+abbrev pub IsRightOnce : ColumnTable → (words : ℕ → List ℕ) → Mark → ℕ → Verdict → Type 0
+IsRightOnce c words last asker v = (n : ℕ) × TellsOfTree c (words n) last asker v
 
 -- ## What was drawn is later
 

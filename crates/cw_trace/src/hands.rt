@@ -1,6 +1,13 @@
-ghost use Rattle.cw_trace.specs.Hands.{HandsDiffer, WordsStay, NodesApart, OneWordDecides, LastLoadDecides, NoLoadDecides, LaterWithNode, LaterWithFork, LaterWithInline, LaterClosed, LaterSplit, LaterMerged};
+ghost use Rattle.std.specs.Prelude.{ℕ, List};
+ghost use Rattle.cw_tree.specs.declared.access.Mark.{Mark};
+ghost use Rattle.cw_trace.specs.declared.verdict.Verdict.{Verdict};
+ghost use Rattle.cw_trace.specs.Columns as columns;
+ghost use Rattle.cw_trace.specs.Query.{Gives};
+ghost use Rattle.cw_trace.specs.Hands.{HandsDiffer, WordsStay, NodesApart, OneWordDecides, LastLoadDecides, NoLoadDecides, IsToldOf, IsRightOnce, LaterWithNode, LaterWithFork, LaterWithInline, LaterClosed, LaterSplit, LaterMerged};
 ghost use Rattle.cw_trace.specs.OrderedRuns.{EachMomentStands, OthersGoOn};
 ghost use Rattle.cw_trace.specs.Worked.{Unready, TwoHands, TwoLoads, DrawnEarly, MainWaits};
+
+use crate::Columns;
 
 /// Strands that may go on at two places are in different traces and use different gaps: so neither changes the word of the other one's gap,
 /// nor makes a node in its trace.
@@ -15,6 +22,12 @@ pub fn loads_decide()
     ensures one_word { OneWordDecides }
     ensures last_load { LastLoadDecides }
     ensures no_load { NoLoadDecides }
+{}
+
+/// A query that is told of a tier and gap words at whatever moments, while the columns stand, answers right of the tree at one of them.
+pub fn told_of_moments<C: Columns>(_asked: &C)
+    ensures { (c : columns.ColumnTable) (words : ℕ → List ℕ) (last : Mark) (asker : ℕ) (v : Verdict)
+        → IsToldOf c words (C.told _asked.now) → Gives (C.told _asked.now) last asker v → IsRightOnce c words last asker v }
 {}
 
 /// A number that was drawn early, and is above all stamps of its strand's trace, stays so until the strand uses it, whatever others do.

@@ -23,7 +23,9 @@ mod verdict;
 pub use asks::told_laws;
 pub use columns::Columns;
 pub use gaps::{GapReader, Gaps};
-pub use hands::{hands_differ, later_stays, loads_decide, order_is_kept, worked_hands};
+pub use hands::{
+    hands_differ, later_stays, loads_decide, order_is_kept, told_of_moments, worked_hands,
+};
 pub use queries::query_laws;
 pub use tier::{Early, Inline, Tier, TierReader, Trace};
 pub use verdict::Verdict;

@@ -6,24 +6,26 @@ use Rattle.cw_trace.specs.declared.verdict.Verdict.{Verdict}
 use Rattle.cw_trace.specs.declared.verdict.Verdict.TheVariants.{Against}
 use Rattle.cw_trace.specs.Columns.{ColumnTable, owner, lead, up}
 use Rattle.cw_trace.specs.Stands.{word_of}
-use Rattle.cw_trace.specs.Query.{came_before, stands_in, verdict_of, verdict_around}
+use Rattle.cw_trace.specs.Told.{Read, Answer, Owner, Up, Number, Maybe, HoldsRead}
+use Rattle.cw_trace.specs.Query.{came_before, LeadWord, no_lead, a_lead, HasWord, IsWithinTrace, is_it, by_place, GivesAround, free, around_within, around_against, Gives, own_within, own_against, around, stands_in, verdict_of, verdict_around}
 use Rattle.cw_trace.specs.Verdicts.{TellsOfTree}
-use Rattle.cw_trace.specs.Hands.{OneWordDecides, is_outside, LastLoadDecides, NoLoadDecides}
+use Rattle.cw_trace.specs.Hands.{OneWordDecides, is_outside, LastLoadDecides, NoLoadDecides, IsToldOf, IsRightOnce}
 use Rattle.cw_trace.proofs.Keeps.GoingOn.{goes_on}
 use Rattle.cw_trace.proofs.Keeps.Meaning.{stands_of}
 use Rattle.cw_trace.proofs.Query.Deciding.{against_around}
+use Rattle.cw_trace.proofs.Query.Agreeing.{number_is, has_word_is, stands_is, gives_held}
 use Rattle.cw_trace.proofs.Query.Answering.{tells, decides}
 use Rattle.cw_trace.proofs.Stands.WithStamps.{access_marked}
 
 pub one_word_decides : OneWordDecides
-one_word_decides c words t cuts joins is_open cell u p y s stamps m access around off =
+one_word_decides c words t cuts joins is_open cell u p y s stamps m access outer off =
     let a = access_marked t cell u stamps access in
-    tells t u p (Against (word_of words (lead c y))) (against_around c words t cuts joins s.tree (stands_of c words t cuts joins s.keeps) u p a.there m.there stamps a.kind a.some (goes_on c words t cuts joins s.tree s.keeps is_open s.ordered p m) y around off)
+    tells t u p (Against (word_of words (lead c y))) (against_around c words t cuts joins s.tree (stands_of c words t cuts joins s.keeps) u p a.there m.there stamps a.kind a.some (goes_on c words t cuts joins s.tree s.keeps is_open s.ordered p m) y outer off)
 
 -- against a trace around, in the words of a query
 against : (c : ColumnTable) (words : List ℕ) (last : Mark) (asker y : ℕ) → up c (owner c last.strand) ≡ Some y → stands_in c asker y ≡ false → TellsOfTree c words last asker (Against (word_of words (lead c y)))
-against c words last asker y around off t cuts joins is_open cell u p k tr stamps o m access el ea =
-    one_word_decides c words t cuts joins is_open cell u p y (record { tree = tr; keeps = k; ordered = o }) stamps m access (ap (λ l. up c (owner c l.strand)) (sym el) ∙ around) (ap (λ i. stands_in c i y) (sym ea) ∙ off)
+against c words last asker y outer off t cuts joins is_open cell u p k tr stamps o m access el ea =
+    one_word_decides c words t cuts joins is_open cell u p y (record { tree = tr; keeps = k; ordered = o }) stamps m access (ap (λ l. up c (owner c l.strand)) (sym el) ∙ outer) (ap (λ i. stands_in c i y) (sym ea) ∙ off)
 
 module _ (c : ColumnTable) (first second : List ℕ) (last : Mark) (asker : ℕ) where
   abbrev u : ℕ
@@ -70,3 +72,41 @@ no_load_decides c first second words last asker none unloaded =
       by_up : (o : Option ℕ) → up c (owner c last.strand) ≡ o → is_outside c asker o ≡ false → TellsOfTree c words last asker (verdict_around c second asker (up c (owner c last.strand)))
       by_up None q out = let Q : Option ℕ → Type 0 = λ x. TellsOfTree c words last asker (verdict_around c second asker x) in subst Q (sym q) (at_first c words words last asker false None (unread words) q)
       by_up (Some y) q out = let Q : Option ℕ → Type 0 = λ x. TellsOfTree c words last asker (verdict_around c second asker x) in subst Q (sym q) (by_stands y (stands_in c asker y) refl out q)
+
+-- ## What is told of several moments
+
+module _ (c : ColumnTable) (words : ℕ → List ℕ) (told : Read → Answer → Type 0) (is : IsToldOf c words told) where
+  -- columns stand, so what was told of them is held at each moment
+  stands_told : (n : ℕ) {i t : ℕ} {b : Bool} → IsWithinTrace told i t b → IsWithinTrace (HoldsRead c (words n)) i t b
+  stands_told n (is_it h) = is_it (is _ _ h).1
+  stands_told n (by_place h ne g) = by_place (is _ _ h).1 ne (is _ _ g).1
+
+  word_told : {o : Option ℕ} {w : ℕ} (n : ℕ) → LeadWord told o w → (m : ℕ) × LeadWord (HoldsRead c (words m)) o w
+  word_told n no_lead = (n, no_lead)
+  word_told n (a_lead h) = let z = is _ _ h in (z.0, a_lead z.1)
+
+  has_word_told : {t w : ℕ} → HasWord told t w → (m : ℕ) × HasWord (HoldsRead c (words m)) t w
+  has_word_told h = let z = is _ _ h.is in let y = word_told z.0 h.word in (y.0, record { lead = h.lead; is = z.1; word = y.1 })
+
+  module _ (last : Mark) (asker : ℕ) where
+    -- where all is held at one moment
+    at_moment : (v : Verdict) (n : ℕ) → Gives (HoldsRead c (words n)) last asker v → IsRightOnce c words last asker v
+    at_moment v n h = let P : Verdict → Type 0 = λ x. TellsOfTree c (words n) last asker x in (n, subst P (sym (gives_held c (words n) last asker v h)) (decides c (words n) last asker))
+
+    up_is : {a b : Option ℕ} → Maybe a ≡ Maybe b → a ≡ b
+    up_is e = cc e
+
+    by_around : {u w : ℕ} {o : Option ℕ} {v : Verdict} → told (Owner last.strand) (Number u) → HasWord told u w → came_before w last.stamp ≡ false → told (Up u) (Maybe o) → GivesAround told asker o v → IsRightOnce c words last asker v
+    by_around h g b q free = let z = has_word_told g in at_moment _ z.0 (around (is _ _ h).1 z.1 b (is _ _ q).1 free)
+    by_around h g b q (around_within s) = let z = has_word_told g in at_moment _ z.0 (around (is _ _ h).1 z.1 b (is _ _ q).1 (around_within (stands_told z.0 s)))
+    by_around {u = u} h g b q (around_against {t = t} {w = w} s x) =
+        let z = has_word_told x in
+        let own : owner c last.strand ≡ u = number_is c (words z.0) last.strand u (is _ _ h).1 in
+        let above : up c u ≡ Some t = up_is (is _ _ q).1 in
+        let P : ℕ → Type 0 = λ n. TellsOfTree c (words z.0) last asker (Against n) in
+        (z.0, subst P (sym (has_word_is c (words z.0) t z.1)) (against c (words z.0) last asker t (ap (up c) own ∙ above) (stands_is c (words z.0) asker t (stands_told z.0 s))))
+
+    pub moment_decides : (v : Verdict) → Gives told last asker v → IsRightOnce c words last asker v
+    moment_decides v (own_within h g b s) = let z = has_word_told g in at_moment v z.0 (own_within (is _ _ h).1 z.1 b (stands_told z.0 s))
+    moment_decides v (own_against h g b s) = let z = has_word_told g in at_moment v z.0 (own_against (is _ _ h).1 z.1 b (stands_told z.0 s))
+    moment_decides v (around h g b q s) = by_around h g b q s

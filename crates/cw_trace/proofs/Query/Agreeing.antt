@@ -40,17 +40,17 @@ module _ {told later : Read → Answer → Type 0} (stays : Stays told later) wh
 -- ## What is held has one answer to each read
 
 module _ (c : ColumnTable) (words : List ℕ) where
-  number_is : (i u : ℕ) → HoldsRead c words (Owner i) (Number u) → owner c i ≡ u
+  pub number_is : (i u : ℕ) → HoldsRead c words (Owner i) (Number u) → owner c i ≡ u
   number_is i u h = cc h
 
   word_is : {o : Option ℕ} {w : ℕ} → LeadWord (HoldsRead c words) o w → w ≡ word_of words o
   word_is no_lead = refl
   word_is (a_lead h) = cc h
 
-  has_word_is : (t : ℕ) {w : ℕ} → HasWord (HoldsRead c words) t w → w ≡ word_of words (lead c t)
+  pub has_word_is : (t : ℕ) {w : ℕ} → HasWord (HoldsRead c words) t w → w ≡ word_of words (lead c t)
   has_word_is t h = let l : lead c t ≡ h.lead = cc h.is in word_is h.word ∙ ap (word_of words) (sym l)
 
-  stands_is : (i t : ℕ) {b : Bool} → IsWithinTrace (HoldsRead c words) i t b → stands_in c i t ≡ b
+  pub stands_is : (i t : ℕ) {b : Bool} → IsWithinTrace (HoldsRead c words) i t b → stands_in c i t ≡ b
   stands_is i t (is_it h) = ap (λ x. x || inside c (owner c i) t) (eq-eqb (owner c i) t (number_is i t h))
   stands_is i t (by_place {v = v} {b = b} h n g) =
       let z : inside c v t ≡ b = cc g in
