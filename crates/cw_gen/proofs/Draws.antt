@@ -28,10 +28,6 @@ pub state_both : (a b s : ℕ) → state_after (a + b) s ≡ state_after b (stat
 state_both zero b s = ap (λ k. state_after k s) (let e : 0 + b ≡ b = omega arith in e)
 state_both (suc a) b s = ap (λ k. state_after k s) (let e : suc a + b ≡ suc (a + b) = omega arith in e) ∙ state_both a b (after_transfer s)
 
-drop_none : (a s : ℕ) → drop a (transfers zero s) ≡ []
-drop_none zero s = refl
-drop_none (suc a) s = refl
-
 drop_drawn : (a n s : ℕ) → drop a (transfers n s) ≡ transfers (n - a) (state_after a s)
 drop_drawn zero n s = ap (λ k. transfers k s) (let e : n ≡ n - 0 = omega arith in e)
 drop_drawn (suc a) zero s = ap (λ k. transfers k (state_after (suc a) s)) (let e : 0 ≡ 0 - suc a = omega arith in e)
