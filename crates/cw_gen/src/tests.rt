@@ -10,18 +10,19 @@ const HEAD: &str =
 const SUM: &str = "sync; let k = 0; let s = 0; while k < 64 { s = s + a[k]; k = k + 1; } out s; }";
 
 /// The next state, and what is drawn with it.
-fn drawn(state: u64, below: u64) -> (u64, u64) {
+fn drawn(state: u64) -> (u64, u64) {
     let next = state
         .wrapping_mul(6_364_136_223_846_793_005)
         .wrapping_add(1_442_695_040_888_963_407);
-    (next, (next >> 32) % below)
+    (next, next >> 32)
 }
 
 /// Writes one transfer, and answers the state behind its draws.
 fn write_transfer(text: &mut String, state: u64) -> Result<u64, Fail> {
-    let (state, from) = drawn(state, 64);
-    let (state, to) = drawn(state, 64);
-    let (state, amount) = drawn(state, 100);
+    let (state, from) = drawn(state);
+    let (state, to) = drawn(state);
+    let (state, amount) = drawn(state);
+    let (from, to, amount) = (from % 64, to % 64, amount % 100);
     write!(text, "spawn {{ t({from}, {to}, {amount}); }} ")?;
     Ok(state)
 }
