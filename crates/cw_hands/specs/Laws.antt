@@ -1,20 +1,19 @@
 -- What is true of runs of the open machine and of the tier together. The laws are over runs in which an access may be refused at any time,
 -- whatever is said of it.
-use Rattle.std.specs.Prelude.{◌≡◌, ◌≢◌, ℕ, ℤ, ◌<◌, Bool, true, false, IsTrue, List, length, Option}
+use Rattle.std.specs.Prelude.{◌≡◌, ◌≢◌, ℕ, ℤ, ◌<◌, true, false, IsTrue, List, length, Option}
 use Rattle.cw_tree.specs.declared.node.Node.{Node}
 use Rattle.cw_tree.specs.Nodes.{parent_of, is_fork}
 use Rattle.cw_tree.specs.Walks.{has, is_ancestor}
 use Rattle.cw_tree.specs.Series.{has_later}
 use Rattle.cw_tree.specs.Shape.{IsTree}
-use Rattle.cw_trace.specs.Columns.{used}
 use Rattle.cw_trace.specs.Stands.{fork_column}
 use Rattle.cw_trace.specs.Running.{IsUnsplit, IsOrdered}
 use Rattle.cw_trace.specs.Hands.{StandsInOrder, trace_at, gap_at}
 use Rattle.cw_trace.specs.OrderedRuns.{GoesOnAt, RunsInOrder}
-use Rattle.cw_open.specs.Machine.{OpenMachine, has_finished}
+use Rattle.cw_open.specs.Machine.{has_finished}
 use Rattle.cw_open.specs.Open.{is_open, AreNested}
 use Rattle.cw_open.specs.Runs.{Rules, IsReachedBy, at_any_time}
-use Rattle.cw_hands.specs.Shared.{SharedMoment, has_columns, is_owed, is_open_yet, moment_of, goes_on, place_at, SharedStep, RunsTogether}
+use Rattle.cw_hands.specs.Shared.{SharedMoment, has_columns, is_owed, is_open_yet, moment_of, goes_on, place_at, RunsTogether}
 
 -- a run is one where accesses may be refused at any time
 abbrev pub TogetherAtAnyTime : Rules → Type 0

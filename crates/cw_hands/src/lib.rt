@@ -4,10 +4,32 @@
 //! them); `specs/Worked.antt` tries them.
 #![tactic(auto)]
 
-ghost use Rattle.cw_hands.specs.Laws.{OrderFollows};
+ghost use Rattle.cw_hands.specs.Laws.{MachinesRun, OrderFollows, ReadyDiffer, ReadyGoOn, TiersRun, TiersStand, TogetherAtAnyTime};
+
+use cw_open::Ruled;
+
+/// Where an access may be refused by any rule, a run is one where it may be refused at any time.
+pub fn runs_by_rules<R: Ruled>()
+    ensures { TogetherAtAnyTime R.rules }
+{}
+
+/// A run of both together is one of the machine, and until main has finished one of the tier: so the tier stands for the machine's tree, whose
+/// open nodes are ordered.
+pub fn runs_are_both()
+    ensures machine { MachinesRun }
+    ensures tier { TiersRun }
+    ensures stands { TiersStand }
+{}
 
 /// Open nodes that are nested are ordered where a merged fork was joined, a fork whose merge is owed is the last in its place, which is open,
 /// and left strands go first where a fork is not split.
 pub fn order_follows()
     ensures { OrderFollows }
+{}
+
+/// A strand that runs, and is neither unready nor owed a merge, may go on where it stands; two of them are in different traces, and use
+/// different gaps.
+pub fn ready_strands_go_on()
+    ensures go_on { ReadyGoOn }
+    ensures differ { ReadyDiffer }
 {}

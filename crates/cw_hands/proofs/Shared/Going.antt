@@ -1,10 +1,10 @@
 -- A strand that runs and is ready may go on where it stands.
-use Rattle.std.proofs.Common.{◌≡◌, ◌≢◌, ℕ, ◌+◌, ◌<◌, ◌≤◌, List, length, refl, ap, sym, ◌∙◌, arith, Bool, true, false, inl, inr, subst, nat_lt, nat_eq}
-use Rattle.std.specs.Prelude.{◌⊎◌, ◌&&◌, ◌||◌, not}
+use Rattle.std.proofs.Common.{◌≡◌, ℕ, ◌<◌, List, length, ap, ◌∙◌, arith, true, false, inl, inr, subst, nat_lt, nat_eq}
+use Rattle.std.specs.Prelude.{◌&&◌, ◌||◌, not}
 use Rattle.std.specs.List.{list_any}
 use Rattle.std.proofs.lemmas.Bool.{and_parts, and_from, and_left, and_right, and_cases, or_from, not-true, not-false, not_from_false, not_from_true, false_from_ne_true, true_from_ne_false, lt-ltb, eq-eqb}
 use Rattle.cw_tree.specs.declared.node.Node.{Node}
-use Rattle.cw_tree.specs.Nodes.{is_fork_kind, parent_of, is_strand, is_fork, is_pending, all_nodes}
+use Rattle.cw_tree.specs.Nodes.{parent_of, is_strand, is_fork, is_pending, all_nodes}
 use Rattle.cw_tree.specs.Walks.{has}
 use Rattle.cw_tree.specs.Series.{strand_of, children, place}
 use Rattle.cw_tree.specs.Shape.{IsTree}
@@ -13,16 +13,13 @@ use Rattle.cw_tree.proofs.Members.{below_in, filter_in}
 use Rattle.cw_tree.proofs.NextNodes.Trees.{is_child, no_fork}
 use Rattle.cw_tree.proofs.Walks.Kin.{fork_child}
 use Rattle.cw_tree.proofs.Walks.Strands.{strand_of_other}
-use Rattle.cw_tree.proofs.Walks.There.{node_there}
 use Rattle.cw_tree.proofs.NodeKinds.{strand_no_block, fork_no_strand, pending_block}
-use Rattle.cw_trace.specs.Columns.{used}
 use Rattle.cw_trace.specs.Stands.{fork_column}
 use Rattle.cw_trace.specs.Running.{IsUnsplit, MayGoOn}
-use Rattle.cw_trace.specs.OrderedRuns.{GoesOnAt}
 use Rattle.cw_open.specs.Machine.{OpenMachine, has_finished, is_running}
 use Rattle.cw_open.specs.Open.{is_open, AreNested}
 use Rattle.cw_open.proofs.Open.Standing.{stands, place_holds, place_open, none_open}
-use Rattle.cw_hands.specs.Shared.{SharedMoment, has_columns, is_split, is_owed, is_open_yet, moment_of, waits_for_left, waits_for_merge, is_ready, goes_on, place_at}
+use Rattle.cw_hands.specs.Shared.{SharedMoment, has_columns, is_split, is_owed, is_open_yet, waits_for_left, waits_for_merge, is_ready}
 use Rattle.cw_hands.proofs.Shared.Order.{at_no_fork, wide_fork, wide_low, yet}
 
 -- a strand that finished is open no more

@@ -1,12 +1,11 @@
 -- Which nodes are open after each step.
 use Rattle.std.proofs.Common.{◌≡◌, ◌≢◌, ℕ, ◌+◌, ◌<◌, ◌≤◌, List, [], ◌∷◌, ◌++◌, length, refl, ap, sym, ◌∙◌, arith, Bool, true, false, cond, inl, inr, nat_lt, nat_eq, length-append}
-use Rattle.std.specs.Prelude.{◌⊎◌, ◌&&◌, ◌||◌, not}
+use Rattle.std.specs.Prelude.{◌&&◌, ◌||◌, not}
 use Rattle.std.proofs.lemmas.Bool.{and_parts, and_from, and_left, and_right, or_cases, or_from, or_left, or_right, not-true, not_from_false, not_from_true, false_from_ne_true, cases_Bool, cases_lt, cases_eq, lt-ltb, eq-eqb, ne_eqb, eqb-true}
 use Rattle.cw_tree.specs.declared.node.Node.{Node}
 use Rattle.cw_tree.specs.declared.node.BlockState.{BlockState}
-use Rattle.cw_tree.specs.Nodes.{is_strand_kind, is_fork_kind, is_block_kind, is_pending_state, is_strand, is_fork, is_pending, fresh_node, closed}
+use Rattle.cw_tree.specs.Nodes.{is_strand_kind, is_fork_kind, is_block_kind, is_pending_state, is_strand, is_fork, is_pending, closed}
 use Rattle.cw_tree.specs.Walks.{IsRooted, has}
-use Rattle.cw_tree.specs.NextNodes.{fork_nodes}
 use Rattle.cw_tree.proofs.NextNodes.Growing.{node_grown, node_new}
 use Rattle.cw_tree.proofs.NextNodes.Closing.{node_closed}
 use Rattle.cw_tree.proofs.NextNodes.Pending.{pending_stays, pending_closed}

@@ -1,10 +1,10 @@
 -- Open nodes are ordered as the tier needs it, though a fork with columns is open until its traces were merged.
-use Rattle.std.proofs.Common.{◌≡◌, ◌≢◌, ℕ, ◌+◌, ◌<◌, ◌≤◌, List, length, refl, ap, sym, ◌∙◌, arith, Bool, true, false, cond, inl, inr, subst, nat_lt, nat_eq}
+use Rattle.std.proofs.Common.{◌≡◌, ℕ, ◌+◌, ◌<◌, List, length, ap, sym, ◌∙◌, arith, true, false, cond, inl, inr, nat_lt, nat_eq}
 use Rattle.std.specs.Prelude.{◌⊎◌, ◌&&◌, ◌||◌, not}
 use Rattle.std.proofs.lemmas.Bool.{and_parts, and_from, or_cases, or_left, or_right, not-true, not_from_false, false_from_ne_true, cases_Bool, cases_lt, cases_eq, lt-ltb, ltb-true, eq-eqb}
 use Rattle.cw_tree.specs.declared.node.Node.{Node}
 use Rattle.cw_tree.specs.Nodes.{parent_of, is_strand, is_fork, is_pending, all_nodes}
-use Rattle.cw_tree.specs.Walks.{has, is_ancestor}
+use Rattle.cw_tree.specs.Walks.{has}
 use Rattle.cw_tree.specs.Series.{children, has_later}
 use Rattle.cw_tree.specs.Shape.{IsTree}
 use Rattle.cw_tree.proofs.Lists.{any_from}
@@ -13,7 +13,7 @@ use Rattle.cw_tree.proofs.NodeKinds.{pending_block, fork_no_strand, fork_no_bloc
 use Rattle.cw_tree.proofs.Walks.Kin.{fork_child}
 use Rattle.cw_trace.specs.Columns.{used}
 use Rattle.cw_trace.specs.Stands.{fork_column}
-use Rattle.cw_trace.specs.Running.{IsOrdered, IsUnsplit}
+use Rattle.cw_trace.specs.Running.{IsOrdered}
 use Rattle.cw_open.specs.Machine.{OpenMachine, has_finished}
 use Rattle.cw_open.specs.Open.{is_open, AreNested}
 use Rattle.cw_open.proofs.Open.Standing.{pending_open}

@@ -1,0 +1,5 @@
+use Rattle.cw_hands.proofs.Laws.Runs.{ready_go_on, ready_differ}
+use Rattle.cw_hands.proofs.ready_strands_go_on.Goals as goal
+
+pub returns : goal.returns
+returns c = record { go_on = ready_go_on; differ = ready_differ }
