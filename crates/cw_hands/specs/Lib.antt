@@ -1,2 +1,3 @@
-pub mod Shared
 pub mod Laws
+pub mod Shared
+pub mod Worked

@@ -5,6 +5,7 @@
 #![tactic(auto)]
 
 ghost use Rattle.cw_hands.specs.Laws.{MachinesRun, OrderFollows, ReadyDiffer, ReadyGoOn, TiersRun, TiersStand, TogetherAtAnyTime};
+ghost use Rattle.cw_hands.specs.Worked.{NotReady, TwoStrands};
 
 use cw_open::Ruled;
 
@@ -32,4 +33,11 @@ pub fn order_follows()
 pub fn ready_strands_go_on()
     ensures go_on { ReadyGoOn }
     ensures differ { ReadyDiffer }
+{}
+
+/// What the definitions say of a small run with two strands: between the join of their fork and its merge main waits. That it would go on as soon
+/// as the machine has joined the fork is false, and so is that the right strand goes on before the fork is split.
+pub fn worked_strands()
+    ensures strands { TwoStrands }
+    ensures not_ready { NotReady }
 {}
