@@ -4,7 +4,7 @@
 //! them); `specs/Worked.antt` tries them.
 #![tactic(auto)]
 
-ghost use Rattle.cw_hands.specs.Laws.{MachinesRun, OrderFollows, ReadyDiffer, ReadyGoOn, TiersRun, TiersStand, TogetherAtAnyTime};
+ghost use Rattle.cw_hands.specs.Laws.{MachinesRun, OrderFollows, OrderIsKept, ReadyDiffer, ReadyGoOn, TiersRun, TiersStand, TogetherAtAnyTime};
 ghost use Rattle.cw_hands.specs.Worked.{NotReady, TwoStrands};
 
 use cw_open::Ruled;
@@ -23,9 +23,10 @@ pub fn runs_are_both()
 {}
 
 /// Open nodes that are nested are ordered where a merged fork was joined, a fork whose merge is owed is the last in its place, which is open,
-/// and left strands go first where a fork is not split.
+/// and left strands go first where a fork is not split. This is so at each moment of a run until main has finished.
 pub fn order_follows()
-    ensures { OrderFollows }
+    ensures follows { OrderFollows }
+    ensures kept { OrderIsKept }
 {}
 
 /// A strand that runs, and is neither unready nor owed a merge, may go on where it stands; two of them are in different traces, and use

@@ -51,13 +51,13 @@ module _ (s : SharedMoment) (w : IsWell s.machine) (k : Keeps s.columns s.words 
   len : length (t ++ xs) ≡ length t + 3
   len = length-append t xs
 
-  at : (f : Node → Bool) (n j : ℕ) → n ≡ length t + j → passes f (slice_get (t ++ xs) n) ≡ passes f (slice_get xs j)
+  pub at : (f : Node → Bool) (n j : ℕ) → n ≡ length t + j → passes f (slice_get (t ++ xs) n) ≡ passes f (slice_get xs j)
   at f n j e = ap (λ n. passes f (slice_get (t ++ xs) n)) e ∙ ap (passes f) (get_right t xs j)
 
   fork_here : (n : ℕ) → n ≡ length t + 0 → is_fork (t ++ xs) n ≡ true
   fork_here n e = at (λ y. is_fork_kind y.kind) n 0 e
 
-  unjoined : (n : ℕ) → n ≡ length t + 0 → has s.joins (fork_column (t ++ xs) n) ≡ false
+  pub unjoined : (n : ℕ) → n ≡ length t + 0 → has s.joins (fork_column (t ++ xs) n) ≡ false
   unjoined n e =
       ap (λ n. has s.joins (fork_column (t ++ xs) n)) (let q : n ≡ length t = omega (arith, e) in q)
       ∙ ap (has s.joins) (fork_column_append t xs w.sound.tree.rooted 0 (length t) (omega arith))

@@ -45,7 +45,7 @@ module _ (s : SharedMoment) where
   pub wide_low : (f : ℕ) → has_columns s f ≡ true → fork_column s.machine.tree f + 1 < used s.columns
   wide_low f e = ltb-true (fork_column t f + 1) (used s.columns) (and_parts (is_fork t f) (nat_lt (fork_column t f + 1) (used s.columns)) e).1
 
-  open_fork : (f : ℕ) → is_fork t f ≡ true → has m.joined f ≡ false → is_open m f ≡ true
+  pub open_fork : (f : ℕ) → is_fork t f ≡ true → has m.joined f ≡ false → is_open m f ≡ true
   open_fork f fork e =
       or_left (is_strand t f && not (has_finished m f) || is_fork t f && not (has m.joined f)) (is_pending t f)
       (or_right (is_strand t f && not (has_finished m f)) (is_fork t f && not (has m.joined f)) (and_from (is_fork t f) (not (has m.joined f)) fork (not_from_false (has m.joined f) e)))

@@ -68,7 +68,7 @@ step_as s who c words t cuts joins f g h e =
 past_one : (n m : ℕ) → n < m → nat_eq m n ≡ false
 past_one n m h = ne_eqb m n (λ e. absurd (omega (arith, e)))
 
-access_plain : (c : ℕ) (write : Option ℤ) (v : ℤ) → (is_strand_kind (access_kind c write v) ≡ false) × (is_fork_kind (access_kind c write v) ≡ false) × (is_block_kind (access_kind c write v) ≡ false)
+pub access_plain : (c : ℕ) (write : Option ℤ) (v : ℤ) → (is_strand_kind (access_kind c write v) ≡ false) × (is_fork_kind (access_kind c write v) ≡ false) × (is_block_kind (access_kind c write v) ≡ false)
 access_plain c None v = (refl, refl, refl)
 access_plain c (Some w) v = (refl, refl, refl)
 
