@@ -10,7 +10,7 @@ use Rattle.cw_trace.specs.Stands.{fork_column}
 use Rattle.cw_trace.specs.Running.{IsUnsplit, IsOrdered}
 use Rattle.cw_trace.specs.Hands.{StandsInOrder, trace_at, gap_at}
 use Rattle.cw_trace.specs.OrderedRuns.{GoesOnAt, RunsInOrder}
-use Rattle.cw_open.specs.Machine.{has_finished}
+use Rattle.cw_open.specs.Machine.{has_finished, is_running}
 use Rattle.cw_open.specs.Open.{is_open, AreNested}
 use Rattle.cw_open.specs.Runs.{Rules, IsReachedBy, at_any_time}
 use Rattle.cw_hands.specs.Shared.{SharedMoment, has_columns, is_owed, is_open_yet, moment_of, goes_on, place_at, RunsTogether}
@@ -63,6 +63,10 @@ OrderIsKept = OfEachMoment OrderYet
 -- a strand that runs, and is neither unready nor owed a merge, may go on where it stands
 abbrev pub ReadyGoOn : Type 0
 ReadyGoOn = OfEachMoment (λ s. (x : ℕ) → IsTrue (goes_on s x) → GoesOnAt (moment_of s) (place_at s x))
+
+-- and no other strand that runs may
+abbrev pub OnlyReadyGoOn : Type 0
+OnlyReadyGoOn = OfEachMoment (λ s. (x : ℕ) → IsTrue (is_running s.machine x) → GoesOnAt (moment_of s) (place_at s x) → IsTrue (goes_on s x))
 
 -- so two of them are in different traces, and use different gaps
 abbrev pub ReadyDiffer : Type 0
