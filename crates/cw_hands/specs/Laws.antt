@@ -1,19 +1,20 @@
 -- What is true of runs of the open machine and of the tier together. The laws are over runs in which an access may be refused at any time,
 -- whatever is said of it.
-use Rattle.std.specs.Prelude.{◌≡◌, ◌≢◌, ℕ, ℤ, ◌<◌, true, false, IsTrue, List, length, Option}
+use Rattle.std.specs.Prelude.{◌≡◌, ◌≢◌, ℕ, ℤ, ◌<◌, true, false, IsTrue, List, length, slice_index, Option}
 use Rattle.cw_tree.specs.declared.node.Node.{Node}
 use Rattle.cw_tree.specs.Nodes.{parent_of, is_fork}
 use Rattle.cw_tree.specs.Walks.{has, is_ancestor}
 use Rattle.cw_tree.specs.Series.{has_later}
 use Rattle.cw_tree.specs.Shape.{IsTree}
-use Rattle.cw_trace.specs.Stands.{fork_column}
+use Rattle.cw_trace.specs.Columns.{used}
+use Rattle.cw_trace.specs.Stands.{column, fork_column}
 use Rattle.cw_trace.specs.Running.{IsUnsplit, IsOrdered}
-use Rattle.cw_trace.specs.Hands.{StandsInOrder, trace_at, gap_at}
+use Rattle.cw_trace.specs.Hands.{StandsInOrder, trace_at, gap_at, IsLater}
 use Rattle.cw_trace.specs.OrderedRuns.{GoesOnAt, RunsInOrder}
 use Rattle.cw_open.specs.Machine.{has_finished, is_running}
 use Rattle.cw_open.specs.Open.{is_open, AreNested}
 use Rattle.cw_open.specs.Runs.{Rules, IsReachedBy, at_any_time}
-use Rattle.cw_hands.specs.Shared.{SharedMoment, has_columns, is_owed, is_open_yet, moment_of, goes_on, place_at, RunsTogether}
+use Rattle.cw_hands.specs.Shared.{SharedMoment, has_columns, is_owed, is_open_yet, moment_of, goes_on, place_at, SharedStep, is_about, RunsTogether}
 
 -- a run is one where accesses may be refused at any time
 abbrev pub TogetherAtAnyTime : Rules → Type 0
@@ -73,3 +74,21 @@ abbrev pub ReadyDiffer : Type 0
 ReadyDiffer =
     OfEachMoment (λ s. (x y : ℕ) → IsTrue (goes_on s x) → IsTrue (goes_on s y) → x ≢ y
     → (trace_at s.columns s.machine.tree (place_at s x) ≡ trace_at s.columns s.machine.tree (place_at s y) → ⊥) × (gap_at s.columns s.machine.tree (place_at s x) ≡ gap_at s.columns s.machine.tree (place_at s y) → ⊥))
+
+-- ## What the steps of others leave
+
+-- strand x goes on at moment u where it did at moment s, in the same column, at the same gap with the same word; and a number that is above all
+-- of its trace still is
+pub record IsLeftReady (s u : SharedMoment) (x : ℕ) : Type 0 where
+  pub ready : IsTrue (goes_on u x)
+  pub place : place_at u x ≡ place_at s x
+  pub column : column u.machine.tree (used u.columns) (place_at u x) ≡ column s.machine.tree (used s.columns) (place_at s x)
+  pub gap : gap_at u.columns u.machine.tree (place_at u x) ≡ gap_at s.columns s.machine.tree (place_at s x)
+  pub word : slice_index u.words (gap_at u.columns u.machine.tree (place_at u x)) ≡ slice_index s.words (gap_at s.columns s.machine.tree (place_at s x))
+  pub later : (number : ℕ) → IsLater s.columns s.machine.tree (place_at s x) number → IsLater u.columns u.machine.tree (place_at u x) number
+
+-- so is each strand that goes on, after a step that is not about it
+abbrev pub OthersLeaveReady : Type 0
+OthersLeaveReady =
+    (asked : List Node → List ℕ → Option ℤ → List ℕ) (first : List ℤ) (s u : SharedMoment) (e : SharedStep (at_any_time asked) s u) (x : ℕ)
+    → RunsTogether (at_any_time asked) first s → has_finished u.machine 0 ≡ false → IsTrue (goes_on s x) → is_about (at_any_time asked) s u e x ≡ false → IsLeftReady s u x

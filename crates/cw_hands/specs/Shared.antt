@@ -1,8 +1,9 @@
 -- Runs of the open machine and of the tier together, in which several strands step in turn.
 -- A fork gets two columns while there are two left, and is known by that of its left strand; one without is inline.
-use Rattle.std.specs.Prelude.{◌≡◌, ℕ, ℤ, ◌+◌, ◌<◌, ◌≤◌, ◌==◌, ◌&&◌, Bool, not, nat_lt, nat_le, IsTrue, List, [], ◌∷◌, length, slice_index, None, if◌then◌else◌}
+use Rattle.std.specs.Prelude.{◌≡◌, ℕ, ℤ, ◌+◌, ◌<◌, ◌≤◌, ◌==◌, ◌&&◌, Bool, false, not, nat_lt, nat_le, IsTrue, List, [], ◌∷◌, length, slice_index, None, if◌then◌else◌}
 use Rattle.std.specs.List.{list_any, list_all}
 use Rattle.cw_tree.specs.Nodes.{parent_of, stamp_of, is_fork, all_nodes}
+use Rattle.cw_tree.specs.Names.{is_right}
 use Rattle.cw_tree.specs.Walks.{has}
 use Rattle.cw_tree.specs.Series.{strand_of, children, place}
 use Rattle.cw_trace.specs.Columns.{ColumnTable, used, first_tier, forked, split_at, merged, before_split, begun_word, closed_word}
@@ -16,6 +17,7 @@ use Rattle.cw_open.specs.Steps as step
 use Rattle.cw_open.specs.Open.{is_open}
 use Rattle.cw_open.specs.Runs.{Rules, Allowed}
 use Rattle.cw_open.specs.LeftFirst.{makers}
+use Rattle.cw_open.specs.Hands.{is_step_of}
 
 -- a moment of such a run: the machine, the columns, the gap words, and the forks that were split and those that are joined for the tier
 pub record SharedMoment : Type 0 where
@@ -109,6 +111,12 @@ pub data SharedStep (r : Rules) (s : SharedMoment) : SharedMoment → Type 0 whe
       → SharedStep r s (record s { columns = split_at (fork_column s.machine.tree f) s.columns; cuts = fork_column s.machine.tree f ∷ s.cuts })
   -- of the traces of a fork that was split, and whose merge is owed
   merges : (f : ℕ) → IsTrue (is_split s f && is_owed s f) → SharedStep r s (record s { columns = merged (fork_column s.machine.tree f) s.columns; joins = fork_column s.machine.tree f ∷ s.joins })
+
+-- the step is one of strand x, or the split by which x, a right strand, is stolen
+abbrev pub is_about : (r : Rules) (s u : SharedMoment) → SharedStep r s u → ℕ → Bool
+is_about r s _ (makes e allowed ready later) x = is_step_of x e
+is_about r s _ (splits f whole early unstarted) x = is_right s.machine.tree x && (parent_of s.machine.tree x == f)
+is_about r s _ (merges f owed) x = false
 
 -- ## Runs
 

@@ -1,14 +1,16 @@
 -- A small run with two strands: a fork is split, both strands step in blocks at the same time, and the fork is joined and merged; and what
 -- would be said of strands that are not ready.
-use Rattle.std.specs.Prelude.{◌≡◌, ℕ, ◌&&◌, not, true, false, IsTrue, List, [], ◌∷◌}
+use Rattle.std.specs.Prelude.{◌≡◌, ℕ, ◌&&◌, not, true, false, IsTrue, List, [], ◌∷◌, None}
 use Rattle.cw_tree.specs.Newest.{newest}
-use Rattle.cw_trace.specs.Columns.{split_at, merged}
-use Rattle.cw_trace.specs.Hands.{trace_at}
+use Rattle.cw_trace.specs.Columns.{split_at, merged, before_split}
+use Rattle.cw_trace.specs.Hands.{trace_at, gap_at, IsLater}
 use Rattle.cw_trace.specs.OrderedRuns.{GoesOnAt}
+use Rattle.cw_trace.specs.Running.{IsUnstarted}
+use Rattle.cw_trace.specs.Stands.{fork_column}
 use Rattle.cw_open.specs.Machine.{is_running}
 use Rattle.cw_open.specs.Steps.{Step, forks, begins, commits, finishes, joins}
 use Rattle.cw_open.specs.Runs.{Rules, at_any_time}
-use Rattle.cw_hands.specs.Shared.{SharedMoment, is_owed, is_open_yet, moment_of, waits_for_left, waits_for_merge, goes_on, place_at, after_shared, first_shared, RunsTogether}
+use Rattle.cw_hands.specs.Shared.{SharedMoment, is_whole, is_owed, is_open_yet, moment_of, waits_for_left, waits_for_merge, goes_on, place_at, after_shared, first_shared, RunsTogether}
 use Rattle.cw_hands.specs.Laws.{OfEachMoment}
 
 -- accesses are asked about the newest one, and may be refused at any time
@@ -54,6 +56,9 @@ pub record TwoStrands : Type 0 where
   pub blocks : RunsTogether any_rules [] in_blocks
   pub hands : (goes_on in_blocks 2 ≡ true) × (goes_on in_blocks 3 ≡ true) × (goes_on in_blocks 0 ≡ false)
   pub traces : (trace_at in_blocks.columns in_blocks.machine.tree (place_at in_blocks 2) ≡ 1) × (trace_at in_blocks.columns in_blocks.machine.tree (place_at in_blocks 3) ≡ 2)
+  -- the right one draws 3 for its begin before the left one begins at 2
+  pub drawn : IsLater stolen.columns stolen.machine.tree 3 3
+  pub still : IsLater (after_shared stolen (begins 2 2)).columns (after_shared stolen (begins 2 2)).machine.tree 3 3
   pub words : in_blocks.words ≡ 2 ∷ 0 ∷ 3 ∷ 0 ∷ 0 ∷ []
   -- once the fork is joined main runs, and does not go on: the merge is owed, and the fork is open yet
   pub joined : RunsTogether any_rules [] joined_once
@@ -76,6 +81,13 @@ JoinedGoOn = OfEachMoment (λ s. (x : ℕ) → IsTrue (is_running s.machine x &&
 abbrev pub UnreadyGoOn : Type 0
 UnreadyGoOn = OfEachMoment (λ s. (x : ℕ) → IsTrue (is_running s.machine x && not (waits_for_merge s x)) → GoesOnAt (moment_of s) (place_at s x))
 
+-- and that a split leaves each strand that goes on at its gap, also the right one of the fork, whose left one has finished
+abbrev pub SplitsLeaveGaps : Type 0
+SplitsLeaveGaps =
+    OfEachMoment (λ s. (f x : ℕ) → IsTrue (is_whole s f) → before_split s.columns (fork_column s.machine.tree f) ≡ None → IsUnstarted s.machine.tree s.joins (fork_column s.machine.tree f) → IsTrue (goes_on s x)
+    → gap_at (split_at (fork_column s.machine.tree f) s.columns) s.machine.tree (place_at s x) ≡ gap_at s.columns s.machine.tree (place_at s x))
+
 pub record NotReady : Type 0 where
   pub joined : JoinedGoOn → ⊥
   pub unready : UnreadyGoOn → ⊥
+  pub stolen : SplitsLeaveGaps → ⊥

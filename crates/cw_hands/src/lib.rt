@@ -4,7 +4,7 @@
 //! them); `specs/Worked.antt` tries them.
 #![tactic(auto)]
 
-ghost use Rattle.cw_hands.specs.Laws.{MachinesRun, OnlyReadyGoOn, OrderFollows, OrderIsKept, ReadyDiffer, ReadyGoOn, TiersRun, TiersStand, TogetherAtAnyTime};
+ghost use Rattle.cw_hands.specs.Laws.{MachinesRun, OnlyReadyGoOn, OrderFollows, OrderIsKept, OthersLeaveReady, ReadyDiffer, ReadyGoOn, TiersRun, TiersStand, TogetherAtAnyTime};
 ghost use Rattle.cw_hands.specs.Worked.{NotReady, TwoStrands};
 
 use cw_open::Ruled;
@@ -37,8 +37,15 @@ pub fn ready_strands_go_on()
     ensures differ { ReadyDiffer }
 {}
 
+/// A step that is not about a strand leaves it going on where it does, in its column, at its gap with the word that this has; and a number that
+/// it drew early, and that is above all stamps of its trace, still is.
+pub fn others_leave_ready()
+    ensures { OthersLeaveReady }
+{}
+
 /// What the definitions say of a small run with two strands: between the join of their fork and its merge main waits. That it would go on as soon
-/// as the machine has joined the fork is false, and so is that the right strand goes on before the fork is split.
+/// as the machine has joined the fork is false, and so is that the right strand goes on before the fork is split, and that it keeps its gap
+/// where it is stolen once the left one has finished.
 pub fn worked_strands()
     ensures strands { TwoStrands }
     ensures not_ready { NotReady }

@@ -96,7 +96,7 @@ module _ (s : SharedMoment) (w : IsWell s.machine) (h : StandsInOrder s.columns 
   no_fork_over f fork own over =
       let r = w.sound.tree.rooted in
       let low = fork_there t f fork in
-      let apart : p ≢ f = λ e. cc (ap (is_fork s.machine.tree) e, fork, g.no_fork) in
+      let apart : p ≢ f = λ e. cc (e, fork, g.no_fork) in
       let b = branch t r f p g.there apart over in
       let le : b.child ≤ p = ancestor_le t r b.child p g.there b.over in
       let there = g.there in

@@ -168,7 +168,7 @@ module _ (s : SharedMoment) (w : IsWell s.machine) (h : StandsInOrder s.columns 
   -- ## Splits and merges
 
   -- a fork that is split and not merged names traces, and one that is not split names none
-  names : (f : ℕ) (z : Bool) → has s.cuts (fork_column t f) ≡ z → has_columns s f ≡ true → has s.joins (fork_column t f) ≡ false → is_trace s.columns (fork_column t f) ≡ z
+  pub names : (f : ℕ) (z : Bool) → has s.cuts (fork_column t f) ≡ z → has_columns s f ≡ true → has s.joins (fork_column t f) ≡ false → is_trace s.columns (fork_column t f) ≡ z
   names f z e wide no_join =
       let col = fork_column t f in
       let odd = odd_column t f in
@@ -194,8 +194,15 @@ module _ (s : SharedMoment) (w : IsWell s.machine) (h : StandsInOrder s.columns 
       step_as (moment_of s) None (split_at col s.columns) s.words t (col ∷ s.cuts) s.joins _ _ (split_leaves s (split_at col s.columns) (col ∷ s.cuts) (length_parts (owner s.columns col) col 0 s.columns.owners))
       (tier.split col (omega (arith, low)) (odd_column t f) (names f false (not-true (has s.cuts col) z.1) z.0 unstarted.unjoined) early unstarted)
 
-  pub merge_step : (f : ℕ) → (is_split s f && is_owed s f) ≡ true → TierStep (moment_of s) None (moment_of (record s { columns = merged (fork_column t f) s.columns; joins = fork_column t f ∷ s.joins }))
-  merge_step f e =
+  -- what there is to an owed merge
+  pub record IsDue (f : ℕ) : Type 0 where
+    pub wide : has_columns s f ≡ true
+    pub low : fork_column t f < used s.columns
+    pub apart : is_trace s.columns (fork_column t f) ≡ true
+    pub done : (x : ℕ) → 0 < x → x < length t → parent_of t x ≡ f → is_open_yet s x ≡ false
+
+  pub due : (f : ℕ) → (is_split s f && is_owed s f) ≡ true → IsDue f
+  due f e =
       let col = fork_column t f in
       let z = and_parts (is_split s f) (is_owed s f) e in
       let y = and_parts (has_columns s f) (has s.cuts col) z.0 in
@@ -203,11 +210,21 @@ module _ (s : SharedMoment) (w : IsWell s.machine) (h : StandsInOrder s.columns 
       let joined = (and_parts (has_columns s f) (has m.joined f) x.0).1 in
       let fork = wide_fork s f y.0 in
       let low = wide_low s f y.0 in
-      let shut : (x : ℕ) → 0 < x → x < length t → parent_of t x ≡ f → is_open m x ≡ false = λ x some there up. (
-      false_from_ne_true (is_open m x) (λ o. absurd (cc (joined, open_unjoined s f fork (sym (ap (is_open m) up) ∙ w.nested.outer x some there o))))) in
+      record {
+        wide = y.0;
+        low = omega (arith, low);
+        apart = names f true y.1 y.0 (not-true (has s.joins col) x.1);
+        done = strands_done f fork (λ x some there up. false_from_ne_true (is_open m x) (λ o. absurd (cc (joined, open_unjoined s f fork (sym (ap (is_open m) up) ∙ w.nested.outer x some there o)))));
+      }
+
+  pub merge_step : (f : ℕ) → (is_split s f && is_owed s f) ≡ true → TierStep (moment_of s) None (moment_of (record s { columns = merged (fork_column t f) s.columns; joins = fork_column t f ∷ s.joins }))
+  merge_step f e =
+      let col = fork_column t f in
+      let d = due f e in
+      let fork = wide_fork s f d.wide in
       step_as (moment_of s) None (merged col s.columns) s.words t s.cuts (col ∷ s.joins) _ _
-      (merge_shuts s f fork (merged col s.columns) (length-map s.columns.owners (back_to (around_fork s.columns col) col)) y.0)
-      (tier.merge col (omega (arith, low)) (odd_column t f) (names f true y.1 y.0 (not-true (has s.joins col) x.1)) (record { fork = f; is = fork; at = refl; done = strands_done f fork shut }))
+      (merge_shuts s f fork (merged col s.columns) (length-map s.columns.owners (back_to (around_fork s.columns col) col)) d.wide)
+      (tier.merge col d.low (odd_column t f) d.apart (record { fork = f; is = fork; at = refl; done = d.done }))
 
   -- ## Each step of the machine
 

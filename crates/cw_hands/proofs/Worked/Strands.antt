@@ -83,6 +83,8 @@ two_strands = record {
   blocks = run_blocks;
   hands = (refl, refl, refl);
   traces = (refl, refl);
+  drawn = later stolen 3 3 refl;
+  still = later left_begun 3 3 refl;
   words = refl;
   joined = run_joined;
   owed = (refl, refl);
@@ -94,8 +96,16 @@ two_strands = record {
   main_word = refl;
 }
 
+-- the left strand finishes before the fork is split
+abbrev left_alone : SharedMoment
+left_alone = after_shared forked_once (finishes 2 false)
+
+run_left_alone : Run left_alone
+run_left_alone = more forked_once left_alone run_forked (makes (finishes 2 false) refl refl tt)
+
 pub not_ready : NotReady
 not_ready = record {
   joined = λ law. not_yet (law (λ t us w. newest us) [] joined_once run_joined refl 0 refl);
   unready = λ law. (let g = law (λ t us w. newest us) [] forked_once run_forked refl 3 refl in absurd (cc (g.left_done 2 (omega arith) (omega arith) refl refl (inr refl))));
+  stolen = λ law. cc (law (λ t us w. newest us) [] left_alone run_left_alone refl 1 3 refl refl (unstarted forked_once.machine.tree 1 3 refl refl refl refl refl refl) refl);
 }
