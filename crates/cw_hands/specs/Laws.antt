@@ -1,10 +1,10 @@
 -- What is true of runs of the open machine and of the tier together. The laws are over runs in which an access may be refused at any time,
 -- whatever is said of it.
-use Rattle.std.specs.Prelude.{◌≡◌, ◌≢◌, ℕ, ℤ, ◌<◌, true, false, IsTrue, List, length, slice_index, Option}
+use Rattle.std.specs.Prelude.{◌≡◌, ◌≢◌, ℕ, ℤ, ◌<◌, ◌&&◌, true, false, IsTrue, List, length, slice_index, Option}
 use Rattle.cw_tree.specs.declared.node.Node.{Node}
 use Rattle.cw_tree.specs.Nodes.{parent_of, is_fork}
 use Rattle.cw_tree.specs.Walks.{has, is_ancestor}
-use Rattle.cw_tree.specs.Series.{has_later}
+use Rattle.cw_tree.specs.Series.{strand_of, has_later}
 use Rattle.cw_tree.specs.Shape.{IsTree}
 use Rattle.cw_trace.specs.Columns.{used}
 use Rattle.cw_trace.specs.Stands.{column, fork_column}
@@ -14,7 +14,7 @@ use Rattle.cw_trace.specs.OrderedRuns.{GoesOnAt, RunsInOrder}
 use Rattle.cw_open.specs.Machine.{has_finished, is_running}
 use Rattle.cw_open.specs.Open.{is_open, AreNested}
 use Rattle.cw_open.specs.Runs.{Rules, IsReachedBy, at_any_time}
-use Rattle.cw_hands.specs.Shared.{SharedMoment, has_columns, is_owed, is_open_yet, moment_of, goes_on, place_at, SharedStep, is_about, RunsTogether}
+use Rattle.cw_hands.specs.Shared.{SharedMoment, has_columns, is_split, is_owed, is_open_yet, moment_of, goes_on, place_at, after_merge, SharedStep, is_about, RunsTogether}
 
 -- a run is one where accesses may be refused at any time
 abbrev pub TogetherAtAnyTime : Rules → Type 0
@@ -74,6 +74,10 @@ abbrev pub ReadyDiffer : Type 0
 ReadyDiffer =
     OfEachMoment (λ s. (x y : ℕ) → IsTrue (goes_on s x) → IsTrue (goes_on s y) → x ≢ y
     → (trace_at s.columns s.machine.tree (place_at s x) ≡ trace_at s.columns s.machine.tree (place_at s y) → ⊥) × (gap_at s.columns s.machine.tree (place_at s x) ≡ gap_at s.columns s.machine.tree (place_at s y) → ⊥))
+
+-- once its fork is merged the strand that forked goes on, where it runs
+abbrev pub MergedGoOn : Type 0
+MergedGoOn = OfEachMoment (λ s. (f : ℕ) → IsTrue (is_split s f && is_owed s f) → IsTrue (is_running s.machine (strand_of s.machine.tree f)) → IsTrue (goes_on (after_merge s f) (strand_of s.machine.tree f)))
 
 -- ## What the steps of others leave
 

@@ -103,14 +103,20 @@ abbrev pub IsLaterStep : SharedMoment → Step → Type 0
 IsLaterStep s (step.begins x stamp) = IsLater s.columns s.machine.tree (place_at s x) stamp
 IsLaterStep s _ = Unit {0}
 
+-- the trace in which fork f stands is cut there, and put together again
+abbrev pub after_split : SharedMoment → ℕ → SharedMoment
+after_split s f = record s { columns = split_at (fork_column s.machine.tree f) s.columns; cuts = fork_column s.machine.tree f ∷ s.cuts }
+
+abbrev pub after_merge : SharedMoment → ℕ → SharedMoment
+after_merge s f = record s { columns = merged (fork_column s.machine.tree f) s.columns; joins = fork_column s.machine.tree f ∷ s.joins }
+
 -- a step of the machine, by a strand that is ready or by none; a split; a merge
 pub data SharedStep (r : Rules) (s : SharedMoment) : SharedMoment → Type 0 where
   makes : (e : Step) → Allowed r s.machine e → IsTrue (list_all (is_ready s) (makers e)) → IsLaterStep s e → SharedStep r s (after_shared s e)
   -- of a fork whose right strand has not started, and outward of which none has to be split first
-  splits : (f : ℕ) → IsTrue (is_whole s f) → before_split s.columns (fork_column s.machine.tree f) ≡ None → IsUnstarted s.machine.tree s.joins (fork_column s.machine.tree f)
-      → SharedStep r s (record s { columns = split_at (fork_column s.machine.tree f) s.columns; cuts = fork_column s.machine.tree f ∷ s.cuts })
+  splits : (f : ℕ) → IsTrue (is_whole s f) → before_split s.columns (fork_column s.machine.tree f) ≡ None → IsUnstarted s.machine.tree s.joins (fork_column s.machine.tree f) → SharedStep r s (after_split s f)
   -- of the traces of a fork that was split, and whose merge is owed
-  merges : (f : ℕ) → IsTrue (is_split s f && is_owed s f) → SharedStep r s (record s { columns = merged (fork_column s.machine.tree f) s.columns; joins = fork_column s.machine.tree f ∷ s.joins })
+  merges : (f : ℕ) → IsTrue (is_split s f && is_owed s f) → SharedStep r s (after_merge s f)
 
 -- the step is one of strand x, or the split by which x, a right strand, is stolen
 abbrev pub is_about : (r : Rules) (s u : SharedMoment) → SharedStep r s u → ℕ → Bool

@@ -2,7 +2,7 @@
 -- would be said of strands that are not ready.
 use Rattle.std.specs.Prelude.{◌≡◌, ℕ, ◌&&◌, not, true, false, IsTrue, List, [], ◌∷◌, None}
 use Rattle.cw_tree.specs.Newest.{newest}
-use Rattle.cw_trace.specs.Columns.{split_at, merged, before_split}
+use Rattle.cw_trace.specs.Columns.{before_split}
 use Rattle.cw_trace.specs.Hands.{trace_at, gap_at, IsLater}
 use Rattle.cw_trace.specs.OrderedRuns.{GoesOnAt}
 use Rattle.cw_trace.specs.Running.{IsUnstarted}
@@ -10,7 +10,7 @@ use Rattle.cw_trace.specs.Stands.{fork_column}
 use Rattle.cw_open.specs.Machine.{is_running}
 use Rattle.cw_open.specs.Steps.{Step, forks, begins, commits, finishes, joins}
 use Rattle.cw_open.specs.Runs.{Rules, at_any_time}
-use Rattle.cw_hands.specs.Shared.{SharedMoment, is_whole, is_owed, is_open_yet, moment_of, waits_for_left, waits_for_merge, goes_on, place_at, after_shared, first_shared, RunsTogether}
+use Rattle.cw_hands.specs.Shared.{SharedMoment, is_whole, is_owed, is_open_yet, moment_of, waits_for_left, waits_for_merge, goes_on, place_at, after_shared, after_split, after_merge, first_shared, RunsTogether}
 use Rattle.cw_hands.specs.Laws.{OfEachMoment}
 
 -- accesses are asked about the newest one, and may be refused at any time
@@ -34,7 +34,7 @@ forked_once = after_shared alone (forks 0 1)
 
 -- the right strand is stolen
 abbrev pub stolen : SharedMoment
-stolen = record forked_once { columns = split_at 1 forked_once.columns; cuts = 1 ∷ [] }
+stolen = after_split forked_once 1
 
 -- each strand begins a block
 abbrev pub in_blocks : SharedMoment
@@ -46,7 +46,7 @@ joined_once = after_these in_blocks (commits 3 4 ∷ commits 2 5 ∷ finishes 2 
 
 -- the traces are merged
 abbrev pub put_together : SharedMoment
-put_together = record joined_once { columns = merged 1 joined_once.columns; joins = 1 ∷ [] }
+put_together = after_merge joined_once 1
 
 pub record TwoStrands : Type 0 where
   -- until the fork is split the right strand is unready
@@ -85,7 +85,7 @@ UnreadyGoOn = OfEachMoment (λ s. (x : ℕ) → IsTrue (is_running s.machine x &
 abbrev pub SplitsLeaveGaps : Type 0
 SplitsLeaveGaps =
     OfEachMoment (λ s. (f x : ℕ) → IsTrue (is_whole s f) → before_split s.columns (fork_column s.machine.tree f) ≡ None → IsUnstarted s.machine.tree s.joins (fork_column s.machine.tree f) → IsTrue (goes_on s x)
-    → gap_at (split_at (fork_column s.machine.tree f) s.columns) s.machine.tree (place_at s x) ≡ gap_at s.columns s.machine.tree (place_at s x))
+    → gap_at (after_split s f).columns s.machine.tree (place_at s x) ≡ gap_at s.columns s.machine.tree (place_at s x))
 
 pub record NotReady : Type 0 where
   pub joined : JoinedGoOn → ⊥

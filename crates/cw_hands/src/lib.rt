@@ -4,7 +4,7 @@
 //! them); `specs/Worked.antt` tries them.
 #![tactic(auto)]
 
-ghost use Rattle.cw_hands.specs.Laws.{MachinesRun, OnlyReadyGoOn, OrderFollows, OrderIsKept, OthersLeaveReady, ReadyDiffer, ReadyGoOn, TiersRun, TiersStand, TogetherAtAnyTime};
+ghost use Rattle.cw_hands.specs.Laws.{MachinesRun, MergedGoOn, OnlyReadyGoOn, OrderFollows, OrderIsKept, OthersLeaveReady, ReadyDiffer, ReadyGoOn, TiersRun, TiersStand, TogetherAtAnyTime};
 ghost use Rattle.cw_hands.specs.Worked.{NotReady, TwoStrands};
 
 use cw_open::Ruled;
@@ -29,11 +29,12 @@ pub fn order_follows()
     ensures kept { OrderIsKept }
 {}
 
-/// A strand that runs may go on where it stands just where it is neither unready nor owed a merge; two of them are in different traces, and
-/// use different gaps.
+/// A strand that runs may go on where it stands just where it is neither unready nor owed a merge, as it is not once its fork was merged; two
+/// of them are in different traces, and use different gaps.
 pub fn ready_strands_go_on()
     ensures go_on { ReadyGoOn }
     ensures only { OnlyReadyGoOn }
+    ensures merged { MergedGoOn }
     ensures differ { ReadyDiffer }
 {}
 

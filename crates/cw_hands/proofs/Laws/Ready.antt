@@ -1,14 +1,12 @@
 -- A strand that runs and is not ready may not go on.
-use Rattle.std.proofs.Common.{◌≡◌, ◌≢◌, ℕ, ◌+◌, ◌<◌, ◌≤◌, List, length, ap, sym, ◌∙◌, subst, arith, true, false, inl, inr, nat_lt, nat_eq}
-use Rattle.std.specs.Prelude.{◌&&◌, ◌||◌, not}
-use Rattle.std.specs.List.{list_any}
-use Rattle.std.proofs.lemmas.Bool.{and_parts, and_from, or_left, not-true, not_from_false, false_from_ne_true, cases_Bool, cases_eq, cases_lt, ltb-true, eqb-true}
+use Rattle.std.proofs.Common.{◌≡◌, ◌≢◌, ℕ, ◌<◌, ◌≤◌, List, length, ap, sym, ◌∙◌, subst, arith, true, false, inl, inr, nat_eq}
+use Rattle.std.specs.Prelude.{◌&&◌, not}
+use Rattle.std.proofs.lemmas.Bool.{and_parts, and_from, not_from_false, false_from_ne_true, cases_eq, eqb-true}
 use Rattle.cw_tree.specs.declared.node.Node.{Node}
-use Rattle.cw_tree.specs.Nodes.{parent_of, is_strand, is_fork, is_pending, all_nodes}
+use Rattle.cw_tree.specs.Nodes.{parent_of, is_strand, is_fork, all_nodes}
 use Rattle.cw_tree.specs.Walks.{has, is_ancestor}
-use Rattle.cw_tree.specs.Series.{strand_of, children, place}
+use Rattle.cw_tree.specs.Series.{strand_of, place}
 use Rattle.cw_tree.proofs.Lists.{any_in}
-use Rattle.cw_tree.proofs.InOrder.DepthFirst.{child_is}
 use Rattle.cw_tree.proofs.NodeKinds.{fork_no_strand, fork_some}
 use Rattle.cw_tree.proofs.Walks.Ancestors.{ancestor_le}
 use Rattle.cw_tree.proofs.Walks.Kin.{branch, fork_child}
@@ -21,12 +19,13 @@ use Rattle.cw_trace.specs.Hands.{StandsInOrder}
 use Rattle.cw_trace.specs.OrderedRuns.{GoesOnAt}
 use Rattle.cw_trace.proofs.Keeps.GoingOn.{open_above}
 use Rattle.cw_trace.proofs.Keeps.TierLaws.{goes_on_beneath}
-use Rattle.cw_open.specs.Machine.{OpenMachine, has_finished, is_running}
+use Rattle.cw_open.specs.Machine.{OpenMachine, is_running}
 use Rattle.cw_open.proofs.Open.Standing.{stands, runs}
 use Rattle.cw_open.proofs.Open.Trees.{IsWell}
-use Rattle.cw_hands.specs.Shared.{SharedMoment, has_columns, is_split, is_owed, is_open_yet, moment_of, waits_for_left, waits_for_merge, is_ready}
-use Rattle.cw_hands.proofs.Shared.Order.{at_wide, at_no_fork, wide_fork, wide_from}
+use Rattle.cw_hands.specs.Shared.{SharedMoment, is_owed, is_open_yet, moment_of, waits_for_left, waits_for_merge, is_ready}
+use Rattle.cw_hands.proofs.Shared.Order.{at_wide, wide_fork}
 use Rattle.cw_hands.proofs.Laws.Kept.{owed_is}
+use Rattle.cw_hands.proofs.Laws.Unready.{none_left}
 
 module _ (s : SharedMoment) (w : IsWell s.machine) (h : StandsInOrder s.columns s.words s.machine.tree s.cuts s.joins (is_open_yet s)) (x : ℕ) (running : is_running s.machine x ≡ true) (g : GoesOnAt (moment_of s) (place s.machine.tree x)) where
   abbrev m : OpenMachine
@@ -40,12 +39,6 @@ module _ (s : SharedMoment) (w : IsWell s.machine) (h : StandsInOrder s.columns 
 
   -- ## The left strand
 
-  unsplit : (f : ℕ) → is_fork t f ≡ true → is_split s f ≡ false → IsUnsplit s.columns t s.cuts f
-  unsplit f fork e = elim (cases_Bool (has_columns s f)) [
-    | inr bare ↦ elim (cases_lt (used s.columns) (fork_column t f + 2)) [ inl l ↦ inl l | inr le ↦ absurd (cc (bare, wide_from s f fork (omega arith))) ]
-    | inl wide ↦ inr (false_from_ne_true (has s.cuts (fork_column t f)) (λ cut. absurd (cc (e, and_from (has_columns s f) (has s.cuts (fork_column t f)) wide cut))))
-  ]
-
   left_shut : (l : ℕ) → 0 < l → l < x → parent_of t l ≡ parent_of t x → is_fork t (parent_of t x) ≡ true → IsUnsplit s.columns t s.cuts (parent_of t x) → is_open_yet s l ≡ false
   left_shut l some less same fork whole = elim (cases_eq p x) [
     | inl e ↦
@@ -58,22 +51,7 @@ module _ (s : SharedMoment) (w : IsWell s.machine) (h : StandsInOrder s.columns 
   ]
 
   no_left : waits_for_left s x ≡ false
-  no_left =
-      false_from_ne_true (waits_for_left s x) (λ e.
-      let z = and_parts (not (is_split s (parent_of t x))) (list_any (λ l. nat_lt l x && not (has_finished m l)) (children t (parent_of t x))) e in
-      let q = any_in (λ l. nat_lt l x && not (has_finished m l)) (children t (parent_of t x)) z.1 in
-      let c = child_is t (parent_of t x) q.0 q.1 in
-      let y = and_parts (nat_lt q.0 x) (not (has_finished m q.0)) q.2 in
-      let less : q.0 < x = ltb-true q.0 x y.0 in
-      let strand = (runs m w.sound.tree w.nested x running).strand in
-      let some = c.some in
-      let fork : is_fork t (parent_of t x) ≡ true = w.sound.tree.strands x (strand_there t x strand) (omega arith) strand in
-      let left : is_strand t q.0 ≡ true = fork_child t w.sound.tree q.0 c.some c.there (ap (is_fork t) c.parent ∙ fork) in
-      let opened : is_open_yet s q.0 ≡ true =
-      at_no_fork s q.0 (false_from_ne_true (is_fork t q.0) (λ f. absurd (cc (left, fork_no_strand t q.0 f))))
-      ∙ or_left (is_strand t q.0 && not (has_finished m q.0) || is_fork t q.0 && not (has m.joined q.0)) (is_pending t q.0)
-      (or_left (is_strand t q.0 && not (has_finished m q.0)) (is_fork t q.0 && not (has m.joined q.0)) (and_from (is_strand t q.0) (not (has_finished m q.0)) left y.1)) in
-      absurd (cc (opened, left_shut q.0 c.some less c.parent fork (unsplit (parent_of t x) fork (not-true (is_split s (parent_of t x)) z.0)))))
+  no_left = none_left s w x running left_shut
 
   -- ## The merge
 
