@@ -1,0 +1,53 @@
+//! Several hands: runs of the open machine and of the tier together, in which strands step in turn. There is no code here that runs.
+//! Stands on `cw_tree`, `cw_trace` and `cw_open`.
+//! Contracts cite `specs/Shared.antt` (moments, who may go on, the steps and what each needs, runs) and `specs/Laws.antt` (what is true of
+//! them); `specs/Worked.antt` tries them.
+#![tactic(auto)]
+
+ghost use Rattle.cw_hands.specs.Laws.{MachinesRun, MergedGoOn, OnlyReadyGoOn, OrderFollows, OrderIsKept, OthersLeaveReady, ReadyDiffer, ReadyGoOn, TiersRun, TiersStand, TogetherAtAnyTime};
+ghost use Rattle.cw_hands.specs.Worked.{NotReady, TwoStrands};
+
+use cw_open::Ruled;
+
+/// Where an access may be refused by any rule, a run is one where it may be refused at any time.
+pub fn runs_by_rules<R: Ruled>()
+    ensures { TogetherAtAnyTime R.rules }
+{}
+
+/// A run of both together is one of the machine, and until main has finished one of the tier: so the tier stands for the machine's tree, whose
+/// open nodes are ordered.
+pub fn runs_are_both()
+    ensures machine { MachinesRun }
+    ensures tier { TiersRun }
+    ensures stands { TiersStand }
+{}
+
+/// Open nodes that are nested are ordered where a merged fork was joined, a fork whose merge is owed is the last in its place, which is open,
+/// and left strands go first where a fork is not split. This is so at each moment of a run until main has finished.
+pub fn order_follows()
+    ensures follows { OrderFollows }
+    ensures kept { OrderIsKept }
+{}
+
+/// A strand that runs may go on where it stands just where it is neither unready nor owed a merge, as it is not once its fork was merged; two
+/// of them are in different traces, and use different gaps.
+pub fn ready_strands_go_on()
+    ensures go_on { ReadyGoOn }
+    ensures only { OnlyReadyGoOn }
+    ensures merged { MergedGoOn }
+    ensures differ { ReadyDiffer }
+{}
+
+/// A step that is not about a strand leaves it going on where it does, in its column, at its gap with the word that this has; and a number that
+/// it drew early, and that is above all stamps of its trace, still is.
+pub fn others_leave_ready()
+    ensures { OthersLeaveReady }
+{}
+
+/// What the definitions say of a small run with two strands: between the join of their fork and its merge main waits. That it would go on as soon
+/// as the machine has joined the fork is false, and so is that the right strand goes on before the fork is split, and that it keeps its gap
+/// where it is stolen once the left one has finished.
+pub fn worked_strands()
+    ensures strands { TwoStrands }
+    ensures not_ready { NotReady }
+{}
