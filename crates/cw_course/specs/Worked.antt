@@ -126,7 +126,7 @@ nests =
 -- both blocks of the right strand were rolled back, and done again
 abbrev pub nested : Course
 nested =
-    fork nothing (Some 1) 1 (block nothing Committed 2 6 (act nothing (Write 0 (pos 1)) 3))
+    fork nothing (Some 2) 1 (block nothing Committed 2 6 (act nothing (Write 0 (pos 1)) 3))
     (block (block nothing Aborted 4 8 (block nothing Aborted 5 7 (act nothing (Tried 0) 0))) Committed 9 13 (block nothing Committed 10 12 (act nothing (Write 0 (pos 2)) 11)))
 
 pub record Nests : Type 0 where
@@ -139,7 +139,7 @@ pub record Nests : Type 0 where
 abbrev pub nested_logs : List Log
 nested_logs =
     log 0 0 0 (plain 0 Strand 0 ∷ plain 0 Fork 1 ∷ plain 1 Strand 0 ∷ committed 2 2 6 ∷ plain 3 (Write 0 (pos 1)) 3 ∷ [])
-    ∷ record (log 1 0 1
+    ∷ record (log 2 0 1
     (plain 0 Strand 0 ∷ aborted 0 4 8 ∷ aborted 1 5 7 ∷ plain 2 (Tried 0) 0 ∷ committed 0 9 13 ∷ committed 4 10 12 ∷ plain 5 (Write 0 (pos 2)) 11 ∷ []))
     { conflicts = record refused_write { asker = 3 } ∷ [] }
     ∷ []

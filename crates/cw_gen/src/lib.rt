@@ -1,6 +1,6 @@
 //! The program of a load: a large valid input from a number.
 //! Stands on `cw_base`, `cw_io`, `cw_text` and `cw_strand`.
-//! Contracts cite `specs/Load.antt` (the tree of a load) and `specs/Worked.antt` (its text, for a few).
+//! Contracts cite `specs/Load.antt` (the tree of a load) and `specs/Worked.antt` (what a few draw, and how they are grouped).
 #![tactic(auto)]
 
 ghost use Rattle.std.specs.Prelude.{◌≡◌, ◌≤◌, ℕ, None};
@@ -15,7 +15,7 @@ mod tests;
 
 pub use load::load_program;
 
-/// Small loads are what is read off their texts.
+/// What small loads draw, and how they are grouped.
 pub fn worked_loads()
     ensures { Loads }
 {}

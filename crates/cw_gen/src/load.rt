@@ -95,9 +95,9 @@ fn push_groups(alloc: Global, items: &mut Vec<Item>, count: u32) -> Result<(), O
         map declaration_of items.old.items ++ map (λ k. group_function k (group k (transfers count count))) (range_with_len 0 (group_count count))) }
 {
     let mut draws = Lcg::new(u64::from(count));
-    for number in 0..group_count(count) {
-        let size = (count - 16 * number).min(16);
-        items.push(group(alloc, &mut draws, number, size)?)?;
+    for place in 0..group_count(count) {
+        let size = (count - 16 * place).min(16);
+        items.push(group(alloc, &mut draws, place, size)?)?;
     }
     Ok(())
 }
@@ -187,9 +187,9 @@ fn push_sum(alloc: Global, body: &mut Vec<Stmt>) -> Result<(), OutOfMemory>
 fn push_calls(alloc: Global, body: &mut Vec<Stmt>, groups: u32) -> Result<(), OutOfMemory>
     ensures { OnOk result (map statement_of body.new.items ≡ map statement_of body.old.items ++ map spawned_group (range_with_len 0 groups)) }
 {
-    for number in 0..groups {
+    for place in 0..groups {
         let name = Word {
-            name: group_name(alloc, number)?,
+            name: group_name(alloc, place)?,
             line: 1,
         };
         body.push(spawned(alloc, name, Vec::new(alloc))?)?;

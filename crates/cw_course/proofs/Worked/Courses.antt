@@ -113,7 +113,7 @@ finishes_all : Finishes
 finishes_all = record {
   worked = record { course = nested; written = refl; ends = (script.done, nested_goes, refl) };
   closing = record {
-    apart = ((other 0 1 (lit< tt), tt), (tt, tt));
+    apart = ((other 0 2 (lit< tt), tt), (tt, tt));
     numbered = numbered (tree_of nested_logs) refl refl (lit< tt);
     tree = refl;
     conflicts = refl;

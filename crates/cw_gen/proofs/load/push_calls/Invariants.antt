@@ -4,5 +4,5 @@ use Rattle.cw_text.specs.Syntax.{statement_of}
 use Rattle.cw_gen.specs.Load.{spawned_group}
 use Rattle.cw_gen.proofs.load.push_calls.Given as goal
 
-abbrev pub invariant-loop-number : goal.invariant-loop-number
-invariant-loop-number l = map statement_of l.body.items ++ map spawned_group (range_with_len l.number (l.groups - l.number)) ≡ map statement_of l.fn.body.items ++ map spawned_group (range_with_len 0 l.groups)
+abbrev pub invariant-loop-place : goal.invariant-loop-place
+invariant-loop-place l = map statement_of l.body.items ++ map spawned_group (range_with_len l.place (l.groups - l.place)) ≡ map statement_of l.fn.body.items ++ map spawned_group (range_with_len 0 l.groups)
