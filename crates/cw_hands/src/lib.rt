@@ -5,7 +5,7 @@
 #![tactic(auto)]
 
 ghost use Rattle.cw_hands.specs.Laws.{MachinesRun, MergedGoOn, OnlyReadyGoOn, OrderFollows, OrderIsKept, OthersLeaveReady, ReadyDiffer, ReadyGoOn, TiersRun, TiersStand, TogetherAtAnyTime};
-ghost use Rattle.cw_hands.specs.Worked.{NotReady, TwoStrands};
+ghost use Rattle.cw_hands.specs.Worked.{NoneOwed, NotReady, TwoStrands};
 
 use cw_open::Ruled;
 
@@ -44,10 +44,12 @@ pub fn others_leave_ready()
     ensures { OthersLeaveReady }
 {}
 
-/// What the definitions say of a small run with two strands: between the join of their fork and its merge main waits. That it would go on as soon
+/// What the definitions say of a small run with two strands: between the join of their fork and its merge main waits, and it does not where the
+/// fork was not stolen. That it would go on as soon
 /// as the machine has joined the fork is false, and so is that the right strand goes on before the fork is split, and that it keeps its gap
 /// where it is stolen once the left one has finished.
 pub fn worked_strands()
     ensures strands { TwoStrands }
+    ensures none_owed { NoneOwed }
     ensures not_ready { NotReady }
 {}
