@@ -1,5 +1,5 @@
--- A small run with two strands: a fork is split, both strands step in blocks at the same time, and the fork is joined and merged; and what
--- would be said of strands that are not ready.
+-- Small runs with two strands: a fork is split, both strands step in blocks at the same time, and the fork is joined and merged; or it is not
+-- stolen. And what would be said of strands that are not ready, and is false.
 use Rattle.std.specs.Prelude.{◌≡◌, ℕ, ◌&&◌, not, true, false, IsTrue, List, [], ◌∷◌, None}
 use Rattle.cw_tree.specs.Newest.{newest}
 use Rattle.cw_trace.specs.Columns.{before_split}
