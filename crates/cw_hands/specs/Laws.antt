@@ -1,6 +1,6 @@
 -- What is true of runs of the open machine and of the tier together. The laws are over runs in which an access may be refused at any time,
 -- whatever is said of it.
-use Rattle.std.specs.Prelude.{◌≡◌, ◌≢◌, ℕ, ℤ, ◌<◌, ◌&&◌, true, false, IsTrue, List, length, slice_index, Option}
+use Rattle.std.specs.Prelude.{◌≡◌, ◌≢◌, ◌⊎◌, ℕ, ℤ, ◌<◌, ◌&&◌, true, false, IsTrue, List, length, slice_index, Option}
 use Rattle.cw_tree.specs.declared.node.Node.{Node}
 use Rattle.cw_tree.specs.Nodes.{parent_of, is_fork}
 use Rattle.cw_tree.specs.Walks.{has, is_ancestor}
@@ -14,7 +14,7 @@ use Rattle.cw_trace.specs.OrderedRuns.{GoesOnAt, RunsInOrder}
 use Rattle.cw_open.specs.Machine.{has_finished, is_running}
 use Rattle.cw_open.specs.Open.{is_open, AreNested}
 use Rattle.cw_open.specs.Runs.{Rules, IsReachedBy, at_any_time}
-use Rattle.cw_hands.specs.Shared.{SharedMoment, has_columns, is_split, is_owed, is_open_yet, moment_of, goes_on, place_at, after_merge, SharedStep, is_about, RunsTogether}
+use Rattle.cw_hands.specs.Shared.{SharedMoment, has_columns, is_split, is_owed, is_open_yet, moment_of, is_ready, goes_on, place_at, after_merge, SharedStep, is_about, RunsTogether}
 
 -- a run is one where accesses may be refused at any time
 abbrev pub TogetherAtAnyTime : Rules → Type 0
@@ -74,6 +74,13 @@ abbrev pub ReadyDiffer : Type 0
 ReadyDiffer =
     OfEachMoment (λ s. (x y : ℕ) → IsTrue (goes_on s x) → IsTrue (goes_on s y) → x ≢ y
     → (trace_at s.columns s.machine.tree (place_at s x) ≡ trace_at s.columns s.machine.tree (place_at s y) → ⊥) × (gap_at s.columns s.machine.tree (place_at s x) ≡ gap_at s.columns s.machine.tree (place_at s y) → ⊥))
+
+-- a strand that is ready stays so at each step, unless that joins a fork that it made, whose merge is then owed
+abbrev pub ReadyStay : Type 0
+ReadyStay =
+    (asked : List Node → List ℕ → Option ℤ → List ℕ) (first : List ℤ) (s u : SharedMoment) (e : SharedStep (at_any_time asked) s u) (x : ℕ)
+    → RunsTogether (at_any_time asked) first s → has_finished s.machine 0 ≡ false → x < length s.machine.tree → IsTrue (is_ready s x)
+    → IsTrue (is_ready u x) ⊎ ((f : ℕ) × IsTrue (is_owed u f) × (strand_of u.machine.tree f ≡ x) × (has s.machine.joined f ≡ false))
 
 -- once its fork is merged the strand that forked goes on, where it runs
 abbrev pub MergedGoOn : Type 0

@@ -19,7 +19,8 @@ use Rattle.cw_open.specs.Runs.{Rules, Allowed}
 use Rattle.cw_open.specs.LeftFirst.{makers}
 use Rattle.cw_open.specs.Hands.{is_step_of}
 
--- a moment of such a run: the machine, the columns, the gap words, and the forks that were split and those that are joined for the tier
+-- a moment of such a run: the machine, the columns, the gap words, the forks that were split, and those that are joined for the tier (merged,
+-- or joined unsplit)
 pub record SharedMoment : Type 0 where
   pub machine : OpenMachine
   pub columns : ColumnTable
@@ -29,10 +30,11 @@ pub record SharedMoment : Type 0 where
 
 -- ## Forks
 
+-- fork f has columns
 abbrev pub has_columns : SharedMoment → ℕ → Bool
 has_columns s f = is_fork s.machine.tree f && nat_lt (fork_column s.machine.tree f + 1) (used s.columns)
 
--- fork f has columns, and was split, or was not
+-- it has, and was split, or was not
 abbrev pub is_split : SharedMoment → ℕ → Bool
 is_split s f = has_columns s f && has s.cuts (fork_column s.machine.tree f)
 
@@ -53,12 +55,12 @@ moment_of s = record { columns = s.columns; words = s.words; tree = s.machine.tr
 
 -- ## Who may go on
 
--- strand x is the right one of a fork that is not split, and the left one has not finished
+-- strand x is unready: the right one of a fork that is not split, whose left one has not finished
 abbrev pub waits_for_left : SharedMoment → ℕ → Bool
 waits_for_left s x =
     not (is_split s (parent_of s.machine.tree x)) && list_any (λ l. nat_lt l x && not (has_finished s.machine l)) (children s.machine.tree (parent_of s.machine.tree x))
 
--- strand x made a fork whose merge is owed
+-- strand x is owed a merge: it made the fork
 abbrev pub waits_for_merge : SharedMoment → ℕ → Bool
 waits_for_merge s x = list_any (λ f. is_owed s f && (strand_of s.machine.tree f == x)) (all_nodes s.machine.tree)
 

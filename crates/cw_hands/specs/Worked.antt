@@ -1,5 +1,5 @@
--- A small run with two strands: a fork is split, both strands step in blocks at the same time, and the fork is joined and merged; and what
--- would be said of strands that are not ready.
+-- Small runs with two strands: a fork is split, both strands step in blocks at the same time, and the fork is joined and merged; or it is not
+-- stolen. And what would be said of strands that are not ready, and is false.
 use Rattle.std.specs.Prelude.{◌≡◌, ℕ, ◌&&◌, not, true, false, IsTrue, List, [], ◌∷◌, None}
 use Rattle.cw_tree.specs.Newest.{newest}
 use Rattle.cw_trace.specs.Columns.{before_split}
@@ -10,7 +10,7 @@ use Rattle.cw_trace.specs.Stands.{fork_column}
 use Rattle.cw_open.specs.Machine.{is_running}
 use Rattle.cw_open.specs.Steps.{Step, forks, begins, commits, finishes, joins}
 use Rattle.cw_open.specs.Runs.{Rules, at_any_time}
-use Rattle.cw_hands.specs.Shared.{SharedMoment, is_whole, is_owed, is_open_yet, moment_of, waits_for_left, waits_for_merge, goes_on, place_at, after_shared, after_split, after_merge, first_shared, RunsTogether}
+use Rattle.cw_hands.specs.Shared.{SharedMoment, has_columns, is_whole, is_owed, is_open_yet, moment_of, waits_for_left, waits_for_merge, goes_on, place_at, after_shared, after_split, after_merge, first_shared, RunsTogether}
 use Rattle.cw_hands.specs.Laws.{OfEachMoment}
 
 -- accesses are asked about the newest one, and may be refused at any time
@@ -70,6 +70,28 @@ pub record TwoStrands : Type 0 where
   pub main_goes_on : goes_on put_together 0 ≡ true
   pub begun : RunsTogether any_rules [] (after_shared put_together (begins 0 6))
   pub main_word : (after_shared put_together (begins 0 6)).words ≡ 6 ∷ 0 ∷ 0 ∷ 0 ∷ 0 ∷ []
+
+-- ## Forks that are not stolen
+
+-- both strands finish there, the right one once the left one has, and the fork is joined
+abbrev pub rejoined : SharedMoment → SharedMoment
+rejoined s = after_these s (finishes 2 false ∷ finishes 3 false ∷ joins 1 ∷ [])
+
+-- there are no columns left for a fork
+abbrev pub inline_once : SharedMoment
+inline_once = after_shared (first_shared [] 1 no_words) (forks 0 1)
+
+pub record NoneOwed : Type 0 where
+  -- a fork with columns is joined for the tier too, and main goes on at once
+  pub whole : RunsTogether any_rules [] (rejoined forked_once)
+  pub whole_joins : (rejoined forked_once).joins ≡ 1 ∷ []
+  pub whole_goes : goes_on (rejoined forked_once) 0 ≡ true
+  -- and so it does at a fork without
+  pub inline : RunsTogether any_rules [] (rejoined inline_once)
+  pub inline_columns : has_columns inline_once 1 ≡ false
+  pub inline_waits : (goes_on inline_once 2 ≡ true) × (goes_on inline_once 3 ≡ false)
+  pub inline_joins : (rejoined inline_once).joins ≡ []
+  pub inline_goes : goes_on (rejoined inline_once) 0 ≡ true
 
 -- ## What is false
 

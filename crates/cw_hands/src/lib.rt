@@ -4,8 +4,8 @@
 //! them); `specs/Worked.antt` tries them.
 #![tactic(auto)]
 
-ghost use Rattle.cw_hands.specs.Laws.{MachinesRun, MergedGoOn, OnlyReadyGoOn, OrderFollows, OrderIsKept, OthersLeaveReady, ReadyDiffer, ReadyGoOn, TiersRun, TiersStand, TogetherAtAnyTime};
-ghost use Rattle.cw_hands.specs.Worked.{NotReady, TwoStrands};
+ghost use Rattle.cw_hands.specs.Laws.{MachinesRun, MergedGoOn, OnlyReadyGoOn, OrderFollows, OrderIsKept, OthersLeaveReady, ReadyDiffer, ReadyGoOn, ReadyStay, TiersRun, TiersStand, TogetherAtAnyTime};
+ghost use Rattle.cw_hands.specs.Worked.{NoneOwed, NotReady, TwoStrands};
 
 use cw_open::Ruled;
 
@@ -29,11 +29,13 @@ pub fn order_follows()
     ensures kept { OrderIsKept }
 {}
 
-/// A strand that runs may go on where it stands just where it is neither unready nor owed a merge, as it is not once its fork was merged; two
-/// of them are in different traces, and use different gaps.
+/// A strand that runs may go on where it stands just where it is ready, neither unready nor owed a merge. It stays ready at each step, unless
+/// that joins a fork that it made and whose merge is then owed, and goes on again once that was merged. Two that go on are in different traces,
+/// and use different gaps.
 pub fn ready_strands_go_on()
     ensures go_on { ReadyGoOn }
     ensures only { OnlyReadyGoOn }
+    ensures stay { ReadyStay }
     ensures merged { MergedGoOn }
     ensures differ { ReadyDiffer }
 {}
@@ -44,10 +46,11 @@ pub fn others_leave_ready()
     ensures { OthersLeaveReady }
 {}
 
-/// What the definitions say of a small run with two strands: between the join of their fork and its merge main waits. That it would go on as soon
-/// as the machine has joined the fork is false, and so is that the right strand goes on before the fork is split, and that it keeps its gap
-/// where it is stolen once the left one has finished.
+/// What the definitions say of small runs with two strands: between the join of their fork and its merge main waits, and it does not where the
+/// fork was not stolen. That it goes on as soon as the machine has joined the fork is false, and so is that the right strand goes on before the
+/// fork is split, and that it keeps its gap where it is stolen once the left one has finished.
 pub fn worked_strands()
     ensures strands { TwoStrands }
+    ensures none_owed { NoneOwed }
     ensures not_ready { NotReady }
 {}

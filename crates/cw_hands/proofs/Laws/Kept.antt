@@ -6,16 +6,17 @@ use Rattle.cw_tree.specs.declared.node.Node.{Node}
 use Rattle.cw_tree.specs.declared.conflict.Conflict.{Conflict}
 use Rattle.cw_tree.specs.Nodes.{is_fork_kind, parent_of, is_fork}
 use Rattle.cw_tree.specs.Walks.{has}
-use Rattle.cw_tree.specs.Series.{children, has_later}
+use Rattle.cw_tree.specs.Series.{strand_of, children, has_later}
 use Rattle.cw_tree.proofs.Lists.{any_in}
 use Rattle.cw_tree.proofs.InOrder.DepthFirst.{child_is}
-use Rattle.cw_tree.proofs.NextNodes.Growing.{node_grown, number_grown}
+use Rattle.cw_tree.proofs.NextNodes.Growing.{node_grown, number_grown, strand_of_grown}
 use Rattle.cw_tree.proofs.NodeKinds.{fork_some, fork_no_strand}
 use Rattle.cw_tree.proofs.Walks.Kin.{fork_child}
 use Rattle.cw_tree.proofs.Walks.There.{fork_there}
 use Rattle.cw_trace.specs.Columns.{ColumnTable, used}
 use Rattle.cw_trace.specs.Stands.{fork_column}
 use Rattle.cw_trace.proofs.Keeps.Grow.{fork_column_append}
+use Rattle.cw_open.specs.Machine.{has_finished}
 use Rattle.cw_open.specs.Open.{is_open}
 use Rattle.cw_open.proofs.Open.Trees.{IsWell}
 use Rattle.cw_hands.specs.Shared.{SharedMoment, has_columns, is_owed}
@@ -35,6 +36,11 @@ pub record IsPassed (s u : SharedMoment) : Type 0 where
   pub more : (f : ℕ) → has s.joins (fork_column s.machine.tree f) ≡ true → has u.joins (fork_column s.machine.tree f) ≡ true
   -- what the machine joins was open
   pub joined : (f : ℕ) → has u.machine.joined f ≡ true → (has s.machine.joined f ≡ true) ⊎ ((is_open s.machine f ≡ true) × (length u.machine.tree ≡ length s.machine.tree))
+  -- and what it leaves of forks with columns, of splits and finishes, and of whose a node is
+  pub wider : (f : ℕ) → f < length s.machine.tree → has_columns s f ≡ true → has_columns u f ≡ true
+  pub cuts : (n : ℕ) → has s.cuts n ≡ true → has u.cuts n ≡ true
+  pub finished : (x : ℕ) → has_finished s.machine x ≡ true → has_finished u.machine x ≡ true
+  pub own : (n : ℕ) → n < length s.machine.tree → strand_of u.machine.tree n ≡ strand_of s.machine.tree n
 
 -- the two facts
 pub record IsOwing (s : SharedMoment) : Type 0 where
@@ -104,7 +110,7 @@ owing_on s u w p o = record {
 -- nothing of this is about other fields
 pub other_fields : (s u : SharedMoment) (lists : List (List ℕ)) (clock : ℕ) (conflicts : List Conflict) (stopped words : List ℕ) → IsPassed s u
     → IsPassed s (record u { machine = record u.machine { lists = lists; clock = clock; conflicts = conflicts; stopped = stopped }; words = words })
-other_fields s u lists clock conflicts stopped words p = record { longer = p.longer; parents = p.parents; fresh = p.fresh; old = p.old; new = p.new; keeps = p.keeps; joins = p.joins; more = p.more; joined = p.joined }
+other_fields s u lists clock conflicts stopped words p = record { longer = p.longer; parents = p.parents; fresh = p.fresh; old = p.old; new = p.new; keeps = p.keeps; joins = p.joins; more = p.more; joined = p.joined; wider = p.wider; cuts = p.cuts; finished = p.finished; own = p.own }
 
 -- ## Steps that make no node
 
@@ -113,8 +119,10 @@ pub same_nodes : (s u : SharedMoment) → length u.machine.tree ≡ length s.mac
     → ((f : ℕ) → has s.machine.joined f ≡ true → has u.machine.joined f ≡ true)
     → ((f : ℕ) → has_columns s f ≡ true → has u.joins (fork_column s.machine.tree f) ≡ true → (has s.joins (fork_column s.machine.tree f) ≡ true) ⊎ (has u.machine.joined f ≡ true))
     → ((f : ℕ) → has s.joins (fork_column s.machine.tree f) ≡ true → has u.joins (fork_column s.machine.tree f) ≡ true)
-    → ((f : ℕ) → has u.machine.joined f ≡ true → (has s.machine.joined f ≡ true) ⊎ (is_open s.machine f ≡ true)) → IsPassed s u
-same_nodes s u len parents old keeps joins more joined = record {
+    → ((f : ℕ) → has u.machine.joined f ≡ true → (has s.machine.joined f ≡ true) ⊎ (is_open s.machine f ≡ true))
+    → ((f : ℕ) → has_columns s f ≡ true → has_columns u f ≡ true) → ((n : ℕ) → has s.cuts n ≡ true → has u.cuts n ≡ true) → ((x : ℕ) → has_finished s.machine x ≡ true → has_finished u.machine x ≡ true)
+    → ((n : ℕ) → n < length s.machine.tree → strand_of u.machine.tree n ≡ strand_of s.machine.tree n) → IsPassed s u
+same_nodes s u len parents old keeps joins more joined wider cuts finished own = record {
   longer = omega (arith, len);
   parents = λ n h. parents n;
   fresh = λ k le h. absurd (omega (arith, len));
@@ -124,6 +132,10 @@ same_nodes s u len parents old keeps joins more joined = record {
   joins = joins;
   more = more;
   joined = λ f e. elim (joined f e) [ inl was ↦ inl was | inr now ↦ inr (now, len) ];
+  wider = λ f h e. wider f e;
+  cuts = cuts;
+  finished = finished;
+  own = own;
 }
 
 -- ## Steps that make nodes
@@ -155,4 +167,8 @@ module _ (s : SharedMoment) (w : IsWell s.machine) (xs : List Node) (d : ColumnT
     joins = λ f h e. inl e;
     more = λ f e. e;
     joined = λ f e. inl e;
+    wider = λ f h e. columns_old f h ∙ e;
+    cuts = λ n e. e;
+    finished = λ x e. e;
+    own = λ n h. strand_of_grown t xs w.sound.tree.rooted n h;
   }

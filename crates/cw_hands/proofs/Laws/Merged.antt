@@ -174,7 +174,7 @@ merged_go_on asked first s run root f e running =
     let k = tiers_stand asked first u after root in
     let left : waits_for_left u x ≡ false = none_left u w x running (λ l some less up fork_x whole.
     k.ordered.left_first l x f some less (strand_there t x (runs s.machine w.sound.tree w.nested x running).strand) up fork_x whole (fork_there t f fork) (strand_over t w.sound.tree.rooted f (fork_there t f fork))
-    (λ q. absurd (cc (q, fork, fork_no_strand t f fork, (runs s.machine w.sound.tree w.nested x running).strand)))) in
+    (λ q. absurd (cc (q, fork_no_strand t f fork, (runs s.machine w.sound.tree w.nested x running).strand)))) in
     let unowed : waits_for_merge u x ≡ false = false_from_ne_true (waits_for_merge u x) (λ q.
     let y = any_in (λ g. is_owed u g && nat_eq (strand_of t g) x) (all_nodes t) q in
     let v = and_parts (is_owed u y.0) (nat_eq (strand_of t y.0) x) y.2 in

@@ -14,7 +14,7 @@ use Rattle.cw_tree.specs.Walks.{has}
 use Rattle.cw_tree.specs.Series.{place}
 use Rattle.cw_tree.specs.AccessStacks.{access_kind}
 use Rattle.cw_tree.specs.NextNodes.{fork_nodes}
-use Rattle.cw_tree.proofs.NextNodes.Closing.{length_closed, node_closed, number_closed}
+use Rattle.cw_tree.proofs.NextNodes.Closing.{length_closed, node_closed, number_closed, strand_of_closed}
 use Rattle.cw_tree.proofs.NextNodes.Growing.{node_new, number_new}
 use Rattle.cw_tree.proofs.NodeKinds.{fork_no_strand}
 use Rattle.cw_tree.proofs.Walks.Kin.{fork_child}
@@ -108,9 +108,11 @@ module _ (s : SharedMoment) (w : IsWell s.machine) (k : Keeps s.columns s.words 
       ∙ ap (λ k. is_fork t f && nat_lt (k + 1) (used s.columns)) (columns_same f)) in
       same_nodes s (record s { machine = record s.machine { tree = v } }) (length_closed t q state end) (λ n. number_closed t q state end (λ y. y.parent) (λ y. refl) n)
       (λ f e. (sym (wide_same f) ∙ e, columns_same f)) (λ f e. e) (λ f h e. inl e) (λ f e. e) (λ f e. inl e)
+      (λ f e. wide_same f ∙ e) (λ n e. e) (λ x e. e) (λ n h. strand_of_closed t q state end w.sound.tree.rooted n h)
 
-  stay_passed : (finished : List (ℕ × Bool)) → IsPassed s (record s { machine = record s.machine { finished = finished } })
-  stay_passed finished = same_nodes s (record s { machine = record s.machine { finished = finished } }) refl (λ n. refl) (λ f e. (e, refl)) (λ f e. e) (λ f h e. inl e) (λ f e. e) (λ f e. inl e)
+  stay_passed : (finished : List (ℕ × Bool)) → ((x : ℕ) → has_finished m x ≡ true → has_finished (record m { finished = finished }) x ≡ true) → IsPassed s (record s { machine = record s.machine { finished = finished } })
+  stay_passed finished grows =
+      same_nodes s (record s { machine = record s.machine { finished = finished } }) refl (λ n. refl) (λ f e. (e, refl)) (λ f e. e) (λ f h e. inl e) (λ f e. e) (λ f e. inl e) (λ f e. e) (λ n e. e) grows (λ n h. refl)
 
   join_passed : (f : ℕ) → is_fork t f ≡ true → has m.joined f ≡ false → (z : Bool) → is_whole s f ≡ z
       → IsPassed s (record s { machine = record s.machine { joined = f ∷ s.machine.joined }; joins = cond z (fork_column t f ∷ s.joins) s.joins })
@@ -120,7 +122,8 @@ module _ (s : SharedMoment) (w : IsWell s.machine) (k : Keeps s.columns s.words 
       (λ g h. elim (or_cases (nat_eq f g) (has m.joined g) h) [
         | inl q ↦ (let same : f ≡ g = eqb-true f g q in inr (sym (ap (is_open m) same) ∙ open_fork s f fork unjoined))
         | inr was ↦ inl was
-      ]) where
+      ])
+      (λ g h. h) (λ n h. h) (λ y h. h) (λ n h. refl) where
         new_joins : (z : Bool) (g : ℕ) → has_columns s g ≡ true → has (cond z (fork_column t f ∷ s.joins) s.joins) (fork_column t g) ≡ true → (has s.joins (fork_column t g) ≡ true) ⊎ (has (f ∷ m.joined) g ≡ true)
         new_joins false g wide h = inl h
         new_joins true g wide h = elim (or_cases (nat_eq (fork_column t f) (fork_column t g)) (has s.joins (fork_column t g)) h) [
@@ -134,9 +137,10 @@ module _ (s : SharedMoment) (w : IsWell s.machine) (k : Keeps s.columns s.words 
         more_joins false g h = h
         more_joins true g h = or_right (nat_eq (fork_column t f) (fork_column t g)) (has s.joins (fork_column t g)) h
 
-  split_passed : (d : ColumnTable) (cuts : List ℕ) → used d ≡ used s.columns → IsPassed s (record s { columns = d; cuts = cuts })
-  split_passed d cuts same =
+  split_passed : (d : ColumnTable) (cuts : List ℕ) → used d ≡ used s.columns → ((n : ℕ) → has s.cuts n ≡ true → has cuts n ≡ true) → IsPassed s (record s { columns = d; cuts = cuts })
+  split_passed d cuts same grows =
       same_nodes s (record s { columns = d; cuts = cuts }) refl (λ n. refl) (λ f e. (sym (ap (λ k. is_fork t f && nat_lt (fork_column t f + 1) k) same) ∙ e, refl)) (λ f e. e) (λ f h e. inl e) (λ f e. e) (λ f e. inl e)
+      (λ f e. ap (λ k. is_fork t f && nat_lt (fork_column t f + 1) k) same ∙ e) grows (λ x e. e) (λ n h. refl)
 
   merge_passed : (f : ℕ) (d : ColumnTable) → used d ≡ used s.columns → is_owed s f ≡ true → IsPassed s (record s { columns = d; joins = fork_column t f ∷ s.joins })
   merge_passed f d same owed =
@@ -149,6 +153,7 @@ module _ (s : SharedMoment) (w : IsWell s.machine) (k : Keeps s.columns s.words 
             inr (sym (ap (has m.joined) is) ∙ o.joined))
       ])
       (λ g h. or_right (nat_eq (fork_column t f) (fork_column t g)) (has s.joins (fork_column t g)) h) (λ g e. inl e)
+      (λ g e. ap (λ k. is_fork t g && nat_lt (fork_column t g + 1) k) same ∙ e) (λ n e. e) (λ x e. e) (λ n h. refl)
 
   -- ## Each step
 
@@ -171,18 +176,18 @@ module _ (s : SharedMoment) (w : IsWell s.machine) (k : Keeps s.columns s.words 
       with_others (step.refuses x c write met) _ (leaf_passed x (Tried c) 0 (free_runs m x free) (one_ready x ready) refl)
   machine_passed r (step.outputs x v stamp) a ready = with_others (step.outputs x v stamp) _ (leaf_passed x (Out v) stamp (free_runs m x a.0) (one_ready x ready) refl)
   machine_passed r (step.commits x stamp) a ready = with_others (step.commits x stamp) _ (close_passed (place t x) stamp Committed)
-  machine_passed r (step.undoes x c) a ready = with_others (step.undoes x c) _ (stay_passed m.finished)
+  machine_passed r (step.undoes x c) a ready = with_others (step.undoes x c) _ (stay_passed m.finished (λ y h. h))
   machine_passed r (step.aborts x stamp) a ready = with_others (step.aborts x stamp) _ (close_passed (place t x) stamp Aborted)
-  machine_passed r (step.finishes x dead) a ready = stay_passed ((x, dead) ∷ m.finished)
+  machine_passed r (step.finishes x dead) a ready = stay_passed ((x, dead) ∷ m.finished) (λ y h. or_right (nat_eq x y) (has_finished m y) h)
   machine_passed r (step.joins f) a ready =
       let z = (and_parts (is_fork t f && not (has m.joined f)) _ a).0 in
       let y = and_parts (is_fork t f) (not (has m.joined f)) z in
       join_passed f y.0 (not-true (has m.joined f) y.1) (is_whole s f) refl
-  machine_passed r (step.stops x) a ready = with_others (step.stops x) _ (stay_passed m.finished)
+  machine_passed r (step.stops x) a ready = with_others (step.stops x) _ (stay_passed m.finished (λ y h. h))
 
   pub step_passed : (r : Rules) (u : SharedMoment) → SharedStep r s u → IsPassed s u
   step_passed r _ (makes e a ready later) = machine_passed r e a ready
-  step_passed r _ (splits f whole early unstarted) = split_passed (split_at (fork_column t f) s.columns) (fork_column t f ∷ s.cuts) (length_parts (owner s.columns (fork_column t f)) (fork_column t f) 0 s.columns.owners)
+  step_passed r _ (splits f whole early unstarted) = split_passed (split_at (fork_column t f) s.columns) (fork_column t f ∷ s.cuts) (length_parts (owner s.columns (fork_column t f)) (fork_column t f) 0 s.columns.owners) (λ n h. or_right (nat_eq (fork_column t f) n) (has s.cuts n) h)
   step_passed r _ (merges f e) = merge_passed f (merged (fork_column t f) s.columns) (length-map s.columns.owners (back_to (around_fork s.columns (fork_column t f)) (fork_column t f))) (and_parts (is_split s f) (is_owed s f) e).1
 
 -- ## Each moment

@@ -9,8 +9,8 @@ use Rattle.cw_trace.specs.OrderedRuns.{GoesOnAt}
 use Rattle.cw_trace.proofs.Worked.SmallRun.{zeros, unstarted}
 use Rattle.cw_open.specs.Steps.{begins, commits, finishes, forks, joins}
 use Rattle.cw_open.proofs.WorkedTimes.Checks.{next_stamp, end_stamp}
-use Rattle.cw_hands.specs.Shared.{SharedMoment, moment_of, after_shared, makes, splits, merges, RunsTogether, start, more}
-use Rattle.cw_hands.specs.Worked.{any_rules, no_words, alone, after_these, forked_once, stolen, in_blocks, joined_once, put_together, TwoStrands, NotReady}
+use Rattle.cw_hands.specs.Shared.{SharedMoment, moment_of, after_shared, first_shared, SharedStep, makes, splits, merges, RunsTogether, start, more}
+use Rattle.cw_hands.specs.Worked.{any_rules, no_words, alone, after_these, forked_once, stolen, in_blocks, joined_once, put_together, TwoStrands, NotReady, rejoined, inline_once, NoneOwed}
 
 abbrev Run : SharedMoment → Type 0
 Run s = RunsTogether any_rules [] s
@@ -108,4 +108,25 @@ not_ready = record {
   joined = λ law. not_yet (law (λ t us w. newest us) [] joined_once run_joined refl 0 refl);
   unready = λ law. (let g = law (λ t us w. newest us) [] forked_once run_forked refl 3 refl in absurd (cc (g.left_done 2 (omega arith) (omega arith) refl refl (inr refl))));
   stolen = λ law. cc (law (λ t us w. newest us) [] left_alone run_left_alone refl 1 3 refl refl (unstarted forked_once.machine.tree 1 3 refl refl refl refl refl refl) refl);
+}
+
+-- ## Forks that are not stolen
+
+-- finishes and joins of the fork, in order
+run_rejoined : (s : SharedMoment) → Run s → SharedStep any_rules s (after_these s (finishes 2 false ∷ [])) → SharedStep any_rules (after_these s (finishes 2 false ∷ [])) (after_these s (finishes 2 false ∷ finishes 3 false ∷ [])) → SharedStep any_rules (after_these s (finishes 2 false ∷ finishes 3 false ∷ [])) (rejoined s) → Run (rejoined s)
+run_rejoined s run a b c = more (after_these s (finishes 2 false ∷ finishes 3 false ∷ [])) (rejoined s) (more (after_these s (finishes 2 false ∷ [])) (after_these s (finishes 2 false ∷ finishes 3 false ∷ [])) (more s (after_these s (finishes 2 false ∷ [])) run a) b) c
+
+run_inline : Run inline_once
+run_inline = more (first_shared [] 1 no_words) inline_once (start 1 no_words (omega arith) (omega arith) zeros) (makes (forks 0 1) (refl, next_stamp _ _ _ refl refl refl refl) refl tt)
+
+pub none_owed : NoneOwed
+none_owed = record {
+  whole = run_rejoined forked_once run_forked (makes (finishes 2 false) refl refl tt) (makes (finishes 3 false) refl refl tt) (makes (joins 1) refl refl tt);
+  whole_joins = refl;
+  whole_goes = refl;
+  inline = run_rejoined inline_once run_inline (makes (finishes 2 false) refl refl tt) (makes (finishes 3 false) refl refl tt) (makes (joins 1) refl refl tt);
+  inline_columns = refl;
+  inline_waits = (refl, refl);
+  inline_joins = refl;
+  inline_goes = refl;
 }
