@@ -8,6 +8,7 @@ use Rattle.cw_steps.specs.declared.view.Key.{Key}
 use Rattle.cw_steps.specs.declared.view.Slot.{Slot}
 use Rattle.cw_steps.specs.declared.view.Coming.{Coming}
 use Rattle.cw_steps.specs.declared.view.Turn.{Turn}
+use Rattle.cw_steps.specs.declared.view.Whereabouts.{Whereabouts}
 use Rattle.cw_steps.specs.declared.view.View.{View}
 use Rattle.cw_steps.specs.Places.{turn_word, stop_word, all_words}
 use Rattle.cw_steps.specs.Totals.{total}
@@ -40,11 +41,15 @@ abbrev pub ComesIn : (used : ℕ) → Option Coming → Type 0
 ComesIn used None = Unit {0}
 ComesIn used (Some c) = (c.column < used) × (c.gap < used)
 
--- its column is in use, and so is that of its gap; and those of a right strand whose seat is yet to come
+abbrev pub WaitsIn : (used : ℕ) → Whereabouts → Type 0
+WaitsIn used o = (o.column < used) × (o.gap < used)
+
+-- its column is in use, and so is that of its gap; and those of a right strand whose seat is yet to come, and of the strands that wait
 pub record StandsIn (used : ℕ) (v : View) : Type 0 where
   pub column : v.column < used
   pub gap : v.gap < used
   pub coming : ComesIn used v.coming
+  pub outer : All (WaitsIn used) v.outer
 
 -- whoever has the tier's turn has to bring it home with so many columns
 abbrev pub BringsHome : (cells used : ℕ) → View → Type 0

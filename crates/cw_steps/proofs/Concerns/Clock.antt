@@ -23,3 +23,10 @@ clock_set limit used used' words words' views id v w at h grow fits low = record
     | inr z ↦ omega (arith, h.seen k u z.1, grow)
   ];
 }
+
+-- views change and no word does
+pub clock_views : (limit used : ℕ) (words : List ℕ) (views views' : List View) → Clock limit used words views
+    → total (λ z. z.room) views' ≤ total (λ z. z.room) views
+    → ((k : ℕ) (v : View) → get_elem? views' k ≡ some v → v.seen ≤ slice_index words 0)
+    → Clock limit used words views'
+clock_views limit used words views views' h fewer seen = record { room = omega (arith, h.room, fewer); seen = seen }
