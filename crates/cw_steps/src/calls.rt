@@ -3,7 +3,7 @@ ghost use Rattle.std.specs.Prelude.{◌≡◌, ℕ, suc, ◌+◌, ◌<◌, ◌�
 ghost use Rattle.atomic_table.specs.Table.{rest};
 ghost use Rattle.cw_steps.specs.Tracks.{added, added_home, brought, track_of, drawn, IsReady};
 ghost use Rattle.cw_steps.specs.Places as places;
-ghost use Rattle.cw_steps.specs.Stands.{brought_token, drawn_token, token_of};
+ghost use Rattle.cw_steps.specs.Stands.{brought_token, drawn_token, token_of, EndsBlock};
 ghost use Rattle.cw_steps.specs.declared.view.Slot.TheVariants as slot_of;
 ghost use Rattle.cw_steps.specs.Views.{cells_of, cell_in, drew_view, gave_view, held_by, key_of, newest_slot, newest_used, slot_with, view_of, CanDraw, Holding, IsTokenOf, IsWhole, LeavesIt, TakesIt};
 
@@ -75,6 +75,7 @@ impl Shared {
         requires table { IsTokenOf self.now token.old }
         requires number { 0 < (view_of token.old).room }
         requires fits { CanDraw (key_of self.now) (view_of token.old) what }
+        requires block { EndsBlock what (token_of token.old) }
         requires ready { IsReady token.old.track (added what) }
         ensures table { IsTokenOf self.now token.new }
         ensures later { (view_of token.old).seen < result }

@@ -1,6 +1,7 @@
 //! A new table.
 ghost use Rattle.std.specs.Prelude.{◌≡◌, ◌<◌, [], map, replicate, IfOk};
-ghost use Rattle.cw_steps.specs.Tracks.{track_of, fresh_track};
+ghost use Rattle.cw_steps.specs.Tracks.{track_of, fresh_track, HasRoom};
+ghost use Rattle.cw_steps.specs.Stands.{root_token, token_of};
 ghost use Rattle.cw_steps.specs.Places.{all_words};
 ghost use Rattle.cw_steps.specs.Views.{fresh_slot, held_by, key_of, root_view, view_of, IsTokenOf};
 
@@ -45,6 +46,8 @@ impl Shared {
         ensures table { IfOk result (λ r. IsTokenOf r.0 r.1) }
         ensures key { IfOk result (λ r. key_of r.0 ≡ record { first = init.now; columns = limits.strands; aborts = limits.aborts }) }
         ensures token { IfOk result (λ r. (view_of r.1 ≡ root_view) × (held_by r.1 ≡ []) × (track_of r.1.track ≡ fresh_track 0 0 0 0)) }
+        ensures room { IfOk result (λ r. HasRoom r.1.track) }
+        ensures stands { IfOk result (λ r. token_of r.1 ≡ root_token) }
     {
         if limits.strands >= MOST_COLUMNS {
             return Err(OutOfMemory);

@@ -1,6 +1,7 @@
 //! What a token shows, and the room that it takes ahead.
 ghost use Rattle.std.specs.Prelude.{◌≡◌, OnOk};
 ghost use Rattle.cw_steps.specs.Tracks.{column_in, halt_of, track_of, turned, CanPart, IsReady};
+ghost use Rattle.cw_tree.specs.Nodes.{stamp_of};
 ghost use Rattle.cw_log.specs.Tokens as tokens;
 ghost use Rattle.cw_steps.specs.Stands.{token_of};
 
@@ -43,6 +44,13 @@ impl StrandToken {
         self.track.place
     }
 
+    /// The begin stamp of the block in which the next node goes, or 0 where it goes in no block.
+    pub fn begun(&self) -> u64
+        ensures { result ≡ stamp_of (track_of self.now.track).own.nodes (track_of self.now.track).place }
+    {
+        self.track.stamp()
+    }
+
     /// The column of its strand.
     pub fn column(&self) -> u32
         ensures { result ≡ (track_of self.now.track).column }
@@ -55,6 +63,13 @@ impl StrandToken {
         ensures { result ≡ (track_of self.now.track).gap }
     {
         self.track.gap
+    }
+
+    /// The word of that gap.
+    pub fn word(&self) -> u64
+        ensures { result ≡ (track_of self.now.track).word }
+    {
+        self.track.word
     }
 
     /// The logs of the tokens that were joined to it, in their order.

@@ -56,13 +56,16 @@ fn right_strand(alloc: Global, from: u32, right: Ahead, begin: Spare) -> Track
 impl Track {
     /// The track of the root's strand, which has done nothing.
     pub(crate) fn new(alloc: Global) -> Result<Track, OutOfMemory>
-        ensures { IfOk result (λ c. track_of c ≡ fresh_track 0 0 0 0) }
+        ensures track { IfOk result (λ c. track_of c ≡ fresh_track 0 0 0 0) }
+        ensures room { IfOk result HasRoom }
     {
+        let nodes = fresh_nodes(alloc)?;
+        let room = LogRoom::new(alloc)?;
         Ok(Track {
             first: 0,
             from: 0,
             fork: 0,
-            nodes: fresh_nodes(alloc)?,
+            nodes,
             conflicts: Vec::new(alloc),
             joined: Logs::new(alloc),
             strand: 0,
@@ -74,7 +77,7 @@ impl Track {
             ahead: None,
             behind: 0,
             second: false,
-            room: None,
+            room: Some(room),
             spare: None,
         })
     }
