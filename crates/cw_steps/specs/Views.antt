@@ -393,12 +393,15 @@ fresh_slot v = slot.Cell (record { first = v; entries = []; cleaned = 0; room = 
 abbrev pub drew : Draw → (behind : ℕ) → (second : Bool) → Step Slot → Me Slot View → ℕ → Me Slot View → Type 0
 drew d behind second st me n me' = (n + 1 < 2 ^ 64) × (me.0.seen ≤ n) × (me' ≡ (drew_view d behind second (n + 1) me.0, me.1))
 
--- the slot was at home where the turn was free
+-- the slot was at home where the turn was free; the seat's column and gap are among those in use
 pub record TakesIt (key : Key) (aim : Aim) (n : ℕ) (me me' : Me Slot View) : Type 0 where
   pub lay : Slot
   pub used : ℕ
   pub clock : ℕ
   pub later : me.0.seen ≤ clock
+  pub few : used ≤ key.columns
+  pub column : me.0.column < used
+  pub gap : me.0.gap < used
   pub after : me' ≡ (took_view n aim lay used clock me.0, (n, lay) ∷ me.1)
   pub whole : IsWhole key clock used n lay
 

@@ -70,6 +70,13 @@ fn give_as<W: Giving>(table: &Words, seat: &mut TokenSeat, slot: u32, home: &Hom
 }
 
 impl Shared {
+    /// The number of cells, by which the tier's slot is named.
+    pub fn cells(&self) -> u32
+        ensures { result ≡ cells_of (key_of self.now) }
+    {
+        self.cells
+    }
+
     /// Draws a number, and adds to the token's log what it was drawn for.
     pub fn draw(&self, token: &mut StrandToken, what: Draw) -> u64
         requires table { IsTokenOf self.now token.old }

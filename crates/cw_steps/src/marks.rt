@@ -57,6 +57,7 @@ impl Shared {
         ensures view { view_of token.new ≡ marked_view (places.gap_word (cells_of (key_of self.now)) gap) (stamp_of (track_of token.old.track).own.nodes token.old.track.place) (view_of token.old) }
         ensures slots { held_by token.new ≡ held_by token.old }
         ensures track { track_of token.new.track ≡ with_word (stamp_of (track_of token.old.track).own.nodes token.old.track.place) (track_of token.old.track) }
+        ensures kept { (token.new.stop ≡ token.old.stop) × (token.new.track.spare ≡ token.old.track.spare) × (token.new.track.room ≡ token.old.track.room) }
         ensures token { token_of token.new ≡ token_of token.old }
     {
         let StrandToken { seat, track, .. } = token;
@@ -80,6 +81,7 @@ impl Shared {
         ensures view { view_of token.new ≡ marked_view (places.gap_word (cells_of (key_of self.now)) gap) 0 (view_of token.old) }
         ensures slots { held_by token.new ≡ held_by token.old }
         ensures track { track_of token.new.track ≡ with_word 0 (track_of token.old.track) }
+        ensures kept { (token.new.stop ≡ token.old.stop) × (token.new.track.spare ≡ token.old.track.spare) × (token.new.track.room ≡ token.old.track.room) }
         ensures token { token_of token.new ≡ token_of token.old }
     {
         let StrandToken { seat, track, .. } = token;

@@ -146,7 +146,17 @@ takes_turn key aim slots id me c there s h deep at bound = by_word (slice_index 
         takes c q.0,
         q.1,
         took_rule key s h id me.0 at c there aim e,
-        record { lay = q.0; used = h.used; clock = slice_index s.words 0; later = h.clock.seen id me.0 at; after = refl; whole = q.2 },
+        record {
+          lay = q.0;
+          used = h.used;
+          clock = slice_index s.words 0;
+          later = h.clock.seen id me.0 at;
+          few = h.tiers.few;
+          column = (h.tiers.stands id me.0 at).column;
+          gap = (h.tiers.stands id me.0 at).gap;
+          after = refl;
+          whole = q.2;
+        },
       )
   by_word (suc k) e = (
     noted_view (suc c) (suc k) me.0,
