@@ -101,6 +101,7 @@ impl StrandToken {
         ensures seat { self.new.seat ≡ self.old.seat }
         ensures track { track_of self.new.track ≡ turned (track_of self.old.track) }
         ensures stop { self.new.stop ≡ self.old.stop }
+        ensures room { self.new.track.room ≡ self.old.track.room }
         ensures token { token_of self.new ≡ tokens.turned (token_of self.old) }
     {
         let StrandToken { track, .. } = self;
