@@ -4,7 +4,8 @@ use Rattle.std.specs.Prelude.{◌||◌, All, slice_get, Some, if◌then◌else�
 use Rattle.std.proofs.lemmas.List.Elements.{All-nil, All-cons, All-head, All-tail, All-weaker}
 use Rattle.cw_tree.specs.declared.node.Node.{Node}
 use Rattle.cw_tree.specs.declared.node.Kind.{Kind}
-use Rattle.cw_tree.specs.declared.node.Kind.TheVariants.{Block}
+use Rattle.cw_tree.specs.declared.node.Kind.TheVariants.{Block, Fork, Strand}
+use Rattle.cw_steps.specs.declared.track.Ahead.{Ahead}
 use Rattle.cw_tree.specs.declared.node.BlockState.{BlockState}
 use Rattle.cw_tree.specs.declared.conflict.Conflict.{Conflict}
 use Rattle.cw_tree.specs.Nodes.{parent_of, fresh_node, closed, number_in}
@@ -17,10 +18,10 @@ use Rattle.cw_log.specs.declared.log.Log.{Log}
 use Rattle.cw_log.specs.declared.token.Phase.TheVariants.{Going, Parted}
 use Rattle.cw_log.specs.declared.token.Side.{Side}
 use Rattle.cw_log.specs.declared.token.Side.TheVariants.{Beside, First, Second}
-use Rattle.cw_log.specs.Tokens.{made, began, ended, halted, was_told, left_behind, turned, turned_by, taken_in, kept_stop, conflicts_in, logs, HasBlock, IsLater}
+use Rattle.cw_log.specs.Tokens.{made, began, ended, halted, was_told, branched, forked, left_behind, turned, turned_by, taken_in, kept_stop, conflicts_in, logs, HasBlock, IsLater}
 use Rattle.cw_steps.specs.declared.draw.Home.{Home}
 use Rattle.cw_steps.specs.declared.draw.Home.TheVariants as home
-use Rattle.cw_steps.specs.Stands.{brought_token}
+use Rattle.cw_steps.specs.Stands.{brought_token, right_token}
 use Rattle.cw_steps.specs.Totals.{total}
 use Rattle.cw_steps.specs.Views.{share}
 use Rattle.cw_board.specs.Turns.{IsOfTier}
@@ -219,6 +220,50 @@ sound_brought (home.Split fork used) x room seen of h = record { begun = h.begun
 sound_brought (home.Merge fork used) x room seen of h = sound_phase x room seen h Going
 sound_brought (home.Inline used) x room seen of h = h
 sound_brought (home.Early before used) x room seen of h = h
+
+-- ## Forks
+
+module _ (x : Token) (room seen : ℕ) (h : IsSound x room seen) (room' n : ℕ) (paid : room ≤ room' + 1) (less : seen < n) where
+  pub sound_forked : (fork : ℕ) → IsSound (forked x n fork) room' n
+  sound_forked fork =
+      let xs : List Node = fresh_node x.place Fork n ∷ fresh_node (length x.own.nodes) Strand 0 ∷ [] in record {
+        begun = 0;
+        waiting = h.begun ∷ h.waiting;
+        path = refl;
+        outer = (climbs_more x.own.nodes xs x.strand x.place h.begun h.path, out_more x.own.nodes xs x.forks h.waiting h.outer);
+        numbers = omega (arith, h.numbers, paid, length-append x.own.nodes xs);
+        around = low_more seen n x.around (omega (arith, less)) h.around;
+        outer_around = All-cons (λ (o : Open). AreLow n o.around) (record { side = Beside fork; strand = x.strand; place = x.place; around = x.around }) x.forks (low_more seen n x.around (omega (arith, less)) h.around)
+            (outs_more seen n x.forks (omega (arith, less)) h.outer_around);
+        victims = victims_more seen n (conflicts_in (logs x)) (omega (arith, less)) h.victims;
+      }
+
+  pub sound_branched : IsSound (branched x n) room' n
+  sound_branched =
+      let xs : List Node = fresh_node x.place Fork n ∷ fresh_node (length x.own.nodes) Strand 0 ∷ fresh_node (length x.own.nodes) Strand 0 ∷ [] in record {
+        begun = 0;
+        waiting = h.begun ∷ h.waiting;
+        path = refl;
+        outer = (climbs_more x.own.nodes xs x.strand x.place h.begun h.path, out_more x.own.nodes xs x.forks h.waiting h.outer);
+        numbers = omega (arith, h.numbers, paid, length-append x.own.nodes xs);
+        around = low_more seen n x.around (omega (arith, less)) h.around;
+        outer_around = All-cons (λ (o : Open). AreLow n o.around) (record { side = First (length x.own.nodes + 2); strand = x.strand; place = x.place; around = x.around }) x.forks (low_more seen n x.around (omega (arith, less)) h.around)
+            (outs_more seen n x.forks (omega (arith, less)) h.outer_around);
+        victims = victims_more seen n (conflicts_in (logs x)) (omega (arith, less)) h.victims;
+      }
+
+-- the right strand of a fork, with the numbers of its column
+pub sound_right : (x : Token) (room seen : ℕ) (a : Ahead) → IsSound x room seen → IsSound (right_token x a) share seen
+sound_right x room seen a h = record {
+  begun = 0;
+  waiting = [];
+  path = refl;
+  outer = tt;
+  numbers = omega arith;
+  around = h.around;
+  outer_around = All-nil (λ (o : Open). AreLow seen o.around);
+  victims = All-nil (λ (c : Conflict). c.victim ≤ seen);
+}
 
 -- ## Logs that come together
 

@@ -5,11 +5,15 @@ use Rattle.cw_steps.specs.declared.draw.Home.{Home}
 use Rattle.cw_steps.specs.declared.draw.Home.TheVariants as home
 use Rattle.cw_steps.specs.declared.table.StrandToken.{StrandToken}
 use Rattle.cw_steps.specs.declared.view.Note.{Note}
-use Rattle.cw_steps.specs.Stands.{token_of}
+use Rattle.cw_steps.specs.Stands.{drawn_token, token_of}
 use Rattle.cw_steps.specs.declared.view.Slot.{Slot}
 use Rattle.cw_steps.specs.declared.view.View.{View}
-use Rattle.cw_steps.specs.Views.{held_by, key_of, newest_slot, newest_used, older, view_of, IsTierOf, IsTokenOf, TakesIt}
+use Rattle.cw_steps.specs.declared.draw.Draw.TheVariants as draw
+use Rattle.cw_steps.specs.Tracks.{drawn, track_of}
+use Rattle.cw_steps.specs.Views.{drew_view, gave_view, held_by, key_of, newest_slot, newest_used, older, view_of, CanFork, IsTierOf, IsTokenOf, TakesIt}
 use Rattle.cw_board.specs.Boards.{columns_of, IsOf}
+use Rattle.cw_log.specs.declared.board.Forked.{Forked}
+use Rattle.cw_log.specs.declared.board.Forked.TheVariants.{Two, Inline}
 use Rattle.cw_board.specs.declared.board.Board.{Board}
 
 -- it found turns taken, and did nothing else
@@ -59,3 +63,30 @@ IsOfTier (home.Split fork used) = Unit {0}
 IsOfTier (home.Merge fork used) = Unit {0}
 IsOfTier (home.Inline used) = Unit {0}
 IsOfTier (home.Early before used) = Unit {0}
+
+-- ## Forks
+
+-- nothing but the turn comes home
+abbrev pub BringsNothing : Home → Type 0
+BringsNothing home.Plain = Unit {0}
+BringsNothing (home.Inline used) = Unit {0}
+BringsNothing (home.Refused c) = ⊥
+BringsNothing (home.Split fork used) = ⊥
+BringsNothing (home.Merge fork used) = ⊥
+BringsNothing (home.Early before used) = ⊥
+
+-- it drew a fork's number while it had the tier's turn, and gave that back
+pub record HasForked (b : Board) (left right gap stamp : ℕ) (u u' : StrandToken) : Type 0 where
+  pub table : IsTokenOf b.shared u'
+  pub later : (view_of u).seen < stamp
+  pub fits : CanFork (key_of b.shared) (view_of u) left right gap
+  pub view : view_of u' ≡ gave_view home.Plain (drew_view (draw.Fork left right gap) u.track.behind u.track.second stamp (view_of u))
+  pub slots : held_by u' ≡ []
+  pub track : track_of u'.track ≡ drawn (draw.Fork left right gap) stamp (track_of u.track)
+  pub token : token_of u' ≡ drawn_token (draw.Fork left right gap) stamp (token_of u)
+  pub room : u'.track.room ≡ u.track.room
+
+-- what comes of a fork are tokens of this board
+abbrev pub AreOf : Board → Forked StrandToken → Type 0
+AreOf b (Two fork left right) = IsOf b left × IsOf b right
+AreOf b (Inline token) = IsOf b token
