@@ -2,3 +2,4 @@ pub mod Sound
 pub mod Boards
 pub mod Holding
 pub mod Forking
+pub mod Accessing
