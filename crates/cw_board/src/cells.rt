@@ -20,7 +20,13 @@ use std::sync::Wait;
 
 impl Board {
     /// Waits for a cell's turn, and takes the cell.
-    pub(crate) fn hold_cell<R: Wait>(&self, rt: &R, token: &mut StrandToken, cell: u32, aim: Aim) -> Cell
+    pub(crate) fn hold_cell<R: Wait>(
+        &self,
+        rt: &R,
+        token: &mut StrandToken,
+        cell: u32,
+        aim: Aim,
+    ) -> Cell
         requires of { IsOf self.now token.old }
         requires cell { cell < cells_in self.now }
         ensures held { IsHolding self.now cell slot.Empty token.old token.new }
