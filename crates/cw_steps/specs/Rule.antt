@@ -15,10 +15,11 @@ use Rattle.cw_steps.specs.Totals.{total}
 use Rattle.cw_steps.specs.Views.{cells_of, share, has_turn, IsLowCell, IsTierOf}
 
 -- Word 0 is the clock. It has room for all numbers that may still be drawn, with the share of each column that is not in use; and no seat has
--- seen a greater one.
+-- seen a greater one. No column in use is owned twice.
 pub record Clock (limit used : ℕ) (words : List ℕ) (views : List View) : Type 0 where
   pub room : slice_index words 0 + total (λ v. v.room) views + share * limit < 2 ^ 64 + share * used
   pub seen : (k : ℕ) (v : View) → get_elem? views k ≡ some v → v.seen ≤ slice_index words 0
+  pub owned : total (λ v. v.owns) views ≤ used
 
 -- A turn is free, or one seat has it.
 pub record Turns (cells : ℕ) (words : List ℕ) (views : List View) : Type 0 where
@@ -77,6 +78,7 @@ pub record Stops (cells : ℕ) (words : List ℕ) (views : List View) : Type 0 w
 pub record Holds (key : Key) (s : State Slot View) : Type 0 where
   pub long : length s.words ≡ all_words (cells_of key) key.columns
   pub deep : length s.homes ≡ suc (cells_of key)
+  pub small : key.columns < 2 ^ 31
   pub used : ℕ
   pub clock : Clock key.columns used s.words s.views
   pub turns : Turns (cells_of key) s.words s.views

@@ -31,8 +31,8 @@ abbrev pub share : ℕ
 share = 2 ^ 33
 
 -- the view of a strand that has done nothing
-abbrev pub new_view : (column gap fork seen room : ℕ) → (around : List ℕ) → Phase → View
-new_view column gap fork seen room around phase = record {
+abbrev pub new_view : (column gap fork seen room owns : ℕ) → (around : List ℕ) → Phase → View
+new_view column gap fork seen room owns around phase = record {
   here = true;
   column = column;
   gap = gap;
@@ -54,13 +54,14 @@ new_view column gap fork seen room around phase = record {
   told = false;
   notes = [];
   room = room;
+  owns = owns;
   logs = [];
   lent = [];
 }
 
 -- the root's view at the start
 abbrev pub root_view : View
-root_view = new_view 0 0 0 0 share [] Going
+root_view = new_view 0 0 0 0 share 1 [] Going
 
 -- a word was read or written
 abbrev pub noted_view : (word value : ℕ) → View → View
@@ -240,11 +241,20 @@ arounds_after (draw.Out x) n ws = ws
 arounds_after draw.Begin n ws = (n ∷ innermost ws) ∷ outwards ws
 arounds_after (draw.End aborted) n ws = drop 1 (innermost ws) ∷ outwards ws
 
+-- one of two columns of a fork is that of a log to come
+abbrev pub owns_after : Draw → ℕ → ℕ
+owns_after (draw.Fork left right gap) own = own + (if left == right then 0 else 1)
+owns_after (draw.Access c wrote v) own = own
+owns_after (draw.Out v) own = own
+owns_after draw.Begin own = own
+owns_after (draw.End aborted) own = own
+
 -- after a draw: the number is the greatest seen; a fork takes its columns, with their numbers, and the left strand goes on
 abbrev pub drew_view : Draw → (behind : ℕ) → (second : Bool) → (number : ℕ) → View → View
 drew_view d behind second n v = record v {
   seen = n;
   room = v.room - 1 + share * columns_more d;
+  owns = owns_after d v.owns;
   column = column_after d v.column;
   gap = gap_after d v.gap;
   word = word_after d v.word;
@@ -330,17 +340,17 @@ told_view w n v = noted_view w n (record v { told = v.told || nat_lt 0 n })
 
 -- the right strand waits, with the numbers of its column
 abbrev pub right_view : Option Coming → (around : List ℕ) → View → View
-right_view None around v = new_view v.column v.gap 0 v.seen share around Waiting
-right_view (Some c) around v = new_view c.column c.gap c.fork v.seen share around Waiting
+right_view None around v = new_view v.column v.gap 0 v.seen share 1 around Waiting
+right_view (Some c) around v = new_view c.column c.gap c.fork v.seen share 1 around Waiting
 
 -- it tells a right strand that its left one has ended, and is for nothing else
 abbrev pub note_view : View → View
-note_view v = record (new_view v.column v.gap 0 0 0 [] Over) { here = false }
+note_view v = record (new_view v.column v.gap 0 0 0 0 [] Over) { here = false }
 
 -- the left strand goes on, or where its right one is taken back it is over
 abbrev pub parted_view : (take_back : Bool) → (behind : ℕ) → (second : Bool) → View → View
 parted_view true behind second v = record v { phase = Over }
-parted_view false behind second v = record v { coming = None; arounds = caught_up behind second v.arounds; room = v.room - share }
+parted_view false behind second v = record v { coming = None; arounds = caught_up behind second v.arounds; room = v.room - share; owns = v.owns - 1 }
 
 abbrev pub new_seat_view : (take_back : Bool) → (behind : ℕ) → (second : Bool) → View → View
 new_seat_view true behind second v = note_view v
@@ -372,6 +382,7 @@ both_view behind second v w = record v {
   halt = kept_halt v.halt w.halt;
   told = v.told || w.told;
   room = v.room + w.room;
+  owns = v.owns + w.owns;
 }
 
 -- a seat with another; one that is not here is but a note, by which a right strand goes on
@@ -380,7 +391,7 @@ joined_view behind second v w = if w.here then both_view behind second v w else 
 
 -- a seat that was joined away
 abbrev pub spent_view : View
-spent_view = record (new_view 0 0 0 0 0 [] Over) { here = false }
+spent_view = record (new_view 0 0 0 0 0 0 [] Over) { here = false }
 
 -- ## At the start
 
@@ -430,3 +441,7 @@ told st me n me' = me' ≡ (told_view st.word n me.0, me.1)
 -- the rule says nothing yet of what a gap word is
 abbrev pub found : Step Slot → Me Slot View → ℕ → Me Slot View → Type 0
 found st me n me' = me' ≡ (noted_view st.word n me.0, me.1)
+
+-- it owns few columns
+abbrev pub weighed : Step Slot → Me Slot View → ℕ → Me Slot View → Type 0
+weighed st me n me' = (me.0.owns < 2 ^ 31) × (me' ≡ me)

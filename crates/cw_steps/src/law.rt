@@ -256,3 +256,12 @@ impl<W: Joining> Join<View> for Joins<W> {
 
     ghost spent = { spent_view };
 }
+
+/// A look at the clock.
+pub struct Weighs;
+
+impl Play<Slot, View> for Weighs {
+    ghost use Rattle.cw_steps.specs.Views.{weighed};
+
+    ghost then = { weighed };
+}

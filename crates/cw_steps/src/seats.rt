@@ -7,7 +7,8 @@ ghost use Rattle.cw_steps.specs.declared.track.Ahead.{Ahead};
 ghost use Rattle.cw_steps.specs.Stands.{right_token, token_of};
 ghost use Rattle.cw_steps.specs.Views.{both_view, held_by, joined_view, new_seat_view, parted_view, share, view_of, IsTokenOf};
 
-use crate::law::{Joining, Joins, Parting, Parts, TokenSeat, Words};
+use crate::law::{Joining, Joins, Parting, Parts, TokenSeat, Weighs, Words};
+use crate::places::CLOCK;
 use crate::table::{Shared, StrandToken};
 use cw_log::Stop;
 use std::marker::Brand;
@@ -21,7 +22,7 @@ fn part_as<W: Parting>(
 ) -> TokenSeat
     requires what { (W.take_back ≡ take_back) × (W.behind ≡ behind) × (W.second ≡ second) }
     requires table { (seat.old.table_id ≡ table.now.table_id) × (0 < table.now.table_id.words) }
-    requires numbers { take_back ≡ false → share ≤ seat.old.me.0.room }
+    requires numbers { take_back ≡ false → (share ≤ seat.old.me.0.room) × (0 < seat.old.me.0.owns) }
     ensures table { (seat.new.table_id ≡ seat.old.table_id) × (seat.new.id ≡ seat.old.id) × (result.table_id ≡ seat.old.table_id) }
     ensures left { seat.new.me ≡ (parted_view take_back behind second seat.old.me.0, seat.old.me.1) }
     ensures right { result.me ≡ (new_seat_view take_back behind second seat.old.me.0, []) }
@@ -61,9 +62,23 @@ fn kept(own: Option<Stop>, other: Option<Stop>) -> Option<Stop>
 }
 
 impl Shared {
+    /// A look at the clock, by which it is known that a token's list has few logs.
+    pub fn weigh(&self, token: &mut StrandToken)
+        requires { IsTokenOf self.now token.old }
+        ensures table { IsTokenOf self.now token.new }
+        ensures few { (view_of token.old).owns < 2 ^ 31 }
+        ensures me { token.new.seat.me ≡ token.old.seat.me }
+        ensures track { token.new.track ≡ token.old.track }
+        ensures stop { token.new.stop ≡ token.old.stop }
+        ensures token { token_of token.new ≡ token_of token.old }
+    {
+        let StrandToken { seat, .. } = token;
+        self.table.shared.load::<Weighs>(seat, CLOCK);
+    }
+
     fn part(&self, token: &mut StrandToken) -> StrandToken
         requires table { IsTokenOf self.now token.old }
-        requires numbers { share ≤ (view_of token.old).room }
+        requires numbers { (share ≤ (view_of token.old).room) × (0 < (view_of token.old).owns) }
         requires ahead { (a : _) × (token.old.track.ahead ≡ Some a) }
         requires ready { CanPart token.old.track }
         ensures table { IsTokenOf self.now token.new × IsTokenOf self.now result }
@@ -154,7 +169,7 @@ impl Shared {
     /// strand back: the answer carries the note that its left strand has ended, and the token is over.
     pub fn split_seat(&self, token: &mut StrandToken, take_back: bool) -> StrandToken
         requires table { IsTokenOf self.now token.old }
-        requires numbers { take_back ≡ false → share ≤ (view_of token.old).room }
+        requires numbers { take_back ≡ false → (share ≤ (view_of token.old).room) × (0 < (view_of token.old).owns) }
         requires ahead { take_back ≡ false → (a : _) × (token.old.track.ahead ≡ Some a) }
         requires ready { take_back ≡ false → CanPart token.old.track }
         ensures table { IsTokenOf self.now token.new × IsTokenOf self.now result }

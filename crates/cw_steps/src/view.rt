@@ -115,6 +115,8 @@ pub struct View {
     pub notes: Seq<Note>,
     /// How many numbers it may still draw.
     pub room: u64,
+    /// So many of the columns in use are its own: at least one for each log of its list.
+    pub owns: u64,
     /// Its own log first, and those that were joined to it.
     pub logs: Seq<Logged>,
     /// The strands of the seats that were split off it and not joined to it.

@@ -39,13 +39,14 @@ module _ (key : Key) (s : State Slot View) (h : Holds key s) (id : ℕ) (v : Vie
   other n = word_else s.words 0 (suc n) (next % 2 ^ 64) (λ e. omega arith)
 
   module _ (w : View) (more : ℕ) (fits : w.room + 1 + share * h.used ≤ v.room + share * more) (seen : w.seen ≡ next) (turns : (n : ℕ) → has_turn n w ≡ has_turn n v)
-      (halt : w.halt ≡ v.halt) (told : w.told ≡ v.told) (tiers : Tiers (cells_of key) key.columns more words s.homes (set s.views id w)) where
+      (owns : w.owns + h.used ≤ v.owns + more) (halt : w.halt ≡ v.halt) (told : w.told ≡ v.told) (tiers : Tiers (cells_of key) key.columns more words s.homes (set s.views id w)) where
     pub draw_rule : (c : List (ℕ × Slot)) → Holds key (stepped s 0 (next % 2 ^ 64) id c w keeps)
     draw_rule c = record {
       long = length-set s.words 0 (next % 2 ^ 64) ∙ h.long;
       deep = h.deep;
+      small = h.small;
       used = more;
-      clock = clock_set key.columns h.used more s.words words s.views id v w at h.clock (omega (arith, clock)) (omega (arith, clock, fits)) (omega (arith, clock, seen));
+      clock = clock_set key.columns h.used more s.words words s.views id v w at h.clock (omega (arith, clock)) (omega (arith, clock, fits)) (omega (arith, clock, seen)) owns;
       turns = turns_stay (cells_of key) s.words words s.views id v w at h.turns (λ n p. other n) turns;
       cells = cells_stay (cells_of key) s.words words s.homes h.cells (omega (arith, clock)) (λ n p. other n);
       tiers = tiers;
@@ -54,9 +55,9 @@ module _ (key : Key) (s : State Slot View) (h : Holds key s) (id : ℕ) (v : Vie
 
   -- a draw that takes no column
   module _ (w : View) (room : w.room + 1 ≡ v.room) (seen : w.seen ≡ next) (turns : w.turns ≡ v.turns) (halt : w.halt ≡ v.halt) (told : w.told ≡ v.told)
-      (column : w.column ≡ v.column) (gap : w.gap ≡ v.gap) (coming : w.coming ≡ v.coming) (outer : w.outer ≡ v.outer) where
+      (column : w.column ≡ v.column) (gap : w.gap ≡ v.gap) (coming : w.coming ≡ v.coming) (outer : w.outer ≡ v.outer) (owns : w.owns ≡ v.owns) where
     pub plain_rule : (c : List (ℕ × Slot)) → Holds key (stepped s 0 (next % 2 ^ 64) id c w keeps)
-    plain_rule = draw_rule w h.used (omega (arith, room)) seen (λ n. ap (turns_of n) turns) halt told
+    plain_rule = draw_rule w h.used (omega (arith, room)) seen (λ n. ap (turns_of n) turns) (omega (arith, owns)) halt told
         (tiers_set (cells_of key) key.columns h.used s.words words s.homes s.homes s.views id w h.tiers (λ free. inl (sym (other (cells_of key)) ∙ free, refl))
         (subst (All (λ (t : Turn). t.slot ≡ cells_of key → t.used ≡ h.used)) (sym turns) (h.tiers.held id v at))
         (let b = h.tiers.stands id v at in record { column = omega (arith, b.column, column); gap = omega (arith, b.gap, gap); coming = subst (ComesIn h.used) (sym coming) b.coming; outer = subst (All (WaitsIn h.used)) (sym outer) b.outer }))
@@ -105,17 +106,21 @@ module _ (key : Key) (s : State Slot View) (h : Holds key s) (id : ℕ) (v : Vie
         let q = stands (left == right) (subst (λ (n : ℕ). left ≡ (if left == right then v.column else n)) now can.one) can.other (omega (arith, now, can.within)) in
         record { column = q.0; gap = omega (arith, now, can.within); coming = q.1; outer = q.2 }
 
+    owns_for : (b : Bool) → v.owns + (if b then 0 else 1) + h.used ≤ v.owns + (h.used + (if b then 0 else 2))
+    owns_for true = omega arith
+    owns_for false = omega arith
+
     pub fork_rule : (c : List (ℕ × Slot)) → Holds key (stepped s 0 (next % 2 ^ 64) id c w keeps)
-    fork_rule = draw_rule w more (omega (arith, some_room)) refl (λ n. turns_more n (columns_for left right) v.turns) refl refl
+    fork_rule = draw_rule w more (omega (arith, some_room)) refl (λ n. turns_more n (columns_for left right) v.turns) (owns_for (left == right)) refl refl
         (tiers_grow (cells_of key) key.columns h.used more s.words words s.homes s.views id v w at h.turns h.tiers (other (cells_of key)) mine (omega arith) (omega (arith, now, can.few))
         (brings v.turns (h.tiers.held id v at) can.turn mine) stands_now)
 
   pub rule_of : (d : Draw) (behind : ℕ) (second : Bool) → CanDraw key v d → (c : List (ℕ × Slot)) → Holds key (stepped s 0 (next % 2 ^ 64) id c (drew_view d behind second next v) keeps)
   rule_of (draw.Fork left right gap) n b can = fork_rule left right gap n b can
-  rule_of (draw.Access c wrote x) n b can = plain_rule (drew_view (draw.Access c wrote x) n b next v) (omega (arith, some_room)) refl refl refl refl refl refl refl refl
-  rule_of (draw.Out x) n b can = plain_rule (drew_view (draw.Out x) n b next v) (omega (arith, some_room)) refl refl refl refl refl refl refl refl
-  rule_of draw.Begin n b can = plain_rule (drew_view draw.Begin n b next v) (omega (arith, some_room)) refl refl refl refl refl refl refl refl
-  rule_of (draw.End aborted) n b can = plain_rule (drew_view (draw.End aborted) n b next v) (omega (arith, some_room)) refl refl refl refl refl refl refl refl
+  rule_of (draw.Access c wrote x) n b can = plain_rule (drew_view (draw.Access c wrote x) n b next v) (omega (arith, some_room)) refl refl refl refl refl refl refl refl refl
+  rule_of (draw.Out x) n b can = plain_rule (drew_view (draw.Out x) n b next v) (omega (arith, some_room)) refl refl refl refl refl refl refl refl refl
+  rule_of draw.Begin n b can = plain_rule (drew_view draw.Begin n b next v) (omega (arith, some_room)) refl refl refl refl refl refl refl refl refl
+  rule_of (draw.End aborted) n b can = plain_rule (drew_view (draw.End aborted) n b next v) (omega (arith, some_room)) refl refl refl refl refl refl refl refl refl
 
 pub draws : (key : Key) (d : Draw) (behind : ℕ) (second : Bool) (slots id : ℕ) (me : Me Slot View) → 0 < me.0.room → CanDraw key me.0 d
     → Allows (Holds key) slots id me 0 (λ n. (n + 1) % 2 ^ 64) (drew d behind second (step slots 0 1 0 none) me)

@@ -50,10 +50,12 @@ pub opens : (key : Key) (y : Slot) → 0 < key.columns → key.columns < 2 ^ 31 
 opens key y some_columns few tier = record {
   long = many (all_words (cells_of key) key.columns);
   deep = so_many key.first y;
+  small = few;
   used = 1;
   clock = record {
     room = omega (arith, zeros (all_words (cells_of key) key.columns) 0);
     seen = λ k v at. the_root (λ u. u.seen ≤ slice_index (replicate (all_words (cells_of key) key.columns) 0) 0) k v at (omega arith);
+    owned = omega arith;
   };
   turns = record {
     bits = λ n p. omega (arith, zeros (all_words (cells_of key) key.columns) (suc n));

@@ -36,14 +36,15 @@ module _ (key : Key) (s : State Slot View) (h : Holds key s) where
   fits_still k u at = record { seen = h.clock.seen k u at; brings = h.tiers.held k u at; stands = h.tiers.stands k u at; told = h.stops.told k u at }
 
   -- views change, and no word and no slot does
-  views_rule : (views : List View) → total (λ z. z.room) views ≤ total (λ z. z.room) s.views → ((n : ℕ) → total (has_turn n) views ≡ total (has_turn n) s.views)
+  views_rule : (views : List View) → total (λ z. z.room) views ≤ total (λ z. z.room) s.views → total (λ z. z.owns) views ≤ total (λ z. z.owns) s.views → ((n : ℕ) → total (has_turn n) views ≡ total (has_turn n) s.views)
       → (HasHalted s.views → HasHalted views) → ((k : ℕ) (u : View) → get_elem? views k ≡ some u → Fits u)
       → Holds key record { words = s.words; homes = s.homes; views = views }
-  views_rule views fewer turns kept each = record {
+  views_rule views fewer owned turns kept each = record {
     long = h.long;
     deep = h.deep;
+    small = h.small;
     used = h.used;
-    clock = clock_views key.columns h.used s.words s.views views h.clock fewer (λ k u at. (each k u at).seen);
+    clock = clock_views key.columns h.used s.words s.views views h.clock fewer owned (λ k u at. (each k u at).seen);
     turns = turns_views (cells_of key) s.words s.views views h.turns turns;
     cells = h.cells;
     tiers = tiers_views (cells_of key) key.columns h.used s.words s.homes s.views views h.tiers (λ k u at. (each k u at).brings) (λ k u at. (each k u at).stands);
@@ -54,11 +55,12 @@ module _ (key : Key) (s : State Slot View) (h : Holds key s) where
   no_turns u e = subst (All (λ (t : Turn). t.slot ≡ cells_of key → t.used ≡ h.used)) (sym e) (All-nil (λ (t : Turn). t.slot ≡ cells_of key → t.used ≡ h.used))
 
   -- a new seat, for which no other does without numbers or turns of its own
-  module _ (id : ℕ) (v : View) (at : get_elem? s.views id ≡ some v) (w u : View) (room : w.room + u.room ≤ v.room) (turns : w.turns ≡ v.turns) (none : u.turns ≡ [])
+  module _ (id : ℕ) (v : View) (at : get_elem? s.views id ≡ some v) (w u : View) (room : w.room + u.room ≤ v.room) (owns : w.owns + u.owns ≤ v.owns) (turns : w.turns ≡ v.turns) (none : u.turns ≡ [])
       (halt : w.halt ≡ v.halt) (first : Fits w) (second : Fits u) where
     parts_rule : Holds key record { words = s.words; homes = s.homes; views = set s.views id w ++ u ∷ [] }
     parts_rule = views_rule (set s.views id w ++ u ∷ [])
         (let q = total_set (λ z. z.room) s.views id v w at in let p = total_snoc (λ z. z.room) (set s.views id w) u in omega (arith, q, p, room))
+        (let q = total_set (λ z. z.owns) s.views id v w at in let p = total_snoc (λ z. z.owns) (set s.views id w) u in omega (arith, q, p, owns))
         (λ n.
         let q = total_set (has_turn n) s.views id v w at in
         let p = total_snoc (has_turn n) (set s.views id w) u in
@@ -76,7 +78,7 @@ module _ (key : Key) (s : State Slot View) (h : Holds key s) where
 
   -- a seat that takes in what another has
   module _ (id : ℕ) (v : View) (at : get_elem? s.views id ≡ some v) (other : ℕ) (u : View) (ne : other ≢ id) (w : View) (atu : get_elem? (set s.views id w) other ≡ some u)
-      (room : w.room ≤ v.room + u.room) (turns : w.turns ≡ v.turns) (none : u.turns ≡ [])
+      (room : w.room ≤ v.room + u.room) (owns : w.owns ≤ v.owns + u.owns) (turns : w.turns ≡ v.turns) (none : u.turns ≡ [])
       (mine : IsTrue (is_some v.halt) → IsTrue (is_some w.halt)) (its : IsTrue (is_some u.halt) → IsTrue (is_some w.halt)) (first : Fits w) where
     was : get_elem? s.views other ≡ some u
     was = sym (set_else s.views id other w ne) ∙ atu
@@ -111,6 +113,7 @@ module _ (key : Key) (s : State Slot View) (h : Holds key s) where
     joins_rule : Holds key record { words = s.words; homes = s.homes; views = set (set s.views id w) other spent_view }
     joins_rule = views_rule (set (set s.views id w) other spent_view)
         (let q = total_set (λ z. z.room) s.views id v w at in let p = total_set (λ z. z.room) (set s.views id w) other u spent_view atu in omega (arith, q, p, room))
+        (let q = total_set (λ z. z.owns) s.views id v w at in let p = total_set (λ z. z.owns) (set s.views id w) other u spent_view atu in omega (arith, q, p, owns))
         (λ n.
         let q = total_set (has_turn n) s.views id v w at in
         let p = total_set (has_turn n) (set s.views id w) other u spent_view atu in
@@ -141,21 +144,21 @@ module _ (key : Key) (id : ℕ) (v : View) (behind : ℕ) (second : Bool) where
     told = λ e. absurd (cc e);
   }
 
-  right_has : (around : List ℕ) (c : Option Coming) → ((right_view c around v).room ≡ share) × ((right_view c around v).turns ≡ [])
-  right_has around None = (refl, refl)
-  right_has around (Some c) = (refl, refl)
+  right_has : (around : List ℕ) (c : Option Coming) → ((right_view c around v).room ≡ share) × ((right_view c around v).turns ≡ []) × ((right_view c around v).owns ≡ 1)
+  right_has around None = (refl, refl, refl)
+  right_has around (Some c) = (refl, refl, refl)
 
-  pub parts : (take_back : Bool) → (take_back ≡ false → share ≤ v.room) → Splits (Holds key) id v (parted_view take_back behind second v) (new_seat_view take_back behind second v)
-  parts false room s h at =
+  pub parts : (take_back : Bool) → (take_back ≡ false → share ≤ v.room) → (take_back ≡ false → 0 < v.owns) → Splits (Holds key) id v (parted_view take_back behind second v) (new_seat_view take_back behind second v)
+  parts false room own s h at =
       let b = h.tiers.stands id v at in
       let around : List ℕ = innermost (caught_up behind second v.arounds) in
       let q = right_has around v.coming in
-      parts_rule key s h id v at (parted_view false behind second v) (new_seat_view false behind second v) (omega (arith, q.0, room refl)) refl q.1 refl
+      parts_rule key s h id v at (parted_view false behind second v) (new_seat_view false behind second v) (omega (arith, q.0, room refl)) (omega (arith, q.2, own refl)) refl q.1 refl
       (record { seen = h.clock.seen id v at; brings = h.tiers.held id v at; stands = record { column = b.column; gap = b.gap; coming = tt; outer = b.outer }; told = h.stops.told id v at })
       (right_fits s h at around v.coming b.coming)
-  parts true room s h at =
+  parts true room own s h at =
       let b = h.tiers.stands id v at in
-      parts_rule key s h id v at (parted_view true behind second v) (new_seat_view true behind second v) (omega arith) refl refl refl
+      parts_rule key s h id v at (parted_view true behind second v) (new_seat_view true behind second v) (omega arith) (omega arith) refl refl refl
       (record { seen = h.clock.seen id v at; brings = h.tiers.held id v at; stands = record { column = b.column; gap = b.gap; coming = b.coming; outer = b.outer }; told = h.stops.told id v at })
       (record {
         seen = omega arith;
@@ -192,7 +195,7 @@ joins key id v other u behind second none note s h at ne atu = by_here u.here re
 
   by_here : (b : Bool) → u.here ≡ b → Holds key record { words = s.words; homes = s.homes; views = set (set s.views id (joined_view behind second v u)) other spent_view }
   by_here true e = subst (λ (b : Bool). Holds key record { words = s.words; homes = s.homes; views = set (set s.views id (if b then both_view behind second v u else record v { phase = Going })) other spent_view }) (sym e)
-      (joins_rule key s h id v at other u ne (both_view behind second v u) (set_else s.views id other (both_view behind second v u) ne ∙ was) (omega arith) refl none (halt_kept v.halt u.halt) (halt_taken v.halt u.halt)
+      (joins_rule key s h id v at other u ne (both_view behind second v u) (set_else s.views id other (both_view behind second v u) ne ∙ was) (omega arith) (omega arith) refl none (halt_kept v.halt u.halt) (halt_taken v.halt u.halt)
       (let b = h.tiers.stands id v at in let p = at_in h.used v v.outer b.column b.gap b.outer in record {
         seen = (let x = h.clock.seen id v at in let y = h.clock.seen other u was in omega (arith, x, y));
         brings = h.tiers.held id v at;
@@ -200,5 +203,5 @@ joins key id v other u behind second none note s h at ne atu = by_here u.here re
         told = λ t. elim (told_either v.told u.told t) [ inl z ↦ h.stops.told id v at z | inr z ↦ h.stops.told other u was z ];
       }))
   by_here false e = subst (λ (b : Bool). Holds key record { words = s.words; homes = s.homes; views = set (set s.views id (if b then both_view behind second v u else record v { phase = Going })) other spent_view }) (sym e)
-      (joins_rule key s h id v at other u ne (record v { phase = Going }) (set_else s.views id other (record v { phase = Going }) ne ∙ was) (omega arith) refl none (λ z. z) (λ z. absurd (cc (subst (λ o. IsTrue (is_some o)) (note e) z)))
+      (joins_rule key s h id v at other u ne (record v { phase = Going }) (set_else s.views id other (record v { phase = Going }) ne ∙ was) (omega arith) (omega arith) refl none (λ z. z) (λ z. absurd (cc (subst (λ o. IsTrue (is_some o)) (note e) z)))
       (let b = h.tiers.stands id v at in record { seen = h.clock.seen id v at; brings = h.tiers.held id v at; stands = record { column = b.column; gap = b.gap; coming = b.coming; outer = b.outer }; told = h.stops.told id v at }))

@@ -38,7 +38,7 @@ module _ (key : Key) (s : State Slot View) (h : Holds key s) (id : ℕ) (v : Vie
     | inr z ↦ (let q = h.cells.home c (lt_of_le-ne there z.1) free in (q.0, q.1, record { cell = λ low. q.2; tier = λ last. absurd (z.1 last) }))
   ]
 
-  module _ (w : View) (x : ℕ) (bit : x ≤ 1) (room : w.room ≡ v.room) (seen : w.seen ≤ slice_index s.words 0)
+  module _ (w : View) (x : ℕ) (bit : x ≤ 1) (room : w.room ≡ v.room) (owns : w.owns ≡ v.owns) (seen : w.seen ≤ slice_index s.words 0)
       (mine : turns_of c w.turns + slice_index s.words (suc c) ≡ turns_of c v.turns + x) (others : (d : ℕ) → d ≢ c → turns_of d w.turns ≡ turns_of d v.turns)
       (halt : w.halt ≡ v.halt) (told : w.told ≡ v.told) (brings : BringsHome (cells_of key) h.used w) (stands : StandsIn h.used w)
       (homes : List (maybe.Option Slot)) (deep : length homes ≡ suc (cells_of key)) (home_else : (d : ℕ) → d ≢ c → get_elem? homes d ≡ get_elem? s.homes d)
@@ -63,8 +63,9 @@ module _ (key : Key) (s : State Slot View) (h : Holds key s) (id : ℕ) (v : Vie
     turn_rule = record {
       long = length-set s.words (suc c) x ∙ h.long;
       deep = deep;
+      small = h.small;
       used = h.used;
-      clock = clock_set key.columns h.used h.used s.words words s.views id v w at h.clock (omega (arith, clock)) (omega (arith, clock, room)) (omega (arith, clock, seen));
+      clock = clock_set key.columns h.used h.used s.words words s.views id v w at h.clock (omega (arith, clock)) (omega (arith, clock, room)) (omega (arith, clock, seen)) (omega (arith, owns));
       turns = turns_set (cells_of key) s.words words s.views id v w at h.turns
           (λ d p. elim (eqb_tells d c) [ inl z ↦ omega (arith, at_word d z.1, bit) | inr z ↦ omega (arith, other d z.1, h.turns.bits d p) ])
           (λ d p. elim (eqb_tells d c) [
@@ -89,7 +90,7 @@ module _ (key : Key) (s : State Slot View) (h : Holds key s) (id : ℕ) (v : Vie
   took_rule : (aim : Aim) (free : slice_index s.words (suc c) ≡ 0) → (let q = lies free in Holds key record { words = set s.words (suc c) 1; homes = set s.homes c none; views = set s.views id (took_view c aim q.0 h.used (slice_index s.words 0) v) })
   took_rule aim free =
       let q = lies free in
-      turn_rule (took_view c aim q.0 h.used (slice_index s.words 0) v) 1 (omega arith) refl (omega arith)
+      turn_rule (took_view c aim q.0 h.used (slice_index s.words 0) v) 1 (omega arith) refl refl (omega arith)
       (omega (arith, free, turn_here c (turn_for c aim q.0 h.used) refl))
       (λ d ne. omega (arith, turn_else d (turn_for c aim q.0 h.used) (λ e. ne (sym e))))
       refl refl (All-cons (λ (t : Turn). t.slot ≡ cells_of key → t.used ≡ h.used) (turn_for c aim q.0 h.used) v.turns (λ e. refl) (h.tiers.held id v at)) (let b = h.tiers.stands id v at in record { column = b.column; gap = b.gap; coming = b.coming; outer = b.outer })
@@ -99,7 +100,7 @@ module _ (key : Key) (s : State Slot View) (h : Holds key s) (id : ℕ) (v : Vie
   left_rule : (k : ℕ) → slice_index s.words (suc c) ≡ suc k → Holds key record { words = set s.words (suc c) (suc k); homes = s.homes; views = set s.views id (noted_view (suc c) (suc k) v) }
   left_rule k e =
       let b = h.tiers.stands id v at in
-      turn_rule (noted_view (suc c) (suc k) v) (suc k) (omega (arith, h.turns.bits c there, e)) refl (h.clock.seen id v at)
+      turn_rule (noted_view (suc c) (suc k) v) (suc k) (omega (arith, h.turns.bits c there, e)) refl refl (h.clock.seen id v at)
       (omega (arith, e)) (λ d ne. refl) refl refl (h.tiers.held id v at) (record { column = b.column; gap = b.gap; coming = b.coming; outer = b.outer })
       s.homes h.deep (λ d ne. refl) (λ z. absurd (omega (arith, z)))
 
@@ -116,7 +117,7 @@ module _ (key : Key) (s : State Slot View) (h : Holds key s) (id : ℕ) (v : Vie
   gave_rule m y held whole =
       let b = h.tiers.stands id v at in
       let part : turns_of c v.turns ≤ total (has_turn c) s.views = total_part (has_turn c) s.views id v at in
-      turn_rule (gave_view m v) 0 (omega arith) refl (h.clock.seen id v at)
+      turn_rule (gave_view m v) 0 (omega arith) refl refl (h.clock.seen id v at)
       (omega (arith, part, h.turns.one c there, h.turns.bits c there, newest_is_one c v.turns held, turns_older c c v.turns held, one c))
       (λ d ne. omega (arith, turns_older d c v.turns held, zero_else d ne))
       refl refl (all_older (λ (t : Turn). t.slot ≡ cells_of key → t.used ≡ h.used) v.turns (h.tiers.held id v at))
