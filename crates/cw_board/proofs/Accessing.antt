@@ -23,6 +23,7 @@ use Rattle.cw_board.specs.Boards.{cells_in, columns_of, IsOf}
 use Rattle.cw_board.specs.Sound.{IsSound}
 use Rattle.cw_board.specs.Turns.{IsHolding}
 use Rattle.cw_board.proofs.Boards.{is_now}
+use Rattle.cw_board.proofs.Holding.{lists_held}
 use Rattle.cw_board.proofs.Sound.{sound_made, sound_later}
 
 low_at : (P : Entry → Type 0) (es : List Entry) (k : ℕ) → All P es → IfSome (slice_get es k) P
@@ -70,6 +71,7 @@ module _ (b : Board) (n stamp : ℕ) (wrote : Bool) (x : ℤ) (y z : Slot) (t u 
       (ap (λ (w : View). w.here) h.rest ∙ h.was.here) h.alone
       (subst (λ (k : ℕ). k < columns_of b) (sym (ap (λ (w : View). w.gap) h.rest)) h.was.gap)
       (subst (All (λ (o : Whereabouts). o.gap < columns_of b)) (sym (ap (λ (w : View). w.outer) h.rest)) h.was.gaps)
+      (lists_held b n y t u h)
       (sound_made (token_of u) (view_of u).room (view_of u).seen
       (subst (λ q. IsSound q (view_of u).room (view_of u).seen) (sym h.token)
       (subst (λ r. IsSound (token_of t) r (view_of u).seen) (sym (ap (λ (w : View). w.room) h.rest)) (sound_later (token_of t) (view_of t).room (view_of t).seen (view_of u).seen h.later h.was.sound)))

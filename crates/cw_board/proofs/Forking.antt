@@ -24,6 +24,7 @@ use Rattle.cw_board.specs.Boards.{cells_in, columns_of, IsOf}
 use Rattle.cw_board.specs.Sound.{IsSound}
 use Rattle.cw_board.specs.Turns.{HasForked, IsHolding, BringsNothing}
 use Rattle.cw_board.proofs.Boards.{is_now}
+use Rattle.cw_board.proofs.Holding.{lists_held}
 use Rattle.cw_board.proofs.Sound.{sound_branched, sound_forked, sound_later, sound_right}
 
 pub newest_more : (k : ℕ) (ts : List Turn) → newest_slot (with_more k ts) ≡ newest_slot ts
@@ -82,9 +83,20 @@ module _ (b : Board) (left right gap stamp : ℕ) (y : Slot) (t u u' : StrandTok
   sound_if true room paid = sound_branched (token_of u) (view_of u).room (view_of u).seen sound_before room stamp paid f.later
   sound_if false room paid = sound_forked (token_of u) (view_of u).room (view_of u).seen sound_before room stamp paid f.later left
 
+  owned : length (token_of u).joined + 1 ≤ (view_of u).owns
+  owned = lists_held b (cells_in b) y t u h
+
+  lists_if : (r : Bool) → length (if r then branched (token_of u) stamp else forked (token_of u) stamp left).joined + 1 ≤ (view_of u).owns + (if r then 0 else 1)
+  lists_if true = omega (arith, owned)
+  lists_if false = omega (arith, owned)
+
+  lists_two : (r : Bool) → r ≡ false → length (if r then branched (token_of u) stamp else forked (token_of u) stamp left).joined + 1 ≤ (view_of u).owns + (if r then 0 else 1) - 1
+  lists_two true e = absurd (cc e)
+  lists_two false e = omega (arith, owned)
+
   -- a fork in its strand's own column
   pub inline_is : IsOf b u'
-  inline_is = is_now b u' now (drawn_token (draw.Fork left right gap) stamp (token_of u)) f.table f.view f.token f.slots has_room here_now turns_now some_gap (gaps_if (left == right))
+  inline_is = is_now b u' now (drawn_token (draw.Fork left right gap) stamp (token_of u)) f.table f.view f.token f.slots has_room here_now turns_now some_gap (gaps_if (left == right)) (lists_if (left == right))
       (sound_if (left == right) now.room (omega arith))
 
   -- a fork with two columns, whose right strand's seat is split off
@@ -95,13 +107,13 @@ module _ (b : Board) (left right gap stamp : ℕ) (y : Slot) (t u u' : StrandTok
     two : columns_for left right ≡ 2
     two = ap {B = ℕ} (λ (r : Bool). if r then 0 else 2) off
 
-    pub rich : share ≤ (view_of u').room
-    rich = subst (λ (v : View). share ≤ v.room) (sym f.view) (omega (arith, two))
+    pub rich : (share ≤ (view_of u').room) × (0 < (view_of u').owns)
+    rich = (subst (λ (v : View). share ≤ v.room) (sym f.view) (omega (arith, two)), subst (λ (v : View). 0 < v.owns) (sym f.view) (omega (arith, owned)))
 
     pub left_is : (u'' : StrandToken) (behind : ℕ) (second : Bool) → IsTokenOf b.shared u'' → view_of u'' ≡ parted_view false behind second (view_of u') → held_by u'' ≡ held_by u' → u''.track.room ≡ u'.track.room → token_of u'' ≡ token_of u' → IsOf b u''
     left_is u'' behind second table view slots room token =
         is_now b u'' (parted_view false behind second now) (drawn_token (draw.Fork left right gap) stamp (token_of u)) table (view ∙ ap (parted_view false behind second) f.view) (token ∙ f.token) (slots ∙ f.slots)
-        (subst (λ r. IsTrue (is_some r)) (sym room) has_room) here_now turns_now some_gap (gaps_if (left == right))
+        (subst (λ r. IsTrue (is_some r)) (sym room) has_room) here_now turns_now some_gap (gaps_if (left == right)) (lists_two (left == right) off)
         (sound_if (left == right) (now.room - share) (omega (arith, two)))
 
     pub right_is : (a : Ahead) (r : StrandToken) (behind : ℕ) (second : Bool) → IsTokenOf b.shared r → view_of r ≡ new_seat_view false behind second (view_of u') → held_by r ≡ [] → HasRoom r.track → token_of r ≡ right_token (token_of u') a → IsOf b r
@@ -111,7 +123,7 @@ module _ (b : Board) (left right gap stamp : ℕ) (y : Slot) (t u u' : StrandTok
         let view' : view_of r ≡ right_view (Some (record { fork = left; column = right; gap = gap })) (innermost (caught_up behind second now.arounds)) now =
         view ∙ ap (new_seat_view false behind second) f.view ∙ ap (λ c. right_view c (innermost (caught_up behind second now.arounds)) now) coming in
         is_now b r (right_view (Some (record { fork = left; column = right; gap = gap })) (innermost (caught_up behind second now.arounds)) now) (right_token (drawn_token (draw.Fork left right gap) stamp (token_of u)) a)
-        table view' (token ∙ ap (λ x. right_token x a) f.token) slots room refl refl some_gap (All-nil (λ (o : Whereabouts). o.gap < columns_of b))
+        table view' (token ∙ ap (λ x. right_token x a) f.token) slots room refl refl some_gap (All-nil (λ (o : Whereabouts). o.gap < columns_of b)) (omega arith)
         (sound_right (drawn_token (draw.Fork left right gap) stamp (token_of u)) (now.room - share) stamp a (sound_if (left == right) (now.room - share) (omega (arith, two))))
 
     -- what both stand for

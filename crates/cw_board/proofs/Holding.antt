@@ -1,10 +1,12 @@
 -- Serves `HasWaited` and `HasTaken`: a token that waits for a turn.
-use Rattle.std.proofs.Common.{◌≡◌, ◌∙◌, ◌∷◌, [], List, ◌<◌, ◌≤◌, ℕ, ap, refl, sym, subst, arith}
+use Rattle.std.proofs.Common.{◌≡◌, ◌∙◌, ◌+◌, ◌∷◌, [], List, length, ◌<◌, ◌≤◌, ℕ, ap, refl, sym, subst, arith}
 use Rattle.std.specs.Prelude.{All, IsTrue, is_some, Result, Ok, Err, OnOk, OnErr}
 use Rattle.cw_steps.specs.declared.draw.Home.{Home}
 use Rattle.cw_steps.specs.declared.view.Whereabouts.{Whereabouts}
 use Rattle.cw_steps.specs.Tracks.{HasRoom}
 use Rattle.atomic_table.specs.Table.{rest}
+use Rattle.cw_log.specs.declared.log.Log.{Log}
+use Rattle.cw_log.specs.declared.token.Token.{Token}
 use Rattle.cw_trace.specs.Columns as columns
 use Rattle.cw_trace.specs.Traces.{Traces}
 use Rattle.cw_trace.proofs.Marks.Edits.{length_parts}
@@ -134,6 +136,21 @@ split_used (Err a) f x y ok err = ap (λ z. columns.used z.columns) err
 
 -- ## The turn is given back
 
+-- a token that has a turn owns what it did
+pub lists_held : (b : Board) (n : ℕ) (y : Slot) (t u : StrandToken) → IsHolding b n y t u → length (token_of u).joined + 1 ≤ (view_of u).owns
+lists_held b n y t u h = subst (λ (k : ℕ). length (token_of u).joined + 1 ≤ k) (sym (ap (λ (v : View). v.owns) h.rest)) (subst (λ (x : Token). length x.joined + 1 ≤ (view_of t).owns) (sym h.token) h.was.lists)
+
+brought_joined : (m : Home) (x : Token) → (brought_token m x).joined ≡ x.joined
+brought_joined (home.Refused c) x = refl
+brought_joined home.Plain x = refl
+brought_joined (home.Split fork used) x = refl
+brought_joined (home.Merge fork used) x = refl
+brought_joined (home.Inline used) x = refl
+brought_joined (home.Early before used) x = refl
+
+lists_given : (b : Board) (n : ℕ) (y : Slot) (t u : StrandToken) (m : Home) → IsHolding b n y t u → length (brought_token m (token_of u)).joined + 1 ≤ (view_of u).owns
+lists_given b n y t u m h = subst (λ (ls : List Log). length ls + 1 ≤ (view_of u).owns) (sym (brought_joined m (token_of u))) (lists_held b n y t u h)
+
 -- what was done left the token as it was, or it may go on now
 pub given_is : (b : Board) (n : ℕ) (y : Slot) (t u u' : StrandToken) (m : Home) → IsHolding b n y t u → IsTokenOf b.shared u' → view_of u' ≡ gave_view m (view_of u) → held_by u' ≡ rest (held_by u)
     → u'.track.room ≡ u.track.room → token_of u' ≡ brought_token m (token_of u) → IsOfTier m → gap_home m (view_of u).column (view_of u).gap < columns_of b → IsOf b u'
@@ -142,6 +159,7 @@ given_is b n y t u u' m h table view slots room token home gap =
     (subst (λ r. IsTrue (is_some r)) (sym room) (subst HasRoom (sym h.track) h.was.room))
     (ap (λ (v : View). v.here) h.rest ∙ h.was.here) h.alone gap
     (subst (All (λ (o : Whereabouts). o.gap < columns_of b)) (sym (ap (λ (v : View). v.outer) h.rest)) h.was.gaps)
+    (lists_given b n y t u m h)
     (sound_brought m (token_of u) (view_of u).room (view_of u).seen home
     (subst (λ x. IsSound x (view_of u).room (view_of u).seen) (sym h.token)
     (subst (λ r. IsSound (token_of t) r (view_of u).seen) (sym (ap (λ (v : View). v.room) h.rest)) (sound_later (token_of t) (view_of t).room (view_of t).seen (view_of u).seen h.later h.was.sound))))

@@ -14,6 +14,3 @@ mod strands;
 mod turns;
 
 pub use board::Board;
-
-#[cfg(test)]
-mod tests;

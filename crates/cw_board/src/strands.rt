@@ -1,5 +1,5 @@
 //! From strand to strand: next branches, right strands taken back, and joins.
-ghost use Rattle.std.specs.Prelude.{◌≡◌, ◌+◌, ◌<◌, ◌^◌, length};
+ghost use Rattle.std.specs.Prelude.{◌≡◌};
 ghost use Rattle.cw_log.specs.Tokens.{taken_back, taken_in, turned, AreOfOneFork, IsDone, IsInline, IsOn, MayTakeBack};
 ghost use Rattle.cw_steps.specs.Stands.{token_of};
 ghost use Rattle.cw_board.specs.Boards.{budget_of, IsOf};
@@ -37,12 +37,14 @@ impl Board {
         requires of { IsOf self.now left × IsOf self.now right }
         requires fork { AreOfOneFork (token_of left) (token_of right) }
         requires done { IsDone (token_of left) × IsDone (token_of right) }
-        requires long { length (token_of left).joined + length (token_of right).joined + 1 < 2 ^ 63 }
         ensures of { IsOf self.now result }
         ensures token { token_of result ≡ taken_in (token_of left) (token_of right) }
     {
         let mut token = left;
-        self.shared.join_seat(&mut token, right);
+        let mut ending = right;
+        self.shared.weigh(&mut token);
+        self.shared.weigh(&mut ending);
+        self.shared.join_seat(&mut token, ending);
         token
     }
 }
