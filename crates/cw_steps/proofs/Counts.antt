@@ -28,6 +28,10 @@ module _ {A : Type 0} (f : A → ℕ) where
   total_two (x ∷ xs) (suc i) zero v w ne e g = let q : f x ≡ f w = ap f (some-injective x w g) in let p : f v ≤ total f xs = total_part xs i v e in omega arith
   total_two (x ∷ xs) (suc i) (suc j) v w ne e g = let p : f v + f w ≤ total f xs = total_two xs i j v w (λ q. ne (ap suc q)) e g in omega arith
 
+  pub total_snoc : (xs : List A) (x : A) → total f (xs ++ x ∷ []) ≡ total f xs + f x
+  total_snoc [] x = omega arith
+  total_snoc (y ∷ ys) x = let q : total f (ys ++ x ∷ []) ≡ total f ys + f x = total_snoc ys x in omega arith
+
 -- ## Turns of one seat
 
 abbrev pub bit : Bool → ℕ

@@ -3,3 +3,4 @@ pub mod Draws
 pub mod Turning
 pub mod Opening
 pub mod Marking
+pub mod Parting

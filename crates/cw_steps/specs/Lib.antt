@@ -2,4 +2,5 @@ pub mod Places
 pub mod Totals
 pub mod Tracks
 pub mod Views
+pub mod Stands
 pub mod Rule

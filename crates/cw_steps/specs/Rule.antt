@@ -8,16 +8,18 @@ use Rattle.cw_steps.specs.declared.view.Key.{Key}
 use Rattle.cw_steps.specs.declared.view.Slot.{Slot}
 use Rattle.cw_steps.specs.declared.view.Coming.{Coming}
 use Rattle.cw_steps.specs.declared.view.Turn.{Turn}
+use Rattle.cw_steps.specs.declared.view.Whereabouts.{Whereabouts}
 use Rattle.cw_steps.specs.declared.view.View.{View}
 use Rattle.cw_steps.specs.Places.{turn_word, stop_word, all_words}
 use Rattle.cw_steps.specs.Totals.{total}
 use Rattle.cw_steps.specs.Views.{cells_of, share, has_turn, IsLowCell, IsTierOf}
 
 -- Word 0 is the clock. It has room for all numbers that may still be drawn, with the share of each column that is not in use; and no seat has
--- seen a greater one.
+-- seen a greater one. No column in use is owned twice.
 pub record Clock (limit used : ℕ) (words : List ℕ) (views : List View) : Type 0 where
   pub room : slice_index words 0 + total (λ v. v.room) views + share * limit < 2 ^ 64 + share * used
   pub seen : (k : ℕ) (v : View) → get_elem? views k ≡ some v → v.seen ≤ slice_index words 0
+  pub owned : total (λ v. v.owns) views ≤ used
 
 -- A turn is free, or one seat has it.
 pub record Turns (cells : ℕ) (words : List ℕ) (views : List View) : Type 0 where
@@ -40,11 +42,15 @@ abbrev pub ComesIn : (used : ℕ) → Option Coming → Type 0
 ComesIn used None = Unit {0}
 ComesIn used (Some c) = (c.column < used) × (c.gap < used)
 
--- its column is in use, and so is that of its gap; and those of a right strand whose seat is yet to come
+abbrev pub WaitsIn : (used : ℕ) → Whereabouts → Type 0
+WaitsIn used o = (o.column < used) × (o.gap < used)
+
+-- its column is in use, and so is that of its gap; and those of a right strand whose seat is yet to come, and of the strands that wait
 pub record StandsIn (used : ℕ) (v : View) : Type 0 where
   pub column : v.column < used
   pub gap : v.gap < used
   pub coming : ComesIn used v.coming
+  pub outer : All (WaitsIn used) v.outer
 
 -- whoever has the tier's turn has to bring it home with so many columns
 abbrev pub BringsHome : (cells used : ℕ) → View → Type 0
@@ -72,6 +78,7 @@ pub record Stops (cells : ℕ) (words : List ℕ) (views : List View) : Type 0 w
 pub record Holds (key : Key) (s : State Slot View) : Type 0 where
   pub long : length s.words ≡ all_words (cells_of key) key.columns
   pub deep : length s.homes ≡ suc (cells_of key)
+  pub small : key.columns < 2 ^ 31
   pub used : ℕ
   pub clock : Clock key.columns used s.words s.views
   pub turns : Turns (cells_of key) s.words s.views

@@ -1,5 +1,5 @@
--- A token's log and where its strand stands in it, and what each draw adds to it.
-use Rattle.std.specs.Prelude.{ℕ, ℤ, ◌+◌, ◌<◌, ◌≤◌, ◌^◌, ◌==◌, Bool, true, false, List, [], ◌∷◌, ◌++◌, length, vec_len, vec_capacity, if◌then◌else◌}
+-- A token's log and where its strand stands in it, and what each step makes of that.
+use Rattle.std.specs.Prelude.{ℕ, ℤ, ◌+◌, ◌<◌, ◌≤◌, ◌^◌, ◌==◌, Bool, true, false, List, [], ◌∷◌, ◌++◌, length, reverse, vec_len, vec_capacity, Option, Some, None, IsTrue, is_some, find, if◌then◌else◌}
 use Rattle.cw_tree.specs.declared.node.Node.{Node}
 use Rattle.cw_tree.specs.declared.node.Kind.{Kind}
 use Rattle.cw_tree.specs.declared.node.Kind.TheVariants.{Strand, Fork, Block, Read, Write, Tried}
@@ -8,37 +8,83 @@ use Rattle.cw_tree.specs.declared.node.BlockState.{BlockState}
 use Rattle.cw_tree.specs.declared.node.BlockState.TheVariants.{Committed, Aborted}
 use Rattle.cw_tree.specs.declared.conflict.Conflict.{Conflict}
 use Rattle.cw_tree.specs.Nodes.{parent_of, fresh_node, closed}
+use Rattle.cw_log.specs.declared.log.Log.{Log}
+use Rattle.cw_log.specs.declared.token.Side.{Side}
+use Rattle.cw_log.specs.declared.token.Side.TheVariants.{Beside, First, Second}
 use Rattle.cw_steps.specs.declared.track.Track.{Track}
 use Rattle.cw_steps.specs.declared.track.Stood.{Stood}
+use Rattle.cw_steps.specs.declared.track.Ahead.{Ahead}
+use Rattle.cw_log.specs.declared.token.Stop.{Stop}
+use Rattle.cw_tree.specs.declared.closed.Halt.{Halt}
+use Rattle.cw_steps.specs.declared.view.Coming.{Coming}
+use Rattle.cw_steps.specs.declared.view.Whereabouts.{Whereabouts}
 use Rattle.cw_steps.specs.declared.draw.Draw.{Draw}
 use Rattle.cw_steps.specs.declared.draw.Draw.TheVariants as draw
 use Rattle.cw_steps.specs.declared.draw.Home.{Home}
 use Rattle.cw_steps.specs.declared.draw.Home.TheVariants as home
 
--- What is seen of a track
+-- What is seen of a track; the strands that wait are listed innermost first
 pub record TrackParts : Type 0 where
-  pub nodes : List Node
-  pub conflicts : List Conflict
+  pub own : Log
+  pub joined : List Log
   pub strand : ℕ
   pub place : ℕ
   pub column : ℕ
   pub gap : ℕ
   pub word : ℕ
   pub outer : List Stood
+  pub ahead : Option Ahead
+  pub behind : ℕ
+  pub second : Bool
 
 abbrev pub track_of : Track → TrackParts
-track_of c = record { nodes = c.nodes.items; conflicts = c.conflicts.items; strand = c.strand; place = c.place; column = c.column; gap = c.gap; word = c.word; outer = c.outer.items }
+track_of c = record {
+  own = record { column = c.first; from = c.from; fork = c.fork; nodes = c.nodes.items; conflicts = c.conflicts.items };
+  joined = c.joined;
+  strand = c.strand;
+  place = c.place;
+  column = c.column;
+  gap = c.gap;
+  word = c.word;
+  outer = reverse c.outer.items;
+  ahead = c.ahead;
+  behind = c.behind;
+  second = c.second;
+}
 
--- it has room for so many nodes, conflicts and forks more
+-- it has room for so many nodes, conflicts and forks more, and for one right strand
 pub record IsReady (c : Track) (n : ℕ) : Type 0 where
   pub few : length c.nodes.items + n < 2 ^ 32
   pub nodes : vec_len c.nodes + n ≤ vec_capacity c.nodes
   pub conflicts : vec_len c.conflicts + n ≤ vec_capacity c.conflicts
   pub forks : vec_len c.outer + n ≤ vec_capacity c.outer
 
+-- it has room for what a right strand begins with
+abbrev pub CanPart : Track → Type 0
+CanPart c = IsTrue (is_some c.spare)
+
+-- it may be taken in by another token's list
+abbrev pub HasRoom : Track → Type 0
+HasRoom c = IsTrue (is_some c.room)
+
+abbrev pub fresh_log : (column from fork : ℕ) → Log
+fresh_log column from fork = record { column = column; from = from; fork = fork; nodes = fresh_node 0 Strand 0 ∷ []; conflicts = [] }
+
 -- nothing was done yet
-abbrev pub fresh_track : (column gap : ℕ) → TrackParts
-fresh_track column gap = record { nodes = fresh_node 0 Strand 0 ∷ []; conflicts = []; strand = 0; place = 0; column = column; gap = gap; word = 0; outer = [] }
+abbrev pub fresh_track : (column from fork gap : ℕ) → TrackParts
+fresh_track column from fork gap = record {
+  own = fresh_log column from fork;
+  joined = [];
+  strand = 0;
+  place = 0;
+  column = column;
+  gap = gap;
+  word = 0;
+  outer = [];
+  ahead = None;
+  behind = 0;
+  second = false;
+}
 
 -- ## What each draw makes of it
 
@@ -50,36 +96,56 @@ abbrev pub state_of_end : Bool → BlockState
 state_of_end true = Aborted
 state_of_end false = Committed
 
+abbrev pub with_nodes : TrackParts → List Node → TrackParts
+with_nodes c ns = record c { own = record c.own { nodes = ns } }
+
+-- a draw is made behind all forks that it went behind
+abbrev pub settled : TrackParts → TrackParts
+settled c = record c { behind = 0; second = false }
+
 -- a node more in its place
 abbrev pub made_at : TrackParts → Kind → (stamp : ℕ) → TrackParts
-made_at c k stamp = record c { nodes = c.nodes ++ fresh_node c.place k stamp ∷ [] }
+made_at c k stamp = with_nodes c (c.own.nodes ++ fresh_node c.place k stamp ∷ [])
 
 -- a block more in its place, in which it goes on
 abbrev pub begun : TrackParts → (stamp : ℕ) → TrackParts
-begun c stamp = record c { nodes = c.nodes ++ fresh_node c.place Block stamp ∷ []; place = length c.nodes }
+begun c stamp = record (made_at c Block stamp) { place = length c.own.nodes }
 
 -- the block in its place is closed, and it goes on behind that
 abbrev pub closed_at : TrackParts → BlockState → (end : ℕ) → TrackParts
-closed_at c state end = record c { nodes = closed c.nodes c.place state end; place = parent_of c.nodes c.place }
+closed_at c state end = record (with_nodes c (closed c.own.nodes c.place state end)) { place = parent_of c.own.nodes c.place }
 
--- how many strands of a fork get a node of this log: both where they share a column
-abbrev pub strands_in : (left right n : ℕ) → List Node
-strands_in left right n = if left == right then fresh_node n Strand 0 ∷ fresh_node n Strand 0 ∷ [] else fresh_node n Strand 0 ∷ []
+module _ (shared : Bool) where
+  -- how many strands of fork n get a node of this log: both where they share a column
+  abbrev pub strands_in : ℕ → List Node
+  strands_in n = if shared then fresh_node n Strand 0 ∷ fresh_node n Strand 0 ∷ [] else fresh_node n Strand 0 ∷ []
 
--- a fork more with its left strand, in which it goes on, and with its right one too where both share a column; the word of a gap of a new column is 0
+  abbrev pub side_in : (n left : ℕ) → Side
+  side_in n left = if shared then First (n + 2) else Beside left
+
+  abbrev pub word_in : ℕ → ℕ
+  word_in word = if shared then word else 0
+
+  abbrev pub ahead_in : (n left right gap : ℕ) → Option Ahead → Option Ahead
+  ahead_in n left right gap old = if shared then old else Some (record { fork = left; node = n; column = right; gap = gap })
+
+  -- a fork more with its left strand, in which it goes on, and with its right one too where both share a column; the word of a gap of a new
+  -- column is 0
+  abbrev pub forked_in : TrackParts → (left right gap stamp : ℕ) → TrackParts
+  forked_in c left right gap stamp =
+      let n = length c.own.nodes in
+      record (with_nodes c (c.own.nodes ++ fresh_node c.place Fork stamp ∷ strands_in n)) {
+        strand = n + 1;
+        place = n + 1;
+        column = left;
+        gap = gap;
+        word = word_in c.word;
+        outer = record { side = side_in n left; strand = c.strand; place = c.place; column = c.column; gap = c.gap; word = c.word } ∷ c.outer;
+        ahead = ahead_in n left right gap c.ahead;
+      }
+
 abbrev pub forked_at : TrackParts → (left right gap stamp : ℕ) → TrackParts
-forked_at c left right gap stamp =
-    let n = length c.nodes in
-    record {
-      nodes = c.nodes ++ fresh_node c.place Fork stamp ∷ strands_in left right n;
-      conflicts = c.conflicts;
-      strand = n + 1;
-      place = n + 1;
-      column = left;
-      gap = gap;
-      word = (if left == right then c.word else 0);
-      outer = c.outer ++ record { strand = c.strand; place = c.place; column = c.column; gap = c.gap; word = c.word } ∷ [];
-    }
+forked_at c left right gap stamp = forked_in (left == right) c left right gap stamp
 
 -- so many nodes a draw adds at most
 abbrev pub added : Draw → ℕ
@@ -90,11 +156,11 @@ added draw.Begin = 1
 added (draw.End aborted) = 0
 
 abbrev pub drawn : Draw → (stamp : ℕ) → TrackParts → TrackParts
-drawn (draw.Access c wrote v) stamp x = made_at x (kind_of_access c wrote v) stamp
-drawn (draw.Fork left right gap) stamp x = forked_at x left right gap stamp
-drawn (draw.Out v) stamp x = made_at x (kind.Out v) stamp
-drawn draw.Begin stamp x = begun x stamp
-drawn (draw.End aborted) stamp x = closed_at x (state_of_end aborted) stamp
+drawn (draw.Access c wrote v) stamp x = made_at (settled x) (kind_of_access c wrote v) stamp
+drawn (draw.Fork left right gap) stamp x = forked_at (settled x) left right gap stamp
+drawn (draw.Out v) stamp x = made_at (settled x) (kind.Out v) stamp
+drawn draw.Begin stamp x = begun (settled x) stamp
+drawn (draw.End aborted) stamp x = closed_at (settled x) (state_of_end aborted) stamp
 
 -- the word of its gap was written
 abbrev pub with_word : (word : ℕ) → TrackParts → TrackParts
@@ -105,8 +171,10 @@ with_word x c = record c { word = x }
 -- a refused access more, with its conflict
 abbrev pub refused_at : TrackParts → Conflict → TrackParts
 refused_at c x = record c {
-  nodes = c.nodes ++ fresh_node c.place (Tried x.cell) 0 ∷ [];
-  conflicts = c.conflicts ++ record x { asker = length c.nodes } ∷ [];
+  own = record c.own {
+    nodes = c.own.nodes ++ fresh_node c.place (Tried x.cell) 0 ∷ [];
+    conflicts = c.own.conflicts ++ record x { asker = length c.own.nodes } ∷ [];
+  };
 }
 
 abbrev pub brought : Home → TrackParts → TrackParts
@@ -124,3 +192,80 @@ added_home home.Plain = 0
 added_home (home.Merge fork used) = 0
 added_home (home.Inline used) = 0
 added_home (home.Early before used) = 0
+
+-- ## What its seat's view has of it
+
+abbrev pub coming_of : Option Ahead → Option Coming
+coming_of None = None
+coming_of (Some a) = Some (record { fork = a.fork; column = a.column; gap = a.gap })
+
+abbrev pub halt_of : Option Stop → Option Halt
+halt_of None = None
+halt_of (Some x) = Some x.halt
+
+abbrev pub put_first : Side → Stood → List Whereabouts → List Whereabouts
+put_first (Beside fork) o ws = record { column = o.column; gap = o.gap; word = o.word } ∷ ws
+put_first (First right) o ws = ws
+put_first Second o ws = ws
+
+-- the strands that wait for forks with two tokens
+abbrev pub outer_of : List Stood → List Whereabouts
+outer_of [] = []
+outer_of (o ∷ os) = put_first o.side o (outer_of os)
+
+-- ## From one strand of a fork to the next
+
+-- from the left strand of an inline fork to the right one, and from there to the strand that forked
+abbrev pub turned_on : TrackParts → Stood → List Stood → Side → TrackParts
+turned_on c o os (Beside fork) = c
+turned_on c o os (First right) = record c { strand = right; place = right; outer = record o { side = Second } ∷ os; second = true }
+turned_on c o os Second = record c { strand = o.strand; place = o.place; outer = os; behind = c.behind + 1; second = false }
+
+abbrev pub turned_by : TrackParts → List Stood → TrackParts
+turned_by c [] = c
+turned_by c (o ∷ os) = turned_on c o os o.side
+
+abbrev pub turned : TrackParts → TrackParts
+turned c = turned_by c c.outer
+
+abbrev pub column_or : Option Stood → ℕ
+column_or None = 0
+column_or (Some o) = o.column
+
+-- the column of a strand in which it stands, its own or one that waits, or 0
+abbrev pub column_in : TrackParts → (strand : ℕ) → ℕ
+column_in c n = if n == c.strand then c.column else column_or (find (λ (o : Stood). o.strand == n) c.outer)
+
+-- ## Tokens split off and taken in
+
+-- the token of the right strand was split off
+abbrev pub parted : TrackParts → TrackParts
+parted c = record (settled c) { ahead = None }
+
+-- the right strand, before it has done anything; its log hangs from the log with the column `from`
+abbrev pub right_track : (from : ℕ) → Option Ahead → TrackParts
+right_track from None = fresh_track 0 from 0 0
+right_track from (Some a) = fresh_track a.column from a.node a.gap
+
+-- of a token that only carries a note
+abbrev pub note_track : (column gap : ℕ) → TrackParts
+note_track column gap = record (fresh_track column 0 0 gap) { own = record (fresh_log column 0 0) { nodes = [] } }
+
+-- where the innermost strand stands that waits
+abbrev pub stood_by : TrackParts → List Stood → TrackParts
+stood_by c [] = c
+stood_by c (o ∷ os) = record c { strand = o.strand; place = o.place; column = o.column; gap = o.gap; word = o.word; outer = os }
+
+-- the innermost strand waits for a fork whose right strand has a token of its own
+abbrev pub IsBeside : Side → Type 0
+IsBeside (Beside fork) = Unit {0}
+IsBeside (First right) = ⊥
+IsBeside Second = ⊥
+
+abbrev pub WaitsBeside : List Stood → Type 0
+WaitsBeside [] = ⊥
+WaitsBeside (o ∷ os) = IsBeside o.side
+
+-- the strand that forked, with the logs of both
+abbrev pub taken_in : (left right : TrackParts) → TrackParts
+taken_in c d = record (stood_by (settled c) c.outer) { joined = c.joined ++ d.own ∷ d.joined }

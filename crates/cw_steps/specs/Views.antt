@@ -1,8 +1,10 @@
 -- What a token knows, and what each step makes of that.
-use Rattle.std.specs.Prelude.{◌≡◌, ℕ, ℤ, zero, suc, ◌+◌, ◌-◌, ◌*◌, ◌^◌, ◌<◌, ◌≤◌, ◌==◌, ◌||◌, nat_lt, true, false, All, List, [], ◌∷◌, length, Option, Some, None, if◌then◌else◌}
+use Rattle.std.specs.Prelude.{◌≡◌, ℕ, ℤ, zero, suc, ◌+◌, ◌-◌, ◌*◌, ◌^◌, ◌<◌, ◌≤◌, ◌==◌, ◌||◌, nat_lt, Bool, true, false, All, List, [], ◌∷◌, length, max, drop, Option, Some, None, if◌then◌else◌}
 use Rattle.atomic_table.specs.Table.{Me, Step, rest}
 use Rattle.cw_tree.specs.declared.access.Entry.{Entry}
 use Rattle.cw_tree.specs.declared.closed.Halt.{Halt}
+use Rattle.cw_log.specs.declared.token.Phase.{Phase}
+use Rattle.cw_log.specs.declared.token.Phase.TheVariants.{Going, Waiting, Over, Parted}
 use Rattle.cw_stack.specs.Cells.{CellParts}
 use Rattle.cw_trace.specs.Traces.{Traces}
 use Rattle.cw_trace.specs.Columns as columns
@@ -15,7 +17,7 @@ use Rattle.cw_steps.specs.declared.view.Key.{Key}
 use Rattle.cw_steps.specs.declared.view.Slot.{Slot}
 use Rattle.cw_steps.specs.declared.view.Slot.TheVariants as slot
 use Rattle.cw_steps.specs.declared.view.Coming.{Coming}
-use Rattle.cw_steps.specs.declared.view.Stage.TheVariants.{Goes, Stopped}
+use Rattle.cw_steps.specs.declared.view.Whereabouts.{Whereabouts}
 use Rattle.cw_steps.specs.declared.view.Turn.{Turn}
 use Rattle.cw_steps.specs.declared.view.View.{View}
 use Rattle.cw_steps.specs.declared.table.Shared.{Shared}
@@ -28,31 +30,42 @@ cells_of key = length key.first
 abbrev pub share : ℕ
 share = 2 ^ 33
 
--- the root's view at the start
-abbrev pub root_view : View
-root_view = record {
+-- the view of a strand that has done nothing
+abbrev pub new_view : (column gap fork seen room owns : ℕ) → (around : List ℕ) → Phase → View
+new_view column gap fork seen room owns around phase = record {
   here = true;
-  stage = Goes;
-  strand = 0;
-  column = 0;
-  gap = 0;
+  column = column;
+  gap = gap;
   word = 0;
-  begun = [];
+  arounds = around ∷ [];
   outer = [];
   coming = None;
+  fork = fork;
+  split = false;
+  phase = phase;
   drawn = 0;
   ends = false;
   undoing = false;
-  seen = 0;
+  seen = seen;
   turns = [];
   clear = false;
   found = None;
   halt = None;
   told = false;
-  room = share;
+  notes = [];
+  room = room;
+  owns = owns;
   logs = [];
   lent = [];
 }
+
+-- the root's view at the start
+abbrev pub root_view : View
+root_view = new_view 0 0 0 0 share 1 [] Going
+
+-- a word was read or written
+abbrev pub noted_view : (word value : ℕ) → View → View
+noted_view word value v = record v { notes = record { word = word; value = value } ∷ v.notes }
 
 -- ## Turns
 
@@ -132,6 +145,31 @@ cell_in (slot.Cell c) = Some c
 cell_in (slot.Tier t) = None
 cell_in slot.Empty = None
 
+-- ## Around a place
+
+-- the blocks around the place itself
+abbrev pub innermost : List (List ℕ) → List ℕ
+innermost [] = []
+innermost (w ∷ ws) = w
+
+-- and around those further out
+abbrev pub outwards : List (List ℕ) → List (List ℕ)
+outwards [] = []
+outwards (w ∷ ws) = ws
+
+-- behind so many forks
+abbrev pub gone_behind : ℕ → List (List ℕ) → List (List ℕ)
+gone_behind zero ws = ws
+gone_behind (suc n) ws = outwards (gone_behind n ws)
+
+-- and into the right strand of the next
+abbrev pub gone_over : Bool → List (List ℕ) → List (List ℕ)
+gone_over false ws = ws
+gone_over true ws = innermost (outwards ws) ∷ outwards ws
+
+abbrev pub caught_up : (behind : ℕ) → (second : Bool) → List (List ℕ) → List (List ℕ)
+caught_up n b ws = gone_over b (gone_behind n ws)
+
 -- ## Draws
 
 -- so many columns a fork takes: two, or none where both strands share one
@@ -168,7 +206,7 @@ word_after (draw.End aborted) own = own
 
 -- the right strand of a fork with two columns has a seat of its own to come
 abbrev pub coming_for : (left right gap : ℕ) → Option Coming → Option Coming
-coming_for left right gap old = if left == right then old else Some (record { fork = 0; strand = 0; column = right; gap = gap })
+coming_for left right gap old = if left == right then old else Some (record { fork = left; column = right; gap = gap })
 
 abbrev pub coming_after : Draw → Option Coming → Option Coming
 coming_after (draw.Fork left right gap) old = coming_for left right gap old
@@ -184,14 +222,44 @@ turns_after (draw.Out v) ts = ts
 turns_after draw.Begin ts = ts
 turns_after (draw.End aborted) ts = ts
 
+-- a strand waits for a fork with two columns
+abbrev pub outer_for : (left right : ℕ) → View → List Whereabouts
+outer_for left right v = if left == right then v.outer else record { column = v.column; gap = v.gap; word = v.word } ∷ v.outer
+
+abbrev pub outer_after : Draw → View → List Whereabouts
+outer_after (draw.Fork left right gap) v = outer_for left right v
+outer_after (draw.Access c wrote x) v = v.outer
+outer_after (draw.Out x) v = v.outer
+outer_after draw.Begin v = v.outer
+outer_after (draw.End aborted) v = v.outer
+
+-- a begin's stamp is around what comes next, and an end takes the innermost away; the blocks around a fork are around its strands
+abbrev pub arounds_after : Draw → (number : ℕ) → List (List ℕ) → List (List ℕ)
+arounds_after (draw.Fork left right gap) n ws = innermost ws ∷ ws
+arounds_after (draw.Access c wrote x) n ws = ws
+arounds_after (draw.Out x) n ws = ws
+arounds_after draw.Begin n ws = (n ∷ innermost ws) ∷ outwards ws
+arounds_after (draw.End aborted) n ws = drop 1 (innermost ws) ∷ outwards ws
+
+-- one of two columns of a fork is that of a log to come
+abbrev pub owns_after : Draw → ℕ → ℕ
+owns_after (draw.Fork left right gap) own = own + (if left == right then 0 else 1)
+owns_after (draw.Access c wrote v) own = own
+owns_after (draw.Out v) own = own
+owns_after draw.Begin own = own
+owns_after (draw.End aborted) own = own
+
 -- after a draw: the number is the greatest seen; a fork takes its columns, with their numbers, and the left strand goes on
-abbrev pub drew_view : Draw → (number : ℕ) → View → View
-drew_view d n v = record v {
+abbrev pub drew_view : Draw → (behind : ℕ) → (second : Bool) → (number : ℕ) → View → View
+drew_view d behind second n v = record v {
   seen = n;
   room = v.room - 1 + share * columns_more d;
+  owns = owns_after d v.owns;
   column = column_after d v.column;
   gap = gap_after d v.gap;
   word = word_after d v.word;
+  arounds = arounds_after d n (caught_up behind second v.arounds);
+  outer = outer_after d v;
   coming = coming_after d v.coming;
   turns = turns_after d v.turns;
 }
@@ -234,21 +302,96 @@ gap_home (home.Merge fork used) column gap = gap
 gap_home (home.Inline used) column gap = gap
 gap_home (home.Early before used) column gap = gap
 
+-- which is then split, and goes on; and so does a strand whose fork's traces were merged
+abbrev pub split_home : Home → Bool → Bool
+split_home (home.Split fork used) b = true
+split_home home.Plain b = b
+split_home (home.Refused c) b = b
+split_home (home.Merge fork used) b = b
+split_home (home.Inline used) b = b
+split_home (home.Early before used) b = b
+
+abbrev pub phase_home : Home → Phase → Phase
+phase_home (home.Split fork used) x = Going
+phase_home home.Plain x = x
+phase_home (home.Refused c) x = x
+phase_home (home.Merge fork used) x = Going
+phase_home (home.Inline used) x = x
+phase_home (home.Early before used) x = x
+
 abbrev pub gave_view : Home → View → View
-gave_view h v = record v { gap = gap_home h v.column v.gap; turns = older v.turns }
+gave_view h v = record v { gap = gap_home h v.column v.gap; split = split_home h v.split; phase = phase_home h v.phase; turns = older v.turns }
 
 -- ## Gap words and halts
 
 -- the word of its own gap was written
-abbrev pub marked_view : (word : ℕ) → View → View
-marked_view x v = record v { word = x }
+abbrev pub marked_view : (word value : ℕ) → View → View
+marked_view w x v = noted_view w x (record v { word = x })
 
-abbrev pub halted_view : Halt → View → View
-halted_view h v = record v { stage = Stopped; halt = Some h }
+-- the stop word was set
+abbrev pub halted_view : (word : ℕ) → Halt → View → View
+halted_view w h v = noted_view w 1 (record v { halt = Some h })
 
 -- the stop word was found
-abbrev pub told_view : (word : ℕ) → View → View
-told_view n v = record v { told = v.told || nat_lt 0 n }
+abbrev pub told_view : (word value : ℕ) → View → View
+told_view w n v = noted_view w n (record v { told = v.told || nat_lt 0 n })
+
+-- ## Seats split off and joined
+
+-- the right strand waits, with the numbers of its column
+abbrev pub right_view : Option Coming → (around : List ℕ) → View → View
+right_view None around v = new_view v.column v.gap 0 v.seen share 1 around Waiting
+right_view (Some c) around v = new_view c.column c.gap c.fork v.seen share 1 around Waiting
+
+-- it tells a right strand that its left one has ended, and is for nothing else
+abbrev pub note_view : View → View
+note_view v = record (new_view v.column v.gap 0 0 0 0 [] Over) { here = false }
+
+-- the left strand goes on, or where its right one is taken back it is over
+abbrev pub parted_view : (take_back : Bool) → (behind : ℕ) → (second : Bool) → View → View
+parted_view true behind second v = record v { phase = Over }
+parted_view false behind second v = record v { coming = None; arounds = caught_up behind second v.arounds; room = v.room - share; owns = v.owns - 1 }
+
+abbrev pub new_seat_view : (take_back : Bool) → (behind : ℕ) → (second : Bool) → View → View
+new_seat_view true behind second v = note_view v
+new_seat_view false behind second v = right_view v.coming (innermost (caught_up behind second v.arounds)) v
+
+-- where the innermost strand stands that waits
+abbrev pub stood_at : View → List Whereabouts → Whereabouts
+stood_at v [] = record { column = v.column; gap = v.gap; word = v.word }
+stood_at v (o ∷ os) = o
+
+abbrev pub further_out : List Whereabouts → List Whereabouts
+further_out [] = []
+further_out (o ∷ os) = os
+
+abbrev pub kept_halt : Option Halt → Option Halt → Option Halt
+kept_halt None h = h
+kept_halt (Some x) h = Some x
+
+-- the left strand with the right one: the strand that forked, which owes a merge where that fork was split
+abbrev pub both_view : (behind : ℕ) → (second : Bool) → View → View → View
+both_view behind second v w = record v {
+  column = (stood_at v v.outer).column;
+  gap = (stood_at v v.outer).gap;
+  word = (stood_at v v.outer).word;
+  outer = further_out v.outer;
+  arounds = outwards (caught_up behind second v.arounds);
+  phase = (if w.split then Parted w.fork else Going);
+  seen = max v.seen w.seen;
+  halt = kept_halt v.halt w.halt;
+  told = v.told || w.told;
+  room = v.room + w.room;
+  owns = v.owns + w.owns;
+}
+
+-- a seat with another; one that is not here is but a note, by which a right strand goes on
+abbrev pub joined_view : (behind : ℕ) → (second : Bool) → View → View → View
+joined_view behind second v w = if w.here then both_view behind second v w else record v { phase = Going }
+
+-- a seat that was joined away
+abbrev pub spent_view : View
+spent_view = record (new_view 0 0 0 0 0 0 [] Over) { here = false }
 
 -- ## At the start
 
@@ -258,35 +401,47 @@ fresh_slot v = slot.Cell (record { first = v; entries = []; cleaned = 0; room = 
 
 -- ## What steps tell
 
-abbrev pub drew : Draw → Step Slot → Me Slot View → ℕ → Me Slot View → Type 0
-drew d st me n me' = (n + 1 < 2 ^ 64) × (me.0.seen ≤ n) × (me' ≡ (drew_view d (n + 1) me.0, me.1))
+abbrev pub drew : Draw → (behind : ℕ) → (second : Bool) → Step Slot → Me Slot View → ℕ → Me Slot View → Type 0
+drew d behind second st me n me' = (n + 1 < 2 ^ 64) × (me.0.seen ≤ n) × (me' ≡ (drew_view d behind second (n + 1) me.0, me.1))
 
--- the slot was at home where the turn was free
+-- the slot was at home where the turn was free; the seat's column and gap are among those in use
 pub record TakesIt (key : Key) (aim : Aim) (n : ℕ) (me me' : Me Slot View) : Type 0 where
   pub lay : Slot
   pub used : ℕ
   pub clock : ℕ
   pub later : me.0.seen ≤ clock
+  pub few : used ≤ key.columns
+  pub column : me.0.column < used
+  pub gap : me.0.gap < used
   pub after : me' ≡ (took_view n aim lay used clock me.0, (n, lay) ∷ me.1)
   pub whole : IsWhole key clock used n lay
+
+-- the word was found to be taken
+abbrev pub LeavesIt : (word : ℕ) → (me me' : Me Slot View) → Type 0
+LeavesIt word me me' = (value : ℕ) × (0 < value) × (me' ≡ (noted_view word value me.0, me.1))
 
 -- the number found in the word of a turn is 0 where it was free
 abbrev pub took : Key → Aim → (n : ℕ) → Step Slot → Me Slot View → ℕ → Me Slot View → Type 0
 took key aim n st me zero me' = TakesIt key aim n me me'
-took key aim n st me (suc k) me' = me' ≡ me
+took key aim n st me (suc k) me' = LeavesIt st.word me me'
 
 abbrev pub gave : Home → Step Slot → Me Slot View → ℕ → Me Slot View → Type 0
 gave h st me n me' = me' ≡ (gave_view h me.0, rest me.1)
 
 abbrev pub marked : Step Slot → Me Slot View → ℕ → Me Slot View → Type 0
-marked st me n me' = me' ≡ (marked_view n me.0, me.1)
+marked st me n me' = me' ≡ (marked_view st.word n me.0, me.1)
 
+-- the stop word is set to 1
 abbrev pub halted : Halt → Step Slot → Me Slot View → ℕ → Me Slot View → Type 0
-halted h st me n me' = me' ≡ (halted_view h me.0, me.1)
+halted h st me n me' = (n ≡ 1) × (me' ≡ (halted_view st.word h me.0, me.1))
 
 abbrev pub told : Step Slot → Me Slot View → ℕ → Me Slot View → Type 0
-told st me n me' = me' ≡ (told_view n me.0, me.1)
+told st me n me' = me' ≡ (told_view st.word n me.0, me.1)
 
 -- the rule says nothing yet of what a gap word is
 abbrev pub found : Step Slot → Me Slot View → ℕ → Me Slot View → Type 0
-found st me n me' = me' ≡ me
+found st me n me' = me' ≡ (noted_view st.word n me.0, me.1)
+
+-- it owns few columns
+abbrev pub weighed : Step Slot → Me Slot View → ℕ → Me Slot View → Type 0
+weighed st me n me' = (me.0.owns < 2 ^ 31) × (me' ≡ me)

@@ -3,8 +3,9 @@ ghost use Rattle.std.specs.Prelude.{◌≡◌, ℕ, suc, ◌+◌, ◌<◌, ◌�
 ghost use Rattle.atomic_table.specs.Table.{rest};
 ghost use Rattle.cw_steps.specs.Tracks.{added, added_home, brought, track_of, drawn, IsReady};
 ghost use Rattle.cw_steps.specs.Places as places;
+ghost use Rattle.cw_steps.specs.Stands.{brought_token, drawn_token, token_of, EndsBlock};
 ghost use Rattle.cw_steps.specs.declared.view.Slot.TheVariants as slot_of;
-ghost use Rattle.cw_steps.specs.Views.{cells_of, cell_in, drew_view, gave_view, held_by, key_of, newest_slot, newest_used, slot_with, view_of, CanDraw, Holding, IsTokenOf, IsWhole, TakesIt};
+ghost use Rattle.cw_steps.specs.Views.{cells_of, cell_in, drew_view, gave_view, held_by, key_of, newest_slot, newest_used, slot_with, view_of, CanDraw, Holding, IsTokenOf, IsWhole, LeavesIt, TakesIt};
 
 use crate::draw::{Aim, Draw, Home};
 use crate::law::{Drawing, Draws, Gives, Giving, Takes, Taking, TokenSeat, Words};
@@ -15,17 +16,26 @@ use cw_stack::Cell;
 use cw_trace::Tier;
 use std::marker::Brand;
 
-fn draw_as<W: Drawing>(table: &Words, seat: &mut TokenSeat, what: &Draw, place: u32) -> u64
-    requires what { (W.what ≡ what.now) × (W.place ≡ place) }
+fn draw_as<W: Drawing>(
+    table: &Words,
+    seat: &mut TokenSeat,
+    what: &Draw,
+    place: u32,
+    behind: u32,
+    second: bool,
+) -> u64
+    requires what { (W.what ≡ what.now) × (W.place ≡ place) × (W.behind ≡ behind) × (W.second ≡ second) }
     requires table { (seat.old.table_id ≡ table.now.table_id) × (0 < table.now.table_id.words) }
     requires number { 0 < seat.old.me.0.room }
     requires fits { CanDraw table.now.key seat.old.me.0 what.now }
     ensures table { (seat.new.table_id ≡ seat.old.table_id) × (seat.new.id ≡ seat.old.id) }
     ensures later { seat.old.me.0.seen < result }
-    ensures seat { seat.new.me ≡ (drew_view what.now result seat.old.me.0, seat.old.me.1) }
+    ensures seat { seat.new.me ≡ (drew_view what.now behind second result seat.old.me.0, seat.old.me.1) }
 {
     let _ = what;
     let _ = place;
+    let _ = behind;
+    let _ = second;
     let found = table.fetch_add::<Draws<W>>(seat, CLOCK, 1);
     found + 1
 }
@@ -36,7 +46,7 @@ fn take_as<W: Taking>(table: &Words, seat: &mut TokenSeat, slot: u32, aim: Aim, 
     requires there { slot ≤ cells_of table.now.key }
     ensures table { (seat.new.table_id ≡ seat.old.table_id) × (seat.new.id ≡ seat.old.id) }
     ensures taken { result ≡ true → TakesIt table.now.key aim slot seat.old.me seat.new.me }
-    ensures refused { result ≡ false → seat.new.me ≡ seat.old.me }
+    ensures refused { result ≡ false → LeavesIt (places.turn_word slot) seat.old.me seat.new.me }
 {
     let _ = aim;
     let _ = place;
@@ -60,35 +70,54 @@ fn give_as<W: Giving>(table: &Words, seat: &mut TokenSeat, slot: u32, home: &Hom
 }
 
 impl Shared {
+    /// The number of cells, by which the tier's slot is named.
+    pub fn cells(&self) -> u32
+        ensures { result ≡ cells_of (key_of self.now) }
+    {
+        self.cells
+    }
+
     /// Draws a number, and adds to the token's log what it was drawn for.
-    #[tactic(auto, using(crate::proofs::Tracks::drawn_column, crate::proofs::Tracks::drawn_gap, crate::proofs::Tracks::drawn_word))]
     pub fn draw(&self, token: &mut StrandToken, what: Draw) -> u64
         requires table { IsTokenOf self.now token.old }
         requires number { 0 < (view_of token.old).room }
         requires fits { CanDraw (key_of self.now) (view_of token.old) what }
+        requires block { EndsBlock what (token_of token.old) }
         requires ready { IsReady token.old.track (added what) }
         ensures table { IsTokenOf self.now token.new }
         ensures later { (view_of token.old).seen < result }
-        ensures view { view_of token.new ≡ drew_view what result (view_of token.old) }
+        ensures view { view_of token.new ≡ drew_view what token.old.track.behind token.old.track.second result (view_of token.old) }
         ensures slots { held_by token.new ≡ held_by token.old }
         ensures track { track_of token.new.track ≡ drawn what result (track_of token.old.track) }
+        ensures stop { token.new.stop ≡ token.old.stop }
+        ensures token { token_of token.new ≡ drawn_token what result (token_of token.old) }
         ensures ready { (n : ℕ) → IsReady token.old.track (added what + n) → IsReady token.new.track n }
+        ensures kept { (token.new.track.spare ≡ token.old.track.spare) × (token.new.track.room ≡ token.old.track.room) }
     {
         let StrandToken { seat, track, .. } = token;
-        let number = draw_as::<Brand>(&self.table.shared, seat, &what, track.place);
+        let number = draw_as::<Brand>(
+            &self.table.shared,
+            seat,
+            &what,
+            track.place,
+            track.behind,
+            track.second,
+        );
         track.draw(&what, number);
         number
     }
 
-    /// Tries to take the turn of a slot, and with it what lies there. True where it got that; else nothing changed. That somebody had the turn
-    /// then is not stated yet.
+    /// Tries to take the turn of a slot, and with it what lies there. True where it got that; else nothing changed, and the turn was found to be
+    /// taken.
     pub fn take(&self, token: &mut StrandToken, slot: u32, aim: Aim) -> bool
         requires table { IsTokenOf self.now token.old }
         requires there { slot ≤ cells_of (key_of self.now) }
         ensures table { IsTokenOf self.now token.new }
         ensures taken { result ≡ true → TakesIt (key_of self.now) aim slot token.old.seat.me token.new.seat.me }
-        ensures refused { result ≡ false → token.new.seat.me ≡ token.old.seat.me }
+        ensures refused { result ≡ false → LeavesIt (places.turn_word slot) token.old.seat.me token.new.seat.me }
         ensures track { token.new.track ≡ token.old.track }
+        ensures stop { token.new.stop ≡ token.old.stop }
+        ensures token { token_of token.new ≡ token_of token.old }
     {
         let StrandToken { seat, track, .. } = token;
         take_as::<Brand>(&self.table.shared, seat, slot, aim, track.place)
@@ -103,6 +132,7 @@ impl Shared {
         ensures out { (y : _) × (held_by token.old ≡ (cell, y) ∷ rest (held_by token.old)) × (result ≡ cell_in y) }
         ensures slots { held_by token.new ≡ (cell, slot_with new) ∷ rest (held_by token.old) }
         ensures track { token.new.track ≡ token.old.track }
+        ensures token { token_of token.new ≡ token_of token.old }
     {
         let slot = match new {
             Some(cell) => Slot::Cell(cell),
@@ -124,6 +154,7 @@ impl Shared {
         ensures out { held_by token.old ≡ (cells_of (key_of self.now), slot_of.Tier result) ∷ rest (held_by token.old) }
         ensures slots { held_by token.new ≡ (cells_of (key_of self.now), slot_of.Empty) ∷ rest (held_by token.old) }
         ensures track { token.new.track ≡ token.old.track }
+        ensures token { token_of token.new ≡ token_of token.old }
     {
         let StrandToken { seat, .. } = token;
         match self
@@ -144,6 +175,7 @@ impl Shared {
         ensures view { view_of token.new ≡ view_of token.old }
         ensures slots { held_by token.new ≡ (cells_of (key_of self.now), slot_of.Tier tier) ∷ rest (held_by token.old) }
         ensures track { token.new.track ≡ token.old.track }
+        ensures token { token_of token.new ≡ token_of token.old }
     {
         let StrandToken { seat, .. } = token;
         self.table
@@ -152,7 +184,6 @@ impl Shared {
     }
 
     /// Gives the newest turn back, with what lies in its slot.
-    #[tactic(auto, using(crate::proofs::Tracks::brought_column, crate::proofs::Tracks::brought_gap, crate::proofs::Tracks::brought_word))]
     pub fn give(&self, token: &mut StrandToken, slot: u32, home: Home)
         requires table { IsTokenOf self.now token.old }
         requires there { slot ≤ cells_of (key_of self.now) }
@@ -162,7 +193,10 @@ impl Shared {
         ensures view { view_of token.new ≡ gave_view home (view_of token.old) }
         ensures slots { held_by token.new ≡ rest (held_by token.old) }
         ensures track { track_of token.new.track ≡ brought home (track_of token.old.track) }
+        ensures stop { token.new.stop ≡ token.old.stop }
+        ensures token { token_of token.new ≡ brought_token home (token_of token.old) }
         ensures ready { (n : ℕ) → IsReady token.old.track (added_home home + n) → IsReady token.new.track n }
+        ensures kept { (token.new.track.spare ≡ token.old.track.spare) × (token.new.track.room ≡ token.old.track.room) }
     {
         let StrandToken { seat, track, .. } = token;
         give_as::<Brand>(&self.table.shared, seat, slot, &home, track.place);

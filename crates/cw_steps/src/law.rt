@@ -1,6 +1,6 @@
 //! The rule of the table, and what each step tells. What a step is for is picked by its call, as ghost members.
 use crate::view::{Key, Slot, View};
-use atomic_table::{Play, Seat, Table, TableRule};
+use atomic_table::{Join, Play, Seat, Split, Table, TableRule};
 use std::alloc::Global;
 use std::marker::{Brand, PhantomData};
 
@@ -21,22 +21,31 @@ pub(crate) type Words = atomic_table::Shared<Slot, View, Key, Law>;
 
 pub(crate) type TokenSeat = Seat<Slot, View>;
 
-/// For what a number is drawn, and at which place of the token's log. Each call picks it.
+/// For what a number is drawn, at which place of the token's log, and how far the token went since its last draw. Each call picks it.
 pub(crate) trait Drawing {
-    ghost use Rattle.std.specs.Prelude.{ℕ};
+    ghost use Rattle.std.specs.Prelude.{ℕ, Bool};
     ghost use Rattle.cw_steps.specs.declared.draw.Draw.{Draw};
 
     ghost what: { Draw };
 
     ghost place: { ℕ };
+
+    ghost behind: { ℕ };
+
+    ghost second: { Bool };
 }
 
 impl Drawing for Brand {
+    ghost use Rattle.std.specs.Prelude.{false};
     ghost use Rattle.cw_steps.specs.declared.draw.Draw.TheVariants.{Begin};
 
     ghost what = { Begin };
 
     ghost place = { 0 };
+
+    ghost behind = { 0 };
+
+    ghost second = { false };
 }
 
 pub struct Draws<W> {
@@ -46,7 +55,7 @@ pub struct Draws<W> {
 impl<W: Drawing> Play<Slot, View> for Draws<W> {
     ghost use Rattle.cw_steps.specs.Views.{drew};
 
-    ghost then = { drew W.what };
+    ghost then = { drew W.what W.behind W.second };
 }
 
 /// Which turn is taken, for what, and at which place. Each call picks it.
@@ -184,4 +193,75 @@ impl Play<Slot, View> for Finds {
     ghost use Rattle.cw_steps.specs.Views.{found};
 
     ghost then = { found };
+}
+
+/// How far a token went since its last draw, and whether it is split to take a right strand back. Each call picks it.
+pub(crate) trait Parting {
+    ghost use Rattle.std.specs.Prelude.{ℕ, Bool};
+
+    ghost take_back: { Bool };
+
+    ghost behind: { ℕ };
+
+    ghost second: { Bool };
+}
+
+impl Parting for Brand {
+    ghost use Rattle.std.specs.Prelude.{false};
+
+    ghost take_back = { false };
+
+    ghost behind = { 0 };
+
+    ghost second = { false };
+}
+
+pub struct Parts<W> {
+    of: PhantomData<W>,
+}
+
+impl<W: Parting> Split<View> for Parts<W> {
+    ghost use Rattle.cw_steps.specs.Views.{new_seat_view, parted_view};
+
+    ghost left = { parted_view W.take_back W.behind W.second };
+
+    ghost right = { new_seat_view W.take_back W.behind W.second };
+}
+
+/// How far a token went since its last draw. Each call picks it.
+pub(crate) trait Joining {
+    ghost use Rattle.std.specs.Prelude.{ℕ, Bool};
+
+    ghost behind: { ℕ };
+
+    ghost second: { Bool };
+}
+
+impl Joining for Brand {
+    ghost use Rattle.std.specs.Prelude.{false};
+
+    ghost behind = { 0 };
+
+    ghost second = { false };
+}
+
+pub struct Joins<W> {
+    of: PhantomData<W>,
+}
+
+impl<W: Joining> Join<View> for Joins<W> {
+    ghost use Rattle.cw_steps.specs.Views.{joined_view, spent_view};
+
+    ghost both = { joined_view W.behind W.second };
+
+    ghost spent = { spent_view };
+}
+
+/// A look at the clock.
+pub struct Weighs;
+
+impl Play<Slot, View> for Weighs {
+    ghost use Rattle.cw_steps.specs.Views.{weighed};
+
+    ghost then = { weighed };
 }

@@ -2,7 +2,8 @@
 //! strand's token, and one call for each kind of step.
 //! Stands on `atomic_table`, `cw_base`, `cw_code`, `cw_order`, `cw_tree`, `cw_trace`, `cw_stack` and `cw_log`.
 //! Contracts cite `specs/Rule.antt` (what is true of the table between any two steps), `specs/Views.antt` (what a token knows, and what each
-//! step makes of that) and `specs/Tracks.antt` (a token's log, and where its strand stands in it).
+//! step makes of that), `specs/Tracks.antt` (a token's log, and where its strand stands in it) and `specs/Stands.antt` (what a token stands
+//! for on a board, and what each step makes of that).
 #![tactic(auto)]
 
 mod calls;
@@ -10,6 +11,7 @@ mod draw;
 mod law;
 mod marks;
 mod places;
+mod seats;
 mod table;
 mod track;
 mod view;
@@ -17,5 +19,5 @@ mod view;
 pub use draw::{Aim, Draw, Home};
 pub use places::Place;
 pub use table::{Shared, StrandToken};
-pub use track::{Stood, Track};
-pub use view::{Coming, Found, Key, Logged, Placed, Slot, Stage, Turn, View, Waiting};
+pub use track::{Ahead, Stood, Track};
+pub use view::{Coming, Found, Key, Logged, Note, Placed, Slot, Turn, View, Whereabouts};

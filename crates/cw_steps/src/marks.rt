@@ -1,13 +1,16 @@
 //! Gap words, and the stop word.
-ghost use Rattle.std.specs.Prelude.{◌≡◌, ℕ, ◌+◌, ◌<◌, nat_lt, None, Some};
+ghost use Rattle.std.specs.Prelude.{◌≡◌, ℕ, ◌+◌, ◌<◌, nat_lt, None};
 ghost use Rattle.cw_tree.specs.Nodes.{stamp_of};
+ghost use Rattle.cw_log.specs.Tokens as tokens;
+ghost use Rattle.cw_steps.specs.Stands.{token_of};
 ghost use Rattle.cw_steps.specs.Tracks.{track_of, with_word};
 ghost use Rattle.cw_steps.specs.Places as places;
-ghost use Rattle.cw_steps.specs.Views.{cells_of, halted_view, held_by, key_of, marked_view, told_view, view_of, IsTokenOf};
+ghost use Rattle.cw_steps.specs.Views.{cells_of, halted_view, held_by, key_of, marked_view, noted_view, told_view, view_of, IsTokenOf};
 
 use crate::law::{Finds, Halting, Halts, Marking, Marks, Tells, TokenSeat, Words};
 use crate::places::{Place, gap_word, stop_word};
 use crate::table::{Shared, StrandToken};
+use cw_log::Stop;
 use cw_order::Steps;
 use cw_tree::Halt;
 use std::marker::Brand;
@@ -25,7 +28,7 @@ fn mark_as<W: Marking>(
     requires table { (seat.old.table_id ≡ table.now.table_id) × (places.gap_word cells gap < table.now.table_id.words) }
     requires cells { cells ≡ cells_of table.now.key }
     ensures table { (seat.new.table_id ≡ seat.old.table_id) × (seat.new.id ≡ seat.old.id) }
-    ensures seat { seat.new.me ≡ (marked_view stamp seat.old.me.0, seat.old.me.1) }
+    ensures seat { seat.new.me ≡ (marked_view (places.gap_word cells gap) stamp seat.old.me.0, seat.old.me.1) }
 {
     let _ = place;
     let word = gap_word(cells, gap);
@@ -37,7 +40,7 @@ fn halt_as<W: Halting>(table: &Words, seat: &mut TokenSeat, cells: u32, halt: Ha
     requires table { (seat.old.table_id ≡ table.now.table_id) × (places.stop_word cells < table.now.table_id.words) }
     requires cells { cells ≡ cells_of table.now.key }
     ensures table { (seat.new.table_id ≡ seat.old.table_id) × (seat.new.id ≡ seat.old.id) }
-    ensures seat { seat.new.me ≡ (halted_view halt seat.old.me.0, seat.old.me.1) }
+    ensures seat { seat.new.me ≡ (halted_view (places.stop_word cells) halt seat.old.me.0, seat.old.me.1) }
 {
     let _ = halt;
     let _ = place;
@@ -51,9 +54,11 @@ impl Shared {
         requires table { IsTokenOf self.now token.old }
         requires gap { (gap ≡ token.old.track.gap) × (gap < (key_of self.now).columns) }
         ensures table { IsTokenOf self.now token.new }
-        ensures view { view_of token.new ≡ marked_view (stamp_of (track_of token.old.track).nodes token.old.track.place) (view_of token.old) }
+        ensures view { view_of token.new ≡ marked_view (places.gap_word (cells_of (key_of self.now)) gap) (stamp_of (track_of token.old.track).own.nodes token.old.track.place) (view_of token.old) }
         ensures slots { held_by token.new ≡ held_by token.old }
-        ensures track { track_of token.new.track ≡ with_word (stamp_of (track_of token.old.track).nodes token.old.track.place) (track_of token.old.track) }
+        ensures track { track_of token.new.track ≡ with_word (stamp_of (track_of token.old.track).own.nodes token.old.track.place) (track_of token.old.track) }
+        ensures kept { (token.new.stop ≡ token.old.stop) × (token.new.track.spare ≡ token.old.track.spare) × (token.new.track.room ≡ token.old.track.room) }
+        ensures token { token_of token.new ≡ token_of token.old }
     {
         let StrandToken { seat, track, .. } = token;
         let stamp = track.stamp();
@@ -73,9 +78,11 @@ impl Shared {
         requires table { IsTokenOf self.now token.old }
         requires gap { (gap ≡ token.old.track.gap) × (gap < (key_of self.now).columns) }
         ensures table { IsTokenOf self.now token.new }
-        ensures view { view_of token.new ≡ marked_view 0 (view_of token.old) }
+        ensures view { view_of token.new ≡ marked_view (places.gap_word (cells_of (key_of self.now)) gap) 0 (view_of token.old) }
         ensures slots { held_by token.new ≡ held_by token.old }
         ensures track { track_of token.new.track ≡ with_word 0 (track_of token.old.track) }
+        ensures kept { (token.new.stop ≡ token.old.stop) × (token.new.track.spare ≡ token.old.track.spare) × (token.new.track.room ≡ token.old.track.room) }
+        ensures token { token_of token.new ≡ token_of token.old }
     {
         let StrandToken { seat, track, .. } = token;
         mark_as::<Brand>(&self.table.shared, seat, self.cells, gap, 0, track.place);
@@ -86,28 +93,33 @@ impl Shared {
     pub fn stop(&self, token: &mut StrandToken, halt: Halt)
         requires table { IsTokenOf self.now token.old }
         ensures table { IsTokenOf self.now token.new }
-        ensures view { view_of token.new ≡ halted_view halt (view_of token.old) }
+        ensures view { view_of token.new ≡ halted_view (places.stop_word (cells_of (key_of self.now))) halt (view_of token.old) }
         ensures slots { held_by token.new ≡ held_by token.old }
         ensures track { token.new.track ≡ token.old.track }
-        ensures noted { token.new.halt ≡ Some halt }
+        ensures token { token_of token.new ≡ tokens.halted (token_of token.old) halt }
     {
         let StrandToken {
             seat,
             track,
-            halt: noted,
+            stop,
             ..
         } = token;
         halt_as::<Brand>(&self.table.shared, seat, self.cells, halt, track.place);
-        *noted = Some(halt);
+        *stop = Some(Stop {
+            halt,
+            column: track.first,
+            strand: track.strand,
+        });
     }
 
     /// Whether the stop word is set, which it is only where some token has halted.
     pub fn stopped(&self, token: &mut StrandToken) -> bool
         requires table { IsTokenOf self.now token.old }
         ensures table { IsTokenOf self.now token.new }
-        ensures view { (found : ℕ) × (result ≡ nat_lt 0 found) × (view_of token.new ≡ told_view found (view_of token.old)) }
+        ensures view { (found : ℕ) × (result ≡ nat_lt 0 found) × (view_of token.new ≡ told_view (places.stop_word (cells_of (key_of self.now))) found (view_of token.old)) }
         ensures slots { held_by token.new ≡ held_by token.old }
         ensures track { token.new.track ≡ token.old.track }
+        ensures token { token_of token.new ≡ tokens.was_told (token_of token.old) result }
     {
         let StrandToken { seat, .. } = token;
         let word = stop_word(self.cells);
@@ -115,7 +127,7 @@ impl Shared {
         found > 0
     }
 
-    /// Reads a word, and counts that. The rule says nothing of gap words yet, so nothing is told of the value.
+    /// Reads a word, and counts that. The rule says nothing of gap words yet, so of the value nothing is told but that it was found there.
     pub fn load<K: Ledger>(
         &self,
         token: &mut StrandToken,
@@ -127,8 +139,10 @@ impl Shared {
         requires there { places.IsThere (key_of self.now).columns at }
         requires version { version ≡ None }
         ensures table { IsTokenOf self.now token.new }
-        ensures seat { token.new.seat.me ≡ token.old.seat.me }
+        ensures view { view_of token.new ≡ noted_view (places.word_of (cells_of (key_of self.now)) at) result (view_of token.old) }
+        ensures slots { held_by token.new ≡ held_by token.old }
         ensures track { token.new.track ≡ token.old.track }
+        ensures token { token_of token.new ≡ token_of token.old }
         ensures looks { looks.new ≡ looks.old + 1 }
     {
         let _ = version;

@@ -1,13 +1,14 @@
 //! The table, and a strand's token.
-ghost use Rattle.std.specs.Prelude.{◌≡◌, suc, length};
+ghost use Rattle.std.specs.Prelude.{◌≡◌, suc, length, reverse};
 ghost use Rattle.cw_steps.specs.Places.{all_words};
+ghost use Rattle.cw_steps.specs.Tracks.{coming_of, halt_of, outer_of};
 
 mod opening;
 mod reads;
 
 use crate::Track;
 use crate::law::{Board, TokenSeat};
-use cw_tree::Halt;
+use cw_log::Stop;
 
 /// The words and slots that threads share.
 #[derive(Drop)]
@@ -19,14 +20,16 @@ pub struct Shared {
     ghost slots: { table.shared.table_id.slots ≡ suc (length table.shared.key.first) },
 }
 
-/// A strand's seat at the table, its log and where it stands in that, and its halt.
+/// A strand's seat at the table, its log and where it stands in that, and how it was stopped, if it was.
 #[derive(Drop)]
 pub struct StrandToken {
     pub(crate) seat: TokenSeat,
     pub(crate) track: Track,
-    pub(crate) halt: Option<Halt>,
+    pub(crate) stop: Option<Stop>,
     ghost column: { seat.me.0.column ≡ track.column },
     ghost gap: { seat.me.0.gap ≡ track.gap },
     ghost word: { seat.me.0.word ≡ track.word },
-    ghost halt_is: { seat.me.0.halt ≡ halt },
+    ghost halt_is: { seat.me.0.halt ≡ halt_of stop },
+    ghost outer: { seat.me.0.outer ≡ outer_of (reverse track.outer.items) },
+    ghost coming: { seat.me.0.coming ≡ coming_of track.ahead },
 }

@@ -1,11 +1,20 @@
 //! A token's log, and where its strand stands in it.
-mod moves;
+ghost use Rattle.std.specs.Prelude.{◌≡◌, ◌+◌, ◌<◌, ◌≤◌, ◌^◌, [], ◌∷◌, length};
+ghost use Rattle.cw_tree.specs.declared.node.Kind.TheVariants.{Strand};
+ghost use Rattle.cw_tree.specs.Nodes.{fresh_node};
 
+mod moves;
+mod parting;
+mod turning;
+
+use cw_log::{LogRoom, Logs, Side};
 use cw_tree::{Conflict, Node};
 
-/// Where a strand stands that forked: its node in the log and the place behind its fork, its column, its gap and the word of that.
+/// Where a strand stands that forked: on which side of that fork the token goes on, its node in the log and the place behind its fork, its
+/// column, its gap and the word of that.
 #[derive(Clone, Copy, Drop, Debug)]
 pub struct Stood {
+    pub side: Side,
     pub strand: u32,
     pub place: u32,
     pub column: u32,
@@ -13,16 +22,47 @@ pub struct Stood {
     pub word: u64,
 }
 
+/// The right strand of a fork, whose token is yet to be split off: the fork's number and its node in the log, and the strand's column and gap.
+#[derive(Clone, Copy, Drop, Debug)]
+pub struct Ahead {
+    pub fork: u32,
+    pub node: u32,
+    pub column: u32,
+    pub gap: u32,
+}
+
+/// What a right strand begins with: the nodes of its log, and room for that in the list of the token that takes it in.
+#[derive(Drop)]
+pub(crate) struct Spare {
+    pub(crate) nodes: Vec<Node>,
+    pub(crate) room: LogRoom,
+    ghost one: { nodes.items ≡ fresh_node 0 Strand 0 ∷ [] },
+}
+
 /// What a token did, from its begin on, and where its strand stands: the strand, the node in which the next one goes, its column, the gap that
-/// it uses and the word of that; and the strands that wait for forks of this log, innermost last.
+/// it uses and the word of that; and the strands that wait for forks of this log, innermost last. Its log has a column, and hangs from a fork
+/// of the log with the column `from`.
 #[derive(Drop)]
 pub struct Track {
+    pub(crate) first: u32,
+    pub(crate) from: u32,
+    pub(crate) fork: u32,
     pub(crate) nodes: Vec<Node>,
     pub(crate) conflicts: Vec<Conflict>,
+    pub(crate) joined: Logs,
     pub(crate) strand: u32,
     pub(crate) place: u32,
     pub(crate) column: u32,
     pub(crate) gap: u32,
     pub(crate) word: u64,
     pub(crate) outer: Vec<Stood>,
+    pub(crate) ahead: Option<Ahead>,
+    /// Behind so many inline forks it went since its last draw, and then into the right strand of one or not.
+    pub(crate) behind: u32,
+    pub(crate) second: bool,
+    /// Room for its log in the list of the token that takes it in, where one may.
+    pub(crate) room: Option<LogRoom>,
+    pub(crate) spare: Option<Spare>,
+    ghost few: { length nodes.items < 2 ^ 32 },
+    ghost behind_few: { behind + length outer.items ≤ length nodes.items },
 }

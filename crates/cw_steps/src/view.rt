@@ -1,6 +1,7 @@
 //! What lies in the slots, and what a seat knows.
 use crate::Aim;
 use cw_base::Seq;
+use cw_log::Phase;
 use cw_stack::Cell;
 use cw_trace::Tier;
 use cw_tree::{Conflict, Halt, Node};
@@ -39,22 +40,24 @@ pub struct Logged {
     pub conflicts: Seq<Conflict>,
 }
 
-/// A strand that waits for a fork of it, with the pending blocks that it began. No value of it is made.
-pub struct Waiting {
-    pub strand: u64,
-    pub fork: u64,
-    pub begun: Seq<u64>,
+/// A strand that waits for a fork whose right strand has a token of its own: its column, its gap and the word of that. No value of it is made.
+pub struct Whereabouts {
     pub column: u64,
     pub gap: u64,
     pub word: u64,
 }
 
-/// The right strand of a fork, whose seat is yet to be split off. No value of it is made.
+/// The right strand of a fork, whose seat is yet to be split off: the fork's number, and the strand's column and gap. No value of it is made.
 pub struct Coming {
     pub fork: u64,
-    pub strand: u64,
     pub column: u64,
     pub gap: u64,
+}
+
+/// A word of the table, and what the seat found in it, or left there. No value of it is made.
+pub struct Note {
+    pub word: u64,
+    pub value: u64,
 }
 
 /// A turn that a seat has: its slot, for what it was taken, what lay there, and with how many columns in use the tier has to come home, if the
@@ -75,35 +78,24 @@ pub struct Found {
     pub chain: Seq<u64>,
 }
 
-/// Whether a strand may step, and if not why.
-pub enum Stage {
-    /// It makes its own steps.
-    Goes,
-    /// It is the right strand of a fork that was neither split nor taken back.
-    Unready,
-    /// Its fork's traces are yet to be merged.
-    Owes,
-    /// It ended, and its fork's right strand goes on.
-    Ended,
-    /// It halted, or saw that some strand has.
-    Stopped,
-}
-
 /// What a seat knows. No value of it is made.
 pub struct View {
-    /// False once it was joined away.
+    /// False once it was joined away, and for one that only carries a note.
     pub here: bool,
-    pub stage: Stage,
-    /// Its strand: the node, its column, the gap in use and the word of that gap.
-    pub strand: u64,
+    /// Its strand's column, the gap in use and the word of that gap.
     pub column: u64,
     pub gap: u64,
     pub word: u64,
-    /// The pending blocks that its strand began, oldest first, by their nodes.
-    pub begun: Seq<u64>,
-    /// The strands that wait for forks of theirs, innermost first.
-    pub outer: Seq<Waiting>,
+    /// The begin stamps of the pending blocks around its strand's place, innermost first; and then those around the places of the strands that
+    /// wait for forks of its log, of the innermost of these first. All as of its last draw.
+    pub arounds: Seq<Seq<u64>>,
+    /// The strands that wait for forks of its log with two tokens, innermost first.
+    pub outer: Seq<Whereabouts>,
     pub coming: Option<Coming>,
+    /// The number of the fork as whose right strand it began, or 0; whether that was split; and what it is for.
+    pub fork: u64,
+    pub split: bool,
+    pub phase: Phase,
     /// A number that it has drawn and not shown yet: of a begin, or of an end.
     pub drawn: u64,
     pub ends: bool,
@@ -119,8 +111,12 @@ pub struct View {
     pub halt: Option<Halt>,
     /// It saw that some token has halted.
     pub told: bool,
+    /// What it found in words that it read and left in words that it wrote, newest first.
+    pub notes: Seq<Note>,
     /// How many numbers it may still draw.
     pub room: u64,
+    /// So many of the columns in use are its own: at least one for each log of its list.
+    pub owns: u64,
     /// Its own log first, and those that were joined to it.
     pub logs: Seq<Logged>,
     /// The strands of the seats that were split off it and not joined to it.

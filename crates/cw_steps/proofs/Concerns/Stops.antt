@@ -46,3 +46,10 @@ pub stops_stay : (cells : ℕ) (words words' : List ℕ) (views : List View) (id
     → Stops cells words' (set views id w)
 stops_stay cells words words' views id v w at h same halt told =
     stops_set cells words words' views id v w at h (subst (λ o. IsTrue (is_some o)) (sym halt)) (λ p. inl (omega (arith, same, p))) (λ t. inl (sym told ∙ t))
+
+-- views change and no word does
+pub stops_views : (cells : ℕ) (words : List ℕ) (views views' : List View) → Stops cells words views
+    → (HasHalted views → HasHalted views')
+    → ((k : ℕ) (v : View) → get_elem? views' k ≡ some v → v.told ≡ true → HasHalted views)
+    → Stops cells words views'
+stops_views cells words views views' h kept told = record { word = λ p. kept (h.word p); told = λ k v at t. kept (told k v at t) }

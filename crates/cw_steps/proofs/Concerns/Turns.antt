@@ -26,3 +26,9 @@ pub turns_stay : (cells : ℕ) (words words' : List ℕ) (views : List View) (id
     → ((n : ℕ) → has_turn n w ≡ has_turn n v)
     → Turns cells words' (set views id w)
 turns_stay cells words words' views id v w at h same turns = turns_set cells words words' views id v w at h (λ n p. omega (arith, h.bits n p, same n p)) (λ n p. omega (arith, same n p, turns n))
+
+-- views change and no word does
+pub turns_views : (cells : ℕ) (words : List ℕ) (views views' : List View) → Turns cells words views
+    → ((n : ℕ) → total (has_turn n) views' ≡ total (has_turn n) views)
+    → Turns cells words views'
+turns_views cells words views views' h same = record { bits = h.bits; one = λ n p. omega (arith, same n, h.one n p) }

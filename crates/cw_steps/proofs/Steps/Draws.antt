@@ -13,12 +13,12 @@ use Rattle.cw_steps.specs.declared.view.Turn.{Turn}
 use Rattle.cw_steps.specs.declared.view.View.{View}
 use Rattle.cw_steps.specs.Totals.{total}
 use Rattle.cw_steps.specs.Views.{cells_of, share, has_turn, turns_of, with_more, newest_slot, newest_used, columns_for, drew, drew_view, CanDraw, CanFork}
-use Rattle.cw_steps.specs.Rule.{Holds, Tiers, StandsIn, ComesIn}
+use Rattle.cw_steps.specs.Rule.{Holds, Tiers, StandsIn, ComesIn, WaitsIn}
 use Rattle.cw_steps.proofs.Counts.{total_part, turns_more, newest_brings, newest_is_one, none_of, turn_here}
 use Rattle.cw_steps.proofs.Concerns.Clock.{clock_set}
 use Rattle.cw_steps.proofs.Concerns.Turns.{turns_stay}
 use Rattle.cw_steps.proofs.Concerns.Cells.{cells_stay}
-use Rattle.cw_steps.proofs.Concerns.Tiers.{comes_more, tiers_set, tiers_grow}
+use Rattle.cw_steps.proofs.Concerns.Tiers.{comes_more, waits_more, tiers_set, tiers_grow}
 use Rattle.cw_steps.proofs.Concerns.Stops.{stops_stay}
 use Rattle.cw_steps.proofs.Steps.Words.{word_here, word_else}
 
@@ -39,13 +39,14 @@ module _ (key : Key) (s : State Slot View) (h : Holds key s) (id : ℕ) (v : Vie
   other n = word_else s.words 0 (suc n) (next % 2 ^ 64) (λ e. omega arith)
 
   module _ (w : View) (more : ℕ) (fits : w.room + 1 + share * h.used ≤ v.room + share * more) (seen : w.seen ≡ next) (turns : (n : ℕ) → has_turn n w ≡ has_turn n v)
-      (halt : w.halt ≡ v.halt) (told : w.told ≡ v.told) (tiers : Tiers (cells_of key) key.columns more words s.homes (set s.views id w)) where
+      (owns : w.owns + h.used ≤ v.owns + more) (halt : w.halt ≡ v.halt) (told : w.told ≡ v.told) (tiers : Tiers (cells_of key) key.columns more words s.homes (set s.views id w)) where
     pub draw_rule : (c : List (ℕ × Slot)) → Holds key (stepped s 0 (next % 2 ^ 64) id c w keeps)
     draw_rule c = record {
       long = length-set s.words 0 (next % 2 ^ 64) ∙ h.long;
       deep = h.deep;
+      small = h.small;
       used = more;
-      clock = clock_set key.columns h.used more s.words words s.views id v w at h.clock (omega (arith, clock)) (omega (arith, clock, fits)) (omega (arith, clock, seen));
+      clock = clock_set key.columns h.used more s.words words s.views id v w at h.clock (omega (arith, clock)) (omega (arith, clock, fits)) (omega (arith, clock, seen)) owns;
       turns = turns_stay (cells_of key) s.words words s.views id v w at h.turns (λ n p. other n) turns;
       cells = cells_stay (cells_of key) s.words words s.homes h.cells (omega (arith, clock)) (λ n p. other n);
       tiers = tiers;
@@ -54,20 +55,20 @@ module _ (key : Key) (s : State Slot View) (h : Holds key s) (id : ℕ) (v : Vie
 
   -- a draw that takes no column
   module _ (w : View) (room : w.room + 1 ≡ v.room) (seen : w.seen ≡ next) (turns : w.turns ≡ v.turns) (halt : w.halt ≡ v.halt) (told : w.told ≡ v.told)
-      (column : w.column ≡ v.column) (gap : w.gap ≡ v.gap) (coming : w.coming ≡ v.coming) where
+      (column : w.column ≡ v.column) (gap : w.gap ≡ v.gap) (coming : w.coming ≡ v.coming) (outer : w.outer ≡ v.outer) (owns : w.owns ≡ v.owns) where
     pub plain_rule : (c : List (ℕ × Slot)) → Holds key (stepped s 0 (next % 2 ^ 64) id c w keeps)
-    plain_rule = draw_rule w h.used (omega (arith, room)) seen (λ n. ap (turns_of n) turns) halt told
+    plain_rule = draw_rule w h.used (omega (arith, room)) seen (λ n. ap (turns_of n) turns) (omega (arith, owns)) halt told
         (tiers_set (cells_of key) key.columns h.used s.words words s.homes s.homes s.views id w h.tiers (λ free. inl (sym (other (cells_of key)) ∙ free, refl))
         (subst (All (λ (t : Turn). t.slot ≡ cells_of key → t.used ≡ h.used)) (sym turns) (h.tiers.held id v at))
-        (let b = h.tiers.stands id v at in record { column = omega (arith, b.column, column); gap = omega (arith, b.gap, gap); coming = subst (ComesIn h.used) (sym coming) b.coming }))
+        (let b = h.tiers.stands id v at in record { column = omega (arith, b.column, column); gap = omega (arith, b.gap, gap); coming = subst (ComesIn h.used) (sym coming) b.coming; outer = subst (All (WaitsIn h.used)) (sym outer) b.outer }))
 
   -- a fork takes its columns
-  module _ (left right gap : ℕ) (can : CanFork key v left right gap) where
+  module _ (left right gap behind : ℕ) (second : Bool) (can : CanFork key v left right gap) where
     abbrev more : ℕ
     more = h.used + columns_for left right
 
     abbrev w : View
-    w = drew_view (draw.Fork left right gap) next v
+    w = drew_view (draw.Fork left right gap) behind second next v
 
     now : newest_used v.turns ≡ h.used
     now = newest_brings (cells_of key) h.used v.turns (h.tiers.held id v at) can.turn
@@ -87,32 +88,46 @@ module _ (key : Key) (s : State Slot View) (h : Holds key s) (id : ℕ) (v : Vie
         (none_of (cells_of key) (λ (u : Turn). u.used ≡ more) ts (omega (arith, one, turn_here (cells_of key) t same)))
 
     stands : (b : Bool) → left ≡ (if b then v.column else h.used) → right ≡ (if b then left else suc left) → gap < h.used + (if b then 0 else 2)
-        → (left < h.used + (if b then 0 else 2)) × ComesIn (h.used + (if b then 0 else 2)) (if b then v.coming else Some (record { fork = 0; strand = 0; column = right; gap = gap }))
-    stands true l r g = let b = h.tiers.stands id v at in (omega (arith, l, b.column), comes_more h.used (h.used + 0) v.coming (omega arith) b.coming)
-    stands false l r g = (omega (arith, l), (omega (arith, l, r), g))
+        → (left < h.used + (if b then 0 else 2)) × ComesIn (h.used + (if b then 0 else 2)) (if b then v.coming else Some (record { fork = left; column = right; gap = gap }))
+        × All (WaitsIn (h.used + (if b then 0 else 2))) (if b then v.outer else record { column = v.column; gap = v.gap; word = v.word } ∷ v.outer)
+    stands true l r g = let b = h.tiers.stands id v at in (
+      omega (arith, l, b.column),
+      comes_more h.used (h.used + 0) v.coming (omega arith) b.coming,
+      waits_more h.used (h.used + 0) v.outer (omega arith) b.outer,
+    )
+    stands false l r g = let b = h.tiers.stands id v at in (
+      omega (arith, l),
+      (omega (arith, l, r), g),
+      All-cons (WaitsIn (h.used + 2)) (record { column = v.column; gap = v.gap; word = v.word }) v.outer (omega (arith, b.column), omega (arith, b.gap)) (waits_more h.used (h.used + 2) v.outer (omega arith) b.outer),
+    )
 
     stands_now : StandsIn more w
     stands_now =
         let q = stands (left == right) (subst (λ (n : ℕ). left ≡ (if left == right then v.column else n)) now can.one) can.other (omega (arith, now, can.within)) in
-        record { column = q.0; gap = omega (arith, now, can.within); coming = q.1 }
+        record { column = q.0; gap = omega (arith, now, can.within); coming = q.1; outer = q.2 }
+
+    owns_for : (b : Bool) → v.owns + (if b then 0 else 1) + h.used ≤ v.owns + (h.used + (if b then 0 else 2))
+    owns_for true = omega arith
+    owns_for false = omega arith
 
     pub fork_rule : (c : List (ℕ × Slot)) → Holds key (stepped s 0 (next % 2 ^ 64) id c w keeps)
-    fork_rule = draw_rule w more (omega (arith, some_room)) refl (λ n. turns_more n (columns_for left right) v.turns) refl refl
+    fork_rule = draw_rule w more (omega (arith, some_room)) refl (λ n. turns_more n (columns_for left right) v.turns) (owns_for (left == right)) refl refl
         (tiers_grow (cells_of key) key.columns h.used more s.words words s.homes s.views id v w at h.turns h.tiers (other (cells_of key)) mine (omega arith) (omega (arith, now, can.few))
         (brings v.turns (h.tiers.held id v at) can.turn mine) stands_now)
 
-  pub rule_of : (d : Draw) → CanDraw key v d → (c : List (ℕ × Slot)) → Holds key (stepped s 0 (next % 2 ^ 64) id c (drew_view d next v) keeps)
-  rule_of (draw.Fork left right gap) can = fork_rule left right gap can
-  rule_of (draw.Access c wrote x) can = plain_rule (drew_view (draw.Access c wrote x) next v) (omega (arith, some_room)) refl refl refl refl refl refl refl
-  rule_of (draw.Out x) can = plain_rule (drew_view (draw.Out x) next v) (omega (arith, some_room)) refl refl refl refl refl refl refl
-  rule_of draw.Begin can = plain_rule (drew_view draw.Begin next v) (omega (arith, some_room)) refl refl refl refl refl refl refl
-  rule_of (draw.End aborted) can = plain_rule (drew_view (draw.End aborted) next v) (omega (arith, some_room)) refl refl refl refl refl refl refl
+  pub rule_of : (d : Draw) (behind : ℕ) (second : Bool) → CanDraw key v d → (c : List (ℕ × Slot)) → Holds key (stepped s 0 (next % 2 ^ 64) id c (drew_view d behind second next v) keeps)
+  rule_of (draw.Fork left right gap) n b can = fork_rule left right gap n b can
+  rule_of (draw.Access c wrote x) n b can = plain_rule (drew_view (draw.Access c wrote x) n b next v) (omega (arith, some_room)) refl refl refl refl refl refl refl refl refl
+  rule_of (draw.Out x) n b can = plain_rule (drew_view (draw.Out x) n b next v) (omega (arith, some_room)) refl refl refl refl refl refl refl refl refl
+  rule_of draw.Begin n b can = plain_rule (drew_view draw.Begin n b next v) (omega (arith, some_room)) refl refl refl refl refl refl refl refl refl
+  rule_of (draw.End aborted) n b can = plain_rule (drew_view (draw.End aborted) n b next v) (omega (arith, some_room)) refl refl refl refl refl refl refl refl refl
 
-pub draws : (key : Key) (d : Draw) (slots id : ℕ) (me : Me Slot View) → 0 < me.0.room → CanDraw key me.0 d → Allows (Holds key) slots id me 0 (λ n. (n + 1) % 2 ^ 64) (drew d (step slots 0 1 0 none) me)
-draws key d slots id me room can s h deep at bound = (
-  drew_view d (slice_index s.words 0 + 1) me.0,
+pub draws : (key : Key) (d : Draw) (behind : ℕ) (second : Bool) (slots id : ℕ) (me : Me Slot View) → 0 < me.0.room → CanDraw key me.0 d
+    → Allows (Holds key) slots id me 0 (λ n. (n + 1) % 2 ^ 64) (drew d behind second (step slots 0 1 0 none) me)
+draws key d behind second slots id me room can s h deep at bound = (
+  drew_view d behind second (slice_index s.words 0 + 1) me.0,
   keeps,
   tt,
-  rule_of key s h id me.0 at room d can me.1,
+  rule_of key s h id me.0 at room d behind second can me.1,
   (small key s h id me.0 at room, h.clock.seen id me.0 at, refl),
 )

@@ -50,10 +50,12 @@ pub opens : (key : Key) (y : Slot) → 0 < key.columns → key.columns < 2 ^ 31 
 opens key y some_columns few tier = record {
   long = many (all_words (cells_of key) key.columns);
   deep = so_many key.first y;
+  small = few;
   used = 1;
   clock = record {
     room = omega (arith, zeros (all_words (cells_of key) key.columns) 0);
     seen = λ k v at. the_root (λ u. u.seen ≤ slice_index (replicate (all_words (cells_of key) key.columns) 0) 0) k v at (omega arith);
+    owned = omega arith;
   };
   turns = record {
     bits = λ n p. omega (arith, zeros (all_words (cells_of key) key.columns) (suc n));
@@ -64,7 +66,7 @@ opens key y some_columns few tier = record {
     few = omega arith;
     home = λ free. (y, at_tier key.first y, tier);
     held = λ k v at. the_root (λ u. All (λ t. t.slot ≡ cells_of key → t.used ≡ 1) u.turns) k v at (All-nil (λ (t : Turn). t.slot ≡ cells_of key → t.used ≡ 1));
-    stands = λ k v at. the_root (Rattle.cw_steps.specs.Rule.StandsIn 1) k v at (record { column = omega arith; gap = omega arith; coming = tt });
+    stands = λ k v at. the_root (Rattle.cw_steps.specs.Rule.StandsIn 1) k v at (record { column = omega arith; gap = omega arith; coming = tt; outer = All-nil (Rattle.cw_steps.specs.Rule.WaitsIn 1) });
   };
   stops = record {
     word = λ p. absurd (omega (arith, zeros (all_words (cells_of key) key.columns) (cells_of key + 2)));

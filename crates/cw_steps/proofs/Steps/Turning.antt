@@ -8,10 +8,9 @@ use mathlib.Core.Option.{some, none}
 use mathlib.Core.Option as maybe
 use lib.ListN.{get_elem?}
 use lib.Arith.{lt_of_le-ne}
-use lib.Seq.{set-get_or}
 use prog.Atomic.{either}
 use Rattle.atomic_table.specs.Table.{State, Me, Act, Step, step, stepped, keeps, takes, gives, rest, Valid, carried_after, Allows}
-use Rattle.atomic_table.proofs.Lists.{set_here, set_else, set_again}
+use Rattle.atomic_table.proofs.Lists.{set_here, set_else}
 use Rattle.cw_steps.specs.declared.draw.Aim.{Aim}
 use Rattle.cw_steps.specs.declared.draw.Home.{Home}
 use Rattle.cw_steps.specs.declared.draw.Home.TheVariants as home
@@ -20,7 +19,7 @@ use Rattle.cw_steps.specs.declared.view.Slot.{Slot}
 use Rattle.cw_steps.specs.declared.view.Turn.{Turn}
 use Rattle.cw_steps.specs.declared.view.View.{View}
 use Rattle.cw_steps.specs.Totals.{total}
-use Rattle.cw_steps.specs.Views.{cells_of, has_turn, turns_of, turn_for, newest_slot, newest_used, older, took, took_view, TakesIt, gave, gave_view, gap_home, IsWhole}
+use Rattle.cw_steps.specs.Views.{cells_of, has_turn, turns_of, turn_for, newest_slot, newest_used, older, noted_view, took, took_view, LeavesIt, TakesIt, gave, gave_view, gap_home, IsWhole}
 use Rattle.cw_steps.specs.Rule.{Holds, IsCellHome, IsTierHome, BringsHome, StandsIn}
 use Rattle.cw_steps.proofs.Counts.{bit, total_part, turn_here, turn_else, turns_older, newest_is_one, newest_brings, all_older}
 use Rattle.cw_steps.proofs.Concerns.Clock.{clock_set}
@@ -39,7 +38,7 @@ module _ (key : Key) (s : State Slot View) (h : Holds key s) (id : ℕ) (v : Vie
     | inr z ↦ (let q = h.cells.home c (lt_of_le-ne there z.1) free in (q.0, q.1, record { cell = λ low. q.2; tier = λ last. absurd (z.1 last) }))
   ]
 
-  module _ (w : View) (x : ℕ) (bit : x ≤ 1) (room : w.room ≡ v.room) (seen : w.seen ≤ slice_index s.words 0)
+  module _ (w : View) (x : ℕ) (bit : x ≤ 1) (room : w.room ≡ v.room) (owns : w.owns ≡ v.owns) (seen : w.seen ≤ slice_index s.words 0)
       (mine : turns_of c w.turns + slice_index s.words (suc c) ≡ turns_of c v.turns + x) (others : (d : ℕ) → d ≢ c → turns_of d w.turns ≡ turns_of d v.turns)
       (halt : w.halt ≡ v.halt) (told : w.told ≡ v.told) (brings : BringsHome (cells_of key) h.used w) (stands : StandsIn h.used w)
       (homes : List (maybe.Option Slot)) (deep : length homes ≡ suc (cells_of key)) (home_else : (d : ℕ) → d ≢ c → get_elem? homes d ≡ get_elem? s.homes d)
@@ -64,8 +63,9 @@ module _ (key : Key) (s : State Slot View) (h : Holds key s) (id : ℕ) (v : Vie
     turn_rule = record {
       long = length-set s.words (suc c) x ∙ h.long;
       deep = deep;
+      small = h.small;
       used = h.used;
-      clock = clock_set key.columns h.used h.used s.words words s.views id v w at h.clock (omega (arith, clock)) (omega (arith, clock, room)) (omega (arith, clock, seen));
+      clock = clock_set key.columns h.used h.used s.words words s.views id v w at h.clock (omega (arith, clock)) (omega (arith, clock, room)) (omega (arith, clock, seen)) (omega (arith, owns));
       turns = turns_set (cells_of key) s.words words s.views id v w at h.turns
           (λ d p. elim (eqb_tells d c) [ inl z ↦ omega (arith, at_word d z.1, bit) | inr z ↦ omega (arith, other d z.1, h.turns.bits d p) ])
           (λ d p. elim (eqb_tells d c) [
@@ -90,11 +90,19 @@ module _ (key : Key) (s : State Slot View) (h : Holds key s) (id : ℕ) (v : Vie
   took_rule : (aim : Aim) (free : slice_index s.words (suc c) ≡ 0) → (let q = lies free in Holds key record { words = set s.words (suc c) 1; homes = set s.homes c none; views = set s.views id (took_view c aim q.0 h.used (slice_index s.words 0) v) })
   took_rule aim free =
       let q = lies free in
-      turn_rule (took_view c aim q.0 h.used (slice_index s.words 0) v) 1 (omega arith) refl (omega arith)
+      turn_rule (took_view c aim q.0 h.used (slice_index s.words 0) v) 1 (omega arith) refl refl (omega arith)
       (omega (arith, free, turn_here c (turn_for c aim q.0 h.used) refl))
       (λ d ne. omega (arith, turn_else d (turn_for c aim q.0 h.used) (λ e. ne (sym e))))
-      refl refl (All-cons (λ (t : Turn). t.slot ≡ cells_of key → t.used ≡ h.used) (turn_for c aim q.0 h.used) v.turns (λ e. refl) (h.tiers.held id v at)) (let b = h.tiers.stands id v at in record { column = b.column; gap = b.gap; coming = b.coming })
+      refl refl (All-cons (λ (t : Turn). t.slot ≡ cells_of key → t.used ≡ h.used) (turn_for c aim q.0 h.used) v.turns (λ e. refl) (h.tiers.held id v at)) (let b = h.tiers.stands id v at in record { column = b.column; gap = b.gap; coming = b.coming; outer = b.outer })
       (set s.homes c none) (length-set s.homes c none ∙ h.deep) (λ d ne. set_else s.homes c d none ne) (λ z. absurd (omega (arith, z)))
+
+  -- the turn is held, and is left so
+  left_rule : (k : ℕ) → slice_index s.words (suc c) ≡ suc k → Holds key record { words = set s.words (suc c) (suc k); homes = s.homes; views = set s.views id (noted_view (suc c) (suc k) v) }
+  left_rule k e =
+      let b = h.tiers.stands id v at in
+      turn_rule (noted_view (suc c) (suc k) v) (suc k) (omega (arith, h.turns.bits c there, e)) refl refl (h.clock.seen id v at)
+      (omega (arith, e)) (λ d ne. refl) refl refl (h.tiers.held id v at) (record { column = b.column; gap = b.gap; coming = b.coming; outer = b.outer })
+      s.homes h.deep (λ d ne. refl) (λ z. absurd (omega (arith, z)))
 
   gap_stays : (m : Home) → v.gap < h.used → v.column < h.used → gap_home m v.column v.gap < h.used
   gap_stays (home.Split fork used) g l = l
@@ -109,11 +117,11 @@ module _ (key : Key) (s : State Slot View) (h : Holds key s) (id : ℕ) (v : Vie
   gave_rule m y held whole =
       let b = h.tiers.stands id v at in
       let part : turns_of c v.turns ≤ total (has_turn c) s.views = total_part (has_turn c) s.views id v at in
-      turn_rule (gave_view m v) 0 (omega arith) refl (h.clock.seen id v at)
+      turn_rule (gave_view m v) 0 (omega arith) refl refl (h.clock.seen id v at)
       (omega (arith, part, h.turns.one c there, h.turns.bits c there, newest_is_one c v.turns held, turns_older c c v.turns held, one c))
       (λ d ne. omega (arith, turns_older d c v.turns held, zero_else d ne))
       refl refl (all_older (λ (t : Turn). t.slot ≡ cells_of key → t.used ≡ h.used) v.turns (h.tiers.held id v at))
-      (record { column = b.column; gap = gap_stays m b.gap b.column; coming = b.coming })
+      (record { column = b.column; gap = gap_stays m b.gap b.column; coming = b.coming; outer = b.outer })
       (set s.homes c (some y)) (length-set s.homes c (some y) ∙ h.deep) (λ d ne. set_else s.homes c d (some y) ne)
       (λ z. (
         y,
@@ -131,9 +139,6 @@ module _ (key : Key) (s : State Slot View) (h : Holds key s) (id : ℕ) (v : Vie
 
 pub takes_turn : (key : Key) (aim : Aim) (slots id : ℕ) (me : Me Slot View) (c : ℕ) → c ≤ cells_of key → Allows (Holds key) slots id me (suc c) (λ n. either (n == 0) 1 n) (took key aim c (step slots (suc c) 0 1 none) me)
 takes_turn key aim slots id me c there s h deep at bound = by_word (slice_index s.words (suc c)) refl where
-  same : (k : ℕ) → slice_index s.words (suc c) ≡ suc k → s ≡ stepped s (suc c) (suc k) id me.1 me.0 keeps
-  same k e i = record { words = (sym (set-get_or s.words (suc c) 0) ∙ ap (set s.words (suc c)) e) i; homes = s.homes; views = sym (set_again s.views id me.0 at) i }
-
   by_word : (n : ℕ) → slice_index s.words (suc c) ≡ n
       → (w : View) × (a : Act Slot) × Valid s.homes me.1 a × Holds key (stepped s (suc c) (either (n == 0) 1 n) id me.1 w a) × took key aim c (step slots (suc c) 0 1 none) me n (w, carried_after me.1 a)
   by_word zero e =
@@ -142,9 +147,25 @@ takes_turn key aim slots id me c there s h deep at bound = by_word (slice_index 
         takes c q.0,
         q.1,
         took_rule key s h id me.0 at c there aim e,
-        record { lay = q.0; used = h.used; clock = slice_index s.words 0; later = h.clock.seen id me.0 at; after = refl; whole = q.2 },
+        record {
+          lay = q.0;
+          used = h.used;
+          clock = slice_index s.words 0;
+          later = h.clock.seen id me.0 at;
+          few = h.tiers.few;
+          column = (h.tiers.stands id me.0 at).column;
+          gap = (h.tiers.stands id me.0 at).gap;
+          after = refl;
+          whole = q.2;
+        },
       )
-  by_word (suc k) e = (me.0, keeps, tt, subst (λ (b : Bool). Holds key (stepped s (suc c) (either b 1 (suc k)) id me.1 me.0 keeps)) (sym (ne_eqb (suc k) 0 (λ q. omega arith))) (subst (Holds key) (same k e) h), refl)
+  by_word (suc k) e = (
+    noted_view (suc c) (suc k) me.0,
+    keeps,
+    tt,
+    subst (λ (b : Bool). Holds key (stepped s (suc c) (either b 1 (suc k)) id me.1 (noted_view (suc c) (suc k) me.0) keeps)) (sym (ne_eqb (suc k) 0 (λ q. omega arith))) (left_rule key s h id me.0 at c there k e),
+    (suc k, omega arith, refl),
+  )
 
 pub gives_turn : (key : Key) (m : Home) (slots id : ℕ) (v : View) (c : ℕ) (y : Slot) (others : List (ℕ × Slot)) → c ≤ cells_of key → newest_slot v.turns ≡ Some c → IsWhole key v.seen (newest_used v.turns) c y
     → Allows (Holds key) slots id (v, (c, y) ∷ others) (suc c) (λ n. 0) (λ n. gave m (step slots (suc c) 0 0 none) (v, (c, y) ∷ others) 0)
@@ -172,6 +193,6 @@ pub took_free : (key key' : Key) (aim aim' : Aim) (c c' : ℕ) (st : Step Slot) 
 took_free key key' aim aim' c c' st me zero me' ek ea ec z t = subst (λ k. TakesIt k aim c me me') ek (subst (λ a. TakesIt key' a c me me') ea (subst (λ d. TakesIt key' aim' d me me') ec t))
 took_free key key' aim aim' c c' st me (suc n) me' ek ea ec z t = absurd (cc (z, ne_eqb (suc n) 0 (λ q. omega arith)))
 
-pub took_not : (key : Key) (aim : Aim) (c : ℕ) (st : Step Slot) (me : Me Slot View) (n : ℕ) (me' : Me Slot View) → nat_eq n 0 ≡ false → took key aim c st me n me' → me' ≡ me
+pub took_not : (key : Key) (aim : Aim) (c : ℕ) (st : Step Slot) (me : Me Slot View) (n : ℕ) (me' : Me Slot View) → nat_eq n 0 ≡ false → took key aim c st me n me' → LeavesIt st.word me me'
 took_not key aim c st me zero me' z t = absurd (cc z)
 took_not key aim c st me (suc n) me' z t = t

@@ -1,6 +1,7 @@
 //! A new table.
 ghost use Rattle.std.specs.Prelude.{◌≡◌, ◌<◌, [], map, replicate, IfOk};
-ghost use Rattle.cw_steps.specs.Tracks.{track_of, fresh_track};
+ghost use Rattle.cw_steps.specs.Tracks.{track_of, fresh_track, HasRoom};
+ghost use Rattle.cw_steps.specs.Stands.{root_token, token_of};
 ghost use Rattle.cw_steps.specs.Places.{all_words};
 ghost use Rattle.cw_steps.specs.Views.{fresh_slot, held_by, key_of, root_view, view_of, IsTokenOf};
 
@@ -44,7 +45,9 @@ impl Shared {
         requires { 0 < limits.strands }
         ensures table { IfOk result (λ r. IsTokenOf r.0 r.1) }
         ensures key { IfOk result (λ r. key_of r.0 ≡ record { first = init.now; columns = limits.strands; aborts = limits.aborts }) }
-        ensures token { IfOk result (λ r. (view_of r.1 ≡ root_view) × (held_by r.1 ≡ []) × (track_of r.1.track ≡ fresh_track 0 0)) }
+        ensures token { IfOk result (λ r. (view_of r.1 ≡ root_view) × (held_by r.1 ≡ []) × (track_of r.1.track ≡ fresh_track 0 0 0 0)) }
+        ensures room { IfOk result (λ r. HasRoom r.1.track) }
+        ensures stands { IfOk result (λ r. token_of r.1 ≡ root_token) }
     {
         if limits.strands >= MOST_COLUMNS {
             return Err(OutOfMemory);
@@ -52,7 +55,7 @@ impl Shared {
         let Ok(cells) = u32::try_from(init.len()) else {
             return Err(OutOfMemory);
         };
-        let track = Track::new(alloc, 0, 0)?;
+        let track = Track::new(alloc)?;
         let key = Key {
             first: Seq::from_vec(Vec::from_slice(alloc, init)?),
             columns: limits.strands,
@@ -69,7 +72,7 @@ impl Shared {
         let token = StrandToken {
             seat,
             track,
-            halt: None,
+            stop: None,
         };
         Ok((Shared { table, cells }, token))
     }

@@ -1,18 +1,23 @@
 //! What a token shows, and the room that it takes ahead.
 ghost use Rattle.std.specs.Prelude.{◌≡◌, OnOk};
-ghost use Rattle.cw_steps.specs.Tracks.{track_of, IsReady};
+ghost use Rattle.cw_steps.specs.Tracks.{column_in, halt_of, track_of, turned, CanPart, IsReady};
+ghost use Rattle.cw_tree.specs.Nodes.{stamp_of};
+ghost use Rattle.cw_log.specs.Tokens as tokens;
+ghost use Rattle.cw_steps.specs.Stands.{token_of};
 
 use super::StrandToken;
 use cw_base::OutOfMemory;
+use cw_log::Logs;
 use cw_tree::{Conflict, Halt, Node};
 
 impl StrandToken {
-    /// Takes room for so many nodes, and as many conflicts and forks, before the steps that add them.
+    /// Takes room for so many nodes, and as many conflicts and forks, before the steps that add them, and for what one right strand begins with.
     pub fn reserve(&mut self, nodes: u32) -> Result<(), OutOfMemory>
-        ensures ok { OnOk result (IsReady self.new.track nodes) }
+        ensures ok { OnOk result (IsReady self.new.track nodes × CanPart self.new.track) }
         ensures track { track_of self.new.track ≡ track_of self.old.track }
         ensures seat { self.new.seat ≡ self.old.seat }
-        ensures halt { self.new.halt ≡ self.old.halt }
+        ensures stop { self.new.stop ≡ self.old.stop }
+        ensures room { self.new.track.room ≡ self.old.track.room }
     {
         let StrandToken { track, .. } = self;
         track.reserve(nodes)
@@ -20,14 +25,14 @@ impl StrandToken {
 
     /// The nodes of its own log.
     pub fn nodes(&self) -> &[Node]
-        ensures { result.now ≡ (track_of self.now.track).nodes }
+        ensures { result.now ≡ (track_of self.now.track).own.nodes }
     {
         self.track.nodes.as_slice()
     }
 
     /// The conflicts of its own log.
     pub fn conflicts(&self) -> &[Conflict]
-        ensures { result.now ≡ (track_of self.now.track).conflicts }
+        ensures { result.now ≡ (track_of self.now.track).own.conflicts }
     {
         self.track.conflicts.as_slice()
     }
@@ -37,6 +42,13 @@ impl StrandToken {
         ensures { result ≡ (track_of self.now.track).place }
     {
         self.track.place
+    }
+
+    /// The begin stamp of the block in which the next node goes, or 0 where it goes in no block.
+    pub fn begun(&self) -> u64
+        ensures { result ≡ stamp_of (track_of self.now.track).own.nodes (track_of self.now.track).place }
+    {
+        self.track.stamp()
     }
 
     /// The column of its strand.
@@ -53,10 +65,46 @@ impl StrandToken {
         self.track.gap
     }
 
+    /// The word of that gap.
+    pub fn word(&self) -> u64
+        ensures { result ≡ (track_of self.now.track).word }
+    {
+        self.track.word
+    }
+
+    /// The logs of the tokens that were joined to it, in their order.
+    pub fn joined(&self) -> &Logs
+        ensures { result.now ≡ (track_of self.now.track).joined }
+    {
+        &self.track.joined
+    }
+
+    /// The column of a strand of its own log in which it stands: its own, or one that waits for a fork.
+    pub fn column_of(&self, strand: u32) -> u32
+        ensures { result ≡ column_in (track_of self.now.track) strand }
+    {
+        self.track.column_of(strand)
+    }
+
     /// How it was stopped, if it was.
     pub fn noted(&self) -> Option<Halt>
-        ensures { result ≡ self.now.halt }
+        ensures { result ≡ halt_of self.now.stop }
     {
-        self.halt
+        match self.stop {
+            Some(stop) => Some(stop.halt),
+            None => None,
+        }
+    }
+
+    /// From the left strand of an inline fork to the right one, and from there to the strand that forked.
+    pub fn next_branch(&mut self)
+        ensures seat { self.new.seat ≡ self.old.seat }
+        ensures track { track_of self.new.track ≡ turned (track_of self.old.track) }
+        ensures stop { self.new.stop ≡ self.old.stop }
+        ensures room { self.new.track.room ≡ self.old.track.room }
+        ensures token { token_of self.new ≡ tokens.turned (token_of self.old) }
+    {
+        let StrandToken { track, .. } = self;
+        track.turn();
     }
 }

@@ -1,13 +1,13 @@
 //! What is added to a log.
-ghost use Rattle.std.specs.Prelude.{◌≡◌, ℕ, ◌+◌, IfOk, OnOk};
+ghost use Rattle.std.specs.Prelude.{◌≡◌, ℕ, ◌+◌, ◌<◌, ◌^◌, OnOk};
 ghost use Rattle.cw_tree.specs.Nodes as nodes;
-ghost use Rattle.cw_steps.specs.Tracks.{added, added_home, brought, drawn, begun, closed_at, forked_at, fresh_track, made_at, refused_at, track_of, kind_of_access, IsReady};
+ghost use Rattle.cw_steps.specs.Tracks.{added, added_home, brought, drawn, begun, closed_at, forked_at, made_at, refused_at, settled, side_in, track_of, kind_of_access, IsReady};
 
-use super::{Stood, Track};
+use super::{Ahead, Stood, Track};
 use crate::{Draw, Home};
 use cw_base::{OutOfMemory, put};
+use cw_log::Side;
 use cw_tree::{BlockState, Conflict, Kind, Node};
-use std::alloc::Global;
 
 fn first_state(kind: &Kind) -> BlockState
     ensures { result ≡ nodes.first_state kind.now }
@@ -18,7 +18,7 @@ fn first_state(kind: &Kind) -> BlockState
     }
 }
 
-fn fresh_node(parent: u32, kind: Kind, stamp: u64) -> Node
+pub(crate) fn fresh_node(parent: u32, kind: Kind, stamp: u64) -> Node
     ensures { result ≡ nodes.fresh_node parent kind stamp }
 {
     let state = first_state(&kind);
@@ -41,29 +41,23 @@ fn access_kind(cell: u32, wrote: bool, value: i64) -> Kind
     }
 }
 
-impl Track {
-    /// The track of a strand that has done nothing, in a log of its own.
-    pub(crate) fn new(alloc: Global, column: u32, gap: u32) -> Result<Track, OutOfMemory>
-        ensures { IfOk result (λ c. track_of c ≡ fresh_track column gap) }
-    {
-        let mut nodes = Vec::with_capacity(alloc, 1)?;
-        put(&mut nodes, fresh_node(0, Kind::Strand, 0));
-        Ok(Track {
-            nodes,
-            conflicts: Vec::new(alloc),
-            strand: 0,
-            place: 0,
-            column,
-            gap,
-            word: 0,
-            outer: Vec::new(alloc),
-        })
+fn side_of(shared: bool, node: u32, left: u32) -> Side
+    requires { node + 2 < 2 ^ 32 }
+    ensures { result ≡ side_in shared node left }
+{
+    if shared {
+        Side::First(node + 2)
+    } else {
+        Side::Beside(left)
     }
+}
 
+impl Track {
     /// Takes room for so many nodes, conflicts and forks.
-    pub(crate) fn reserve(&mut self, count: u32) -> Result<(), OutOfMemory>
+    pub(crate) fn reserve_nodes(&mut self, count: u32) -> Result<(), OutOfMemory>
         ensures ok { OnOk result (IsReady self.new count) }
         ensures same { track_of self.new ≡ track_of self.old }
+        ensures kept { (self.new.spare ≡ self.old.spare) × (self.new.room ≡ self.old.room) }
     {
         let Track {
             nodes,
@@ -84,6 +78,7 @@ impl Track {
         requires { IsReady self.old 1 }
         ensures track { track_of self.new ≡ made_at (track_of self.old) kind stamp }
         ensures ready { (n : ℕ) → IsReady self.old (1 + n) → IsReady self.new n }
+        ensures kept { (self.new.spare ≡ self.old.spare) × (self.new.room ≡ self.old.room) }
     {
         let Track { nodes, place, .. } = self;
         put(nodes, fresh_node(*place, kind, stamp));
@@ -93,6 +88,7 @@ impl Track {
         requires { IsReady self.old 1 }
         ensures track { track_of self.new ≡ begun (track_of self.old) stamp }
         ensures ready { (n : ℕ) → IsReady self.old (1 + n) → IsReady self.new n }
+        ensures kept { (self.new.spare ≡ self.old.spare) × (self.new.room ≡ self.old.room) }
     {
         let Track { nodes, place, .. } = self;
         let block = nodes.len() as u32;
@@ -103,6 +99,7 @@ impl Track {
     fn close(&mut self, state: BlockState, end: u64)
         ensures track { track_of self.new ≡ closed_at (track_of self.old) state end }
         ensures ready { (n : ℕ) → IsReady self.old n → IsReady self.new n }
+        ensures kept { (self.new.spare ≡ self.old.spare) × (self.new.room ≡ self.old.room) }
     {
         let Track { nodes, place, .. } = self;
         *place = match nodes.get_mut(*place as usize) {
@@ -119,6 +116,7 @@ impl Track {
         requires { IsReady self.old 3 }
         ensures track { track_of self.new ≡ forked_at (track_of self.old) left right gap stamp }
         ensures ready { (n : ℕ) → IsReady self.old (3 + n) → IsReady self.new n }
+        ensures kept { (self.new.spare ≡ self.old.spare) × (self.new.room ≡ self.old.room) }
     {
         let Track {
             nodes,
@@ -128,11 +126,14 @@ impl Track {
             gap: own_gap,
             word,
             outer,
+            ahead,
             ..
         } = self;
+        let node = nodes.len() as u32;
         put(
             outer,
             Stood {
+                side: side_of(left == right, node, left),
                 strand: *strand,
                 place: *place,
                 column: *column,
@@ -140,25 +141,41 @@ impl Track {
                 word: *word,
             },
         );
-        let fork = nodes.len() as u32;
         put(nodes, fresh_node(*place, Kind::Fork, stamp));
-        put(nodes, fresh_node(fork, Kind::Strand, 0));
+        put(nodes, fresh_node(node, Kind::Strand, 0));
         if left == right {
-            put(nodes, fresh_node(fork, Kind::Strand, 0));
+            put(nodes, fresh_node(node, Kind::Strand, 0));
         } else {
             *word = 0;
+            *ahead = Some(Ahead {
+                fork: left,
+                node,
+                column: right,
+                gap,
+            });
         }
-        *strand = fork + 1;
-        *place = fork + 1;
+        *strand = node + 1;
+        *place = node + 1;
         *column = left;
         *own_gap = gap;
     }
 
-    /// Adds what a draw shows, with the number that was drawn.
-    pub(crate) fn draw(&mut self, what: &Draw, number: u64)
-        requires { IsReady self.old (added what.now) }
+    fn settle(&mut self)
+        ensures track { track_of self.new ≡ settled (track_of self.old) }
+        ensures ready { (n : ℕ) → IsReady self.old n → IsReady self.new n }
+        ensures kept { (self.new.spare ≡ self.old.spare) × (self.new.room ≡ self.old.room) }
+    {
+        let Track { behind, second, .. } = self;
+        *behind = 0;
+        *second = false;
+    }
+
+    fn draw_settled(&mut self, what: &Draw, number: u64)
+        requires settled { track_of self.old ≡ settled (track_of self.old) }
+        requires ready { IsReady self.old (added what.now) }
         ensures track { track_of self.new ≡ drawn what.now number (track_of self.old) }
         ensures ready { (n : ℕ) → IsReady self.old (added what.now + n) → IsReady self.new n }
+        ensures kept { (self.new.spare ≡ self.old.spare) × (self.new.room ≡ self.old.room) }
     {
         match *what {
             Draw::Access { cell, wrote, value } => self.add(
@@ -173,10 +190,22 @@ impl Track {
         }
     }
 
+    /// Adds what a draw shows, with the number that was drawn.
+    pub(crate) fn draw(&mut self, what: &Draw, number: u64)
+        requires { IsReady self.old (added what.now) }
+        ensures track { track_of self.new ≡ drawn what.now number (track_of self.old) }
+        ensures ready { (n : ℕ) → IsReady self.old (added what.now + n) → IsReady self.new n }
+        ensures kept { (self.new.spare ≡ self.old.spare) × (self.new.room ≡ self.old.room) }
+    {
+        self.settle();
+        self.draw_settled(what, number);
+    }
+
     fn refuse(&mut self, conflict: Conflict)
         requires { IsReady self.old 1 }
         ensures track { track_of self.new ≡ refused_at (track_of self.old) conflict }
         ensures ready { (n : ℕ) → IsReady self.old (1 + n) → IsReady self.new n }
+        ensures kept { (self.new.spare ≡ self.old.spare) × (self.new.room ≡ self.old.room) }
     {
         let Track {
             nodes,
@@ -197,6 +226,7 @@ impl Track {
         requires { IsReady self.old (added_home home) }
         ensures track { track_of self.new ≡ brought home (track_of self.old) }
         ensures ready { (n : ℕ) → IsReady self.old (added_home home + n) → IsReady self.new n }
+        ensures kept { (self.new.spare ≡ self.old.spare) × (self.new.room ≡ self.old.room) }
     {
         match home {
             Home::Refused(conflict) => self.refuse(conflict),
@@ -207,7 +237,7 @@ impl Track {
 
     /// The stamp of the node at its place.
     pub(crate) fn stamp(&self) -> u64
-        ensures { result ≡ nodes.stamp_of (track_of self.now).nodes (track_of self.now).place }
+        ensures { result ≡ nodes.stamp_of (track_of self.now).own.nodes (track_of self.now).place }
     {
         match self.nodes.get(self.place as usize) {
             Some(node) => node.stamp,

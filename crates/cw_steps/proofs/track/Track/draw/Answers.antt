@@ -1,21 +1,8 @@
-use Rattle.std.proofs.Common.{◌≡◌, ℕ, ◌+◌, arith, ap, sym, subst}
-use Rattle.cw_steps.specs.Tracks.{added, IsReady}
+use Rattle.cw_steps.specs.Tracks.{added}
 use Rattle.cw_steps.proofs.track.Track.draw.Goals as goal
 
-pub returns-in-Access-clause-ready : goal.returns-in-Access-clause-ready
-returns-in-Access-clause-ready c = subst (λ (m : ℕ). (n : ℕ) → IsReady c.args.self.now (m + n) → IsReady c.add.new.self n) (sym (ap added c.in-Access.is)) c.add.ensures.ready
+pub draw_settled-requires-clause-ready : goal.draw_settled-requires-clause-ready
+draw_settled-requires-clause-ready c = c.settle.ensures.ready (added c.args.what.now) c.requires
 
-pub returns-in-Out-clause-ready : goal.returns-in-Out-clause-ready
-returns-in-Out-clause-ready c = subst (λ (m : ℕ). (n : ℕ) → IsReady c.args.self.now (m + n) → IsReady c.add-in-Out.new.self n) (sym (ap added c.in-Out.is)) c.add-in-Out.ensures.ready
-
-pub returns-in-Begin-clause-ready : goal.returns-in-Begin-clause-ready
-returns-in-Begin-clause-ready c = subst (λ (m : ℕ). (n : ℕ) → IsReady c.args.self.now (m + n) → IsReady c.begin.new.self n) (sym (ap added c.in-Begin.is)) c.begin.ensures.ready
-
-pub returns-in-End-true-clause-ready : goal.returns-in-End-true-clause-ready
-returns-in-End-true-clause-ready c = λ n h. c.close.ensures.ready n (subst (IsReady c.args.self.now) (let e : added c.args.what.now ≡ 0 = ap added c.in-End-true.is in omega arith) h)
-
-pub returns-in-End-false-clause-ready : goal.returns-in-End-false-clause-ready
-returns-in-End-false-clause-ready c = λ n h. c.close-in-End-false.ensures.ready n (subst (IsReady c.args.self.now) (let e : added c.args.what.now ≡ 0 = ap added c.in-End-false.is in omega arith) h)
-
-pub returns-in-Fork-clause-ready : goal.returns-in-Fork-clause-ready
-returns-in-Fork-clause-ready c = subst (λ (m : ℕ). (n : ℕ) → IsReady c.args.self.now (m + n) → IsReady c.fork.new.self n) (sym (ap added c.in-Fork.is)) c.fork.ensures.ready
+pub returns-clause-ready : goal.returns-clause-ready
+returns-clause-ready c = λ n h. c.draw_settled.ensures.ready n (c.settle.ensures.ready _ h)

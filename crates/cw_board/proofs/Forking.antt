@@ -1,0 +1,182 @@
+-- Serves `HasForked`: a token that forks, and both that come of it.
+use Rattle.std.proofs.Common.{◌≡◌, ◌≢◌, ◌∙◌, ◌+◌, ◌-◌, ◌*◌, ◌<◌, ◌≤◌, ◌∷◌, [], List, ℕ, suc, ap, refl, sym, subst, arith, Bool, true, false, length, eq-eqb}
+use Rattle.std.specs.Prelude.{All, IsTrue, is_some, Option, Some, None, ◌==◌, if◌then◌else◌}
+use Rattle.std.proofs.lemmas.List.Elements.{All-nil, All-cons}
+use Rattle.std.proofs.lemmas.Bool.{ne_eqb}
+use Rattle.atomic_table.specs.Table.{rest}
+use Rattle.cw_log.specs.declared.token.Token.{Token}
+use Rattle.cw_log.specs.Tokens.{branched, forked, right_of}
+use Rattle.cw_steps.specs.declared.view.Key.{Key}
+use Rattle.cw_steps.specs.declared.draw.Draw.TheVariants as draw
+use Rattle.cw_steps.specs.declared.draw.Home.{Home}
+use Rattle.cw_steps.specs.declared.draw.Home.TheVariants as home
+use Rattle.cw_steps.specs.declared.table.StrandToken.{StrandToken}
+use Rattle.cw_steps.specs.declared.track.Ahead.{Ahead}
+use Rattle.cw_steps.specs.declared.view.Slot.{Slot}
+use Rattle.cw_steps.specs.declared.view.Turn.{Turn}
+use Rattle.cw_steps.specs.declared.view.View.{View}
+use Rattle.cw_steps.specs.declared.view.Whereabouts.{Whereabouts}
+use Rattle.cw_steps.specs.Stands.{drawn_token, right_token, token_of}
+use Rattle.cw_steps.specs.Tracks.{drawn, track_of, HasRoom}
+use Rattle.cw_steps.specs.Views.{columns_for, drew_view, gave_view, held_by, key_of, newest_slot, newest_used, older, outer_for, parted_view, new_seat_view, right_view, caught_up, innermost, cells_of, CanFork, Holding, IsTierOf, IsWhole, share, view_of, with_more, IsTokenOf}
+use Rattle.cw_board.specs.declared.board.Board.{Board}
+use Rattle.cw_board.specs.Boards.{cells_in, columns_of, IsOf}
+use Rattle.cw_board.specs.Sound.{IsSound}
+use Rattle.cw_board.specs.Turns.{HasForked, IsHolding, BringsNothing}
+use Rattle.cw_board.proofs.Boards.{is_now}
+use Rattle.cw_board.proofs.Holding.{lists_held}
+use Rattle.cw_board.proofs.Sound.{sound_branched, sound_forked, sound_later, sound_right}
+
+pub newest_more : (k : ℕ) (ts : List Turn) → newest_slot (with_more k ts) ≡ newest_slot ts
+newest_more k [] = refl
+newest_more k (t ∷ ts) = refl
+
+pub older_more : (k : ℕ) (ts : List Turn) → older (with_more k ts) ≡ older ts
+older_more k [] = refl
+older_more k (t ∷ ts) = refl
+
+pub used_more : (k n : ℕ) (ts : List Turn) → newest_slot ts ≡ Some n → newest_used (with_more k ts) ≡ newest_used ts + k
+used_more k n [] e = absurd (cc e)
+used_more k n (t ∷ ts) e = refl
+
+-- what comes home with a plain turn
+pub plain_home : (m : Home) (v : View) → BringsNothing m → gave_view m v ≡ gave_view home.Plain v
+plain_home home.Plain v h = refl
+plain_home (home.Inline used) v h = refl
+plain_home (home.Refused c) v h = absurd h
+plain_home (home.Split fork used) v h = absurd h
+plain_home (home.Merge fork used) v h = absurd h
+plain_home (home.Early before used) v h = absurd h
+
+module _ (b : Board) (left right gap stamp : ℕ) (y : Slot) (t u u' : StrandToken) (h : IsHolding b (cells_in b) y t u) (f : HasForked b left right gap stamp u u') where
+  abbrev now : View
+  now = gave_view home.Plain (drew_view (draw.Fork left right gap) u.track.behind u.track.second stamp (view_of u))
+
+  some_gap : gap < columns_of b
+  some_gap = omega (arith, f.fits.within, f.fits.few)
+
+  here_now : now.here ≡ true
+  here_now = ap (λ (v : View). v.here) h.rest ∙ h.was.here
+
+  turns_now : now.turns ≡ []
+  turns_now = older_more (columns_for left right) (view_of u).turns ∙ h.alone
+
+  own_gap : (view_of u).gap < columns_of b
+  own_gap = subst (λ (n : ℕ). n < columns_of b) (sym (ap (λ (v : View). v.gap) h.rest)) h.was.gap
+
+  own_gaps : All (λ (o : Whereabouts). o.gap < columns_of b) (view_of u).outer
+  own_gaps = subst (All (λ (o : Whereabouts). o.gap < columns_of b)) (sym (ap (λ (v : View). v.outer) h.rest)) h.was.gaps
+
+  gaps_if : (r : Bool) → All (λ (o : Whereabouts). o.gap < columns_of b) (if r then (view_of u).outer else record { column = (view_of u).column; gap = (view_of u).gap; word = (view_of u).word } ∷ (view_of u).outer)
+  gaps_if true = own_gaps
+  gaps_if false = All-cons (λ (o : Whereabouts). o.gap < columns_of b) (record { column = (view_of u).column; gap = (view_of u).gap; word = (view_of u).word }) (view_of u).outer own_gap own_gaps
+
+  has_room : HasRoom u'.track
+  has_room = subst (λ r. IsTrue (is_some r)) (sym f.room) (subst HasRoom (sym h.track) h.was.room)
+
+  -- what it stands for is sound before the fork
+  sound_before : IsSound (token_of u) (view_of u).room (view_of u).seen
+  sound_before = subst (λ x. IsSound x (view_of u).room (view_of u).seen) (sym h.token)
+      (subst (λ r. IsSound (token_of t) r (view_of u).seen) (sym (ap (λ (v : View). v.room) h.rest)) (sound_later (token_of t) (view_of t).room (view_of t).seen (view_of u).seen h.later h.was.sound))
+
+  sound_if : (r : Bool) (room : ℕ) → (view_of u).room ≤ room + 1 → IsSound (if r then branched (token_of u) stamp else forked (token_of u) stamp left) room stamp
+  sound_if true room paid = sound_branched (token_of u) (view_of u).room (view_of u).seen sound_before room stamp paid f.later
+  sound_if false room paid = sound_forked (token_of u) (view_of u).room (view_of u).seen sound_before room stamp paid f.later left
+
+  owned : length (token_of u).joined + 1 ≤ (view_of u).owns
+  owned = lists_held b (cells_in b) y t u h
+
+  lists_if : (r : Bool) → length (if r then branched (token_of u) stamp else forked (token_of u) stamp left).joined + 1 ≤ (view_of u).owns + (if r then 0 else 1)
+  lists_if true = omega (arith, owned)
+  lists_if false = omega (arith, owned)
+
+  lists_two : (r : Bool) → r ≡ false → length (if r then branched (token_of u) stamp else forked (token_of u) stamp left).joined + 1 ≤ (view_of u).owns + (if r then 0 else 1) - 1
+  lists_two true e = absurd (cc e)
+  lists_two false e = omega (arith, owned)
+
+  -- a fork in its strand's own column
+  pub inline_is : IsOf b u'
+  inline_is = is_now b u' now (drawn_token (draw.Fork left right gap) stamp (token_of u)) f.table f.view f.token f.slots has_room here_now turns_now some_gap (gaps_if (left == right)) (lists_if (left == right))
+      (sound_if (left == right) now.room (omega arith))
+
+  -- a fork with two columns, whose right strand's seat is split off
+  module _ (apart : left ≢ right) where
+    off : (left == right) ≡ false
+    off = ne_eqb left right apart
+
+    two : columns_for left right ≡ 2
+    two = ap {B = ℕ} (λ (r : Bool). if r then 0 else 2) off
+
+    pub rich : (share ≤ (view_of u').room) × (0 < (view_of u').owns)
+    rich = (subst (λ (v : View). share ≤ v.room) (sym f.view) (omega (arith, two)), subst (λ (v : View). 0 < v.owns) (sym f.view) (omega (arith, owned)))
+
+    pub left_is : (u'' : StrandToken) (behind : ℕ) (second : Bool) → IsTokenOf b.shared u'' → view_of u'' ≡ parted_view false behind second (view_of u') → held_by u'' ≡ held_by u' → u''.track.room ≡ u'.track.room → token_of u'' ≡ token_of u' → IsOf b u''
+    left_is u'' behind second table view slots room token =
+        is_now b u'' (parted_view false behind second now) (drawn_token (draw.Fork left right gap) stamp (token_of u)) table (view ∙ ap (parted_view false behind second) f.view) (token ∙ f.token) (slots ∙ f.slots)
+        (subst (λ r. IsTrue (is_some r)) (sym room) has_room) here_now turns_now some_gap (gaps_if (left == right)) (lists_two (left == right) off)
+        (sound_if (left == right) (now.room - share) (omega (arith, two)))
+
+    pub right_is : (a : Ahead) (r : StrandToken) (behind : ℕ) (second : Bool) → IsTokenOf b.shared r → view_of r ≡ new_seat_view false behind second (view_of u') → held_by r ≡ [] → HasRoom r.track → token_of r ≡ right_token (token_of u') a → IsOf b r
+    right_is a r behind second table view slots room token =
+        let seat : View = new_seat_view false behind second now in
+        let coming : now.coming ≡ Some (record { fork = left; column = right; gap = gap }) = ap (λ (q : Bool). if q then (view_of u).coming else Some (record { fork = left; column = right; gap = gap })) off in
+        let view' : view_of r ≡ right_view (Some (record { fork = left; column = right; gap = gap })) (innermost (caught_up behind second now.arounds)) now =
+        view ∙ ap (new_seat_view false behind second) f.view ∙ ap (λ c. right_view c (innermost (caught_up behind second now.arounds)) now) coming in
+        is_now b r (right_view (Some (record { fork = left; column = right; gap = gap })) (innermost (caught_up behind second now.arounds)) now) (right_token (drawn_token (draw.Fork left right gap) stamp (token_of u)) a)
+        table view' (token ∙ ap (λ x. right_token x a) f.token) slots room refl refl some_gap (All-nil (λ (o : Whereabouts). o.gap < columns_of b)) (omega arith)
+        (sound_right (drawn_token (draw.Fork left right gap) stamp (token_of u)) (now.room - share) stamp a (sound_if (left == right) (now.room - share) (omega (arith, two))))
+
+    -- what both stand for
+    left_stands : drawn_token (draw.Fork left right gap) stamp (token_of u) ≡ forked (token_of u) stamp left
+    left_stands = ap (λ (q : Bool). if q then branched (token_of u) stamp else forked (token_of u) stamp left) off
+
+    pub ahead_now : u'.track.ahead ≡ Some (record { fork = left; node = length (token_of u).own.nodes; column = right; gap = gap })
+    ahead_now = ap (λ c. c.ahead) f.track ∙ ap (λ (q : Bool). if q then u.track.ahead else Some (record { fork = left; node = length (token_of u).own.nodes; column = right; gap = gap })) off
+
+    pub left_forks : (u'' : StrandToken) → token_of u'' ≡ token_of u' → token_of u'' ≡ forked (token_of u) stamp left
+    left_forks u'' token = token ∙ f.token ∙ left_stands
+
+    pub right_forks : (r : StrandToken) → token_of r ≡ right_token (token_of u') (record { fork = left; node = length (token_of u).own.nodes; column = right; gap = gap }) → token_of r ≡ right_of (token_of u) left right
+    right_forks r token = token ∙ ap (λ x. right_token x (record { fork = left; node = length (token_of u).own.nodes; column = right; gap = gap })) (f.token ∙ left_stands)
+
+-- ## What a fork asks
+
+pub can_fork_two : (key : Key) (v : View) (left right gap : ℕ) → newest_slot v.turns ≡ Some (cells_of key) → left ≡ newest_used v.turns → right ≡ left + 1 → left + 2 ≤ key.columns → gap ≤ left → CanFork key v left right gap
+can_fork_two key v left right gap turn first next few low =
+    let off : (left == right) ≡ false = ne_eqb left right (λ e. omega arith) in
+    let two : columns_for left right ≡ 2 = ap {B = ℕ} (λ (r : Bool). if r then 0 else 2) off in
+    record {
+      turn = turn;
+      one = first ∙ sym (ap {B = ℕ} (λ (r : Bool). if r then v.column else newest_used v.turns) off);
+      other = omega (arith, next, ap {B = ℕ} (λ (r : Bool). if r then left else suc left) off);
+      few = omega (arith, first, few, two);
+      within = omega (arith, first, low, two);
+    }
+
+pub can_fork_inline : (key : Key) (v : View) → newest_slot v.turns ≡ Some (cells_of key) → newest_used v.turns ≤ key.columns → v.gap < newest_used v.turns → CanFork key v v.column v.column v.gap
+can_fork_inline key v turn few low =
+    let on : (v.column == v.column) ≡ true = eq-eqb v.column v.column refl in
+    let none : columns_for v.column v.column ≡ 0 = ap {B = ℕ} (λ (r : Bool). if r then 0 else 2) on in
+    record {
+      turn = turn;
+      one = sym (ap {B = ℕ} (λ (r : Bool). if r then v.column else newest_used v.turns) on);
+      other = sym (ap {B = ℕ} (λ (r : Bool). if r then v.column else suc v.column) on);
+      few = omega (arith, few, none);
+      within = omega (arith, low, none);
+    }
+
+-- as `give` asks it
+pub gives_fork : (b : Board) (left right gap n behind : ℕ) (second : Bool) (y z : Slot) (t u v : StrandToken) → IsHolding b (cells_in b) y t u
+    → view_of v ≡ drew_view (draw.Fork left right gap) behind second n (view_of u) → held_by v ≡ (cells_in b, z) ∷ [] → IsTierOf (columns_of b) (newest_used (view_of u).turns + columns_for left right) z
+    → (x : Slot) × Holding v (cells_in b) x × IsWhole (key_of b.shared) (view_of v).seen (newest_used (view_of v).turns) (cells_in b) x
+gives_fork b left right gap n behind second y z t u v h view slots tier = (
+  z,
+  record {
+    turn = ap (λ (w : View). newest_slot w.turns) view ∙ newest_more (columns_for left right) (view_of u).turns ∙ h.turn;
+    slot = slots ∙ ap (λ ys. (cells_in b, z) ∷ rest ys) (sym slots);
+  },
+  record {
+    cell = λ less. absurd (omega (arith, less));
+    tier = λ e. subst (λ (k : ℕ). IsTierOf (columns_of b) k z) (sym (ap (λ (w : View). newest_used w.turns) view ∙ used_more (columns_for left right) (cells_in b) (view_of u).turns h.turn)) tier;
+  },
+)

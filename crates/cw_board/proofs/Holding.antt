@@ -1,0 +1,182 @@
+-- Serves `HasWaited` and `HasTaken`: a token that waits for a turn.
+use Rattle.std.proofs.Common.{◌≡◌, ◌∙◌, ◌+◌, ◌∷◌, [], List, length, ◌<◌, ◌≤◌, ℕ, ap, refl, sym, subst, arith}
+use Rattle.std.specs.Prelude.{All, IsTrue, is_some, Result, Ok, Err, OnOk, OnErr}
+use Rattle.cw_steps.specs.declared.draw.Home.{Home}
+use Rattle.cw_steps.specs.declared.view.Whereabouts.{Whereabouts}
+use Rattle.cw_steps.specs.Tracks.{HasRoom}
+use Rattle.atomic_table.specs.Table.{rest}
+use Rattle.cw_log.specs.declared.log.Log.{Log}
+use Rattle.cw_log.specs.declared.token.Token.{Token}
+use Rattle.cw_trace.specs.Columns as columns
+use Rattle.cw_trace.specs.Traces.{Traces}
+use Rattle.cw_trace.proofs.Marks.Edits.{length_parts}
+use Rattle.cw_steps.specs.declared.draw.Home.TheVariants as home
+use Rattle.cw_steps.specs.declared.view.Slot.{Slot}
+use Rattle.cw_steps.specs.declared.view.Slot.TheVariants as slot
+use Rattle.cw_steps.specs.declared.view.View.{View}
+use Rattle.cw_steps.specs.declared.draw.Aim.{Aim}
+use Rattle.cw_steps.specs.declared.table.StrandToken.{StrandToken}
+use Rattle.cw_steps.specs.Stands.{brought_token, token_of}
+use Rattle.cw_steps.specs.Views.{gap_home, gave_view, held_by, key_of, newest_slot, newest_used, noted_view, older, took_view, view_of, IsLowCell, IsTierOf, IsTokenOf, IsWhole, Holding, LeavesIt, TakesIt}
+use Rattle.cw_board.specs.Boards.{cells_in, columns_of, IsOf}
+use Rattle.cw_board.specs.declared.board.Board.{Board}
+use Rattle.cw_board.specs.Sound.{IsSound}
+use Rattle.cw_board.specs.Turns.{at_rest, HasTier, HasWaited, HasTaken, IsHolding, IsOfTier}
+use Rattle.cw_board.proofs.Sound.{sound_brought, sound_later}
+use Rattle.cw_board.proofs.Boards.{is_now}
+
+pub waits_not : (t : StrandToken) → HasWaited t t
+waits_not t = record { notes = (view_of t).notes; me = refl; track = refl; stop = refl; token = refl }
+
+pub waits_more : (word : ℕ) (t u u' : StrandToken) → HasWaited t u → LeavesIt word u.seat.me u'.seat.me → u'.track ≡ u.track → u'.stop ≡ u.stop → token_of u' ≡ token_of u → HasWaited t u'
+waits_more word t u u' h left track stop token = record {
+  notes = record { word = word; value = left.0 } ∷ h.notes;
+  me = left.2 ∙ ap (λ m. (noted_view word left.0 m.0, m.1)) h.me;
+  track = track ∙ h.track;
+  stop = stop ∙ h.stop;
+  token = token ∙ h.token;
+}
+
+pub takes_then : (b : Board) (aim : Aim) (n : ℕ) (t u u' : StrandToken) → HasWaited t u → TakesIt (key_of b.shared) aim n u.seat.me u'.seat.me → u'.track ≡ u.track → u'.stop ≡ u.stop → token_of u' ≡ token_of u → HasTaken b aim n t u'
+takes_then b aim n t u u' h takes track stop token = record {
+  notes = h.notes;
+  takes = subst (λ m. TakesIt (key_of b.shared) aim n m u'.seat.me) h.me takes;
+  track = track ∙ h.track;
+  stop = stop ∙ h.stop;
+  token = token ∙ h.token;
+}
+
+-- ## What lies in the slot
+
+module _ (b : Board) (aim : Aim) (n : ℕ) (t u : StrandToken) (of : IsOf b t) (table : IsTokenOf b.shared u) (h : HasTaken b aim n t u) where
+  abbrev now : View
+  now = took_view n aim h.takes.lay h.takes.used h.takes.clock (record (view_of t) { notes = h.notes })
+
+  view_now : view_of u ≡ now
+  view_now = ap (λ m. m.0) h.takes.after
+
+  pub holds_now : IsHolding b n h.takes.lay t u
+  holds_now = record {
+    was = of;
+    table = table;
+    turn = ap (λ (v : View). newest_slot v.turns) view_now;
+    alone = ap (λ (v : View). older v.turns) view_now ∙ of.turns;
+    slots = ap (λ m. m.1) h.takes.after ∙ ap (λ ys. (n, h.takes.lay) ∷ ys) of.slots;
+    later = subst (λ (v : View). (view_of t).seen ≤ v.seen) (sym view_now) h.takes.later;
+    rest = ap at_rest view_now;
+    track = h.track;
+    token = h.token;
+  }
+
+  pub low_now : n < cells_in b → IsLowCell (view_of u).seen h.takes.lay
+  low_now less = subst (λ (v : View). IsLowCell v.seen h.takes.lay) (sym view_now) (h.takes.whole.cell less)
+
+  pub tier_now : n ≡ cells_in b → HasTier b h.takes.lay u
+  tier_now last = record {
+    few = subst (λ (v : View). newest_used v.turns ≤ columns_of b) (sym view_now) h.takes.few;
+    column = subst (λ (v : View). v.column < newest_used v.turns) (sym view_now) h.takes.column;
+    gap = subst (λ (v : View). v.gap < newest_used v.turns) (sym view_now) h.takes.gap;
+    whole = subst (λ (v : View). IsTierOf (columns_of b) (newest_used v.turns) h.takes.lay) (sym view_now) (h.takes.whole.tier last);
+  }
+
+-- another thing lies there now
+pub holds_other : (b : Board) (n : ℕ) (y z : Slot) (t u u' : StrandToken) → IsHolding b n y t u → IsTokenOf b.shared u' → view_of u' ≡ view_of u → held_by u' ≡ (n, z) ∷ rest (held_by u)
+    → u'.track ≡ u.track → token_of u' ≡ token_of u → IsHolding b n z t u'
+holds_other b n y z t u u' h table view slots track token = record {
+  was = h.was;
+  table = table;
+  turn = ap (λ (v : View). newest_slot v.turns) view ∙ h.turn;
+  alone = ap (λ (v : View). older v.turns) view ∙ h.alone;
+  slots = slots ∙ ap (λ ys. (n, z) ∷ rest ys) h.slots;
+  later = subst (λ (v : View). (view_of t).seen ≤ v.seen) (sym view) h.later;
+  rest = ap at_rest view ∙ h.rest;
+  track = track ∙ h.track;
+  token = token ∙ h.token;
+}
+
+pub holding : (b : Board) (n : ℕ) (y : Slot) (t u : StrandToken) → IsHolding b n y t u → Holding u n y
+holding b n y t u h = record { turn = h.turn; slot = h.slots ∙ ap (λ ys. (n, y) ∷ rest ys) (sym h.slots) }
+
+-- what a slot that was written has, of the list of those that are out
+abbrev first_slot : List (ℕ × Slot) → Slot
+first_slot [] = slot.Empty
+first_slot (x ∷ xs) = x.1
+
+pub lies_there : (b : Board) (n : ℕ) (y z : Slot) (t u : StrandToken) (ys : List (ℕ × Slot)) → IsHolding b n y t u → held_by u ≡ (n, z) ∷ ys → y ≡ z
+lies_there b n y z t u ys h e = ap first_slot (sym h.slots ∙ e)
+
+pub tier_lies : (limit used : ℕ) (y : Slot) → IsTierOf limit used y → (x : Traces) × (y ≡ slot.Tier x)
+tier_lies limit used (slot.Tier x) h = (x, refl)
+tier_lies limit used (slot.Cell x) h = absurd h
+tier_lies limit used slot.Empty h = absurd h
+
+pub has_tier_too : (b : Board) (y z : Slot) (u u' : StrandToken) → y ≡ z → view_of u' ≡ view_of u → HasTier b y u → HasTier b z u'
+has_tier_too b y z u u' same view h = record {
+  few = subst (λ (v : View). newest_used v.turns ≤ columns_of b) (sym view) h.few;
+  column = subst (λ (v : View). v.column < newest_used v.turns) (sym view) h.column;
+  gap = subst (λ (v : View). v.gap < newest_used v.turns) (sym view) h.gap;
+  whole = subst (λ (v : View). IsTierOf (columns_of b) (newest_used v.turns) z) (sym view) (subst (IsTierOf (columns_of b) (newest_used (view_of u).turns)) same h.whole);
+}
+
+pub tier_gap : (b : Board) (y : Slot) (u : StrandToken) (m : Home) → IsOfTier m → HasTier b y u → gap_home m (view_of u).column (view_of u).gap < columns_of b
+tier_gap b y u (home.Refused c) of h = absurd of
+tier_gap b y u home.Plain of h = omega (arith, h.gap, h.few)
+tier_gap b y u (home.Split fork used) of h = omega (arith, h.column, h.few)
+tier_gap b y u (home.Merge fork used) of h = omega (arith, h.gap, h.few)
+tier_gap b y u (home.Inline used) of h = omega (arith, h.gap, h.few)
+tier_gap b y u (home.Early before used) of h = omega (arith, h.gap, h.few)
+
+pub cell_gap : (b : Board) (n : ℕ) (y : Slot) (t u : StrandToken) → IsHolding b n y t u → (view_of u).gap < columns_of b
+cell_gap b n y t u h = subst (λ (k : ℕ). k < columns_of b) (sym (ap (λ (v : View). v.gap) h.rest)) h.was.gap
+
+-- a split has as many columns as there were
+pub split_used : {A B : Type 0} (r : Result A B) (f : ℕ) (x y : Traces) → OnOk r (y.columns ≡ columns.split_at f x.columns) → OnErr r (y ≡ x) → columns.used y.columns ≡ columns.used x.columns
+split_used (Ok a) f x y ok err = ap columns.used ok ∙ length_parts (columns.owner x.columns f) f 0 x.columns.owners
+split_used (Err a) f x y ok err = ap (λ z. columns.used z.columns) err
+
+-- ## The turn is given back
+
+-- a token that has a turn owns what it did
+pub lists_held : (b : Board) (n : ℕ) (y : Slot) (t u : StrandToken) → IsHolding b n y t u → length (token_of u).joined + 1 ≤ (view_of u).owns
+lists_held b n y t u h = subst (λ (k : ℕ). length (token_of u).joined + 1 ≤ k) (sym (ap (λ (v : View). v.owns) h.rest)) (subst (λ (x : Token). length x.joined + 1 ≤ (view_of t).owns) (sym h.token) h.was.lists)
+
+brought_joined : (m : Home) (x : Token) → (brought_token m x).joined ≡ x.joined
+brought_joined (home.Refused c) x = refl
+brought_joined home.Plain x = refl
+brought_joined (home.Split fork used) x = refl
+brought_joined (home.Merge fork used) x = refl
+brought_joined (home.Inline used) x = refl
+brought_joined (home.Early before used) x = refl
+
+lists_given : (b : Board) (n : ℕ) (y : Slot) (t u : StrandToken) (m : Home) → IsHolding b n y t u → length (brought_token m (token_of u)).joined + 1 ≤ (view_of u).owns
+lists_given b n y t u m h = subst (λ (ls : List Log). length ls + 1 ≤ (view_of u).owns) (sym (brought_joined m (token_of u))) (lists_held b n y t u h)
+
+-- what was done left the token as it was, or it may go on now
+pub given_is : (b : Board) (n : ℕ) (y : Slot) (t u u' : StrandToken) (m : Home) → IsHolding b n y t u → IsTokenOf b.shared u' → view_of u' ≡ gave_view m (view_of u) → held_by u' ≡ rest (held_by u)
+    → u'.track.room ≡ u.track.room → token_of u' ≡ brought_token m (token_of u) → IsOfTier m → gap_home m (view_of u).column (view_of u).gap < columns_of b → IsOf b u'
+given_is b n y t u u' m h table view slots room token home gap =
+    is_now b u' (gave_view m (view_of u)) (brought_token m (token_of u)) table view token (slots ∙ ap (λ ys. rest ys) h.slots)
+    (subst (λ r. IsTrue (is_some r)) (sym room) (subst HasRoom (sym h.track) h.was.room))
+    (ap (λ (v : View). v.here) h.rest ∙ h.was.here) h.alone gap
+    (subst (All (λ (o : Whereabouts). o.gap < columns_of b)) (sym (ap (λ (v : View). v.outer) h.rest)) h.was.gaps)
+    (lists_given b n y t u m h)
+    (sound_brought m (token_of u) (view_of u).room (view_of u).seen home
+    (subst (λ x. IsSound x (view_of u).room (view_of u).seen) (sym h.token)
+    (subst (λ r. IsSound (token_of t) r (view_of u).seen) (sym (ap (λ (v : View). v.room) h.rest)) (sound_later (token_of t) (view_of t).room (view_of t).seen (view_of u).seen h.later h.was.sound))))
+
+-- as `give` asks it
+pub gives_cell : (b : Board) (n : ℕ) (y : Slot) (t u : StrandToken) → IsHolding b n y t u → n < cells_in b → IsLowCell (view_of u).seen y
+    → (z : Slot) × Holding u n z × IsWhole (key_of b.shared) (view_of u).seen (newest_used (view_of u).turns) n z
+gives_cell b n y t u h less low = (
+  y,
+  record { turn = h.turn; slot = h.slots ∙ ap (λ ys. (n, y) ∷ rest ys) (sym h.slots) },
+  record { cell = λ z. low; tier = λ e. absurd (omega (arith, less, e)) },
+)
+
+pub gives_tier : (b : Board) (y : Slot) (t u : StrandToken) → IsHolding b (cells_in b) y t u → HasTier b y u
+    → (z : Slot) × Holding u (cells_in b) z × IsWhole (key_of b.shared) (view_of u).seen (newest_used (view_of u).turns) (cells_in b) z
+gives_tier b y t u h tier = (
+  y,
+  record { turn = h.turn; slot = h.slots ∙ ap (λ ys. (cells_in b, y) ∷ rest ys) (sym h.slots) },
+  record { cell = λ less. absurd (omega (arith, less)); tier = λ e. tier.whole },
+)

@@ -1,0 +1,5 @@
+pub mod Sound
+pub mod Boards
+pub mod Holding
+pub mod Forking
+pub mod Accessing

@@ -1,0 +1,30 @@
+use Rattle.std.proofs.Common.{ℕ, refl, sym, subst}
+use Rattle.cw_steps.specs.Views.{key_of, newest_used, view_of, Holding, IsWhole}
+use Rattle.cw_steps.specs.declared.view.Slot.{Slot}
+use Rattle.cw_steps.specs.declared.view.Slot.TheVariants as slot
+use Rattle.cw_board.specs.Boards.{cells_in}
+use Rattle.cw_board.proofs.Holding.{given_is, gives_tier, has_tier_too, holds_other, tier_gap}
+use Rattle.cw_board.proofs.board.Board.leave_tier.Goals as goal
+
+pub give-requires-clause-held : goal.give-requires-clause-held
+give-requires-clause-held c =
+    let b = c.args.self.now in
+    let u = c.args.token.now in
+    let v = c.tier_in.new.token in
+    let o = c.tier_in.ensures in
+    let h = c.requires.held in
+    let now = holds_other b (cells_in b) h.1 (slot.Tier c.args.tier) h.0 u v h.2 o.table o.view o.slots o.track o.token in
+    subst (λ (n : ℕ). (z : Slot) × Holding v n z × IsWhole (key_of b.shared) (view_of v).seen (newest_used (view_of v).turns) n z) (sym c.cells-place.ensures)
+    (gives_tier b (slot.Tier c.args.tier) h.0 v now (has_tier_too b (slot.Tier c.args.tier) (slot.Tier c.args.tier) u v refl o.view c.requires.tier))
+
+pub returns-clause-of : goal.returns-clause-of
+returns-clause-of c =
+    let b = c.args.self.now in
+    let u = c.args.token.now in
+    let v = c.tier_in.new.token in
+    let o = c.tier_in.ensures in
+    let h = c.requires.held in
+    let e = c.give.ensures in
+    let now = holds_other b (cells_in b) h.1 (slot.Tier c.args.tier) h.0 u v h.2 o.table o.view o.slots o.track o.token in
+    given_is b (cells_in b) (slot.Tier c.args.tier) h.0 v c.give.new.token c.args.home now e.table e.view e.slots e.kept.1 e.token c.requires.home
+    (tier_gap b (slot.Tier c.args.tier) v c.args.home c.requires.home (has_tier_too b (slot.Tier c.args.tier) (slot.Tier c.args.tier) u v refl o.view c.requires.tier))

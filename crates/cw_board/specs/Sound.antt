@@ -1,0 +1,37 @@
+-- What is true between two calls of what a token stands for.
+use Rattle.std.specs.Prelude.{◌≡◌, ℕ, zero, suc, ◌+◌, ◌*◌, ◌<◌, ◌≤◌, All, List, [], ◌∷◌, length}
+use Rattle.cw_tree.specs.declared.node.Node.{Node}
+use Rattle.cw_tree.specs.declared.conflict.Conflict.{Conflict}
+use Rattle.cw_tree.specs.Nodes.{parent_of}
+use Rattle.cw_log.specs.declared.token.Open.{Open}
+use Rattle.cw_log.specs.declared.token.Token.{Token}
+use Rattle.cw_log.specs.Tokens.{conflicts_in, logs}
+use Rattle.cw_steps.specs.Totals.{total}
+use Rattle.cw_steps.specs.Views.{share}
+
+-- this place is in so many blocks of its strand
+abbrev pub Climbs : List Node → (strand place n : ℕ) → Type 0
+Climbs ns s p zero = p ≡ s
+Climbs ns s p (suc n) = (p < length ns) × Climbs ns s (parent_of ns p) n
+
+-- and so are those of the strands that wait
+abbrev pub ClimbOut : List Node → List Open → List ℕ → Type 0
+ClimbOut ns [] ks = Unit {0}
+ClimbOut ns (o ∷ os) [] = ⊥
+ClimbOut ns (o ∷ os) (k ∷ ks) = Climbs ns o.strand o.place k × ClimbOut ns os ks
+
+-- no number is greater
+abbrev pub AreLow : (seen : ℕ) → List ℕ → Type 0
+AreLow seen = All (λ b. b ≤ seen)
+
+-- It is in so many blocks of its own, in its strand and in those that wait. So many numbers may still be drawn by it; of those that it knows
+-- none is greater than this one.
+pub record IsSound (x : Token) (room seen : ℕ) : Type 0 where
+  pub begun : ℕ
+  pub waiting : List ℕ
+  pub path : Climbs x.own.nodes x.strand x.place begun
+  pub outer : ClimbOut x.own.nodes x.forks waiting
+  pub numbers : share + begun + total (λ k. k) waiting ≤ room + 2 * length x.own.nodes
+  pub around : AreLow seen x.around
+  pub outer_around : All (λ (o : Open). AreLow seen o.around) x.forks
+  pub victims : All (λ (c : Conflict). c.victim ≤ seen) (conflicts_in (logs x))

@@ -1,0 +1,92 @@
+-- Turns that a token waited for.
+use Rattle.std.specs.Prelude.{◌≡◌, ℕ, ◌<◌, ◌≤◌, List, [], ◌∷◌, Some}
+use Rattle.cw_steps.specs.declared.draw.Aim.{Aim}
+use Rattle.cw_steps.specs.declared.draw.Home.{Home}
+use Rattle.cw_steps.specs.declared.draw.Home.TheVariants as home
+use Rattle.cw_steps.specs.declared.table.StrandToken.{StrandToken}
+use Rattle.cw_steps.specs.declared.view.Note.{Note}
+use Rattle.cw_steps.specs.Stands.{drawn_token, token_of}
+use Rattle.cw_steps.specs.declared.view.Slot.{Slot}
+use Rattle.cw_steps.specs.declared.view.View.{View}
+use Rattle.cw_steps.specs.declared.draw.Draw.TheVariants as draw
+use Rattle.cw_steps.specs.Tracks.{drawn, track_of}
+use Rattle.cw_steps.specs.Views.{drew_view, gave_view, held_by, key_of, newest_slot, newest_used, older, view_of, CanFork, IsTierOf, IsTokenOf, TakesIt}
+use Rattle.cw_board.specs.Boards.{columns_of, IsOf}
+use Rattle.cw_log.specs.declared.board.Forked.{Forked}
+use Rattle.cw_log.specs.declared.board.Forked.TheVariants.{Two, Inline}
+use Rattle.cw_board.specs.declared.board.Board.{Board}
+
+-- it found turns taken, and did nothing else
+pub record HasWaited (t t' : StrandToken) : Type 0 where
+  pub notes : List Note
+  pub me : t'.seat.me ≡ (record (view_of t) { notes = notes }, held_by t)
+  pub track : t'.track ≡ t.track
+  pub stop : t'.stop ≡ t.stop
+  pub token : token_of t' ≡ token_of t
+
+-- and then it took the turn of slot n
+pub record HasTaken (b : Board) (aim : Aim) (n : ℕ) (t t' : StrandToken) : Type 0 where
+  pub notes : List Note
+  pub takes : TakesIt (key_of b.shared) aim n (record (view_of t) { notes = notes }, held_by t) t'.seat.me
+  pub track : t'.track ≡ t.track
+  pub stop : t'.stop ≡ t.stop
+  pub token : token_of t' ≡ token_of t
+
+-- but for its turns, the newest number that it knows, and its notes
+abbrev pub at_rest : View → View
+at_rest v = record v { turns = []; seen = 0; notes = [] }
+
+-- It has the turn of slot n and no other, and y lies there now. Since it was t, a token of this board, it did nothing but wait for that turn.
+pub record IsHolding (b : Board) (n : ℕ) (y : Slot) (t u : StrandToken) : Type 0 where
+  pub was : IsOf b t
+  pub table : IsTokenOf b.shared u
+  pub turn : newest_slot (view_of u).turns ≡ Some n
+  pub alone : older (view_of u).turns ≡ []
+  pub slots : held_by u ≡ (n, y) ∷ []
+  pub later : (view_of t).seen ≤ (view_of u).seen
+  pub rest : at_rest (view_of u) ≡ at_rest (view_of t)
+  pub track : u.track ≡ t.track
+  pub token : token_of u ≡ token_of t
+
+-- It has the turn of the tier, which is with so many columns in use; its own and its gap are among them.
+pub record HasTier (b : Board) (y : Slot) (u : StrandToken) : Type 0 where
+  pub few : newest_used (view_of u).turns ≤ columns_of b
+  pub column : (view_of u).column < newest_used (view_of u).turns
+  pub gap : (view_of u).gap < newest_used (view_of u).turns
+  pub whole : IsTierOf (columns_of b) (newest_used (view_of u).turns) y
+
+-- it comes with the tier's turn
+abbrev pub IsOfTier : Home → Type 0
+IsOfTier (home.Refused c) = ⊥
+IsOfTier home.Plain = Unit {0}
+IsOfTier (home.Split fork used) = Unit {0}
+IsOfTier (home.Merge fork used) = Unit {0}
+IsOfTier (home.Inline used) = Unit {0}
+IsOfTier (home.Early before used) = Unit {0}
+
+-- ## Forks
+
+-- nothing but the turn comes home
+abbrev pub BringsNothing : Home → Type 0
+BringsNothing home.Plain = Unit {0}
+BringsNothing (home.Inline used) = Unit {0}
+BringsNothing (home.Refused c) = ⊥
+BringsNothing (home.Split fork used) = ⊥
+BringsNothing (home.Merge fork used) = ⊥
+BringsNothing (home.Early before used) = ⊥
+
+-- it drew a fork's number while it had the tier's turn, and gave that back
+pub record HasForked (b : Board) (left right gap stamp : ℕ) (u u' : StrandToken) : Type 0 where
+  pub table : IsTokenOf b.shared u'
+  pub later : (view_of u).seen < stamp
+  pub fits : CanFork (key_of b.shared) (view_of u) left right gap
+  pub view : view_of u' ≡ gave_view home.Plain (drew_view (draw.Fork left right gap) u.track.behind u.track.second stamp (view_of u))
+  pub slots : held_by u' ≡ []
+  pub track : track_of u'.track ≡ drawn (draw.Fork left right gap) stamp (track_of u.track)
+  pub token : token_of u' ≡ drawn_token (draw.Fork left right gap) stamp (token_of u)
+  pub room : u'.track.room ≡ u.track.room
+
+-- what comes of a fork are tokens of this board
+abbrev pub AreOf : Board → Forked StrandToken → Type 0
+AreOf b (Two fork left right) = IsOf b left × IsOf b right
+AreOf b (Inline token) = IsOf b token

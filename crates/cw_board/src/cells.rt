@@ -1,0 +1,103 @@
+//! Cells, under their turns.
+ghost use Rattle.std.specs.Prelude.{◌≡◌, ◌<◌, ℕ};
+ghost use Rattle.cw_steps.specs.declared.table.StrandToken.{StrandToken};
+ghost use Rattle.cw_steps.specs.declared.view.Slot.{Slot};
+ghost use Rattle.cw_steps.specs.declared.view.Slot.TheVariants as slot;
+ghost use Rattle.cw_log.specs.Answers.{access_kind, IsWritten};
+ghost use Rattle.cw_log.specs.Tokens.{made};
+ghost use Rattle.cw_steps.specs.Stands.{token_of};
+ghost use Rattle.cw_steps.specs.Tracks.{IsReady};
+ghost use Rattle.cw_steps.specs.Views.{view_of, IsLowCell};
+ghost use Rattle.cw_board.specs.Boards.{cells_in, IsOf};
+ghost use Rattle.cw_board.specs.Turns.{IsHolding};
+
+use crate::Board;
+use cw_base::OutOfMemory;
+use cw_stack::Cell;
+use cw_steps::{Aim, Draw, Home, StrandToken};
+use cw_tree::Mark;
+use std::sync::Wait;
+
+impl Board {
+    /// Waits for a cell's turn, and takes the cell.
+    pub(crate) fn hold_cell<R: Wait>(
+        &self,
+        rt: &R,
+        token: &mut StrandToken,
+        cell: u32,
+        aim: Aim,
+    ) -> Cell
+        requires of { IsOf self.now token.old }
+        requires cell { cell < cells_in self.now }
+        ensures held { IsHolding self.now cell slot.Empty token.old token.new }
+        ensures low { IsLowCell (view_of token.new).seen (slot.Cell result) }
+    {
+        self.take_turn(rt, token, cell, aim);
+        match self.shared.swap_cell(token, cell, None) {
+            Some(held) => held,
+            None => unreachable!(),
+        }
+    }
+
+    /// Puts a cell where it lay, and gives its turn back.
+    pub(crate) fn leave_cell(&self, token: &mut StrandToken, cell: u32, held: Cell)
+        requires cell { cell < cells_in self.now }
+        requires held { (t : StrandToken) × (y : Slot) × IsHolding self.now cell y t token.old }
+        requires low { IsLowCell (view_of token.old).seen (slot.Cell held) }
+        ensures of { IsOf self.now token.new }
+        ensures token { token_of token.new ≡ token_of token.old }
+    {
+        self.shared.swap_cell(token, cell, Some(held));
+        self.shared.give(token, cell, Home::Plain);
+    }
+
+    /// Makes an access of a cell that is held, and puts the cell back. Answers its value after that.
+    pub(crate) fn make_access(
+        &self,
+        token: &mut StrandToken,
+        cell: u32,
+        held: Cell,
+        write: Option<i64>,
+    ) -> i64
+        requires cell { cell < cells_in self.now }
+        requires held { (t : StrandToken) × (y : Slot) × IsHolding self.now cell y t token.old }
+        requires low { IsLowCell (view_of token.old).seen (slot.Cell held) }
+        requires room { 0 < held.room }
+        requires ready { IsReady token.old.track 1 }
+        ensures of { IsOf self.now token.new }
+        ensures written { IsWritten write result }
+        ensures token { (stamp : ℕ) × (token_of token.new ≡ made (token_of token.old) (access_kind cell write result) stamp) }
+    {
+        let wrote = write.is_some();
+        let value = write.unwrap_or(held.value());
+        let draw = Draw::Access { cell, wrote, value };
+        let stamp = self.shared.draw(token, draw);
+        let mark = Mark {
+            strand: token.column(),
+            stamp,
+        };
+        let mut held = held;
+        held.access(mark, write);
+        self.shared.swap_cell(token, cell, Some(held));
+        self.shared.give(token, cell, Home::Plain);
+        value
+    }
+
+    /// The stamps of the newest eight accesses of a cell.
+    pub fn chain<R: Wait>(
+        &self,
+        rt: &R,
+        token: &mut StrandToken,
+        cell: u32,
+    ) -> Result<Vec<u64>, OutOfMemory>
+        requires of { IsOf self.now token.old }
+        requires cell { cell < cells_in self.now }
+        ensures of { IsOf self.now token.new }
+        ensures token { token_of token.new ≡ token_of token.old }
+    {
+        let held = self.hold_cell(rt, token, cell, Aim::Look);
+        let chain = held.chain();
+        self.leave_cell(token, cell, held);
+        chain
+    }
+}

@@ -1,0 +1,202 @@
+//! Forks, and what splits and merges make of the tier, under its turn.
+ghost use Rattle.std.specs.Prelude.{◌≡◌, ◌+◌, ◌<◌, ◌≤◌, ◌==◌, ℕ, IfOk, IfErr, OnOk, OnErr, if◌then◌else◌};
+ghost use Rattle.cw_trace.specs.Columns as columns;
+ghost use Rattle.cw_log.specs.Tokens.{merged, once_split, Goes, IsOn, MayMerge, MaySplit};
+ghost use Rattle.cw_log.specs.Answers.{Forks};
+ghost use Rattle.cw_steps.specs.declared.table.StrandToken.{StrandToken};
+ghost use Rattle.cw_steps.specs.declared.view.Slot.{Slot};
+ghost use Rattle.cw_steps.specs.declared.view.Slot.TheVariants as slot;
+ghost use Rattle.cw_steps.specs.Stands.{brought_token, token_of};
+ghost use Rattle.cw_steps.specs.Tracks.{CanPart, IsReady};
+ghost use Rattle.cw_steps.specs.Views.{columns_for, key_of, newest_used, view_of, CanFork, IsTierOf};
+ghost use Rattle.cw_board.specs.Boards.{budget_of, cells_in, columns_of, IsOf};
+ghost use Rattle.cw_board.specs.Turns.{AreOf, BringsNothing, HasForked, HasTier, IsHolding, IsOfTier};
+
+use crate::Board;
+use cw_base::OutOfMemory;
+use cw_log::Forked;
+use cw_steps::{Aim, Draw, Home, StrandToken};
+use cw_trace::{Early, Tier};
+use std::sync::Wait;
+
+/// Splits a fork of a tier, if it is whole there. No rule of the table says yet that it is.
+fn split_in(tier: &mut Tier, fork: u32) -> Result<(), Early>
+    ensures used { columns.used tier.new.columns ≡ columns.used tier.old.columns }
+    ensures room { tier.new.columns.room ≡ tier.old.columns.room }
+{
+    if fork < tier.used() && fork % 2 == 1 && !tier.is_trace(fork) {
+        tier.split(fork)
+    } else {
+        Err(Early { before: fork })
+    }
+}
+
+/// Merges a fork of a tier, if it is split there. No rule of the table says yet that it is.
+fn merge_in(tier: &mut Tier, fork: u32)
+    ensures used { columns.used tier.new.columns ≡ columns.used tier.old.columns }
+    ensures room { tier.new.columns.room ≡ tier.old.columns.room }
+{
+    if fork < tier.used() && fork % 2 == 1 && tier.is_trace(fork) {
+        tier.merge(fork);
+    }
+}
+
+/// The gap that both strands of a fork use: that of the strand that forked, or where its word shows a block a new one.
+fn gap_for(word: u64, gap: u32, left: u32) -> u32
+    ensures { result ≡ (if word == 0 then gap else left) }
+{
+    if word == 0 { gap } else { left }
+}
+
+impl Board {
+    /// Waits for the tier's turn, and takes the tier.
+    pub(crate) fn hold_tier<R: Wait>(&self, rt: &R, token: &mut StrandToken, aim: Aim) -> Tier
+        requires { IsOf self.now token.old }
+        ensures held { IsHolding self.now (cells_in self.now) slot.Empty token.old token.new }
+        ensures tier { HasTier self.now (slot.Tier result) token.new }
+    {
+        let place = self.shared.cells();
+        self.take_turn(rt, token, place, aim);
+        self.shared.tier_out(token)
+    }
+
+    /// Puts the tier where it lay, and gives its turn back, with what was done.
+    pub(crate) fn leave_tier(&self, token: &mut StrandToken, tier: Tier, home: Home)
+        requires held { (t : StrandToken) × (y : Slot) × IsHolding self.now (cells_in self.now) y t token.old }
+        requires tier { HasTier self.now (slot.Tier tier) token.old }
+        requires home { IsOfTier home }
+        ensures of { IsOf self.now token.new }
+        ensures token { token_of token.new ≡ brought_token home (token_of token.old) }
+    {
+        let place = self.shared.cells();
+        self.shared.tier_in(token, tier);
+        self.shared.give(token, place, home);
+    }
+
+    /// Lets the right strand of a fork go on while its left one does; or another fork is to be split before.
+    pub fn split<R: Wait>(&self, rt: &R, token: &mut StrandToken, fork: u32) -> Result<(), Early>
+        requires of { IsOf self.now token.old }
+        requires on { IsOn (budget_of self.now) (token_of token.old) }
+        requires fork { MaySplit (token_of token.old) fork }
+        ensures of { IsOf self.now token.new }
+        ensures ok { OnOk result (token_of token.new ≡ once_split (token_of token.old)) }
+        ensures err { OnErr result (token_of token.new ≡ token_of token.old) }
+    {
+        let mut tier = self.hold_tier(rt, token, Aim::Split);
+        let done = split_in(&mut tier, fork);
+        let used = tier.used();
+        let home = match done {
+            Ok(()) => Home::Split { fork, used },
+            Err(Early { before }) => Home::Early { before, used },
+        };
+        self.leave_tier(token, tier, home);
+        done
+    }
+
+    /// Puts together again what a fork had split, with the token of the strand that forked.
+    pub fn merge<R: Wait>(&self, rt: &R, token: &mut StrandToken, fork: u32)
+        requires of { IsOf self.now token.old }
+        requires on { IsOn (budget_of self.now) (token_of token.old) }
+        requires fork { MayMerge (token_of token.old) fork }
+        ensures of { IsOf self.now token.new }
+        ensures token { token_of token.new ≡ merged (token_of token.old) }
+    {
+        let mut tier = self.hold_tier(rt, token, Aim::Merge);
+        merge_in(&mut tier, fork);
+        let used = tier.used();
+        self.leave_tier(token, tier, Home::Merge { fork, used });
+    }
+
+    /// Makes a fork where the token stands, with two tokens if there are columns for both strands.
+    pub fn fork<R: Wait>(
+        &self,
+        rt: &R,
+        token: StrandToken,
+    ) -> Result<Forked<StrandToken>, (StrandToken, OutOfMemory)>
+        requires of { IsOf self.now token }
+        requires goes { Goes (budget_of self.now) (token_of token) }
+        ensures of { IfOk result (AreOf self.now) }
+        ensures ok { IfOk result (λ f. Forks token_of (token_of token) f) }
+        ensures err { IfErr result (λ e. IsOf self.now e.0 × (token_of e.0 ≡ token_of token)) }
+    {
+        let mut token = token;
+        match token.reserve(3) {
+            Ok(()) => Ok(self.fork_ready(rt, token)),
+            Err(error) => Err((token, error)),
+        }
+    }
+
+    fn fork_ready<R: Wait>(&self, rt: &R, token: StrandToken) -> Forked<StrandToken>
+        requires of { IsOf self.now token }
+        requires ready { IsReady token.track 3 × CanPart token.track }
+        ensures of { AreOf self.now result }
+        ensures forks { Forks token_of (token_of token) result }
+    {
+        let mut token = token;
+        let mut tier = self.hold_tier(rt, &mut token, Aim::Fork);
+        match tier.fork(token.word(), token.column()) {
+            Ok((left, _)) => self.fork_two(token, tier, left),
+            Err(_) => self.fork_inline(token, tier),
+        }
+    }
+
+    /// A fork whose strands have the next two columns.
+    fn fork_two(&self, token: StrandToken, tier: Tier, left: u32) -> Forked<StrandToken>
+        requires held { (t : StrandToken) × (y : Slot) × IsHolding self.now (cells_in self.now) y t token }
+        requires columns { (left ≡ newest_used (view_of token).turns) × (left + 2 ≤ columns_of self.now) × ((view_of token).gap < left) }
+        requires tier { IsTierOf (columns_of self.now) (left + 2) (slot.Tier tier) }
+        requires ready { IsReady token.track 3 × CanPart token.track }
+        ensures of { AreOf self.now result }
+        ensures forks { Forks token_of (token_of token) result }
+    {
+        let gap = gap_for(token.word(), token.gap(), left);
+        let mut token = token;
+        self.make_fork(&mut token, tier, Home::Plain, left, left + 1, gap);
+        let right = self.shared.split_seat(&mut token, false);
+        Forked::Two {
+            fork: left,
+            left: token,
+            right,
+        }
+    }
+
+    /// A fork in the token's own column.
+    fn fork_inline(&self, token: StrandToken, tier: Tier) -> Forked<StrandToken>
+        requires held { (t : StrandToken) × (y : Slot) × IsHolding self.now (cells_in self.now) y t token }
+        requires tier { HasTier self.now (slot.Tier tier) token }
+        requires ready { IsReady token.track 3 × CanPart token.track }
+        ensures of { AreOf self.now result }
+        ensures forks { Forks token_of (token_of token) result }
+    {
+        let column = token.column();
+        let gap = token.gap();
+        let used = tier.used();
+        let mut token = token;
+        self.make_fork(&mut token, tier, Home::Inline { used }, column, column, gap);
+        Forked::Inline { token }
+    }
+
+    /// Draws a fork's number while the tier is out, and brings the tier home.
+    fn make_fork(
+        &self,
+        token: &mut StrandToken,
+        tier: Tier,
+        home: Home,
+        left: u32,
+        right: u32,
+        gap: u32,
+    )
+        requires held { (t : StrandToken) × (y : Slot) × IsHolding self.now (cells_in self.now) y t token.old }
+        requires fits { CanFork (key_of self.now.shared) (view_of token.old) left right gap }
+        requires tier { IsTierOf (columns_of self.now) (newest_used (view_of token.old).turns + columns_for left right) (slot.Tier tier) }
+        requires home { BringsNothing home }
+        requires ready { IsReady token.old.track 3 × CanPart token.old.track }
+        ensures made { (stamp : ℕ) × HasForked self.now left right gap stamp token.old token.new }
+        ensures spare { CanPart token.new.track }
+    {
+        self.shared.draw(token, Draw::Fork { left, right, gap });
+        self.shared.tier_in(token, tier);
+        let place = self.shared.cells();
+        self.shared.give(token, place, home);
+    }
+}

@@ -1,0 +1,30 @@
+//! Halts.
+ghost use Rattle.std.specs.Prelude.{◌≡◌};
+ghost use Rattle.cw_log.specs.Tokens.{halted, was_told, MayHalt};
+ghost use Rattle.cw_steps.specs.Stands.{token_of};
+ghost use Rattle.cw_board.specs.Boards.{budget_of, IsOf};
+
+use crate::Board;
+use cw_steps::StrandToken;
+use cw_tree::Halt;
+
+impl Board {
+    /// Stops the strand. The strand that the halt names is not read.
+    pub fn halt(&self, token: &mut StrandToken, halt: Halt)
+        requires of { IsOf self.now token.old }
+        requires may { MayHalt (budget_of self.now) (token_of token.old) halt }
+        ensures of { IsOf self.now token.new }
+        ensures token { token_of token.new ≡ halted (token_of token.old) halt }
+    {
+        self.shared.stop(token, halt);
+    }
+
+    /// Whether some strand has stopped.
+    pub fn halted(&self, token: &mut StrandToken) -> bool
+        requires { IsOf self.now token.old }
+        ensures of { IsOf self.now token.new }
+        ensures token { token_of token.new ≡ was_told (token_of token.old) result }
+    {
+        self.shared.stopped(token)
+    }
+}

@@ -1,0 +1,102 @@
+-- What a token stands for on a board, and what each step makes of that.
+use Rattle.std.specs.Prelude.{ℕ, ◌==◌, false, List, [], ◌∷◌, length, Option, None, if◌then◌else◌}
+use Rattle.cw_log.specs.declared.token.Open.{Open}
+use Rattle.cw_log.specs.declared.token.Phase.TheVariants.{Going, Waiting}
+use Rattle.cw_log.specs.declared.token.Stop.{Stop}
+use Rattle.cw_log.specs.declared.token.Token.{Token}
+use Rattle.cw_tree.specs.declared.node.Kind.TheVariants as kind
+use Rattle.cw_log.specs.Tokens as tokens
+use Rattle.cw_steps.specs.declared.draw.Draw.{Draw}
+use Rattle.cw_steps.specs.declared.draw.Draw.TheVariants as draw
+use Rattle.cw_steps.specs.declared.draw.Home.{Home}
+use Rattle.cw_steps.specs.declared.draw.Home.TheVariants as home
+use Rattle.cw_steps.specs.declared.track.Ahead.{Ahead}
+use Rattle.cw_steps.specs.declared.track.Stood.{Stood}
+use Rattle.cw_steps.specs.declared.view.View.{View}
+use Rattle.cw_steps.specs.declared.table.StrandToken.{StrandToken}
+use Rattle.cw_steps.specs.Tracks.{TrackParts, track_of, fresh_log, kind_of_access, state_of_end}
+use Rattle.cw_steps.specs.Views.{view_of, caught_up, innermost, outwards}
+
+-- the forks in whose strands it stands, with the blocks around each
+abbrev pub opens : List Stood → List (List ℕ) → List Open
+opens [] ws = []
+opens (o ∷ os) ws = record { side = o.side; strand = o.strand; place = o.place; around = innermost ws } ∷ opens os (outwards ws)
+
+-- with these blocks around the places where it and the strands that wait stand
+abbrev pub stands_over : TrackParts → List (List ℕ) → View → Option Stop → Token
+stands_over c ws v stop = record {
+  own = c.own;
+  joined = c.joined;
+  strand = c.strand;
+  place = c.place;
+  around = innermost ws;
+  forks = opens c.outer (outwards ws);
+  fork = v.fork;
+  split = v.split;
+  phase = v.phase;
+  stop = stop;
+  told = v.told;
+}
+
+abbrev pub stands_for : TrackParts → View → Option Stop → Token
+stands_for c v stop = stands_over c (caught_up c.behind c.second v.arounds) v stop
+
+abbrev pub token_of : StrandToken → Token
+token_of t = stands_for (track_of t.track) (view_of t) t.stop
+
+-- that of the root, before it has done anything
+abbrev pub root_token : Token
+root_token = record {
+  own = fresh_log 0 0 0;
+  joined = [];
+  strand = 0;
+  place = 0;
+  around = [];
+  forks = [];
+  fork = 0;
+  split = false;
+  phase = Going;
+  stop = None;
+  told = false;
+}
+
+-- an end is that of a block
+abbrev pub EndsBlock : Draw → Token → Type 0
+EndsBlock (draw.End aborted) x = tokens.HasBlock x
+EndsBlock (draw.Access c wrote v) x = Unit {0}
+EndsBlock (draw.Fork left right gap) x = Unit {0}
+EndsBlock (draw.Out v) x = Unit {0}
+EndsBlock draw.Begin x = Unit {0}
+
+-- ## What steps make of it
+
+-- the right strand of a fork that was made where the left one began
+abbrev pub right_token : (left : Token) → Ahead → Token
+right_token x a = record {
+  own = fresh_log a.column x.own.column a.node;
+  joined = [];
+  strand = 0;
+  place = 0;
+  around = x.around;
+  forks = [];
+  fork = a.fork;
+  split = false;
+  phase = Waiting;
+  stop = None;
+  told = false;
+}
+
+abbrev pub drawn_token : Draw → (stamp : ℕ) → Token → Token
+drawn_token (draw.Access c wrote v) stamp x = tokens.made x (kind_of_access c wrote v) stamp
+drawn_token (draw.Fork left right gap) stamp x = if left == right then tokens.branched x stamp else tokens.forked x stamp left
+drawn_token (draw.Out v) stamp x = tokens.made x (kind.Out v) stamp
+drawn_token draw.Begin stamp x = tokens.began x stamp
+drawn_token (draw.End aborted) stamp x = tokens.ended x (state_of_end aborted) stamp
+
+abbrev pub brought_token : Home → Token → Token
+brought_token (home.Refused c) x = tokens.refused x (record c { asker = length x.own.nodes })
+brought_token (home.Split fork used) x = tokens.once_split x
+brought_token (home.Merge fork used) x = tokens.merged x
+brought_token home.Plain x = x
+brought_token (home.Inline used) x = x
+brought_token (home.Early before used) x = x
