@@ -1,0 +1,18 @@
+ghost use Rattle.std.specs.Prelude.{◌≡◌, length};
+ghost use Rattle.cw_strand.specs.Names.{first_memory};
+
+use crate::Naming;
+use cw_code::Program;
+use cw_log::SharedBoard;
+use std::marker::PhantomData;
+
+/// What the strands of a run move on: the board that they share, and their program.
+#[derive(Drop)]
+pub struct Scene<'a, B: SharedBoard, J: Naming> {
+    pub board: &'a B,
+    pub program: &'a Program,
+    pub of: PhantomData<J>,
+    pub ghost program_of: { program.now ≡ J.job.program },
+    pub ghost budget_of: { B.budget board.now ≡ J.job.limits.aborts },
+    pub ghost cells_of: { B.cells board.now ≡ length (first_memory J.job.program.cells) },
+}
