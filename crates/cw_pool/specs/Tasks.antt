@@ -1,5 +1,5 @@
 -- What a task in memory stands for: a strand that runs, with its token and its body, and what waits for it.
-use Rattle.std.specs.Prelude.{◌≡◌, ◌⊎◌, ℕ, ◌+◌, ◌<◌, ◌≤◌, Bool, true, false, IsTrue, All, Contains, List, [], ◌∷◌, ◌++◌, map, reverse, length, Option, Some, None}
+use Rattle.std.specs.Prelude.{◌≡◌, ℕ, ◌+◌, ◌<◌, ◌≤◌, Bool, true, false, IsTrue, All, Contains, List, [], ◌∷◌, ◌++◌, map, reverse, length, Option, Some, None}
 use Rattle.cw_strand.specs.declared.want.Want.TheVariants as want
 use Rattle.cw_strand.specs.Strands.{Strands, Reached, is_over}
 use Rattle.cw_strand.specs.Programs.{IsCompiled}
@@ -16,9 +16,8 @@ use Rattle.cw_log.specs.declared.token.Side.{Side}
 use Rattle.cw_log.specs.declared.token.Side.TheVariants.{Beside, First, Second}
 use Rattle.cw_log.specs.declared.token.Phase.TheVariants.{Going, Waiting, Over}
 use Rattle.cw_log.specs.declared.token.Token.{Token}
-use Rattle.cw_log.specs.Tokens as token
 use Rattle.cw_log.specs.Tokens.{IsOn, IsOff, Fells, conflicts_in, logs}
-use Rattle.cw_course.specs.Courses.{Course, Goes, Stops, nothing, rights}
+use Rattle.cw_course.specs.Courses.{Course, nothing, rights}
 use Rattle.cw_course.specs.Closings.{FaultsIn, bare}
 use Rattle.cw_course.specs.Trails.{Trail, opens, in_block, in_left, in_right, Stands, Stopped, page, nodes_of, place_of, strand_in}
 use Rattle.cw_body.specs.declared.stage.Stage.TheVariants as stage
@@ -103,8 +102,12 @@ HasFault (Some x) cs column strand base = has x.halt where
   has h = Unit {0}
 
 -- it may come to this state, with no block of its own begun
-abbrev pub IsReached : Strands StrandState → StrandState → Type 0
+abbrev pub IsReached : {A : Type 0} → Strands A → A → Type 0
 IsReached s a = (outer : List ℕ) × Reached s (0 ∷ outer) a
+
+-- a begin, seen from so many forks further in
+abbrev pub seen_in : ℕ → PendingBegin → PendingBegin
+seen_in k p = record { at = p.at; forks = p.forks + k }
 
 module _ (job : Job) where
   -- a body that goes on from this state, in these blocks
@@ -130,10 +133,6 @@ module _ (job : Job) where
     pub there : body ≡ goes_in a.state a.begins
     pub free : IsFree x
     pub phase : x.phase ≡ Waiting
-
-  -- these begins, seen from so many forks further in
-  abbrev pub seen_in : ℕ → PendingBegin → PendingBegin
-  seen_in k p = record { at = p.at; forks = p.forks + k }
 
   -- it goes back to the block with this begin stamp, the outermost victim
   pub record StandsDying (to : ℕ) (x : Token) (body : InBlocks) (a : Start) (t : Trail StrandState) (cs : Course) : Type 0 where

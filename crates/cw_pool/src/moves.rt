@@ -5,10 +5,7 @@ use cw_strand::{Given, Want};
 use cw_tree::Halt;
 
 /// Looks whether the run was stopped.
-pub(crate) fn looks<B: SharedBoard, J: Naming>(
-    scene: &Scene<'_, B, J>,
-    now: &mut Running<B, J>,
-) {
+pub(crate) fn looks<B: SharedBoard, J: Naming>(scene: &Scene<'_, B, J>, now: &mut Running<B, J>) {
     match scene.board.halted(&mut now.token) {
         true => {
             now.mode = Mode::Stopped;
@@ -47,4 +44,18 @@ pub(crate) fn puts_out<B: SharedBoard, J: Naming>(
             now.mode = Mode::Stopped;
         }
     }
+}
+
+/// The strand stands at a fault: it stops.
+pub(crate) fn faults<B: SharedBoard, J: Naming>(scene: &Scene<'_, B, J>, now: &mut Running<B, J>) {
+    let Mode::Goes = now.mode else {
+        return;
+    };
+    let Want::Fault(kind) = now.body.want() else {
+        return;
+    };
+    scene
+        .board
+        .halt(&mut now.token, Halt::Fault { strand: 0, kind });
+    now.mode = Mode::Stopped;
 }

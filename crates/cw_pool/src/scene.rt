@@ -11,8 +11,11 @@ use std::marker::PhantomData;
 pub struct Scene<'a, B: SharedBoard, J: Naming> {
     pub board: &'a B,
     pub program: &'a Program,
+    /// So many attempts may a block or an access have.
+    pub attempts: u32,
     pub of: PhantomData<J>,
     pub ghost program_of: { program.now ≡ J.job.program },
+    pub ghost attempts_of: { attempts ≡ J.job.limits.aborts },
     pub ghost budget_of: { B.budget board.now ≡ J.job.limits.aborts },
     pub ghost cells_of: { B.cells board.now ≡ length (first_memory J.job.program.cells) },
 }

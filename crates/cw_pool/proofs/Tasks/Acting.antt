@@ -15,7 +15,7 @@ use Rattle.cw_pool.specs.declared.task.Mode.{Mode}
 use Rattle.cw_pool.specs.declared.task.Mode.TheVariants as mode
 use Rattle.cw_pool.specs.declared.task.Below.{Below}
 use Rattle.cw_pool.specs.declared.task.Base.{Base}
-use Rattle.cw_pool.specs.Tasks.{Start, StandsGoing, IsRunning, goes_in, begins_in}
+use Rattle.cw_pool.specs.Tasks.{Start, StandsGoing, IsRunning}
 use Rattle.cw_pool.proofs.Tasks.Going.{rebuilt, fits_made, free_made}
 use Rattle.cw_pool.proofs.Tasks.Stopping.{is_halted}
 
@@ -28,7 +28,7 @@ module _ (job : Job) where
       (subst (λ (z : StrandState). Acts (strands_of_job job) z kind ((strands_of_job job).answer z given)) (ap (λ (w : InBlocks). w.state) s.there) d)
 
 module _ {T J : Type 0} (job : Job) (of : T → Token) where
-  going : {x : Token} {body : InBlocks} {how : Mode} {bs : List (Below T J)} {b : Base T J} → how ≡ mode.Goes → IsRunning job of x body how bs b → IsRunning job of x body mode.Goes bs b
+  pub going : {x : Token} {body : InBlocks} {how : Mode} {bs : List (Below T J)} {b : Base T J} → how ≡ mode.Goes → IsRunning job of x body how bs b → IsRunning job of x body mode.Goes bs b
   going {x} {body} {how} {bs} {b} e r = subst (λ (m : Mode). IsRunning job of x body m bs b) e r
 
   pub acts : (x z : Token) (how : Mode) (body next : InBlocks) (bs : List (Below T J)) (b : Base T J) (kind : Kind) (stamp : ℕ) (given : Given) → how ≡ mode.Goes → IsRunning job of x body how bs b
@@ -54,5 +54,5 @@ module _ {T J : Type 0} (job : Job) (of : T → Token) where
       let s = r.stands in
       subst (λ (w : Token). IsRunning job of w next mode.Stopped bs b) (sym (halted_so ∙ ap (λ q. halted q Memory) made_so))
       (is_halted job of x (made x kind stamp) mode.Goes body next bs b r (act r.course kind stamp) Memory (fits_made x r.start r.trail r.course kind stamp r.written) refl
-          (move.gives_up (strands_of_job job) r.start.state r.trail (act r.course kind stamp) ((strands_of_job job).answer s.now given)
-              (acted_stands job x body r.start r.trail r.course kind stamp given s d)) tt)
+      (move.gives_up (strands_of_job job) r.start.state r.trail (act r.course kind stamp) ((strands_of_job job).answer s.now given)
+      (acted_stands job x body r.start r.trail r.course kind stamp given s d)) tt)

@@ -1,18 +1,17 @@
 -- A task that goes on in the same log.
 use Rattle.std.proofs.Common.{◌≡◌, ℕ, List, [], ◌∷◌, ◌++◌, ap, sym, ◌∙◌, subst}
-use Rattle.std.specs.Prelude.{reverse, false, Bool}
+use Rattle.std.specs.Prelude.{reverse, Bool}
 use Rattle.cw_job.specs.Jobs.{Job}
 use Rattle.cw_tree.specs.declared.node.Kind.{Kind}
 use Rattle.cw_tree.specs.Nodes.{fresh_node}
 use Rattle.cw_log.specs.declared.log.Log.{Log}
 use Rattle.cw_log.specs.declared.token.Open.{Open}
 use Rattle.cw_log.specs.declared.token.Token.{Token}
-use Rattle.cw_log.specs.Tokens.{IsOn, made, was_told, halted}
+use Rattle.cw_log.specs.Tokens.{made, was_told, halted}
 use Rattle.cw_tree.specs.declared.closed.Halt.{Halt}
 use Rattle.cw_job.specs.Room.Strands.{StrandState}
 use Rattle.cw_course.specs.Courses.{Course, act}
-use Rattle.cw_course.specs.Closings.{bare}
-use Rattle.cw_course.specs.Trails.{Trail, nodes_of, place_of}
+use Rattle.cw_course.specs.Trails.{Trail, nodes_of}
 use Rattle.cw_course.proofs.Trails.Steps as step
 use Rattle.cw_body.specs.Bodies.{InBlocks}
 use Rattle.cw_pool.specs.declared.task.Mode.{Mode}

@@ -4,11 +4,14 @@ use Rattle.std.specs.Prelude.{◌||◌}
 use Rattle.cw_job.specs.Jobs.{Job}
 use Rattle.cw_job.specs.Room.Strands.{StrandState, strands_of_job}
 use Rattle.cw_tree.specs.declared.closed.Halt.{Halt}
-use Rattle.cw_tree.specs.declared.closed.Halt.TheVariants.{Memory}
+use Rattle.cw_tree.specs.declared.closed.Halt.TheVariants.{Memory, Fault}
+use Rattle.cw_code.specs.declared.FaultKind.{FaultKind}
+use Rattle.cw_strand.specs.declared.want.Want.TheVariants as want
+use Rattle.cw_log.specs.declared.log.Log.{Log}
 use Rattle.cw_log.specs.declared.token.Stop.{Stop}
 use Rattle.cw_log.specs.declared.token.Token.{Token}
 use Rattle.cw_log.specs.Tokens.{IsOff, was_told, halted}
-use Rattle.cw_course.specs.Courses.{Course, Stops, nothing, there, starts}
+use Rattle.cw_course.specs.Courses.{Course, fault, there, starts}
 use Rattle.cw_course.specs.Trails.{Trail, opens, Stopped, page, strand_in}
 use Rattle.cw_course.proofs.Trails.Moves as move
 use Rattle.cw_body.specs.Bodies.{InBlocks}
@@ -16,7 +19,7 @@ use Rattle.cw_pool.specs.declared.task.Mode.{Mode}
 use Rattle.cw_pool.specs.declared.task.Mode.TheVariants as mode
 use Rattle.cw_pool.specs.declared.task.Below.{Below}
 use Rattle.cw_pool.specs.declared.task.Base.{Base}
-use Rattle.cw_pool.specs.Tasks.{Start, Fits, HasFault, StandsSo, StandsWaiting, StandsStopped, IsRunning}
+use Rattle.cw_pool.specs.Tasks.{Start, Fits, HasFault, StandsSo, StandsWaiting, IsRunning}
 use Rattle.cw_pool.proofs.Tasks.Going.{rebuilt, base_stops, fits_told, fits_halted}
 
 off : (b : Bool) → (b || true) ≡ true
@@ -63,8 +66,8 @@ module _ {T J : Type 0} (job : Job) (of : T → Token) where
   is_told x z how body bs b r e =
       subst (λ (w : Token). IsRunning job of w body mode.Stopped bs b) (sym e)
       (rebuilt job of x (was_told x true) body body how mode.Stopped bs b r r.course (base_stops job of b how r.lowest r.based)
-          (fits_told x r.start r.trail r.course true r.written) refl
-          (record { stopped = stopped job how x body r.start r.trail r.course r.stands; off = inr (off x.told); fault = fault_there job how x body r.start r.trail r.course r.stands }))
+      (fits_told x r.start r.trail r.course true r.written) refl
+      (record { stopped = stopped job how x body r.start r.trail r.course r.stands; off = inr (off x.told); fault = fault_there job how x body r.start r.trail r.course r.stands }))
 
   -- or was not
   pub is_not_told : (x z : Token) (how : Mode) (body : InBlocks) (bs : List (Below T J)) (b : Base T J) → IsRunning job of x body how bs b → z ≡ was_told x false
@@ -85,3 +88,16 @@ module _ {T J : Type 0} (job : Job) (of : T → Token) where
   wants_memory x z how body next bs b r e =
       subst (λ (w : Token). IsRunning job of w next mode.Stopped bs b) (sym e)
       (is_halted x x how body next bs b r r.course Memory r.written refl (stopped job how x body r.start r.trail r.course r.stands) tt)
+
+  -- it stands at a fault
+  pub is_faulty : (x z : Token) (how : Mode) (body next : InBlocks) (bs : List (Below T J)) (b : Base T J) (kind : FaultKind) → how ≡ mode.Goes → IsRunning job of x body how bs b
+      → (strands_of_job job).want body.state ≡ want.Fault kind → z ≡ halted x (Fault 0 kind) → IsRunning job of z next mode.Stopped bs b
+  is_faulty x z how body next bs b kind is r0 e halted_so =
+      let r : IsRunning job of x body mode.Goes bs b = subst (λ (m : Mode). IsRunning job of x body m bs b) is r0 in
+      let s = r.stands in
+      let w = r.written in
+      subst (λ (u : Token). IsRunning job of u next mode.Stopped bs b) (sym halted_so)
+      (is_halted x x mode.Goes body next bs b r (fault r.course kind) (Fault 0 kind)
+      (record { own = w.own; joined = w.joined; strand = w.strand; place = w.place; around = w.around; falling = w.falling; fork = w.fork; split = w.split }) refl
+      (move.is_faulty (strands_of_job job) r.start.state r.trail r.course s.now kind s.stands (sym (ap (λ (v : InBlocks). (strands_of_job job).want v.state) s.there) ∙ e))
+      (refl, sym (ap (λ (o : Log). o.column) w.own), sym w.strand))
