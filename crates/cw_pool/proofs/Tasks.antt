@@ -6,3 +6,4 @@ pub mod Stopping
 pub mod Acting
 pub mod Refusing
 pub mod Blocks
+pub mod Forking

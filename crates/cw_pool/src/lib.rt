@@ -4,6 +4,7 @@
 mod access;
 mod blocks;
 mod board;
+mod forks;
 mod moves;
 mod naming;
 mod scene;

@@ -21,6 +21,10 @@ use Rattle.cw_pool.specs.declared.task.Base.{Base}
 use Rattle.cw_pool.specs.declared.task.Base.TheVariants as base
 use Rattle.cw_pool.specs.Tasks.{Start, Fits, IsFree, StandsSo, IsBase, AreBelow, IsRunning}
 
+-- one more on a stack whose room was made before
+pub pushed : {X : Type 0} → (x : X) {old room new : List X} → room ≡ old → new ≡ room ++ x ∷ [] → new ≡ old ++ x ∷ []
+pushed x e f = f ∙ ap (λ us. us ++ x ∷ []) e
+
 module _ {T J : Type 0} (job : Job) (of : T → Token) where
   -- with another course behind what is open
   pub rebuilt : (x y : Token) (body next : InBlocks) (how after : Mode) (bs : List (Below T J)) (b : Base T J) (r : IsRunning job of x body how bs b) (cs : Course)
@@ -37,6 +41,10 @@ module _ {T J : Type 0} (job : Job) (of : T → Token) where
     below = subst (λ (os : List Open). AreBelow job of r.lowest r.start r.trail os (reverse bs)) (sym same) r.below;
     stands = stands;
   }
+
+  -- with an equal stack
+  pub with_below : (x : Token) (body : InBlocks) (how : Mode) (bs cs : List (Below T J)) (b : Base T J) → cs ≡ bs → IsRunning job of x body how bs b → IsRunning job of x body how cs b
+  with_below x body how bs cs b e r = subst (λ (us : List (Below T J)). IsRunning job of x body how us b) (sym e) r
 
   -- one that stops need not be split
   pub base_stops : (b : Base T J) (how : Mode) (a : Start) → IsBase job of b how a → IsBase job of b mode.Stopped a

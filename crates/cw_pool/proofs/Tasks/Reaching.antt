@@ -86,6 +86,9 @@ module _ {A : Type 0} (s : Strands A) where
   pub reached_now : (a : A) (t : Trail A) (cs : Course) (now : A) → IsReached s a → Stands s a t cs now → ReachedAt t now
   reached_now a t cs now r st = along t cs (entry s a t) now (reached_entry a t r st.leads) st.goes
 
+  pub reached_right : (t : Trail A) (b : A) → ReachedAt t b → s.want b ≡ want.Fork → IsReached s (s.right b)
+  reached_right t b (outer, r) e = (blocks_in t ∷ outer, of_right r e stays)
+
 module _ (job : Job) (run : IsRun job) where
   abbrev s : Strands StrandState
   s = strands_of_job job
