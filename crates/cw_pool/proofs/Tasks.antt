@@ -7,3 +7,5 @@ pub mod Acting
 pub mod Refusing
 pub mod Blocks
 pub mod Forking
+pub mod Finishing
+pub mod Turning

@@ -1,12 +1,12 @@
 -- What a task in memory stands for: a strand that runs, with its token and its body, and what waits for it.
 use Rattle.std.specs.Prelude.{◌≡◌, ℕ, ◌+◌, ◌<◌, ◌≤◌, Bool, true, false, IsTrue, All, Contains, List, [], ◌∷◌, ◌++◌, map, reverse, length, Option, Some, None}
+use Rattle.cw_code.specs.declared.FaultKind.{FaultKind}
 use Rattle.cw_strand.specs.declared.want.Want.TheVariants as want
 use Rattle.cw_strand.specs.Strands.{Strands, Reached, is_over}
 use Rattle.cw_strand.specs.Programs.{IsCompiled}
 use Rattle.cw_job.specs.Jobs.{Job, TakesWords}
 use Rattle.cw_job.specs.Room.Strands.{StrandState, strands_of_job}
 use Rattle.cw_tree.specs.declared.conflict.Conflict.{Conflict}
-use Rattle.cw_tree.specs.declared.closed.Halt.{Halt}
 use Rattle.cw_tree.specs.declared.closed.Halt.TheVariants.{Fault}
 use Rattle.cw_pair.specs.declared.view.Note.{Note}
 use Rattle.cw_log.specs.declared.log.Log.{Log}
@@ -93,13 +93,9 @@ pub record Fits (x : Token) (a : Start) (t : Trail StrandState) (cs : Course) : 
 
 -- ## How a strand stands
 
--- a fault that stopped a log or one joined to it is in this course
+-- where it is a fault that stopped a log or one joined to it, that is in this course
 abbrev pub HasFault : Option Stop → Course → (column strand base : ℕ) → Type 0
-HasFault None cs column strand base = Unit {0}
-HasFault (Some x) cs column strand base = has x.halt where
-  has : Halt → Type 0
-  has (Fault y kind) = FaultsIn kind x.column x.strand cs column strand base
-  has h = Unit {0}
+HasFault stop cs column strand base = (x : Stop) (y : ℕ) (kind : FaultKind) → stop ≡ Some x → x.halt ≡ Fault y kind → FaultsIn kind x.column x.strand cs column strand base
 
 -- it may come to this state, with no block of its own begun
 abbrev pub IsReached : {A : Type 0} → Strands A → A → Type 0

@@ -4,6 +4,7 @@
 mod access;
 mod blocks;
 mod board;
+mod ends;
 mod forks;
 mod moves;
 mod naming;

@@ -1,5 +1,5 @@
 -- A strand that makes an access or puts a value out.
-use Rattle.std.proofs.Common.{◌≡◌, ℕ, List, ap, sym, ◌∙◌, refl, subst}
+use Rattle.std.proofs.Common.{◌≡◌, ℕ, List, length, ap, sym, ◌∙◌, refl, subst}
 use Rattle.cw_job.specs.Jobs.{Job}
 use Rattle.cw_job.specs.Room.Strands.{StrandState, strands_of_job}
 use Rattle.cw_strand.specs.declared.want.Given.{Given}
@@ -8,7 +8,7 @@ use Rattle.cw_tree.specs.declared.closed.Halt.TheVariants.{Memory}
 use Rattle.cw_log.specs.declared.token.Token.{Token}
 use Rattle.cw_log.specs.Tokens.{made, halted}
 use Rattle.cw_course.specs.Courses.{Course, Acts, act}
-use Rattle.cw_course.specs.Trails.{Trail, Stands}
+use Rattle.cw_course.specs.Trails.{Trail, Stands, page, strand_in}
 use Rattle.cw_course.proofs.Trails.Moves as move
 use Rattle.cw_body.specs.Bodies.{InBlocks, answered}
 use Rattle.cw_pool.specs.declared.task.Mode.{Mode}
@@ -17,7 +17,7 @@ use Rattle.cw_pool.specs.declared.task.Below.{Below}
 use Rattle.cw_pool.specs.declared.task.Base.{Base}
 use Rattle.cw_pool.specs.Tasks.{Start, StandsGoing, IsRunning}
 use Rattle.cw_pool.proofs.Tasks.Going.{rebuilt, fits_made, free_made}
-use Rattle.cw_pool.proofs.Tasks.Stopping.{is_halted}
+use Rattle.cw_pool.proofs.Tasks.Stopping.{is_halted, memory_no_fault}
 
 module _ (job : Job) where
   -- its course has the act
@@ -55,4 +55,4 @@ module _ {T J : Type 0} (job : Job) (of : T → Token) where
       subst (λ (w : Token). IsRunning job of w next mode.Stopped bs b) (sym (halted_so ∙ ap (λ q. halted q Memory) made_so))
       (is_halted job of x (made x kind stamp) mode.Goes body next bs b r (act r.course kind stamp) Memory (fits_made x r.start r.trail r.course kind stamp r.written) refl
       (move.gives_up (strands_of_job job) r.start.state r.trail (act r.course kind stamp) ((strands_of_job job).answer s.now given)
-      (acted_stands job x body r.start r.trail r.course kind stamp given s d)) tt)
+      (acted_stands job x body r.start r.trail r.course kind stamp given s d)) (memory_no_fault (made x kind stamp) (act r.course kind stamp) r.start.column (strand_in r.trail) (length (page r.trail).nodes)))

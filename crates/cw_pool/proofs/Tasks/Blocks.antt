@@ -41,7 +41,7 @@ use Rattle.cw_pool.proofs.Tasks.Acting.{going}
 
 -- ## Lists of stamps, and their victims
 
-falling_rest : (bs : List ℕ) → AreFalling bs → AreFalling (drop 1 bs)
+pub falling_rest : (bs : List ℕ) → AreFalling bs → AreFalling (drop 1 bs)
 falling_rest [] f = tt
 falling_rest (b ∷ bs) f = f.1
 
@@ -87,7 +87,7 @@ fits_began x a t cs b stamp w l = record {
 }
 
 -- the logs that were joined in the block stand behind those before it
-rights_shut : (t : Trail StrandState) (cs js : Course) (b : StrandState) (stamp end column : ℕ) (state : BlockState)
+pub rights_shut : (t : Trail StrandState) (cs js : Course) (b : StrandState) (stamp end column : ℕ) (state : BlockState)
     → rights_of (in_block t cs b stamp) js column ≡ rights_of t (block cs state stamp end js) column
 rights_shut t cs js b stamp end column state =
     let n = length (page t).nodes in
@@ -147,6 +147,10 @@ module _ (job : Job) where
     phase = s.phase;
   }
 
+  pub in_found_none : (x : Token) (a : Start) (t : Trail StrandState) (cs : Course) → Fits x a t cs → begin_at x.own.nodes x.place ≡ None → innermost t ≡ None
+  in_found_none x a t cs w e =
+      sym (ap (λ (o : Log). begin_at o.nodes x.place) w.own ∙ ap (λ (p : ℕ). begin_at (nodes_of t cs) p) w.place ∙ begin_found t cs) ∙ e
+
 one_some : {A : Type 0} → (x y : A) → Some x ≡ Some y → x ≡ y
 one_some x y e = cc
 
@@ -175,7 +179,7 @@ module _ (job : Job) where
 some_kept : (k : ℕ) (ps qs : List PendingBegin) → qs ≡ map (seen_in k) ps → 0 < length ps → 0 < length qs
 some_kept k ps qs e l = omega (arith, ap (λ (us : List PendingBegin). length us) e, length-map ps (seen_in k), l)
 
-unblock : {T J : Type 0} {job : Job} {of : T → Token} {lowest a : Start} {t : Trail StrandState} {cs : Course} {b : StrandState} {stamp : ℕ} {os : List Open} {bs : List (Below T J)}
+pub unblock : {T J : Type 0} {job : Job} {of : T → Token} {lowest a : Start} {t : Trail StrandState} {cs : Course} {b : StrandState} {stamp : ℕ} {os : List Open} {bs : List (Below T J)}
     → AreBelow job of lowest a (in_block t cs b stamp) os bs → AreBelow job of lowest a t os bs
 unblock (waiting.block h) = h
 

@@ -1,5 +1,5 @@
 -- Where a strand that runs has come to, by the law of strands: so many blocks of its own are begun there and not ended.
-use Rattle.std.proofs.Common.{◌≡◌, ℕ, suc, List, [], ◌∷◌, ap, sym, subst}
+use Rattle.std.proofs.Common.{◌≡◌, Option, None, Some, ℕ, suc, List, [], ◌∷◌, ap, sym, subst}
 use Rattle.std.specs.Prelude.{IsTrue, length}
 use Rattle.cw_strand.specs.declared.want.Want.{Want}
 use Rattle.cw_strand.specs.declared.want.Want.TheVariants as want
@@ -89,6 +89,10 @@ module _ {A : Type 0} (s : Strands A) where
   pub reached_right : (t : Trail A) (b : A) → ReachedAt t b → s.want b ≡ want.Fork → IsReached s (s.right b)
   reached_right t b (outer, r) e = (blocks_in t ∷ outer, of_right r e stays)
 
+  -- the right strand of a fork that is open
+  pub reached_fork : (a : A) (t : Trail A) (cs : Course) (b : A) (column : Option ℕ) (stamp : ℕ) → IsReached s a → Leads s a (in_left t cs b column stamp) → IsReached s (s.right b)
+  reached_fork a t cs b column stamp r (l, g, e) = reached_right t b (along t cs (entry s a t) b (reached_entry a t r l) g) e
+
 module _ (job : Job) (run : IsRun job) where
   abbrev s : Strands StrandState
   s = strands_of_job job
@@ -117,3 +121,7 @@ module _ (job : Job) (run : IsRun job) where
   over_in_none t now r o n e =
       let (outer, may) = may_want t now r in
       over_ends (s.want now) n outer o (subst (λ (k : ℕ). MayWant (s.want now) (k ∷ outer)) e may)
+
+  -- a strand that has done nothing wants no end
+  pub start_not_end : (a : StrandState) → IsReached s a → s.want a ≡ want.End → ⊥
+  start_not_end a (outer, r) e = none_ends outer (subst (λ (w : Want). MayWant w (0 ∷ outer)) e (closes_of job run.compiled run.takes (0 ∷ outer) a r))

@@ -17,7 +17,7 @@ use Rattle.cw_log.specs.declared.token.Token.{Token}
 use Rattle.cw_log.specs.Answers.{IsWritten, access_kind}
 use Rattle.cw_log.specs.Tokens.{Fells, made, IsOn, MayHalt, conflicts_in, logs, halted, refused}
 use Rattle.cw_course.specs.Courses.{Course, Acts, act}
-use Rattle.cw_course.specs.Trails.{Trail, Stands}
+use Rattle.cw_course.specs.Trails.{Trail, Stands, page, strand_in}
 use Rattle.cw_course.proofs.Trails.Moves as move
 use Rattle.cw_body.specs.Bodies.{InBlocks, PendingBegin, AnswersAct, answered, gave_up, want_of}
 use Rattle.cw_pool.specs.declared.task.Mode.{Mode}
@@ -28,7 +28,7 @@ use Rattle.cw_pool.specs.Tasks.{Start, Fits, IsFree, StandsGoing, StandsDying, I
 use Rattle.cw_pool.specs.Accesses.{access_want, given_for, IsAfter}
 use Rattle.cw_pool.proofs.Tasks.Lists.{all_more, holds_it}
 use Rattle.cw_pool.proofs.Tasks.Going.{rebuilt, base_dies, fits_made}
-use Rattle.cw_pool.proofs.Tasks.Stopping.{is_halted}
+use Rattle.cw_pool.proofs.Tasks.Stopping.{is_halted, budget_no_fault}
 use Rattle.cw_pool.proofs.Tasks.Acting.{going, acts, acts_last}
 use Rattle.cw_pool.proofs.Tasks.Reaching.{names_there, reached_now}
 use Rattle.cw_job.proofs.Room.Elements.{NamesThere}
@@ -150,7 +150,7 @@ module _ {T J : Type 0} (job : Job) (of : T → Token) where
       subst (λ (w : Token). IsRunning job of w next mode.Stopped bs b) (sym (halted_so ∙ ap (λ q. halted q (Budget 0)) refused_now))
       (is_halted job of x (refused x k) mode.Goes body next bs b r (act r.course (Tried k.cell) 0) (Budget 0) (fits_refused x r.start r.trail r.course k r.written) refl
       (move.gives_up (strands_of_job job) r.start.state r.trail (act r.course (Tried k.cell) 0) s.now
-      (tried_stands job x body r.start r.trail r.course k.cell write s (e ∙ ap (λ d. access_want d write) (sym c)))) tt)
+      (tried_stands job x body r.start r.trail r.course k.cell write s (e ∙ ap (λ d. access_want d write) (sym c)))) (budget_no_fault (refused x k) (act r.course (Tried k.cell) 0) r.start.column (strand_in r.trail) (length (page r.trail).nodes)))
   refused_so x z y how mode.Waits body next bs b k cell write is r0 e u c refused_now h = absurd h
 
   -- or made

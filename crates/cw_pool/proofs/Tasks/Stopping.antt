@@ -4,7 +4,7 @@ use Rattle.std.specs.Prelude.{◌||◌}
 use Rattle.cw_job.specs.Jobs.{Job}
 use Rattle.cw_job.specs.Room.Strands.{StrandState, strands_of_job}
 use Rattle.cw_tree.specs.declared.closed.Halt.{Halt}
-use Rattle.cw_tree.specs.declared.closed.Halt.TheVariants.{Memory, Fault}
+use Rattle.cw_tree.specs.declared.closed.Halt.TheVariants.{Memory, Budget, Fault}
 use Rattle.cw_code.specs.declared.FaultKind.{FaultKind}
 use Rattle.cw_strand.specs.declared.want.Want.TheVariants as want
 use Rattle.cw_log.specs.declared.log.Log.{Log}
@@ -36,9 +36,40 @@ some_is_none x e = cc
 pub is_off : (x : Token) (h : Halt) → IsOff (halted x h)
 is_off x h = inl (some_is_none _)
 
+none_is_some : {A : Type 0} → (o : Option A) (x : A) → o ≡ None → o ≡ Some x → ⊥
+none_is_some o x e f = cc
+
+pub one_some : {A : Type 0} → (x y : A) → Some x ≡ Some y → x ≡ y
+one_some x y e = cc
+
 -- where nothing stopped there is no fault
 pub no_fault : (o : Option Stop) (cs : Course) (column strand base : ℕ) → o ≡ None → HasFault o cs column strand base
-no_fault o cs column strand base e = subst (λ (p : Option Stop). HasFault p cs column strand base) (sym e) tt
+no_fault o cs column strand base e x y kind f h = absurd (none_is_some o x e f)
+
+-- nor where it halted for something else
+no_fault_by : (z : Token) (h : Halt) (cs : Course) (column strand base : ℕ) → ((y : ℕ) (kind : FaultKind) → h ≡ Fault y kind → ⊥) → HasFault (halted z h).stop cs column strand base
+no_fault_by z h cs column strand base n x y kind e f = absurd (n y kind (ap (λ (r : Stop). r.halt) (one_some (record { halt = h; column = z.own.column; strand = z.strand }) x e) ∙ f))
+
+memory_is_none : (y : ℕ) (kind : FaultKind) → Memory ≡ Fault y kind → ⊥
+memory_is_none y kind e = cc
+
+budget_is_none : (y : ℕ) (kind : FaultKind) → Budget 0 ≡ Fault y kind → ⊥
+budget_is_none y kind e = cc
+
+pub memory_no_fault : (z : Token) (cs : Course) (column strand base : ℕ) → HasFault (halted z Memory).stop cs column strand base
+memory_no_fault z cs column strand base = no_fault_by z Memory cs column strand base memory_is_none
+
+pub budget_no_fault : (z : Token) (cs : Course) (column strand base : ℕ) → HasFault (halted z (Budget 0)).stop cs column strand base
+budget_no_fault z cs column strand base = no_fault_by z (Budget 0) cs column strand base budget_is_none
+
+fault_is : (kind met : FaultKind) (y : ℕ) → Fault 0 kind ≡ Fault y met → kind ≡ met
+fault_is kind met y e = cc
+
+-- the fault at which it stands is where its course ends
+fault_here : (z : Token) (kind : FaultKind) (cs : Course) (column strand base : ℕ) → column ≡ z.own.column → strand ≡ z.strand → HasFault (halted z (Fault 0 kind)).stop (fault cs kind) column strand base
+fault_here z kind cs column strand base c s x y met e f =
+    let same = one_some (record { halt = Fault 0 kind; column = z.own.column; strand = z.strand }) x e in
+    (fault_is kind met y (ap (λ (r : Stop). r.halt) same ∙ f), c ∙ ap (λ (r : Stop). r.column) same, s ∙ ap (λ (r : Stop). r.strand) same)
 
 module _ (job : Job) where
   waits_stopped : (x : Token) (body : InBlocks) (a : Start) (t : Trail StrandState) (cs : Course) → StandsWaiting job x body a t cs → Stopped (strands_of_job job) a.state t cs
@@ -87,7 +118,7 @@ module _ {T J : Type 0} (job : Job) (of : T → Token) where
       → IsRunning job of z next mode.Stopped bs b
   wants_memory x z how body next bs b r e =
       subst (λ (w : Token). IsRunning job of w next mode.Stopped bs b) (sym e)
-      (is_halted x x how body next bs b r r.course Memory r.written refl (stopped job how x body r.start r.trail r.course r.stands) tt)
+      (is_halted x x how body next bs b r r.course Memory r.written refl (stopped job how x body r.start r.trail r.course r.stands) (memory_no_fault x r.course r.start.column (strand_in r.trail) (length (page r.trail).nodes)))
 
   -- it stands at a fault
   pub is_faulty : (x z : Token) (how : Mode) (body next : InBlocks) (bs : List (Below T J)) (b : Base T J) (kind : FaultKind) → how ≡ mode.Goes → IsRunning job of x body how bs b
@@ -100,4 +131,4 @@ module _ {T J : Type 0} (job : Job) (of : T → Token) where
       (is_halted x x mode.Goes body next bs b r (fault r.course kind) (Fault 0 kind)
       (record { own = w.own; joined = w.joined; strand = w.strand; place = w.place; around = w.around; falling = w.falling; fork = w.fork; split = w.split }) refl
       (move.is_faulty (strands_of_job job) r.start.state r.trail r.course s.now kind s.stands (sym (ap (λ (v : InBlocks). (strands_of_job job).want v.state) s.there) ∙ e))
-      (refl, sym (ap (λ (o : Log). o.column) w.own), sym w.strand))
+      (fault_here x kind r.course r.start.column (strand_in r.trail) (length (page r.trail).nodes) (sym (ap (λ (o : Log). o.column) w.own)) (sym w.strand)))
