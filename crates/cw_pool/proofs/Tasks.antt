@@ -9,3 +9,4 @@ pub mod Blocks
 pub mod Forking
 pub mod Finishing
 pub mod Turning
+pub mod Taking

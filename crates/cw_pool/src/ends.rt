@@ -159,3 +159,71 @@ fn second<B: SharedBoard, J: Naming>(
         Mode::Waits => unreachable!(),
     }
 }
+
+/// After the right strand of a fork that was taken back: the strand that forked.
+fn taken<B: SharedBoard, J: Naming>(
+    scene: &Scene<'_, B, J>,
+    token: B::Token,
+    body: Body,
+    mode: Mode,
+    below: Vec<Below<B::Token, J>>,
+    base: Base<B::Token, J>,
+    first: B::Token,
+    left: Body,
+) -> Running<B, J>
+    requires task { IsRunning J.job B.of (B.of token) body mode (below.items ++ entry.Taken first left ∷ []) base }
+    requires end { MayEnd mode (B.of token) body }
+{
+    let mut body = body;
+    let mut token = scene.board.join(first, token);
+    match mode {
+        Mode::Goes => match body.join(left, scene.program) {
+            Ok(()) => {
+                let goes = Running {
+                    token,
+                    body,
+                    mode: Mode::Goes,
+                    below,
+                    base,
+                    of: PhantomData,
+                };
+                goes
+            }
+            Err(_) => {
+                scene.board.halt(&mut token, Halt::Memory);
+                let fails = Running {
+                    token,
+                    body,
+                    mode: Mode::Stopped,
+                    below,
+                    base,
+                    of: PhantomData,
+                };
+                fails
+            }
+        },
+        Mode::Dies { to } => {
+            let dies = Running {
+                token,
+                body,
+                mode: Mode::Dies { to },
+                below,
+                base,
+                of: PhantomData,
+            };
+            dies
+        }
+        Mode::Stopped => {
+            let stops = Running {
+                token,
+                body,
+                mode: Mode::Stopped,
+                below,
+                base,
+                of: PhantomData,
+            };
+            stops
+        }
+        Mode::Waits => unreachable!(),
+    }
+}

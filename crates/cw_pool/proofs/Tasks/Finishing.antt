@@ -72,7 +72,7 @@ pub not_parted : (fork : ℕ) → Going ≡ Parted fork → ⊥
 not_parted fork e = cc
 
 -- outside of blocks the place is the strand
-outside_there : (t : Trail StrandState) → IsOutside t → place_of t ≡ strand_in t
+pub outside_there : (t : Trail StrandState) → IsOutside t → place_of t ≡ strand_in t
 outside_there opens o = refl
 outside_there (in_block t cs b stamp) o = absurd o
 outside_there (in_left t cs b column stamp) o = refl

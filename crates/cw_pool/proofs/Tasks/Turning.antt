@@ -62,7 +62,7 @@ rights_ended t cs ls rs b l stamp column =
     ∙ append_assoc (rights_to t column) (hc ++ hl) hr
     ∙ ap (λ us. rights_to t column ++ us) (append_assoc hc hl hr)
 
-seen_more : (k : ℕ) (ps : List PendingBegin) → map (seen_in k) (map one_fork_more ps) ≡ map (seen_in (k + 1)) ps
+pub seen_more : (k : ℕ) (ps : List PendingBegin) → map (seen_in k) (map one_fork_more ps) ≡ map (seen_in (k + 1)) ps
 seen_more k [] = refl
 seen_more k (p ∷ ps) =
     ap (λ (n : ℕ). record { at = p.at; forks = n } ∷ map (seen_in k) (map one_fork_more ps)) (omega arith)
@@ -106,10 +106,10 @@ module _ {T J : Type 0} (job : Job) (of : T → Token) where
   second_top o (waiting.second {t = u} {os = os} {cs = cs} {ls = ls} {b = b} {l = l} {stamp = stamp} e h) =
       record { outer = u; behind = cs; at = b; stamp = stamp; before = ls; there = l; others = os; trail = refl; forks = refl; left_there = e; under = h }
 
-  top_first : {lowest a : Start} {t : Trail StrandState} {os : List Open} (bs : List (Below T J)) (e : Below T J) → AreBelow job of lowest a t os (reverse (bs ++ e ∷ [])) → AreBelow job of lowest a t os (e ∷ reverse bs)
+  pub top_first : {lowest a : Start} {t : Trail StrandState} {os : List Open} (bs : List (Below T J)) (e : Below T J) → AreBelow job of lowest a t os (reverse (bs ++ e ∷ [])) → AreBelow job of lowest a t os (e ∷ reverse bs)
   top_first {lowest} {a} {t} {os} bs e h = subst (λ (us : List (Below T J)). AreBelow job of lowest a t os us) (reverse-append bs (e ∷ [])) h
 
-  top_last : {lowest a : Start} {t : Trail StrandState} {os : List Open} (bs : List (Below T J)) (e : Below T J) → AreBelow job of lowest a t os (e ∷ reverse bs) → AreBelow job of lowest a t os (reverse (bs ++ e ∷ []))
+  pub top_last : {lowest a : Start} {t : Trail StrandState} {os : List Open} (bs : List (Below T J)) (e : Below T J) → AreBelow job of lowest a t os (e ∷ reverse bs) → AreBelow job of lowest a t os (reverse (bs ++ e ∷ []))
   top_last {lowest} {a} {t} {os} bs e h = subst (λ (us : List (Below T J)). AreBelow job of lowest a t os us) (sym (reverse-append bs (e ∷ []))) h
 
   pub inline_of : (x : Token) (body : InBlocks) (how : Mode) (bs : List (Below T J)) (b : Base T J) (right : InBlocks) (f : Finished job of x body how (bs ++ below.Inline right ∷ []) b)
@@ -400,7 +400,7 @@ module _ (job : Job) where
     fault = λ y n kind e f. right_fault t cs ls rs b l stamp a.column y.column y.strand kind (s.fault y n kind e f);
   }
 
-may_so : (x : Token) (body : InBlocks) {how now : Mode} → how ≡ now → MayEnd how x body → MayEnd now x body
+pub may_so : (x : Token) (body : InBlocks) {how now : Mode} → how ≡ now → MayEnd how x body → MayEnd now x body
 may_so x body e may = subst (λ (m : Mode). MayEnd m x body) e may
 
 module _ {T J : Type 0} (job : Job) (of : T → Token) where
@@ -409,7 +409,7 @@ module _ {T J : Type 0} (job : Job) (of : T → Token) where
           (second_of job of x body how bs b left f).stamp (second_of job of x body how bs b left f).before (second_of job of x body how bs b left f).there) f.course
   second_whole x body how bs b left f = subst (λ (t : Trail StrandState). Leaves job x body how f.start t f.course) (second_of job of x body how bs b left f).trail f.leaves
 
-  runs_so : {x : Token} {body : InBlocks} {how now : Mode} {bs : List (Below T J)} {b : Base T J} → how ≡ now → IsRunning job of x body how bs b → IsRunning job of x body now bs b
+  pub runs_so : {x : Token} {body : InBlocks} {how now : Mode} {bs : List (Below T J)} {b : Base T J} → how ≡ now → IsRunning job of x body how bs b → IsRunning job of x body now bs b
   runs_so {x} {body} {how} {now} {bs} {b} e r = subst (λ (m : Mode). IsRunning job of x body m bs b) e r
 
   pub joins_goes : (x z : Token) (how : Mode) (body left next : InBlocks) (bs : List (Below T J)) (b : Base T J) → how ≡ mode.Goes → IsRunning job of x body how (bs ++ below.Second left ∷ []) b → MayEnd how x body
