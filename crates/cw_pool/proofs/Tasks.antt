@@ -10,3 +10,4 @@ pub mod Forking
 pub mod Finishing
 pub mod Turning
 pub mod Taking
+pub mod Backing

@@ -4,11 +4,14 @@ ghost use Rattle.std.specs.Vec.{vec_len, vec_capacity};
 ghost use Rattle.cw_pool.specs.Ends.{MayEnd};
 ghost use Rattle.cw_pool.specs.Tasks.{IsRunning};
 ghost use Rattle.cw_pool.specs.declared.task.Below.TheVariants as entry;
+ghost use Rattle.cw_pool.specs.declared.task.Base.TheVariants as bottom;
+ghost use Rattle.cw_pool.specs.declared.task.Mode.TheVariants as standing;
 
 use crate::blocks::begin_at;
-use crate::{Base, Below, Mode, Naming, Running, Scene};
+use crate::{Base, Below, Memo, Mode, Naming, Running, Scene};
 use cw_body::Body;
 use cw_log::SharedBoard;
+use cw_pair::Half;
 use cw_strand::Want;
 use cw_tree::Halt;
 use std::marker::PhantomData;
@@ -226,4 +229,44 @@ fn taken<B: SharedBoard, J: Naming>(
         }
         Mode::Waits => unreachable!(),
     }
+}
+
+/// After the left strand of a fork whose right one was not started by another worker: that.
+fn takes_back<B: SharedBoard, J: Naming>(
+    scene: &Scene<'_, B, J>,
+    token: B::Token,
+    body: Body,
+    below: Vec<Below<B::Token, J>>,
+    base: Base<B::Token, J>,
+    fork: u32,
+    half: Half<Memo<B::Token>, J>,
+    other: B::Token,
+    right: Body,
+    rest: Vec<Below<B::Token, J>>,
+    theirs: Half<Memo<B::Token>, J>,
+) -> Running<B, J>
+    requires task { IsRunning J.job B.of (B.of token) body standing.Goes (below.items ++ entry.Left fork half ∷ []) base }
+    requires end { MayEnd standing.Goes (B.of token) body }
+    requires right { IsRunning J.job B.of (B.of other) right standing.Waits rest.items (bottom.Right theirs) }
+    requires alone { rest.items ≡ [] }
+    requires number { half.number ≡ theirs.number }
+    requires room { vec_len below < vec_capacity below }
+{
+    let _ = fork;
+    drop(rest);
+    let mut token = token;
+    let mut other = other;
+    let mut below = below;
+    scene.pairs.meet(half, theirs);
+    scene.board.take_back(&mut token, &mut other);
+    below.push_reserved(Below::Taken { token, left: body });
+    let goes = Running {
+        token: other,
+        body: right,
+        mode: Mode::Goes,
+        below,
+        base,
+        of: PhantomData,
+    };
+    goes
 }

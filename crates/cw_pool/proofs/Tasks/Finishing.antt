@@ -1,36 +1,31 @@
 -- A strand that has come to its end, has died or was stopped: what it leaves to the fork of which it is a strand.
-use Rattle.std.proofs.Common.{◌≡◌, ℕ, zero, suc, ◌+◌, List, [], ◌∷◌, ◌++◌, length, map, reverse, refl, ap, sym, ◌∙◌, subst, arith, true, inl, inr, Option, None, Some, append_assoc, length-append}
+use Rattle.std.proofs.Common.{◌≡◌, ℕ, suc, ◌+◌, List, [], ◌∷◌, ◌++◌, length, map, reverse, refl, ap, sym, ◌∙◌, subst, true, inl, inr, None, Some, append_assoc, length-append}
 use Rattle.std.specs.Prelude.{IsTrue}
 use Rattle.cw_strand.specs.Strands.{is_over}
 use Rattle.cw_strand.specs.declared.want.Want.{Want}
 use Rattle.cw_job.specs.Jobs.{Job, bare as bare_job}
 use Rattle.cw_job.specs.Room.Strands.{StrandState, strands_of_job}
 use Rattle.cw_job.proofs.Room.Wants.{same_want}
-use Rattle.cw_tree.specs.declared.node.Node.{Node}
 use Rattle.cw_tree.specs.declared.node.Kind.TheVariants.{Block}
 use Rattle.cw_tree.specs.declared.node.BlockState.TheVariants.{Pending}
 use Rattle.cw_tree.specs.Nodes.{fresh_node}
-use Rattle.cw_log.specs.declared.log.Log.{Log}
-use Rattle.cw_log.specs.declared.token.Stop.{Stop}
-use Rattle.cw_log.specs.declared.token.Open.{Open}
 use Rattle.cw_log.specs.declared.token.Phase.TheVariants.{Going, Parted}
 use Rattle.cw_log.specs.declared.token.Token.{Token}
-use Rattle.cw_log.specs.Tokens.{IsDone, IsOff}
-use Rattle.cw_course.specs.Courses.{Course, block, laid, rights, size}
+use Rattle.cw_log.specs.Tokens.{IsDone}
+use Rattle.cw_course.specs.Courses.{Course, block, laid, size}
 use Rattle.cw_course.specs.Closings.{FaultsIn, bare}
-use Rattle.cw_course.specs.Trails.{Trail, opens, in_block, in_left, in_right, Stopped, page, nodes_of, place_of, strand_in}
+use Rattle.cw_course.specs.Trails.{Trail, opens, in_block, in_left, in_right, page, nodes_of, place_of, strand_in}
 use Rattle.cw_course.proofs.Trails.Moves as move
 use Rattle.cw_body.specs.Bodies.{InBlocks, want_of}
 use Rattle.cw_pool.specs.declared.task.Mode.{Mode}
 use Rattle.cw_pool.specs.declared.task.Mode.TheVariants as mode
 use Rattle.cw_pool.specs.declared.task.Below.{Below}
 use Rattle.cw_pool.specs.declared.task.Base.{Base}
-use Rattle.cw_pool.specs.Blocks.{begin_at}
 use Rattle.cw_pool.specs.Ends.{MayEnd}
-use Rattle.cw_pool.specs.Tasks.{Start, IsRun, IsReached, Fits, HasFault, AreFalling, StandsGoing, StandsDying, StandsStopped, IsBase, AreBelow, IsRunning, begins_in, stamps_in, rights_of}
-use Rattle.cw_pool.proofs.Tasks.Reaching.{blocks_in, ReachedAt, reached_now, over_in_none}
+use Rattle.cw_pool.specs.Tasks.{Start, IsRun, IsReached, Fits, AreFalling, StandsGoing, StandsDying, StandsStopped, IsBase, AreBelow, IsRunning, stamps_in, rights_of}
+use Rattle.cw_pool.proofs.Tasks.Reaching.{blocks_in, reached_now, over_in_none}
 use Rattle.cw_pool.proofs.Tasks.Pages.{many, many_in_block, innermost}
-use Rattle.cw_pool.proofs.Tasks.Blocks.{in_found_none, rights_shut, falling_rest, unblock}
+use Rattle.cw_pool.proofs.Tasks.Blocks.{in_found_none, rights_shut, unblock}
 
 -- no block of the strand that runs is open
 abbrev pub IsOutside : Trail StrandState → Type 0
@@ -161,12 +156,16 @@ module _ {T J : Type 0} (job : Job) (of : T → Token) where
     below = r.below;
   }
 
-  goes_out : (x : Token) (body : InBlocks) (bs : List (Below T J)) (b : Base T J) (r : IsRunning job of x body mode.Goes bs b) → is_over (want_of body) ≡ true → Finished job of x body mode.Goes bs b
-  goes_out x body bs b r e =
+  -- a strand that goes on to its end has no block of its own there
+  pub goes_outside : (x : Token) (body : InBlocks) (bs : List (Below T J)) (b : Base T J) (r : IsRunning job of x body mode.Goes bs b) → is_over (want_of body) ≡ true
+      → IsOutside r.trail × IsTrue (is_over ((strands_of_job job).want r.stands.now))
+  goes_outside x body bs b r e =
       let s = r.stands in
       let over = over_there job x body r.start r.trail r.course s e in
-      outside_so x body mode.Goes bs b r
-      (no_blocks job r.trail (over_in_none job r.run r.trail s.now (reached_now (strands_of_job job) r.start.state r.trail r.course s.now r.reached s.stands) over)) s.phase (s, over, r.written.around)
+      (no_blocks job r.trail (over_in_none job r.run r.trail s.now (reached_now (strands_of_job job) r.start.state r.trail r.course s.now r.reached s.stands) over), over)
+
+  goes_out : (x : Token) (body : InBlocks) (bs : List (Below T J)) (b : Base T J) (r : IsRunning job of x body mode.Goes bs b) → is_over (want_of body) ≡ true → Finished job of x body mode.Goes bs b
+  goes_out x body bs b r e = let (outside, over) = goes_outside x body bs b r e in outside_so x body mode.Goes bs b r outside r.stands.phase (r.stands, over, r.written.around)
 
   -- a strand that may end leaves all that
   pub finished : (x : Token) (body : InBlocks) (how : Mode) (bs : List (Below T J)) (b : Base T J) → IsRunning job of x body how bs b → MayEnd how x body → Finished job of x body how bs b

@@ -1,12 +1,11 @@
 -- A strand that forks.
-use Rattle.std.proofs.Common.{◌≡◌, ℕ, ◌+◌, List, [], ◌∷◌, ◌++◌, length, map, reverse, refl, ap, sym, ◌∙◌, subst, arith, true, false, Option, None, Some, append-nil}
+use Rattle.std.proofs.Common.{◌≡◌, ℕ, ◌+◌, List, [], ◌∷◌, ◌++◌, length, map, reverse, refl, ap, sym, ◌∙◌, subst, false, Option, None, Some, append-nil}
 use Rattle.std.proofs.lemmas.List.{reverse-append}
 use Rattle.std.proofs.lemmas.List.Elements.{All-nil}
 use Rattle.cw_strand.specs.declared.want.Want.TheVariants as want
 use Rattle.cw_strand.specs.Strands.{Strands}
 use Rattle.cw_job.specs.Jobs.{Job}
 use Rattle.cw_job.specs.Room.Strands.{StrandState, strands_of_job}
-use Rattle.cw_tree.specs.declared.node.Node.{Node}
 use Rattle.cw_tree.specs.declared.node.Kind.TheVariants.{Strand, Fork}
 use Rattle.cw_tree.specs.declared.closed.Halt.TheVariants.{Memory}
 use Rattle.cw_tree.specs.Nodes.{fresh_node}
@@ -124,12 +123,14 @@ module _ {T : Type 0} (job : Job) (of : T → Token) where
         fork = y.fork;
         split = false;
       } in
-      let p = beside st a t cs s.now column fork in
-      (m, is,
-          ap (λ b. tells b (of m.right.value)) (before ∙ s.there) ∙ ap (λ y. tells (goes_in job s.now (begins_in t a.begins)) y) right
-          ∙ ap (λ bs. record p { above = bs; from = x.own.column; at = length x.own.nodes }) w.around
-          ∙ ap (λ (o : Log). record p { from = o.column; at = length x.own.nodes }) w.own
-          ∙ ap (λ (o : Log). record p { at = length o.nodes }) w.own)
+      let p = beside st a t cs s.now column fork in (
+        m,
+        is,
+        ap (λ b. tells b (of m.right.value)) (before ∙ s.there) ∙ ap (λ y. tells (goes_in job s.now (begins_in t a.begins)) y) right
+            ∙ ap (λ bs. record p { above = bs; from = x.own.column; at = length x.own.nodes }) w.around
+            ∙ ap (λ (o : Log). record p { from = o.column; at = length x.own.nodes }) w.own
+            ∙ ap (λ (o : Log). record p { at = length o.nodes }) w.own,
+      )
 
 module _ {T J : Type 0} (job : Job) (of : T → Token) where
   top : {lowest a : Start} {t : Trail StrandState} {os : List Open} (bs : List (Below T J)) (e : Below T J) → AreBelow job of lowest a t os (e ∷ reverse bs) → AreBelow job of lowest a t os (reverse (bs ++ e ∷ []))
@@ -167,8 +168,8 @@ module _ {T J : Type 0} (job : Job) (of : T → Token) where
       let n : length x.own.nodes ≡ length (nodes_of r.trail r.course) = ap (λ (o : Log). length o.nodes) r.written.own in
       subst (λ (w : Token). IsRunning job of w left mode.Goes (bs ++ below.Inline right ∷ []) b) (sym branched_so)
       (goes_on_left x body left bs b r (First (length x.own.nodes + 2)) None stamp (below.Inline right) wants l_is
-          (subst (λ (k : ℕ). AreBelow job of r.lowest r.start (in_left r.trail r.course r.stands.now None stamp) (opened (First (k + 2)) r.start r.trail ∷ x.forks) (below.Inline right ∷ reverse bs)) (sym n)
-              (waiting.first (right_there job x body right r.start r.trail r.course r.stands r_is) r.below)))
+      (subst (λ (k : ℕ). AreBelow job of r.lowest r.start (in_left r.trail r.course r.stands.now None stamp) (opened (First (k + 2)) r.start r.trail ∷ x.forks) (below.Inline right ∷ reverse bs)) (sym n)
+      (waiting.first (right_there job x body right r.start r.trail r.course r.stands r_is) r.below)))
 
   -- the left strand of one that has two
   pub left_so : (x z : Token) (how : Mode) (body left : InBlocks) (bs : List (Below T J)) (b : Base T J) (half : Note (Memo T)) (m : Memo T) (stamp fork column : ℕ) → how ≡ mode.Goes
@@ -178,7 +179,7 @@ module _ {T J : Type 0} (job : Job) (of : T → Token) where
       let r = going job of is r0 in
       subst (λ (w : Token). IsRunning job of w left mode.Goes (bs ++ below.Left fork half ∷ []) b) (sym forked_so)
       (goes_on_left x body left bs b r (Beside fork) (Some column) stamp (below.Left fork half) wants l_is
-          (waiting.left (half_tells job of half m x body r.start r.trail r.course fork column r.stands r.written h before right) r.below))
+      (waiting.left (half_tells job of half m x body r.start r.trail r.course fork column r.stands r.written h before right) r.below))
 
   -- and its right one, which waits
   pub right_so : (x y : Token) (how : Mode) (body right : InBlocks) (bs : List (Below T J)) (b : Base T J) (half : Note (Memo T)) (m : Memo T) (fork column : ℕ) → how ≡ mode.Goes

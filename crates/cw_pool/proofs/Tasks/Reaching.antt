@@ -1,5 +1,5 @@
 -- Where a strand that runs has come to, by the law of strands: so many blocks of its own are begun there and not ended.
-use Rattle.std.proofs.Common.{◌≡◌, Option, None, Some, ℕ, suc, List, [], ◌∷◌, ap, sym, subst}
+use Rattle.std.proofs.Common.{◌≡◌, Option, ℕ, suc, List, [], ◌∷◌, ap, sym, subst}
 use Rattle.std.specs.Prelude.{IsTrue, length}
 use Rattle.cw_strand.specs.declared.want.Want.{Want}
 use Rattle.cw_strand.specs.declared.want.Want.TheVariants as want

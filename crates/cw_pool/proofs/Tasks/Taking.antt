@@ -1,10 +1,9 @@
 -- The strands of a fork that has two tokens, where the right one was taken back: the strand that forked behind them.
-use Rattle.std.proofs.Common.{◌≡◌, ℕ, ◌+◌, Bool, List, [], ◌∷◌, ◌++◌, length, map, reverse, refl, ap, sym, ◌∙◌, subst, arith, true, false, inl, inr, Option, None, Some, append_assoc}
-use Rattle.std.specs.Prelude.{IsTrue, ◌≤◌, ◌<◌, ◌||◌, if◌then◌else◌}
+use Rattle.std.proofs.Common.{◌≡◌, ℕ, ◌+◌, Bool, List, [], ◌∷◌, ◌++◌, length, map, reverse, refl, ap, sym, ◌∙◌, subst, true, false, inl, inr, Option, None, Some, append_assoc}
+use Rattle.std.specs.Prelude.{IsTrue, ◌≤◌, ◌||◌, if◌then◌else◌}
 use Rattle.std.specs.List.{All, Contains}
-use Rattle.std.proofs.lemmas.List.{map-append, reverse-append}
+use Rattle.std.proofs.lemmas.List.{map-append}
 use Rattle.std.proofs.lemmas.List.Elements.{All-append, All-weaker, Contains-append_right}
-use Rattle.cw_code.specs.declared.FaultKind.{FaultKind}
 use Rattle.cw_strand.specs.Strands.{is_over}
 use Rattle.cw_job.specs.Jobs.{Job}
 use Rattle.cw_job.specs.Room.Strands.{StrandState, strands_of_job}
@@ -13,14 +12,13 @@ use Rattle.cw_tree.specs.declared.closed.Halt.TheVariants.{Memory}
 use Rattle.cw_log.specs.declared.log.Log.{Log}
 use Rattle.cw_log.specs.declared.token.Stop.{Stop}
 use Rattle.cw_log.specs.declared.token.Open.{Open}
-use Rattle.cw_log.specs.declared.token.Phase.{Phase}
 use Rattle.cw_log.specs.declared.token.Phase.TheVariants.{Going, Over, Parted}
 use Rattle.cw_log.specs.declared.token.Side.TheVariants.{Beside}
 use Rattle.cw_log.specs.declared.token.Token.{Token}
 use Rattle.cw_log.specs.Tokens.{AreOfOneFork, Fells, IsDone, IsOff, IsOn, MayHalt, conflicts_in, halted, kept_stop, left_behind, logs, taken_in}
-use Rattle.cw_course.specs.Courses.{Course, fork, own_log, rights, size, there}
-use Rattle.cw_course.specs.Closings.{FaultsIn, bare}
-use Rattle.cw_course.specs.Trails.{Trail, opens, in_block, in_left, in_right, Stands, page, nodes_of, place_of, strand_in}
+use Rattle.cw_course.specs.Courses.{Course, fork, own_log, rights, size}
+use Rattle.cw_course.specs.Closings.{bare}
+use Rattle.cw_course.specs.Trails.{Trail, opens, in_left, Stands, page, nodes_of, place_of, strand_in}
 use Rattle.cw_course.proofs.Trails.Moves as move
 use Rattle.cw_course.proofs.Trails.Steps as step
 use Rattle.cw_body.specs.Bodies as bodies

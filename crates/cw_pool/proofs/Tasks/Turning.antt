@@ -1,26 +1,23 @@
 -- The strands of a fork that has one token, one after the other, and the strand that forked behind them.
-use Rattle.std.proofs.Common.{◌≡◌, ℕ, ◌+◌, List, [], ◌∷◌, ◌++◌, length, map, reverse, refl, ap, sym, ◌∙◌, subst, arith, true, inl, inr, Option, None, Some, append_assoc, append-nil}
+use Rattle.std.proofs.Common.{◌≡◌, ℕ, ◌+◌, List, [], ◌∷◌, ◌++◌, length, map, reverse, refl, ap, sym, ◌∙◌, subst, arith, inl, inr, None, append_assoc, append-nil}
 use Rattle.std.specs.Prelude.{IsTrue, ◌≤◌, ◌<◌}
 use Rattle.std.specs.List.{All, Contains}
 use Rattle.std.proofs.lemmas.List.{reverse-append}
 use Rattle.std.proofs.lemmas.List.Elements.{All-map}
 use Rattle.cw_code.specs.declared.FaultKind.{FaultKind}
-use Rattle.cw_strand.specs.declared.want.Want.TheVariants as want
 use Rattle.cw_strand.specs.Strands.{is_over}
 use Rattle.cw_job.specs.Jobs.{Job, bare as bare_job}
 use Rattle.cw_job.specs.Room.Strands.{StrandState, strands_of_job}
 use Rattle.cw_job.proofs.Room.Wants.{same_want}
 use Rattle.cw_tree.specs.declared.conflict.Conflict.{Conflict}
 use Rattle.cw_tree.specs.declared.closed.Halt.TheVariants.{Memory}
-use Rattle.cw_log.specs.declared.log.Log.{Log}
 use Rattle.cw_log.specs.declared.token.Open.{Open}
 use Rattle.cw_log.specs.declared.token.Side.TheVariants.{First, Second}
-use Rattle.cw_log.specs.declared.token.Phase.TheVariants.{Parted}
 use Rattle.cw_log.specs.declared.token.Token.{Token}
 use Rattle.cw_log.specs.Tokens.{Fells, IsDone, IsInline, conflicts_in, logs, halted, turned, turned_by}
 use Rattle.cw_course.specs.Courses.{Course, nothing, fork, rights, size, there, starts}
 use Rattle.cw_course.specs.Closings.{FaultsIn}
-use Rattle.cw_course.specs.Trails.{Trail, opens, in_block, in_left, in_right, forked, page, nodes_of, place_of, strand_in}
+use Rattle.cw_course.specs.Trails.{Trail, in_left, in_right, forked, page, nodes_of, place_of, strand_in}
 use Rattle.cw_course.proofs.Trails.Moves as move
 use Rattle.cw_course.proofs.Trails.Steps as step
 use Rattle.cw_body.specs.declared.stage.Stage.TheVariants as stage
@@ -257,7 +254,7 @@ module _ {T J : Type 0} (job : Job) (of : T → Token) where
       let (d, around) = v.ends in
       subst (λ (w : InBlocks). IsRunning job of z w (mode.Dies to) bs b) (sym gave)
       (subst (λ (w : Token). IsRunning job of w (gave_up right) (mode.Dies to) bs b)
-          (sym (turned_twice x y z f.start i.outer i.behind i.others (turned_there x y f.start i.outer i.behind i.others i.forks once) twice)) (record {
+      (sym (turned_twice x y z f.start i.outer i.behind i.others (turned_there x y f.start i.outer i.behind i.others i.forks once) twice)) (record {
         run = f.run;
         lowest = f.lowest;
         based = f.based;
@@ -406,7 +403,7 @@ may_so x body e may = subst (λ (m : Mode). MayEnd m x body) e may
 module _ {T J : Type 0} (job : Job) (of : T → Token) where
   second_whole : (x : Token) (body : InBlocks) (how : Mode) (bs : List (Below T J)) (b : Base T J) (left : InBlocks) (f : Finished job of x body how (bs ++ below.Second left ∷ []) b)
       → Leaves job x body how f.start (in_right (second_of job of x body how bs b left f).outer (second_of job of x body how bs b left f).behind (second_of job of x body how bs b left f).at
-          (second_of job of x body how bs b left f).stamp (second_of job of x body how bs b left f).before (second_of job of x body how bs b left f).there) f.course
+      (second_of job of x body how bs b left f).stamp (second_of job of x body how bs b left f).before (second_of job of x body how bs b left f).there) f.course
   second_whole x body how bs b left f = subst (λ (t : Trail StrandState). Leaves job x body how f.start t f.course) (second_of job of x body how bs b left f).trail f.leaves
 
   pub runs_so : {x : Token} {body : InBlocks} {how now : Mode} {bs : List (Below T J)} {b : Base T J} → how ≡ now → IsRunning job of x body how bs b → IsRunning job of x body now bs b
