@@ -11,3 +11,4 @@ pub mod Finishing
 pub mod Turning
 pub mod Taking
 pub mod Backing
+pub mod Worked
