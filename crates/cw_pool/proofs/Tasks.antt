@@ -1,0 +1,14 @@
+pub mod Lists
+pub mod Reaching
+pub mod Pages
+pub mod Going
+pub mod Stopping
+pub mod Acting
+pub mod Refusing
+pub mod Blocks
+pub mod Forking
+pub mod Finishing
+pub mod Turning
+pub mod Taking
+pub mod Backing
+pub mod Worked

@@ -1,0 +1,127 @@
+-- Where a strand that runs has come to, by the law of strands: so many blocks of its own are begun there and not ended.
+use Rattle.std.proofs.Common.{◌≡◌, Option, ℕ, suc, List, [], ◌∷◌, ap, sym, subst}
+use Rattle.std.specs.Prelude.{IsTrue, length}
+use Rattle.cw_strand.specs.declared.want.Want.{Want}
+use Rattle.cw_strand.specs.declared.want.Want.TheVariants as want
+use Rattle.cw_strand.specs.declared.want.Given.{Given}
+use Rattle.cw_strand.specs.declared.want.Given.TheVariants.{Nothing, Value}
+use Rattle.cw_tree.specs.declared.node.Kind.{Kind}
+use Rattle.cw_tree.specs.declared.node.Kind.TheVariants.{Strand, Fork, Block, Read, Write, Out, Tried}
+use Rattle.cw_strand.specs.Strands.{Strands, IsAnswer, MayWant, own_after, is_over, GoesTo, stays, answered, joins, Reached, of_main, of_left, of_right}
+use Rattle.cw_job.specs.Jobs.{Job}
+use Rattle.cw_job.specs.Room.Strands.{StrandState, strands_of_job}
+use Rattle.cw_job.proofs.Room.Elements.{NamesThere, wants_there}
+use Rattle.cw_job.proofs.Room.Lawful.{closes_of}
+use Rattle.cw_strand.specs.Names.{first_memory}
+use Rattle.cw_course.specs.Courses as course
+use Rattle.cw_course.specs.Courses.{Course, Goes, Acts}
+use Rattle.cw_course.specs.Trails.{Trail, opens, in_block, in_left, in_right, entry, Leads, Stands}
+use Rattle.cw_pool.specs.Tasks.{IsRun, IsReached}
+
+module _ {A : Type 0} (s : Strands A) where
+  further : {from own to : List ℕ} {a b c : A} → GoesTo s from a own b → GoesTo s own b to c → GoesTo s from a to c
+  further g stays = g
+  further g (answered h given is) = answered (further g h) given is
+  further g (joins h e l lo r ro) = joins (further g h) e l lo r ro
+
+  -- and an answer behind it
+  next : (from own : List ℕ) (a b : A) (w : Want) (given : Given) → GoesTo s from a own b → s.want b ≡ w → IsAnswer w given → GoesTo s from a (own_after w own) (s.answer b given)
+  next from own a b w given g e is =
+      subst (λ (to : List ℕ). GoesTo s from a to (s.answer b given)) (ap (λ z. own_after z own) e) (answered g given (subst (λ z. IsAnswer z given) (sym e) is))
+
+  act_goes : (own : List ℕ) (a b c : A) (kind : Kind) → GoesTo s own a own b → Acts s b kind c → GoesTo s own a own c
+  act_goes own a b c (Read k v) g d = subst (GoesTo s own a own) (sym d.1) (next own own a b (want.Load k) (Value v) g d.0 tt)
+  act_goes own a b c (Write k v) g d = subst (GoesTo s own a own) (sym d.1) (next own own a b (want.Store k v) Nothing g d.0 tt)
+  act_goes own a b c (Out v) g d = subst (GoesTo s own a own) (sym d.1) (next own own a b (want.Out v) Nothing g d.0 tt)
+  act_goes own a b c (Tried k) g d = subst (GoesTo s own a own) (sym d.1) g
+  act_goes own a b c Strand g d = absurd d
+  act_goes own a b c Fork g d = absurd d
+  act_goes own a b c Block g d = absurd d
+
+  goes_to : (n : ℕ) (ns : List ℕ) (a b : A) (cs : Course) → Goes s a cs b → GoesTo s (n ∷ ns) a (n ∷ ns) b
+  goes_to n ns a b cs course.starts = stays
+  goes_to n ns a b cs (course.acts {b = x} {kind = kind} g d) = act_goes (n ∷ ns) a x b kind (goes_to n ns a x _ g) d
+  goes_to n ns a b cs (course.commits {b = x} {c = y} g e h f) =
+      let begun = next (n ∷ ns) (n ∷ ns) a x want.Begin Nothing (goes_to n ns a x _ g) e tt in
+      let inside = further begun (goes_to (suc n) ns _ y _ h) in
+      next (n ∷ ns) (suc n ∷ ns) a y want.End Nothing inside f tt
+  goes_to n ns a b cs (course.aborts g e h) = goes_to n ns a b _ g
+  goes_to n ns a b cs (course.joins {b = x} {l = l} {r = r} g e h lo k ro) =
+      joins (goes_to n ns a x _ g) e (goes_to 0 [] _ l _ h) lo (goes_to 0 (n ∷ ns) _ r _ k) ro
+
+  reached_on : {own to : List ℕ} {a b : A} → Reached s own a → GoesTo s own a to b → Reached s to b
+  reached_on (of_main g) h = of_main (further g h)
+  reached_on (of_left r e g) h = of_left r e (further g h)
+  reached_on (of_right r e g) h = of_right r e (further g h)
+
+  -- it has begun so many blocks that are pending
+  abbrev pub blocks_in : Trail A → ℕ
+  blocks_in opens = 0
+  blocks_in (in_block t cs b stamp) = suc (blocks_in t)
+  blocks_in (in_left t cs b column stamp) = 0
+  blocks_in (in_right t cs b stamp ls l) = 0
+
+  abbrev pub ReachedAt : Trail A → A → Type 0
+  ReachedAt t a = (outer : List ℕ) × Reached s (blocks_in t ∷ outer) a
+
+  along : (t : Trail A) (cs : Course) (a b : A) → ReachedAt t a → Goes s a cs b → ReachedAt t b
+  along t cs a b (outer, r) g = (outer, reached_on r (goes_to (blocks_in t) outer a b cs g))
+
+  begun : (n : ℕ) (outer : List ℕ) (a : A) → s.want a ≡ want.Begin → Reached s (n ∷ outer) a → Reached s (suc n ∷ outer) (s.answer a Nothing)
+  begun n outer a e r = subst (λ (own : List ℕ). Reached s own (s.answer a Nothing)) (ap (λ w. own_after w (n ∷ outer)) e)
+      (reached_on r (answered stays Nothing (subst (λ (w : Want). IsAnswer w Nothing) (sym e) tt)))
+
+  pub reached_entry : (a : A) (t : Trail A) → IsReached s a → Leads s a t → ReachedAt t (entry s a t)
+  reached_entry a opens r l = r
+  reached_entry a (in_block t cs b stamp) r (l, g, e) =
+      let (outer, h) = along t cs (entry s a t) b (reached_entry a t r l) g in
+      (outer, begun (blocks_in t) outer b e h)
+  reached_entry a (in_left t cs b column stamp) r (l, g, e) =
+      let (outer, h) = along t cs (entry s a t) b (reached_entry a t r l) g in
+      ([], of_left h e stays)
+  reached_entry a (in_right t cs b stamp ls d) r (l, g, e, k, o) =
+      let (outer, h) = along t cs (entry s a t) b (reached_entry a t r l) g in
+      (blocks_in t ∷ outer, of_right h e stays)
+
+  pub reached_now : (a : A) (t : Trail A) (cs : Course) (now : A) → IsReached s a → Stands s a t cs now → ReachedAt t now
+  reached_now a t cs now r st = along t cs (entry s a t) now (reached_entry a t r st.leads) st.goes
+
+  pub reached_right : (t : Trail A) (b : A) → ReachedAt t b → s.want b ≡ want.Fork → IsReached s (s.right b)
+  reached_right t b (outer, r) e = (blocks_in t ∷ outer, of_right r e stays)
+
+  -- the right strand of a fork that is open
+  pub reached_fork : (a : A) (t : Trail A) (cs : Course) (b : A) (column : Option ℕ) (stamp : ℕ) → IsReached s a → Leads s a (in_left t cs b column stamp) → IsReached s (s.right b)
+  reached_fork a t cs b column stamp r (l, g, e) = reached_right t b (along t cs (entry s a t) b (reached_entry a t r l) g) e
+
+module _ (job : Job) (run : IsRun job) where
+  abbrev s : Strands StrandState
+  s = strands_of_job job
+
+  may_want : (t : Trail StrandState) (now : StrandState) → ReachedAt s t now → (outer : List ℕ) × MayWant (s.want now) (blocks_in s t ∷ outer)
+  may_want t now (outer, r) = (outer, closes_of job run.compiled run.takes (blocks_in s t ∷ outer) now r)
+
+  pub names_there : (t : Trail StrandState) (now : StrandState) → ReachedAt s t now → NamesThere (length (first_memory job.program.cells)) (s.want now)
+  names_there t now (outer, r) = wants_there job run.compiled (blocks_in s t ∷ outer) now r
+
+  none_ends : (outer : List ℕ) → MayWant want.End (0 ∷ outer) → ⊥
+  none_ends outer h = h
+
+  over_ends : (w : Want) (n : ℕ) (outer : List ℕ) → IsTrue (is_over w) → MayWant w (suc n ∷ outer) → ⊥
+  over_ends want.Sync n outer o h = h
+  over_ends want.Done n outer o h = h
+  over_ends w n outer o h = cc
+
+  -- a strand that wants the end of a block has begun one that is pending, and one that is over has not
+  pub end_in_block : (t : Trail StrandState) (now : StrandState) → ReachedAt s t now → s.want now ≡ want.End → blocks_in s t ≡ 0 → ⊥
+  end_in_block t now r e z =
+      let (outer, may) = may_want t now r in
+      none_ends outer (subst (λ (n : ℕ). MayWant want.End (n ∷ outer)) z (subst (λ (w : Want). MayWant w (blocks_in s t ∷ outer)) e may))
+
+  pub over_in_none : (t : Trail StrandState) (now : StrandState) → ReachedAt s t now → IsTrue (is_over (s.want now)) → (n : ℕ) → blocks_in s t ≡ suc n → ⊥
+  over_in_none t now r o n e =
+      let (outer, may) = may_want t now r in
+      over_ends (s.want now) n outer o (subst (λ (k : ℕ). MayWant (s.want now) (k ∷ outer)) e may)
+
+  -- a strand that has done nothing wants no end
+  pub start_not_end : (a : StrandState) → IsReached s a → s.want a ≡ want.End → ⊥
+  start_not_end a (outer, r) e = none_ends outer (subst (λ (w : Want). MayWant w (0 ∷ outer)) e (closes_of job run.compiled run.takes (0 ∷ outer) a r))

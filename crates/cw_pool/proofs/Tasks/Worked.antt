@@ -1,0 +1,74 @@
+-- The root's token, once its strand has ended: its logs are what strands of the program did.
+use Rattle.std.proofs.Common.{◌≡◌, ℕ, Bool, List, [], ◌∷◌, map, ap, sym, ◌∙◌, refl, subst, arith, true, false, inl, inr, Option, None, Some}
+use Rattle.std.specs.List.{Contains}
+use Rattle.cw_job.specs.Jobs.{Job}
+use Rattle.cw_job.specs.Room.Strands.{StrandState, strands_of_job}
+use Rattle.cw_tree.specs.declared.closed.Halt.{Halt}
+use Rattle.cw_tree.specs.declared.closed.Halt.TheVariants.{Fault, Budget, Memory}
+use Rattle.cw_log.specs.declared.log.Log.{Log}
+use Rattle.cw_log.specs.declared.token.Stop.{Stop}
+use Rattle.cw_log.specs.declared.token.Open.{Open}
+use Rattle.cw_log.specs.declared.token.Token.{Token}
+use Rattle.cw_log.specs.Tokens.{IsOff}
+use Rattle.cw_course.specs.Courses.{Course, own_log}
+use Rattle.cw_course.specs.Closings.{Ends, bare}
+use Rattle.cw_course.specs.Trails.{Trail, opens}
+use Rattle.cw_body.specs.Bodies.{InBlocks}
+use Rattle.cw_pool.specs.declared.task.Mode.{Mode}
+use Rattle.cw_pool.specs.declared.task.Mode.TheVariants as mode
+use Rattle.cw_pool.specs.declared.task.Below.{Below}
+use Rattle.cw_pool.specs.declared.task.Base.{Base}
+use Rattle.cw_pool.specs.declared.task.Base.TheVariants as base
+use Rattle.cw_pool.specs.Ends.{MayEnd, IsWorked}
+use Rattle.cw_pool.specs.Tasks as waiting
+use Rattle.cw_pool.specs.Tasks.{Start, StandsStopped, AreBelow, IsRunning}
+use Rattle.cw_pool.proofs.Tasks.Finishing.{IsOutside, Leaves, Ending, finished}
+
+abbrev first : Job → Start
+first job = record { state = (strands_of_job job).start; begins = []; above = []; column = 0; from = 0; at = 0; fork = 0; split = false }
+
+none_in : (n : ℕ) → Contains [] n → ⊥
+none_in n (k, r, e) = absurd (omega arith)
+
+both_told : (b : Bool) → b ≡ false → b ≡ true → ⊥
+both_told b e f = cc
+
+module _ (job : Job) where
+  stopped_so : (x : Token) (cs : Course) (h : Halt) (c n : ℕ) → StandsStopped job x (first job) opens cs → x.stop ≡ Some (record { halt = h; column = c; strand = n })
+      → Ends (strands_of_job job) (Some (record { halt = h; column = c; strand = n })) cs
+  stopped_so x cs (Fault y kind) c n s e = (s.stopped.stops, s.fault (record { halt = Fault y kind; column = c; strand = n }) y kind e refl)
+  stopped_so x cs (Budget y) c n s e = s.stopped.stops
+  stopped_so x cs Memory c n s e = tt
+
+  stopped_by : (x : Token) (cs : Course) (o : Option Stop) → StandsStopped job x (first job) opens cs → x.stop ≡ o → (o ≡ None → x.told ≡ false) → Ends (strands_of_job job) o cs
+  stopped_by x cs (Some st) s e h = stopped_so x cs st.halt st.column st.strand s e
+  stopped_by x cs None s e h = absurd (off s.off) where
+    off : IsOff x → ⊥
+    off (inl n) = n e
+    off (inr t) = both_told x.told (h refl) t
+
+  ends_so : (how : Mode) (x : Token) (body : InBlocks) (cs : Course) → Ending job how x body (first job) opens cs → (x.stop ≡ None → x.told ≡ false) → Ends (strands_of_job job) x.stop cs
+  ends_so mode.Goes x body cs (s, over, around) h = subst (λ (o : Option Stop). Ends (strands_of_job job) o cs) (sym s.free.on.stop) (s.now, s.stands.goes, over)
+  ends_so (mode.Dies to) x body cs (d, around) h = absurd (none_in to (subst (λ (bs : List ℕ). Contains bs to) around d.around))
+  ends_so mode.Stopped x body cs s h = stopped_by x cs x.stop s refl h
+  ends_so mode.Waits x body cs s h = absurd s
+
+  worked_so : (how : Mode) (x : Token) (body : InBlocks) (cs : Course) → Leaves job x body how (first job) opens cs → IsWorked job x
+  worked_so how x body cs v h = record {
+    course = cs;
+    written = ap (λ (o : Log). o ∷ map bare x.joined) v.own ∙ ap (λ us. own_log cs 0 0 0 ∷ us) v.joined;
+    ends = ends_so how x body cs v.ends h;
+  }
+
+module _ {T J : Type 0} (job : Job) (of : T → Token) where
+  at_end : {lowest a : Start} {t : Trail StrandState} {os : List Open} → IsOutside t → AreBelow {T = T} {J = J} job of lowest a t os [] → (a ≡ lowest) × (t ≡ opens)
+  at_end o waiting.bottom = (refl, refl)
+  at_end o (waiting.block h) = absurd o
+
+  pub root_worked : (x : Token) (how : Mode) (body : InBlocks) (bs : List (Below T J)) (b : Base T J) → IsRunning job of x body how bs b → MayEnd how x body → bs ≡ [] → b ≡ base.Root → IsWorked job x
+  root_worked x how body bs b r0 may none root =
+      let r : IsRunning {T = T} {J = J} job of x body how [] base.Root = subst (λ (c : Base T J). IsRunning job of x body how [] c) root (subst (λ (us : List (Below T J)). IsRunning job of x body how us b) none r0) in
+      let f = finished job of x body how [] base.Root r may in
+      let (same, over) = at_end f.leaves.outside f.below in
+      worked_so job how x body f.course
+      (subst (λ (a : Start). Leaves job x body how a opens f.course) (same ∙ f.based) (subst (λ (t : Trail StrandState). Leaves job x body how f.start t f.course) over f.leaves))

@@ -1,0 +1,5 @@
+use Rattle.cw_pool.proofs.Tasks.Worked.{root_worked}
+use Rattle.cw_pool.proofs.last.ends_run.Goals as goal
+
+pub invariant_of-last : goal.invariant_of-last
+invariant_of-last g c = root_worked _ _ _ _ _ _ _ c.requires.task c.requires.end c.requires.alone c.requires.root

@@ -1,0 +1,87 @@
+//! Accesses, made and refused.
+ghost use Rattle.std.specs.Prelude.{◌≡◌, MatchOption};
+ghost use Rattle.cw_log.specs.Tokens.{IsOn, MayHalt};
+ghost use Rattle.cw_pool.specs.Accesses.{IsAfter, WantsNone, access_want, given_for};
+ghost use Rattle.cw_tree.specs.declared.closed.Halt.TheVariants as halt;
+ghost use Rattle.cw_body.specs.declared.stage.Stage.TheVariants as stage;
+
+use crate::moves::halts;
+use crate::{BlockBoard, Mode, Naming, Running, Scene};
+use cw_body::Body;
+use cw_log::Access;
+use cw_strand::{Given, Want};
+use cw_tree::{Conflict, Halt};
+use std::sync::Wait;
+
+/// The cell that it wants to read or write, and the value that is to be written.
+fn access_of(want: Want) -> Option<(u32, Option<i64>)>
+    ensures { MatchOption result (WantsNone want) (λ p. want ≡ access_want p.0 p.1) }
+{
+    match want {
+        Want::Load(cell) => Some((cell, None)),
+        Want::Store(cell, value) => Some((cell, Some(value))),
+        _ => None,
+    }
+}
+
+fn given_for(write: Option<i64>, value: i64) -> Given
+    ensures { result ≡ given_for write value }
+{
+    match write {
+        None => Given::Value(value),
+        Some(_) => Given::Nothing,
+    }
+}
+
+/// How a strand stands after this conflict, which its token has.
+fn refused<B: BlockBoard, J: Naming>(
+    scene: &Scene<'_, B, J>,
+    token: &mut B::Token,
+    body: &mut Body,
+    conflict: &Conflict,
+) -> Mode
+    requires halt { conflict.now.attempt ≡ J.job.limits.aborts → MayHalt J.job.limits.aborts (B.of token.old) (halt.Budget 0) }
+    requires stage { body.old.stage ≡ stage.Goes }
+    ensures { IsAfter J.job.limits.aborts conflict.now result (B.of token.old) (B.of token.new) body.old body.new }
+{
+    if conflict.attempt == scene.attempts {
+        scene.board.halt(token, Halt::Budget { strand: 0 });
+        return Mode::Stopped;
+    }
+    if scene.board.is_around(token, conflict.victim) {
+        body.gives_up();
+        return Mode::Dies {
+            to: conflict.victim,
+        };
+    }
+    Mode::Goes
+}
+
+/// The strand reads or writes a cell, or is refused.
+pub(crate) fn accesses<B: BlockBoard, J: Naming, R: Wait>(
+    rt: &R,
+    scene: &Scene<'_, B, J>,
+    now: &mut Running<B, J>,
+) {
+    let Mode::Goes = now.mode else {
+        return;
+    };
+    let Some((cell, write)) = access_of(now.body.want()) else {
+        return;
+    };
+    let Ok(access) = scene.board.access(rt, &mut now.token, cell, write) else {
+        return halts(scene, now);
+    };
+    match access {
+        Access::Value(value) => match now.body.answer(given_for(write, value), scene.program) {
+            Ok(()) => {}
+            Err(_) => {
+                scene.board.halt(&mut now.token, Halt::Memory);
+                now.mode = Mode::Stopped;
+            }
+        },
+        Access::Conflict(conflict) => {
+            now.mode = refused(scene, &mut now.token, &mut now.body, &conflict);
+        }
+    }
+}

@@ -1,0 +1,86 @@
+//! Blocks: begun, ended and rolled back.
+ghost use Rattle.std.specs.Prelude.{◌≡◌};
+ghost use Rattle.cw_pool.specs.Blocks.{begin_at};
+
+use crate::moves::halts;
+use crate::{Mode, Naming, Running, Scene};
+use cw_log::SharedBoard;
+use cw_strand::Want;
+use cw_tree::{Halt, Kind, Node};
+use std::sync::Wait;
+
+/// The strand begins a block.
+pub(crate) fn begins<B: SharedBoard, J: Naming>(scene: &Scene<'_, B, J>, now: &mut Running<B, J>) {
+    let Mode::Goes = now.mode else {
+        return;
+    };
+    let Want::Begin = now.body.want() else {
+        return;
+    };
+    let Ok(saved) = now.body.save() else {
+        return halts(scene, now);
+    };
+    let Ok(()) = scene.board.begin(&mut now.token) else {
+        return halts(scene, now);
+    };
+    match now.body.begins(saved, scene.program) {
+        Ok(()) => {}
+        Err(_) => {
+            scene.board.halt(&mut now.token, Halt::Memory);
+            now.mode = Mode::Stopped;
+        }
+    }
+}
+
+/// The strand ends its innermost block.
+pub(crate) fn ends<B: SharedBoard, J: Naming>(scene: &Scene<'_, B, J>, now: &mut Running<B, J>) {
+    let Mode::Goes = now.mode else {
+        return;
+    };
+    let Want::End = now.body.want() else {
+        return;
+    };
+    scene.board.commit(&mut now.token);
+    match now.body.ends(scene.program) {
+        Ok(()) => {}
+        Err(_) => {
+            scene.board.halt(&mut now.token, Halt::Memory);
+            now.mode = Mode::Stopped;
+        }
+    }
+}
+
+/// The begin stamp of the block with this number, where it is one.
+pub(crate) fn begin_at(nodes: &[Node], place: u32) -> Option<u64>
+    ensures { result ≡ begin_at nodes.now place }
+{
+    match nodes.get(place as usize) {
+        Some(node) => match node.kind {
+            Kind::Block => Some(node.stamp),
+            _ => None,
+        },
+        None => None,
+    }
+}
+
+/// A strand that goes back rolls its innermost block back. Where that is the one to which it goes, it stands at its begin.
+pub(crate) fn rolls<B: SharedBoard, J: Naming, R: Wait>(
+    rt: &R,
+    scene: &Scene<'_, B, J>,
+    now: &mut Running<B, J>,
+) {
+    let Mode::Dies { to } = now.mode else {
+        return;
+    };
+    let place = scene.board.place(&now.token);
+    let Some(begin) = begin_at(scene.board.nodes(&now.token), place) else {
+        return;
+    };
+    scene.board.roll(rt, &mut now.token);
+    if begin == to {
+        now.body.back();
+        now.mode = Mode::Goes;
+    } else {
+        now.body.forget();
+    }
+}

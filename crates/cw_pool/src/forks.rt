@@ -1,0 +1,104 @@
+//! Forks.
+use crate::moves::halts;
+use crate::{Base, Below, Memo, Mode, Naming, Running, Scene};
+use cw_log::{Forked, SharedBoard};
+use cw_pair::Source;
+use cw_strand::Want;
+use cw_tree::Halt;
+use std::marker::PhantomData;
+use std::snapshot::Snapshot;
+use std::sync::Wait;
+
+/// The strand forks, and goes on in its left strand. Where the right one has a token of its own it is the second answer.
+pub(crate) fn forks<B: SharedBoard, J: Naming, R: Wait>(
+    rt: &R,
+    scene: &Scene<'_, B, J>,
+    source: &mut Source<Memo<B::Token>, J>,
+    now: Running<B, J>,
+) -> (Running<B, J>, Option<Running<B, J>>) {
+    let mut now = now;
+    let Mode::Goes = now.mode else {
+        return (now, None);
+    };
+    let Want::Fork = now.body.want() else {
+        return (now, None);
+    };
+    let true = source.has_more() else {
+        halts(scene, &mut now);
+        return (now, None);
+    };
+    let Ok(()) = now.below.reserve(1) else {
+        halts(scene, &mut now);
+        return (now, None);
+    };
+    let before = Snapshot::of(&now.body);
+    let Ok(left) = now.body.fork(scene.alloc, scene.program) else {
+        scene.board.halt(&mut now.token, Halt::Memory);
+        now.mode = Mode::Stopped;
+        return (now, None);
+    };
+    let Running {
+        token,
+        body: right,
+        mut below,
+        base,
+        ..
+    } = now;
+    match scene.board.fork(rt, token) {
+        Err((mut token, _)) => {
+            scene.board.halt(&mut token, Halt::Memory);
+            let now = Running {
+                token,
+                body: right,
+                mode: Mode::Stopped,
+                below,
+                base,
+                of: PhantomData,
+            };
+            (now, None)
+        }
+        Ok(forked) => match forked {
+            Forked::Inline { token } => {
+                below.push_reserved(Below::Inline { right });
+                let now = Running {
+                    token,
+                    body: left,
+                    mode: Mode::Goes,
+                    below,
+                    base,
+                    of: PhantomData,
+                };
+                (now, None)
+            }
+            Forked::Two {
+                fork,
+                left: token,
+                right: other,
+            } => {
+                let memo = Memo {
+                    before,
+                    right: Snapshot::of(&other),
+                };
+                let (half, theirs) = source.pair(scene.pairs, &memo);
+                below.push_reserved(Below::Left { fork, half });
+                let waiting = Running {
+                    token: other,
+                    body: right,
+                    mode: Mode::Waits,
+                    below: Vec::new(scene.alloc),
+                    base: Base::Right { half: theirs },
+                    of: PhantomData,
+                };
+                let now = Running {
+                    token,
+                    body: left,
+                    mode: Mode::Goes,
+                    below,
+                    base,
+                    of: PhantomData,
+                };
+                (now, Some(waiting))
+            }
+        },
+    }
+}

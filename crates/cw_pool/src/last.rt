@@ -1,0 +1,52 @@
+//! How a run ends.
+ghost use Rattle.std.specs.Prelude.{◌≡◌, []};
+ghost use Rattle.cw_pool.specs.Ends.{MayEnd};
+ghost use Rattle.cw_pool.specs.Tasks.{IsRunning};
+ghost use Rattle.cw_pool.specs.declared.task.Base.TheVariants as bottom;
+
+use crate::{Base, Below, Mode, Naming};
+use cw_body::Body;
+use cw_log::SharedBoard;
+use std::marker::{Model, PhantomData};
+
+/// The root's token, with all others joined.
+#[derive(Drop)]
+pub struct Ended<B: SharedBoard, J: Naming> {
+    pub(crate) token: B::Token,
+    pub(crate) of: PhantomData<J>,
+}
+
+impl<B: SharedBoard, J: Naming> Model for Ended<B, J> {
+    ghost use Rattle.std.specs.Prelude.{ℕ};
+    ghost use Rattle.cw_pool.specs.Ends.{IsWorked};
+
+    ghost Value = { ℕ };
+
+    ghost view = { λ e. 0 };
+
+    ghost invariant = { λ e. IsWorked J.job (B.of e.token) };
+}
+
+/// After the strand of main.
+pub(crate) fn ends_run<B: SharedBoard, J: Naming>(
+    token: B::Token,
+    body: Body,
+    mode: Mode,
+    below: Vec<Below<B::Token, J>>,
+    base: Base<B::Token, J>,
+) -> Ended<B, J>
+    requires task { IsRunning J.job B.of (B.of token) body mode below.items base }
+    requires end { MayEnd mode (B.of token) body }
+    requires alone { below.items ≡ [] }
+    requires root { base ≡ bottom.Root }
+{
+    let _ = mode;
+    drop(body);
+    drop(below);
+    drop(base);
+    let last = Ended {
+        token,
+        of: PhantomData,
+    };
+    last
+}

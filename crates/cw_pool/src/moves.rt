@@ -1,0 +1,61 @@
+//! What a strand does by itself.
+use crate::{Mode, Naming, Running, Scene};
+use cw_log::SharedBoard;
+use cw_strand::{Given, Want};
+use cw_tree::Halt;
+
+/// Looks whether the run was stopped.
+pub(crate) fn looks<B: SharedBoard, J: Naming>(scene: &Scene<'_, B, J>, now: &mut Running<B, J>) {
+    match scene.board.halted(&mut now.token) {
+        true => {
+            now.mode = Mode::Stopped;
+        }
+        false => {}
+    }
+}
+
+/// Want of memory stops the strand.
+pub(crate) fn halts<B: SharedBoard, J: Naming>(scene: &Scene<'_, B, J>, now: &mut Running<B, J>) {
+    let Mode::Goes = now.mode else {
+        return;
+    };
+    scene.board.halt(&mut now.token, Halt::Memory);
+    now.mode = Mode::Stopped;
+}
+
+/// The strand puts a value out.
+pub(crate) fn puts_out<B: SharedBoard, J: Naming>(
+    scene: &Scene<'_, B, J>,
+    now: &mut Running<B, J>,
+) {
+    let Mode::Goes = now.mode else {
+        return;
+    };
+    let Want::Out(value) = now.body.want() else {
+        return;
+    };
+    let Ok(()) = scene.board.out(&mut now.token, value) else {
+        return halts(scene, now);
+    };
+    match now.body.answer(Given::Nothing, scene.program) {
+        Ok(()) => {}
+        Err(_) => {
+            scene.board.halt(&mut now.token, Halt::Memory);
+            now.mode = Mode::Stopped;
+        }
+    }
+}
+
+/// The strand stands at a fault: it stops.
+pub(crate) fn faults<B: SharedBoard, J: Naming>(scene: &Scene<'_, B, J>, now: &mut Running<B, J>) {
+    let Mode::Goes = now.mode else {
+        return;
+    };
+    let Want::Fault(kind) = now.body.want() else {
+        return;
+    };
+    scene
+        .board
+        .halt(&mut now.token, Halt::Fault { strand: 0, kind });
+    now.mode = Mode::Stopped;
+}
