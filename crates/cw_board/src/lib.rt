@@ -14,3 +14,6 @@ mod strands;
 mod turns;
 
 pub use board::Board;
+
+#[cfg(test)]
+mod tests;
