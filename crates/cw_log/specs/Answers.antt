@@ -1,5 +1,5 @@
 -- What the answers of a board's calls tell.
-use Rattle.std.specs.Prelude.{◌≡◌, ℕ, ℤ, ◌<◌, Option, Some, None, length}
+use Rattle.std.specs.Prelude.{◌≡◌, ◌⊎◌, ℕ, ℤ, ◌<◌, Contains, Option, Some, None, length}
 use Rattle.cw_tree.specs.declared.node.Kind.{Kind}
 use Rattle.cw_tree.specs.declared.node.Kind.TheVariants.{Read, Write}
 use Rattle.cw_log.specs.declared.board.Access.{Access}
@@ -18,10 +18,14 @@ abbrev pub IsWritten : Option ℤ → ℤ → Type 0
 IsWritten None v = Unit {0}
 IsWritten (Some w) v = v ≡ w
 
--- the access is in the log, with the value that is answered; or the refused access is, with its conflict
+-- no block, or a pending one around its place
+abbrev pub IsAround : Token → (begin : ℕ) → Type 0
+IsAround x b = (b ≡ 0) ⊎ Contains x.around b
+
+-- the access is in the log, with the value that is answered; or the refused access is, with its conflict, whose victim is such a block
 abbrev pub Meets : (before after : Token) → (cell : ℕ) → Option ℤ → Access → Type 0
 Meets x y c w (Value v) = IsWritten w v × ((stamp : ℕ) × (y ≡ made x (access_kind c w v) stamp))
-Meets x y c w (Conflict k) = (k.cell ≡ c) × (k.asker ≡ length x.own.nodes) × (y ≡ refused x k)
+Meets x y c w (Conflict k) = (k.cell ≡ c) × (k.asker ≡ length x.own.nodes) × IsAround x k.victim × (y ≡ refused x k)
 
 -- two tokens, of which the left one goes on with the log; or one, in the left strand
 abbrev pub Forks : {T : Type 0} → (T → Token) → Token → Forked T → Type 0

@@ -4,7 +4,8 @@
 //! Contracts cite `specs/Columns.antt` (the columns of a tier, and what a fork, a split and a merge make of them), `specs/Traces.antt` (what is
 //! seen of a tier) and `specs/Laws.antt` (what the calls keep): there `specs/Keeps.antt` with `specs/Segments.antt` and `specs/Stands.antt` says
 //! when a tier and gap words stand for a computation tree, and `specs/Running.antt` which of its nodes are
-//! open; `specs/Outward.antt` says which fork bars a split, and `specs/Runs.antt` what whole runs come to.
+//! open; `specs/Outward.antt` says which fork bars a split, and `specs/Runs.antt` what whole runs come to; `specs/Hands.antt` what steps of
+//! others leave of a trace, and `specs/OrderedRuns.antt` which order a whole run keeps.
 #![tactic(auto)]
 
 ghost use Rattle.cw_trace.specs.Laws.{Reading, RootStands, Leaf, Begin, Close, Join, GoesOnBeneath};

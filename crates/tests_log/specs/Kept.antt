@@ -1,10 +1,8 @@
 -- What the tokens of tests stand for.
-use Rattle.std.specs.Prelude.{◌≡◌, ◌⊎◌, All, Contains, ℕ, zero, suc, ◌^◌, sum, List, [], ◌∷◌, None, false, map, reverse}
+use Rattle.std.specs.Prelude.{◌≡◌, All, Contains, ℕ, zero, suc, ◌^◌, sum, List, [], ◌∷◌, None, false, map, reverse}
 use Rattle.cw_tree.specs.declared.node.Kind.TheVariants.{Strand}
 use Rattle.cw_tree.specs.Nodes.{fresh_node}
 use Rattle.cw_tree.specs.declared.conflict.Conflict.{Conflict}
-use Rattle.cw_log.specs.declared.board.Access as access
-use Rattle.cw_log.specs.declared.board.Access.{Access}
 use Rattle.cw_log.specs.declared.token.Token.{Token}
 use Rattle.cw_log.specs.declared.token.Open.{Open}
 use Rattle.cw_log.specs.declared.token.Phase.TheVariants.{Going}
@@ -60,15 +58,6 @@ root = record {
   stop = None;
   told = false;
 }
-
--- no block, or a pending one around its place
-abbrev pub IsAround : Token → (begin : ℕ) → Type 0
-IsAround x b = (b ≡ 0) ⊎ Contains x.around b
-
--- where the access is refused, the conflict's victim is such a block
-abbrev pub NamesAround : Token → Access → Type 0
-NamesAround x (access.TheVariants.Value v) = Unit {0}
-NamesAround x (access.TheVariants.Conflict k) = IsAround x k.victim
 
 -- some conflict has this block for its victim
 abbrev pub HasVictim : List Conflict → (begin : ℕ) → Type 0

@@ -1,7 +1,7 @@
 //! A board that grants what it likes and refuses what it likes, by numbers that are drawn from a seed.
 ghost use Rattle.std.specs.Prelude.{◌≡◌, ◌<◌, ◌≤◌, ℤ, Option, [], IfOk, OnErr};
-ghost use Rattle.cw_log.specs.Answers.{Meets};
-ghost use Rattle.tests_log.specs.Kept.{root, IsAround, NamesAround};
+ghost use Rattle.cw_log.specs.Answers.{Meets, IsAround};
+ghost use Rattle.tests_log.specs.Kept.{root};
 
 use crate::StrandToken;
 use crate::values::{Values, access_kind};
@@ -124,7 +124,6 @@ impl Fickle {
         write: Option<i64>,
     ) -> Result<Access, OutOfMemory>
         ensures ok { IfOk result (λ a. Meets token.old token.new cell write a) }
-        ensures named { IfOk result (λ a. NamesAround token.old a) }
         ensures err { OnErr result (token.new ≡ token.old) }
     {
         let _ = write;

@@ -13,7 +13,7 @@ use Rattle.cw_tree.proofs.Members.{any_same, in_below, below_in}
 use Rattle.cw_tree.proofs.NextNodes.Growing.{node_grown, strand_of_grown}
 use Rattle.cw_tree.proofs.LastBelow.{last_past, last_same}
 use Rattle.cw_open.specs.Machine.{OpenMachine, waits}
-use Rattle.cw_open.proofs.Open.Standing.{StandsAt, begun_in, stands_at}
+use Rattle.cw_open.proofs.Open.Standing.{StandsAt, is_begun_in, stands_at}
 
 -- ## Tests of the numbers below another
 
@@ -60,18 +60,18 @@ module _ (t xs : List Node) (r : IsRooted t) where
   longer : length t ≤ length u
   longer = omega (arith, length-append t xs)
 
-  begun_same : (s m : ℕ) → m < length t → begun_in u s m ≡ begun_in t s m
+  begun_same : (s m : ℕ) → m < length t → is_begun_in u s m ≡ is_begun_in t s m
   begun_same s m h =
       ap (λ b. b && nat_eq (strand_of u m) s) (node_grown t xs (λ y. is_block_kind y.kind && is_pending_state y.state) m h)
       ∙ ap (λ n. is_pending t m && nat_eq n s) (strand_of_grown t xs r m h)
 
   -- no new node is a pending block of the strand
-  pub place_grown : (s : ℕ) → ((m : ℕ) → length t ≤ m → m < length u → begun_in u s m ≡ false) → place u s ≡ place t s
-  place_grown s none = ap (λ o. unwrap_or o s) (last_past (begun_in u s) (length t) (length u) longer none ∙ last_same (begun_in u s) (begun_in t s) (length t) (begun_same s))
+  pub place_grown : (s : ℕ) → ((m : ℕ) → length t ≤ m → m < length u → is_begun_in u s m ≡ false) → place u s ≡ place t s
+  place_grown s none = ap (λ o. unwrap_or o s) (last_past (is_begun_in u s) (length t) (length u) longer none ∙ last_same (is_begun_in u s) (is_begun_in t s) (length t) (begun_same s))
 
   -- a pending block of the strand comes last
-  pub place_begun : (s b : ℕ) → length u ≡ suc b → begun_in u s b ≡ true → place u s ≡ b
-  place_begun s b len e = ap (λ n. unwrap_or (last_below (begun_in u s) n) s) len ∙ ap (λ z. unwrap_or (cond z (Some b) (last_below (begun_in u s) b)) s) e
+  pub place_begun : (s b : ℕ) → length u ≡ suc b → is_begun_in u s b ≡ true → place u s ≡ b
+  place_begun s b len e = ap (λ n. unwrap_or (last_below (is_begun_in u s) n) s) len ∙ ap (λ z. unwrap_or (cond z (Some b) (last_below (is_begun_in u s) b)) s) e
 
   module _ (m z : OpenMachine) (tm : m.tree ≡ t) (tz : z.tree ≡ u) (same : z.joined ≡ m.joined) where
     abbrev test : OpenMachine → List Node → ℕ → ℕ → Bool

@@ -27,7 +27,7 @@ use Rattle.cw_tree.proofs.NodeKinds.{strand_no_block, pending_block}
 use Rattle.cw_trace.specs.Columns.{used}
 use Rattle.cw_trace.proofs.Keeps.Ending.{SameShape, fork_column_same, column_same}
 use Rattle.cw_open.specs.Machine.{OpenMachine, has_finished, waits, is_running, in_block, falls}
-use Rattle.cw_open.proofs.Open.Standing.{StandsAt, begun_in, runs, stands}
+use Rattle.cw_open.proofs.Open.Standing.{StandsAt, is_begun_in, runs, stands}
 use Rattle.cw_open.specs.Runs.{at_once}
 use Rattle.cw_open.proofs.Refused.Victims.{IsTold, told_states}
 use Rattle.cw_core.specs.declared.row.Made.{Made}
@@ -173,12 +173,12 @@ module _ (first : List ℤ) (k : CoreState) (core : IsCore first k) (s : ℕ) (r
 
   pub place_other : (n : ℕ) → n ≢ s → place u n ≡ place t n
   place_other n ne =
-      ap (λ x. unwrap_or (Rattle.cw_tree.specs.Nodes.last_below (begun_in u n) x) n) shape.lengths
-      ∙ ap (λ o. unwrap_or o n) (last_same (begun_in u n) (begun_in t n) (length t) (λ x h. at x h (cases_eq x b))) where
+      ap (λ x. unwrap_or (Rattle.cw_tree.specs.Nodes.last_below (is_begun_in u n) x) n) shape.lengths
+      ∙ ap (λ o. unwrap_or o n) (last_same (is_begun_in u n) (is_begun_in t n) (length t) (λ x h. at x h (cases_eq x b))) where
         own : strand_of t b ≡ s
         own = (stands m tree (well first k core).nested s running).strand
 
-        at : (x : ℕ) → x < length t → (x ≡ b) ⊎ (x ≢ b) → begun_in u n x ≡ begun_in t n x
+        at : (x : ℕ) → x < length t → (x ≡ b) ⊎ (x ≢ b) → is_begun_in u n x ≡ is_begun_in t n x
         at x h (inr g) = ap (λ c. c && nat_eq (strand_of u x) n) (pending_other x g) ∙ ap (λ y. is_pending t x && nat_eq y n) (strand_of_closed t b state end rooted x h)
         at x h (inl g) =
             let off : nat_eq (strand_of t x) n ≡ false = ne_eqb (strand_of t x) n (λ e. ne (sym e ∙ ap (strand_of t) g ∙ own)) in

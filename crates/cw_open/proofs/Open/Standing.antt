@@ -28,21 +28,21 @@ pub record StandsAt (t : List Node) (s p : ℕ) : Type 0 where
   pub kind : (p ≡ s) ⊎ (is_pending t p ≡ true)
   pub last : (b : ℕ) → p < b → is_pending t b ≡ true → strand_of t b ≡ s → ⊥
 
-abbrev pub begun_in : List Node → ℕ → ℕ → Bool
-begun_in t s n = is_pending t n && nat_eq (strand_of t n) s
+abbrev pub is_begun_in : List Node → ℕ → ℕ → Bool
+is_begun_in t s n = is_pending t n && nat_eq (strand_of t n) s
 
 pub stands_at : (t : List Node) → IsRooted t → (s : ℕ) → is_strand t s ≡ true → StandsAt t s (place t s)
-stands_at t r s e = by (last_below (begun_in t s) (length t)) refl where
-  by : (o : Option ℕ) → last_below (begun_in t s) (length t) ≡ o → StandsAt t s (unwrap_or o s)
+stands_at t r s e = by (last_below (is_begun_in t s) (length t)) refl where
+  by : (o : Option ℕ) → last_below (is_begun_in t s) (length t) ≡ o → StandsAt t s (unwrap_or o s)
   by None q = record {
     there = node_there (λ y. is_strand_kind y.kind) t s e;
     strand = strand_itself t r s e;
     kind = inl refl;
     last = λ b l pending same.
-        absurd (cc (none_is (begun_in t s) (length t) b q (node_there (λ y. is_block_kind y.kind && is_pending_state y.state) t b pending), and_from (is_pending t b) (nat_eq (strand_of t b) s) pending (eq-eqb (strand_of t b) s same)));
+        absurd (cc (none_is (is_begun_in t s) (length t) b q (node_there (λ y. is_block_kind y.kind && is_pending_state y.state) t b pending), and_from (is_pending t b) (nat_eq (strand_of t b) s) pending (eq-eqb (strand_of t b) s same)));
   }
   by (Some b) q =
-      let w = last_is (begun_in t s) (length t) b q in
+      let w = last_is (is_begun_in t s) (length t) b q in
       let z = and_parts (is_pending t b) (nat_eq (strand_of t b) s) w.passes in
       record {
         there = w.low;

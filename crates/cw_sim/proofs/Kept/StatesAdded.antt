@@ -18,7 +18,7 @@ use Rattle.cw_tree.proofs.NextNodes.Trees.{children_none}
 use Rattle.cw_tree.proofs.Walks.There.{pending_there, fork_there, strand_there}
 use Rattle.cw_tree.proofs.NodeKinds.{new_open}
 use Rattle.cw_open.specs.Machine.{is_running}
-use Rattle.cw_open.proofs.Open.Standing.{begun_in}
+use Rattle.cw_open.proofs.Open.Standing.{is_begun_in}
 use Rattle.cw_open.proofs.Open.Trees.{IsWell}
 use Rattle.cw_core.proofs.Events.Places.{place_grown, place_begun}
 use Rattle.cw_core.proofs.Kept.Tails.{children_here, children_other}
@@ -163,7 +163,7 @@ module _ {A : Type 0} (s : Strands A) (m : Simulation A) (w : IsWell m.core.mach
       forks = node_grown t (new ∷ []) (λ i. is_fork_kind i.kind);
       pending = λ n low e. sym (node_grown t (new ∷ []) (λ i. is_block_kind i.kind && is_pending_state i.state) n low) ∙ e;
       places = λ n low ne. place_grown t (new ∷ []) shape.rooted n (λ i le l.
-          ap (begun_in u n) (is_new i le l) ∙ and_right (is_pending u g) (nat_eq (strand_of u g) n) (ne_eqb (strand_of u g) n (λ e. ne (sym e ∙ own_new))));
+          ap (is_begun_in u n) (is_new i le l) ∙ and_right (is_pending u g) (nat_eq (strand_of u g) n) (ne_eqb (strand_of u g) n (λ e. ne (sym e ∙ own_new))));
       fewer = λ f e. e;
       more = λ f ne e. e;
       none = running_none m.core.machine w o running;
@@ -176,7 +176,7 @@ module _ {A : Type 0} (s : Strands A) (m : Simulation A) (w : IsWell m.core.mach
         ap y.reached (place_begun t (new ∷ []) shape.rooted o g len (and_from (is_pending u g) (nat_eq (strand_of u g) o) (pending_here ∙ e) (eq-eqb (strand_of u g) o own_new)))
         ∙ state_same (changed p b x.reached) g v ∙ sym at
     stands_here false e at =
-        ap y.reached (place_grown t (new ∷ []) shape.rooted o (λ i le l. ap (begun_in u o) (is_new i le l) ∙ and_left (is_pending u g) (nat_eq (strand_of u g) o) (pending_here ∙ e)))
+        ap y.reached (place_grown t (new ∷ []) shape.rooted o (λ i le l. ap (is_begun_in u o) (is_new i le l) ∙ and_left (is_pending u g) (nat_eq (strand_of u g) o) (pending_here ∙ e)))
         ∙ reached_place ∙ sym at
 
     are_here : AreHere m z y o

@@ -19,7 +19,7 @@ use Rattle.cw_tree.proofs.Walks.There.{fork_there, strand_there}
 use Rattle.cw_tree.proofs.LastBelow.{last_past}
 use Rattle.cw_open.specs.Machine.{is_running}
 use Rattle.cw_open.proofs.Laws.ListSteps.{none_new}
-use Rattle.cw_open.proofs.Open.Standing.{begun_in}
+use Rattle.cw_open.proofs.Open.Standing.{is_begun_in}
 use Rattle.cw_open.proofs.Open.Trees.{IsWell}
 use Rattle.cw_core.proofs.Kept.ForkTails.{place_children, fork_children, other_children, no_children}
 use Rattle.cw_core.proofs.Events.Places.{place_grown, waits_for}
@@ -144,7 +144,7 @@ module _ {A : Type 0} (s : Strands A) (m : Simulation A) (w : IsWell m.core.mach
   new_place : (n : ℕ) → g < n → place u n ≡ n
   new_place n more =
       ap (λ i. unwrap_or i n)
-      (last_past (begun_in u n) 0 (length u) (omega arith) (λ i le l.
+      (last_past (is_begun_in u n) 0 (length u) (omega arith) (λ i le l.
       elim (cases_lt i g) [
         | inl low ↦ and_right (is_pending u i) (nat_eq (strand_of u i) n) (ne_eqb (strand_of u i) n (λ e. (let le = strand_of_le t shape.rooted i low in omega (arith, e, strand_of_grown t xs shape.rooted i low))))
         | inr past ↦ and_left (is_pending u i) (nat_eq (strand_of u i) n) (no_pending i past)

@@ -30,8 +30,8 @@ use Rattle.cw_replay.proofs.RecordsReplay.Ends.Stops.{none_true, unstopped, pend
 
 module _ {A : Type 0} (s : Strands A) (t : List Node) (first : List ℤ) (kept : List (List Entry)) (cs : List Conflict) (h : IsHistory t first kept cs) (before after reached : ℕ → A) (follows : Follows s t before after reached) where
   -- a test of pending blocks begun in strand x
-  abbrev begun_in : ℕ → ℕ → Bool
-  begun_in x m = is_pending t m && nat_eq (strand_of t m) x
+  abbrev is_begun_in : ℕ → ℕ → Bool
+  is_begun_in x m = is_pending t m && nat_eq (strand_of t m) x
 
   -- the place of a live strand: its innermost pending block, or the strand itself
   record IsPlace (x n : ℕ) : Type 0 where
@@ -42,27 +42,27 @@ module _ {A : Type 0} (s : Strands A) (t : List Node) (first : List ℤ) (kept :
     pub last : (c : ℕ) → c < length t → is_pending t c ≡ true → strand_of t c ≡ x → c ≤ n
 
   at_place : (x : ℕ) → is_strand t x ≡ true → is_live t x ≡ true → IsPlace x (place t x)
-  at_place x e live = by (last_below (begun_in x) (length t)) refl where
-    test : (c : ℕ) → is_pending t c ≡ true → strand_of t c ≡ x → begun_in x c ≡ true
+  at_place x e live = by (last_below (is_begun_in x) (length t)) refl where
+    test : (c : ℕ) → is_pending t c ≡ true → strand_of t c ≡ x → is_begun_in x c ≡ true
     test c p q = and_from (is_pending t c) (nat_eq (strand_of t c) x) p (eq-eqb (strand_of t c) x q)
 
-    by : (o : Option ℕ) → last_below (begun_in x) (length t) ≡ o → IsPlace x (unwrap_or o x)
+    by : (o : Option ℕ) → last_below (is_begun_in x) (length t) ≡ o → IsPlace x (unwrap_or o x)
     by None q = record {
       there = node_there (λ y. is_strand_kind y.kind) t x e;
       kind = inl e;
       strand = strand_itself t h.tree.rooted x e;
       live = live_over t x live (strand_sort t x e).aborted;
-      last = λ c l p z. let y = last_of_below (begun_in x) (length t) c l (test c p z) in absurd (let f : Some y.number ≡ None = sym y.is ∙ q in cc f);
+      last = λ c l p z. let y = last_of_below (is_begun_in x) (length t) c l (test c p z) in absurd (let f : Some y.number ≡ None = sym y.is ∙ q in cc f);
     }
     by (Some n) q =
-        let z = last_passes (begun_in x) (length t) n q in
+        let z = last_passes (is_begun_in x) (length t) n q in
         let y = and_parts (is_pending t n) (nat_eq (strand_of t n) x) z.1 in
         record {
           there = z.0;
           kind = inr y.0;
           strand = eqb-true (strand_of t n) x y.1;
           live = pending_live s t first kept cs h before after reached follows n z.0 y.0;
-          last = λ c l p f. (let y = last_of_below (begun_in x) (length t) c l (test c p f) in let same : y.number ≡ n = (let g : Some y.number ≡ Some n = sym y.is ∙ q in cc g) in let le = y.last in omega (arith, same));
+          last = λ c l p f. (let y = last_of_below (is_begun_in x) (length t) c l (test c p f) in let same : y.number ≡ n = (let g : Some y.number ≡ Some n = sym y.is ∙ q in cc g) in let le = y.last in omega (arith, same));
         }
 
   module _ (x : ℕ) (kind : FaultKind) (may : IsTrue (is_strand t x && is_live t x)) (wants : s.want (reached (place t x)) ≡ want.Fault kind) (goes : HasNoOpenFork s t before after reached (place t x)) where

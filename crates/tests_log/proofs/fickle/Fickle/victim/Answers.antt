@@ -1,7 +1,7 @@
 use Rattle.std.proofs.Common.{inl, inr, rules, subst, ◌≡◌, ℕ, [], ◌∷◌, zero, refl, sym, arith}
 use Rattle.std.specs.Prelude.{Contains, MatchOption, Option, Some, None}
 use Rattle.std.specs.Option.{unwrap_or}
-use Rattle.tests_log.specs.Kept.{IsAround}
+use Rattle.cw_log.specs.Answers.{IsAround}
 use Rattle.tests_log.proofs.Victims.{still_in}
 use Rattle.tests_log.proofs.fickle.Fickle.victim.Goals as goal
 
