@@ -75,10 +75,10 @@ rights_to (in_right t cs b stamp ls l) column =
 abbrev pub rights_of : Trail StrandState → Course → (column : ℕ) → List Log
 rights_of t cs column = rights_to t column ++ rights cs column (length (page t).nodes)
 
--- each stamp exceeds all behind it
+-- each stamp exceeds 0, and all behind it
 abbrev pub AreFalling : List ℕ → Type 0
 AreFalling [] = Unit {0}
-AreFalling (b ∷ bs) = All (λ c. c < b) bs × AreFalling bs
+AreFalling (b ∷ bs) = (0 < b) × All (λ c. c < b) bs × AreFalling bs
 
 -- What is written in a token: a log that began so, with what is open in it, and a course behind that.
 pub record Fits (x : Token) (a : Start) (t : Trail StrandState) (cs : Course) : Type 0 where

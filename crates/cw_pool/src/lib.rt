@@ -8,7 +8,6 @@
 
 mod access;
 mod blocks;
-mod board;
 mod ends;
 mod forks;
 mod last;
@@ -17,7 +16,6 @@ mod naming;
 mod scene;
 mod task;
 
-pub use board::BlockBoard;
 pub use last::Ended;
 pub use naming::Naming;
 pub use scene::Scene;

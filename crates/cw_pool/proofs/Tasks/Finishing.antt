@@ -125,7 +125,7 @@ module _ {T J : Type 0} (job : Job) (of : T → Token) where
   out_of_blocks x body bs b run lowest based a (in_block t cs c stamp) js reached own joined fork split falling below s =
       out_of_blocks x body bs b run lowest based a t (block cs Pending stamp 0 js) reached
       (own ∙ ap (λ ns. record { column = a.column; from = a.from; fork = a.at; nodes = ns; conflicts = [] }) (broken t cs js c stamp)) (joined ∙ rights_shut t cs js c stamp 0 a.column Pending)
-      fork split falling.1 (unblock below) (stopped_out job x a t cs js c stamp s)
+      fork split falling.2 (unblock below) (stopped_out job x a t cs js c stamp s)
   out_of_blocks x body bs b run lowest based a opens js reached own joined fork split falling below s =
       record { run = run; lowest = lowest; based = based; start = a; trail = opens; course = js; reached = reached; below = below; leaves = record { outside = tt; own = own; joined = joined; fork = fork; split = split; falling = falling; done = inl s.off; ends = s } }
   out_of_blocks x body bs b run lowest based a (in_left t cs c column stamp) js reached own joined fork split falling below s =
