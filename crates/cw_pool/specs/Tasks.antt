@@ -210,7 +210,7 @@ module _ {T J : Type 0} (job : Job) (of : T → Token) where
   -- where the lowest log of a task comes from: it is that of main, or of the right strand of a fork that was split, unless it stopped before
   abbrev pub IsBase : Base T J → Mode → Start → Type 0
   IsBase base.Root how a = a ≡ record { state = (strands_of_job job).start; begins = []; above = []; column = 0; from = 0; at = 0; fork = 0; split = false }
-  IsBase (base.Right half) how a = IsHalf job of half (record a { split = false }) × IsSplit how where
+  IsBase (base.Right fork half) how a = IsHalf job of half (record a { split = false }) × (a.fork ≡ fork) × IsSplit how where
     IsSplit : Mode → Type 0
     IsSplit mode.Stopped = Unit {0}
     IsSplit mode.Waits = a.split ≡ false

@@ -86,7 +86,7 @@ pub(crate) fn forks<B: SharedBoard, J: Naming, R: Wait>(
                     body: right,
                     mode: Mode::Waits,
                     below: Vec::new(scene.alloc),
-                    base: Base::Right { half: theirs },
+                    base: Base::Right { fork, half: theirs },
                     of: PhantomData,
                 };
                 let now = Running {

@@ -10,10 +10,13 @@ mod access;
 mod blocks;
 mod ends;
 mod forks;
+mod joins;
 mod last;
 mod moves;
 mod naming;
 mod scene;
+mod sides;
+mod splits;
 mod task;
 
 pub use last::Ended;

@@ -63,7 +63,7 @@ may_halt job x k f a e m = record {
   spent = record { earlier = x.own.conflicts; last = k; conflicts = refl; newest = omega (arith, a, length-append x.own.nodes (fresh_node x.place (Tried k.cell) 0 ∷ [])); attempt = e };
 }
 
-seen_here : (bs : List PendingBegin) → map (seen_in 0) bs ≡ bs
+pub seen_here : (bs : List PendingBegin) → map (seen_in 0) bs ≡ bs
 seen_here [] = refl
 seen_here (b ∷ bs) = ap (λ (n : ℕ). record { at = b.at; forks = n } ∷ map (seen_in 0) bs) (omega arith) ∙ ap (λ cs. b ∷ cs) (seen_here bs)
 
