@@ -8,7 +8,11 @@ pub mod Refusing
 pub mod Blocks
 pub mod Forking
 pub mod Finishing
+pub mod Behind
 pub mod Turning
+pub mod Joining
 pub mod Taking
 pub mod Backing
+pub mod Meeting
+pub mod Splitting
 pub mod Worked

@@ -27,6 +27,10 @@ abbrev pub given_for : Option ℤ → ℤ → Given
 given_for None v = Value v
 given_for (Some w) v = Nothing
 
+-- a conflict fells a block around the strand, unless its victim is 0, which is none
+abbrev pub MayFell : Token → Conflict → Type 0
+MayFell x k = ((k.victim ≡ 0 → ⊥) → Fells x k) × (k.victim ≡ 0 → Fells x k → ⊥)
+
 -- A strand whose access was refused with this conflict tries again; goes back to the block that has to fall; or stops, where it was the last attempt.
 abbrev pub IsAfter : (budget : ℕ) → Conflict → Mode → (x y : Token) → (body next : InBlocks) → Type 0
 IsAfter budget k mode.Goes x y body next = (y ≡ x) × (next ≡ body) × (k.attempt ≡ budget → ⊥) × (Fells x k → ⊥)

@@ -1,15 +1,19 @@
--- When what follows a strand may begin.
-use Rattle.std.specs.Prelude.{◌≡◌, true, false, None}
+-- When what follows a strand may begin, and how the strand that forked stands behind both its strands.
+use Rattle.std.specs.Prelude.{◌≡◌, ℕ, min, true, false, List, None}
 use Rattle.cw_strand.specs.Strands.{is_over}
 use Rattle.cw_job.specs.Jobs.{Job}
 use Rattle.cw_job.specs.Room.Strands.{strands_of_job}
 use Rattle.cw_log.specs.declared.token.Token.{Token}
-use Rattle.cw_log.specs.Tokens.{logs}
+use Rattle.cw_log.specs.Tokens.{IsOn, MayMerge, logs, merged}
 use Rattle.cw_course.specs.Closings.{AreWorked}
-use Rattle.cw_body.specs.Bodies.{InBlocks, want_of}
+use Rattle.cw_body.specs.declared.stage.Stage.TheVariants as stage
+use Rattle.cw_body.specs.Bodies.{InBlocks, HasNoBlock, gave_up, joined, want_of}
 use Rattle.cw_pool.specs.declared.task.Mode.{Mode}
 use Rattle.cw_pool.specs.declared.task.Mode.TheVariants as mode
+use Rattle.cw_pool.specs.declared.task.Below.{Below}
+use Rattle.cw_pool.specs.declared.task.Base.{Base}
 use Rattle.cw_pool.specs.Blocks.{begin_at}
+use Rattle.cw_pool.specs.Tasks.{IsRunning}
 
 -- it has come to its end, or goes back and has no block of its own, or was stopped
 abbrev pub MayEnd : Mode → Token → InBlocks → Type 0
@@ -17,6 +21,47 @@ MayEnd mode.Goes x body = is_over (want_of body) ≡ true
 MayEnd (mode.Dies to) x body = begin_at x.own.nodes x.place ≡ None
 MayEnd mode.Stopped x body = Unit {0}
 MayEnd mode.Waits x body = ⊥
+
+-- ## Both strands of a fork
+
+abbrev pub dies_beside : (to : ℕ) → Mode → Mode
+dies_beside to mode.Stopped = mode.Stopped
+dies_beside to (mode.Dies other) = mode.Dies (min to other)
+dies_beside to how = mode.Dies to
+
+-- How the strand that forked stands, where its strands stand so: it stops if one was stopped; else it goes back, if one died, to the outer one
+-- of two victims, which began before the other.
+abbrev pub both : (left right : Mode) → Mode
+both mode.Stopped right = mode.Stopped
+both (mode.Dies to) right = dies_beside to right
+both mode.Goes right = right
+both mode.Waits right = right
+
+-- What the split of a fork parted may be merged, and is, unless a strand was stopped.
+abbrev pub IsToMerge : (budget : ℕ) → Mode → Token → (fork : ℕ) → Type 0
+IsToMerge budget mode.Stopped x fork = Unit {0}
+IsToMerge budget how x fork = IsOn budget x × MayMerge x fork
+
+abbrev pub IsMerged : Mode → (x y : Token) → Type 0
+IsMerged mode.Stopped x y = y ≡ x
+IsMerged how x y = y ≡ merged x
+
+-- a right strand at its end, whose body the left one's may be joined to
+pub record MayJoin (job : Job) (right : InBlocks) : Type 0 where
+  pub goes : right.stage ≡ stage.Goes
+  pub program : right.program ≡ job.program
+  pub over : is_over (want_of right) ≡ true
+  pub blocks : HasNoBlock right
+
+-- With this token, in which the logs of both its strands are, the strand that forked stands so, once its body is made of those of the two: they
+-- are joined where both came to their ends, and the right one's gives up where one died.
+abbrev pub IsBehind : {T J : Type 0} → Job → (T → Token) → Mode → Token → (right left : InBlocks) → List (Below T J) → Base T J → Type 0
+IsBehind job of mode.Goes x right left bs b = MayJoin job right × IsRunning job of x (joined (strands_of_job job) right left) mode.Goes bs b
+IsBehind job of (mode.Dies to) x right left bs b = (right.stage ≡ stage.Lost → ⊥) × IsRunning job of x (gave_up right) (mode.Dies to) bs b
+IsBehind job of mode.Stopped x right left bs b = IsRunning job of x right mode.Stopped bs b
+IsBehind job of mode.Waits x right left bs b = ⊥
+
+-- ## The end of a run
 
 -- Where the root's token was told of a halt its logs have one: then they are what the strands of what is run did, from main on.
 abbrev pub IsWorked : Job → Token → Type 0

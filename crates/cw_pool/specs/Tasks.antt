@@ -75,10 +75,10 @@ rights_to (in_right t cs b stamp ls l) column =
 abbrev pub rights_of : Trail StrandState → Course → (column : ℕ) → List Log
 rights_of t cs column = rights_to t column ++ rights cs column (length (page t).nodes)
 
--- each stamp exceeds all behind it
+-- each stamp exceeds 0, and all behind it
 abbrev pub AreFalling : List ℕ → Type 0
 AreFalling [] = Unit {0}
-AreFalling (b ∷ bs) = All (λ c. c < b) bs × AreFalling bs
+AreFalling (b ∷ bs) = (0 < b) × All (λ c. c < b) bs × AreFalling bs
 
 -- What is written in a token: a log that began so, with what is open in it, and a course behind that.
 pub record Fits (x : Token) (a : Start) (t : Trail StrandState) (cs : Course) : Type 0 where
@@ -210,7 +210,7 @@ module _ {T J : Type 0} (job : Job) (of : T → Token) where
   -- where the lowest log of a task comes from: it is that of main, or of the right strand of a fork that was split, unless it stopped before
   abbrev pub IsBase : Base T J → Mode → Start → Type 0
   IsBase base.Root how a = a ≡ record { state = (strands_of_job job).start; begins = []; above = []; column = 0; from = 0; at = 0; fork = 0; split = false }
-  IsBase (base.Right half) how a = IsHalf job of half (record a { split = false }) × IsSplit how where
+  IsBase (base.Right fork half) how a = IsHalf job of half (record a { split = false }) × (a.fork ≡ fork) × IsSplit how where
     IsSplit : Mode → Type 0
     IsSplit mode.Stopped = Unit {0}
     IsSplit mode.Waits = a.split ≡ false

@@ -1,14 +1,14 @@
 //! Accesses, made and refused.
 ghost use Rattle.std.specs.Prelude.{◌≡◌, MatchOption};
 ghost use Rattle.cw_log.specs.Tokens.{IsOn, MayHalt};
-ghost use Rattle.cw_pool.specs.Accesses.{IsAfter, WantsNone, access_want, given_for};
+ghost use Rattle.cw_pool.specs.Accesses.{IsAfter, MayFell, WantsNone, access_want, given_for};
 ghost use Rattle.cw_tree.specs.declared.closed.Halt.TheVariants as halt;
 ghost use Rattle.cw_body.specs.declared.stage.Stage.TheVariants as stage;
 
 use crate::moves::halts;
-use crate::{BlockBoard, Mode, Naming, Running, Scene};
+use crate::{Mode, Naming, Running, Scene};
 use cw_body::Body;
-use cw_log::Access;
+use cw_log::{Access, SharedBoard};
 use cw_strand::{Given, Want};
 use cw_tree::{Conflict, Halt};
 use std::sync::Wait;
@@ -34,13 +34,14 @@ fn given_for(write: Option<i64>, value: i64) -> Given
 }
 
 /// How a strand stands after this conflict, which its token has.
-fn refused<B: BlockBoard, J: Naming>(
+fn refused<B: SharedBoard, J: Naming>(
     scene: &Scene<'_, B, J>,
     token: &mut B::Token,
     body: &mut Body,
     conflict: &Conflict,
 ) -> Mode
     requires halt { conflict.now.attempt ≡ J.job.limits.aborts → MayHalt J.job.limits.aborts (B.of token.old) (halt.Budget 0) }
+    requires victim { MayFell (B.of token.old) conflict.now }
     requires stage { body.old.stage ≡ stage.Goes }
     ensures { IsAfter J.job.limits.aborts conflict.now result (B.of token.old) (B.of token.new) body.old body.new }
 {
@@ -48,17 +49,17 @@ fn refused<B: BlockBoard, J: Naming>(
         scene.board.halt(token, Halt::Budget { strand: 0 });
         return Mode::Stopped;
     }
-    if scene.board.is_around(token, conflict.victim) {
-        body.gives_up();
-        return Mode::Dies {
-            to: conflict.victim,
-        };
+    match conflict.victim {
+        0 => Mode::Goes,
+        to => {
+            body.gives_up();
+            Mode::Dies { to }
+        }
     }
-    Mode::Goes
 }
 
 /// The strand reads or writes a cell, or is refused.
-pub(crate) fn accesses<B: BlockBoard, J: Naming, R: Wait>(
+pub(crate) fn accesses<B: SharedBoard, J: Naming, R: Wait>(
     rt: &R,
     scene: &Scene<'_, B, J>,
     now: &mut Running<B, J>,

@@ -1,20 +1,31 @@
-//! What follows a strand that has come to its end, has died or was stopped, in one token.
+//! What follows a strand that has come to its end, has died or was stopped, in its own task.
 ghost use Rattle.std.specs.Prelude.{◌≡◌, ◌<◌, ◌++◌, ◌∷◌, [], IsTrue};
 ghost use Rattle.std.specs.Vec.{vec_len, vec_capacity};
-ghost use Rattle.cw_pool.specs.Ends.{MayEnd};
+ghost use Rattle.cw_pool.specs.Ends.{IsBehind, MayEnd};
 ghost use Rattle.cw_pool.specs.Tasks.{IsRunning};
 ghost use Rattle.cw_pool.specs.declared.task.Below.TheVariants as entry;
-ghost use Rattle.cw_pool.specs.declared.task.Base.TheVariants as bottom;
-ghost use Rattle.cw_pool.specs.declared.task.Mode.TheVariants as standing;
 
 use crate::blocks::begin_at;
-use crate::{Base, Below, Memo, Mode, Naming, Running, Scene};
+use crate::last::ends_run;
+use crate::sides::task_of;
+use crate::{Base, Below, Ended, Mode, Naming, Running, Scene};
 use cw_body::Body;
 use cw_log::SharedBoard;
-use cw_pair::Half;
 use cw_strand::Want;
 use cw_tree::Halt;
-use std::marker::PhantomData;
+
+/// What follows a strand that has come to its end, has died or was stopped.
+#[derive(Drop)]
+pub(crate) enum After<B: SharedBoard, J: Naming> {
+    /// Another strand of the same task goes on.
+    Goes(Running<B, J>),
+    /// It is the left strand of a fork whose right one is a task: that is to be looked for.
+    Left(Running<B, J>),
+    /// It is the right strand of a stolen fork, and nothing waits in its task: it goes to where both meet.
+    Right(Running<B, J>),
+    /// It was main's.
+    Ended(Ended<B, J>),
+}
 
 /// Whether a strand has come to its end, has died or was stopped.
 pub(crate) fn may_end<B: SharedBoard, J: Naming>(
@@ -35,6 +46,37 @@ pub(crate) fn may_end<B: SharedBoard, J: Naming>(
     }
 }
 
+/// The strand that forked, with its token, however both its strands ended: the right one's body becomes its own.
+pub(crate) fn behind<B: SharedBoard, J: Naming>(
+    scene: &Scene<'_, B, J>,
+    token: B::Token,
+    right: Body,
+    mode: Mode,
+    below: Vec<Below<B::Token, J>>,
+    base: Base<B::Token, J>,
+    left: Body,
+) -> Running<B, J>
+    requires { IsBehind J.job B.of mode (B.of token) right left below.items base }
+{
+    let mut token = token;
+    let mut body = right;
+    match mode {
+        Mode::Goes => match body.join(left, scene.program) {
+            Ok(()) => task_of(token, body, Mode::Goes, below, base),
+            Err(_) => {
+                scene.board.halt(&mut token, Halt::Memory);
+                task_of(token, body, Mode::Stopped, below, base)
+            }
+        },
+        Mode::Dies { .. } => {
+            body.gives_up();
+            task_of(token, body, mode, below, base)
+        }
+        Mode::Stopped => task_of(token, body, mode, below, base),
+        Mode::Waits => unreachable!(),
+    }
+}
+
 /// After the left strand of an inline fork: its right one, or, where the left one died or was stopped, the strand that forked.
 fn turned<B: SharedBoard, J: Naming>(
     scene: &Scene<'_, B, J>,
@@ -50,49 +92,14 @@ fn turned<B: SharedBoard, J: Naming>(
     requires room { vec_len below < vec_capacity below }
 {
     let mut token = token;
-    let mut right = right;
     let mut below = below;
     scene.board.next_branch(&mut token);
-    match mode {
-        Mode::Goes => {
-            below.push_reserved(Below::Second { left: body });
-            let goes = Running {
-                token,
-                body: right,
-                mode: Mode::Goes,
-                below,
-                base,
-                of: PhantomData,
-            };
-            goes
-        }
-        Mode::Dies { to } => {
-            scene.board.next_branch(&mut token);
-            right.gives_up();
-            let dies = Running {
-                token,
-                body: right,
-                mode: Mode::Dies { to },
-                below,
-                base,
-                of: PhantomData,
-            };
-            dies
-        }
-        Mode::Stopped => {
-            scene.board.next_branch(&mut token);
-            let stops = Running {
-                token,
-                body: right,
-                mode: Mode::Stopped,
-                below,
-                base,
-                of: PhantomData,
-            };
-            stops
-        }
-        Mode::Waits => unreachable!(),
-    }
+    let Mode::Goes = mode else {
+        scene.board.next_branch(&mut token);
+        return behind(scene, token, right, mode, below, base, body);
+    };
+    below.push_reserved(Below::Second { left: body });
+    task_of(token, right, Mode::Goes, below, base)
 }
 
 /// After the right strand of an inline fork: the strand that forked.
@@ -109,58 +116,8 @@ fn second<B: SharedBoard, J: Naming>(
     requires end { MayEnd mode (B.of token) body }
 {
     let mut token = token;
-    let mut body = body;
     scene.board.next_branch(&mut token);
-    match mode {
-        Mode::Goes => match body.join(left, scene.program) {
-            Ok(()) => {
-                let goes = Running {
-                    token,
-                    body,
-                    mode: Mode::Goes,
-                    below,
-                    base,
-                    of: PhantomData,
-                };
-                goes
-            }
-            Err(_) => {
-                scene.board.halt(&mut token, Halt::Memory);
-                let fails = Running {
-                    token,
-                    body,
-                    mode: Mode::Stopped,
-                    below,
-                    base,
-                    of: PhantomData,
-                };
-                fails
-            }
-        },
-        Mode::Dies { to } => {
-            let dies = Running {
-                token,
-                body,
-                mode: Mode::Dies { to },
-                below,
-                base,
-                of: PhantomData,
-            };
-            dies
-        }
-        Mode::Stopped => {
-            let stops = Running {
-                token,
-                body,
-                mode: Mode::Stopped,
-                below,
-                base,
-                of: PhantomData,
-            };
-            stops
-        }
-        Mode::Waits => unreachable!(),
-    }
+    behind(scene, token, body, mode, below, base, left)
 }
 
 /// After the right strand of a fork that was taken back: the strand that forked.
@@ -177,96 +134,64 @@ fn taken<B: SharedBoard, J: Naming>(
     requires task { IsRunning J.job B.of (B.of token) body mode (below.items ++ entry.Taken first left ∷ []) base }
     requires end { MayEnd mode (B.of token) body }
 {
-    let mut body = body;
-    let mut token = scene.board.join(first, token);
-    match mode {
-        Mode::Goes => match body.join(left, scene.program) {
-            Ok(()) => {
-                let goes = Running {
-                    token,
-                    body,
-                    mode: Mode::Goes,
-                    below,
-                    base,
-                    of: PhantomData,
-                };
-                goes
-            }
-            Err(_) => {
-                scene.board.halt(&mut token, Halt::Memory);
-                let fails = Running {
-                    token,
-                    body,
-                    mode: Mode::Stopped,
-                    below,
-                    base,
-                    of: PhantomData,
-                };
-                fails
-            }
-        },
-        Mode::Dies { to } => {
-            let dies = Running {
-                token,
-                body,
-                mode: Mode::Dies { to },
-                below,
-                base,
-                of: PhantomData,
-            };
-            dies
+    let token = scene.board.join(first, token);
+    behind(scene, token, body, mode, below, base, left)
+}
+
+/// After the lowest strand of a task.
+fn lowest<B: SharedBoard, J: Naming>(
+    token: B::Token,
+    body: Body,
+    mode: Mode,
+    below: Vec<Below<B::Token, J>>,
+    base: Base<B::Token, J>,
+) -> After<B, J>
+    requires task { IsRunning J.job B.of (B.of token) body mode below.items base }
+    requires end { MayEnd mode (B.of token) body }
+    requires alone { below.items ≡ [] }
+{
+    match base {
+        Base::Root => After::Ended(ends_run(token, body, mode, below, Base::Root)),
+        Base::Right { fork, half } => {
+            let base = Base::Right { fork, half };
+            After::Right(task_of(token, body, mode, below, base))
         }
-        Mode::Stopped => {
-            let stops = Running {
-                token,
-                body,
-                mode: Mode::Stopped,
-                below,
-                base,
-                of: PhantomData,
-            };
-            stops
-        }
-        Mode::Waits => unreachable!(),
     }
 }
 
-/// After the left strand of a fork whose right one was not started by another worker: that.
-fn takes_back<B: SharedBoard, J: Naming>(
+/// What follows a strand that has ended. Where it may not end yet it is given back as it is.
+pub(crate) fn ends<B: SharedBoard, J: Naming>(
     scene: &Scene<'_, B, J>,
-    token: B::Token,
-    body: Body,
-    below: Vec<Below<B::Token, J>>,
-    base: Base<B::Token, J>,
-    fork: u32,
-    half: Half<Memo<B::Token>, J>,
-    other: B::Token,
-    right: Body,
-    rest: Vec<Below<B::Token, J>>,
-    theirs: Half<Memo<B::Token>, J>,
-) -> Running<B, J>
-    requires task { IsRunning J.job B.of (B.of token) body standing.Goes (below.items ++ entry.Left fork half ∷ []) base }
-    requires end { MayEnd standing.Goes (B.of token) body }
-    requires right { IsRunning J.job B.of (B.of other) right standing.Waits rest.items (bottom.Right theirs) }
-    requires alone { rest.items ≡ [] }
-    requires number { half.number ≡ theirs.number }
-    requires room { vec_len below < vec_capacity below }
-{
-    let _ = fork;
-    drop(rest);
-    let mut token = token;
-    let mut other = other;
-    let mut below = below;
-    scene.pairs.meet(half, theirs);
-    scene.board.take_back(&mut token, &mut other);
-    below.push_reserved(Below::Taken { token, left: body });
-    let goes = Running {
-        token: other,
-        body: right,
-        mode: Mode::Goes,
-        below,
+    now: Running<B, J>,
+) -> Result<After<B, J>, Running<B, J>> {
+    let Running {
+        token,
+        body,
+        mode,
+        mut below,
         base,
-        of: PhantomData,
+        ..
+    } = now;
+    let true = may_end(scene, &token, &body, mode) else {
+        return Err(task_of(token, body, mode, below, base));
     };
-    goes
+    match below.pop() {
+        Some(Below::Left { fork, half }) => {
+            below.push_reserved(Below::Left { fork, half });
+            Ok(After::Left(task_of(token, body, mode, below, base)))
+        }
+        Some(Below::Inline { right }) => {
+            let now = turned(scene, token, body, mode, below, base, right);
+            Ok(After::Goes(now))
+        }
+        Some(Below::Second { left }) => {
+            let now = second(scene, token, body, mode, below, base, left);
+            Ok(After::Goes(now))
+        }
+        Some(Below::Taken { token: first, left }) => {
+            let now = taken(scene, token, body, mode, below, base, first, left);
+            Ok(After::Goes(now))
+        }
+        None => Ok(lowest(token, body, mode, below, base)),
+    }
 }

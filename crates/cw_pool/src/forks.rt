@@ -136,7 +136,7 @@ fn apart<B: SharedBoard, J: Naming>(
         body: right,
         mode: Mode::Waits,
         below: Vec::new(scene.alloc),
-        base: Base::Right { half: theirs },
+        base: Base::Right { fork, half: theirs },
         of: PhantomData,
     };
     let now = Running {

@@ -8,16 +8,17 @@
 
 mod access;
 mod blocks;
-mod board;
 mod ends;
 mod forks;
+mod joins;
 mod last;
 mod moves;
 mod naming;
 mod scene;
+mod sides;
+mod splits;
 mod task;
 
-pub use board::BlockBoard;
 pub use last::Ended;
 pub use naming::Naming;
 pub use scene::Scene;

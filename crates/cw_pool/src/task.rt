@@ -41,7 +41,8 @@ pub enum Below<T, J: cw_pair::Naming> {
 #[derive(Drop)]
 pub enum Base<T, J: cw_pair::Naming> {
     Root,
-    Right { half: Half<Memo<T>, J> },
+    /// From the fork with this number, as whose right strand it began.
+    Right { fork: u32, half: Half<Memo<T>, J> },
 }
 
 /// A strand that runs, and what waits for it, the newest last.

@@ -1,7 +1,8 @@
--- The right strand of a fork is taken back, after its left one came to its end.
+-- The two tasks of a fork that has two tokens: what stands on top of the left one, and with what the right one began. A right strand that was
+-- not started is taken back, after its left one came to its end.
 use Rattle.std.proofs.Common.{◌≡◌, ℕ, List, [], ◌∷◌, ◌++◌, reverse, refl, ap, sym, ◌∙◌, subst, false, Some}
-use Rattle.cw_strand.specs.Strands.{is_over}
 use Rattle.std.specs.Prelude.{IsTrue}
+use Rattle.cw_strand.specs.Strands.{is_over}
 use Rattle.cw_job.specs.Jobs.{Job}
 use Rattle.cw_job.specs.Room.Strands.{StrandState, strands_of_job}
 use Rattle.cw_pair.specs.declared.view.Note.{Note}
@@ -24,7 +25,7 @@ use Rattle.cw_pool.specs.Ends.{MayEnd}
 use Rattle.cw_pool.specs.Tasks as waiting
 use Rattle.cw_pool.specs.Tasks.{Start, IsFree, IsHalf, IsReached, IsTaken, Fits, StandsGoing, StandsWaiting, AreBelow, IsRunning, beside, opened, told_by}
 use Rattle.cw_pool.proofs.Tasks.Stopping.{one_some}
-use Rattle.cw_pool.proofs.Tasks.Finishing.{IsOutside, goes_outside, outside_there}
+use Rattle.cw_pool.proofs.Tasks.Finishing.{IsOutside, Finished, at_bottom, goes_outside, outside_there}
 use Rattle.cw_pool.proofs.Tasks.Turning.{top_first, top_last, may_so, runs_so}
 
 -- the left strand's token is only joined, and the right one goes on
@@ -47,9 +48,19 @@ module _ (job : Job) where
   free_goes : (x : Token) → IsFree job x → IsFree job (goes_now x)
   free_goes x f = record { on = record { stop = f.on.stop; told = f.on.told; unspent = f.on.unspent }; none = f.none }
 
+  -- a right strand that was not started has done nothing
+  pub record Unstarted (y : Token) (right : InBlocks) (a : Start) : Type 0 where
+    pub reached : IsReached (strands_of_job job) a.state
+    pub fits : Fits y a opens nothing
+    pub stands : StandsWaiting job y right a opens nothing
+    pub none : y.forks ≡ []
+
+  right_goes_on : (y : Token) (right : InBlocks) (a : Start) → Unstarted y right a → StandsGoing job (goes_now y) right a opens nothing
+  right_goes_on y right a u = record { now = a.state; stands = record { leads = tt; goes = starts }; there = u.stands.there; free = free_goes y u.stands.free; phase = refl }
+
 module _ {T : Type 0} (job : Job) (of : T → Token) where
   -- both halves tell of one log
-  one_start : (half theirs : Note (Memo T)) (a b : Start) → half.of ≡ theirs.of → IsHalf job of half a → IsHalf job of theirs b → a ≡ b
+  pub one_start : (half theirs : Note (Memo T)) (a b : Start) → half.of ≡ theirs.of → IsHalf job of half a → IsHalf job of theirs b → a ≡ b
   one_start half theirs a b e (m, is, tells) (k, those, others) = sym tells ∙ ap (λ w. told_by job of w) (one_some m k (sym is ∙ (e ∙ those))) ∙ others
 
   -- with the split as it is
@@ -73,6 +84,8 @@ module _ {T : Type 0} (job : Job) (of : T → Token) where
       }
 
 module _ {T J : Type 0} (job : Job) (of : T → Token) where
+  -- ## The left one
+
   pub record LeftTop (lowest a : Start) (t : Trail StrandState) (os : List Open) (n : ℕ) (half : Note (Memo T)) (rest : List (Below T J)) : Type 0 where
     pub outer : Trail StrandState
     pub behind : Course
@@ -91,43 +104,42 @@ module _ {T J : Type 0} (job : Job) (of : T → Token) where
   left_top o (waiting.left {t = u} {os = os} {cs = cs} {b = b} {column = column} {stamp = stamp} e h) =
       record { outer = u; behind = cs; at = b; column = column; stamp = stamp; others = os; trail = refl; forks = refl; is_half = e; under = h }
 
-  -- at the bottom of a task its log is the lowest one, with no fork open
-  at_bottom : {lowest a : Start} {t : Trail StrandState} {os : List Open} → IsOutside t → AreBelow {T = T} {J = J} job of lowest a t os [] → (a ≡ lowest) × (os ≡ [])
-  at_bottom o waiting.bottom = (refl, refl)
-  at_bottom o (waiting.block h) = absurd o
+  pub left_of : (x : Token) (left : InBlocks) (how : Mode) (bs : List (Below T J)) (b : Base T J) (n : ℕ) (half : Note (Memo T)) (f : Finished job of x left how (bs ++ below.Left n half ∷ []) b)
+      → LeftTop f.lowest f.start f.trail x.forks n half (reverse bs)
+  left_of x left how bs b n half f = left_top f.leaves.outside (top_first job of bs (below.Left n half) f.below)
 
-  -- where the right strand's log begins
-  right_starts : (y : Token) (right : InBlocks) (theirs : Note (Memo T)) (p : Start) (r : IsRunning {T = T} {J = J} job of y right mode.Waits [] (base.Right theirs)) → record r.lowest { split = false } ≡ p → (r.start ≡ p) × (y.forks ≡ [])
-  right_starts y right theirs p r e =
-      let (same, none) = at_bottom (subst IsOutside (sym r.stands.trail) tt) r.below in
-      (same ∙ unsplit job of r.lowest p r.based.1 e, none)
+  -- where the right strand's log begins, by the left task
+  abbrev pub right_begins : {lowest a : Start} {t : Trail StrandState} {os : List Open} {n : ℕ} {half : Note (Memo T)} {rest : List (Below T J)} → LeftTop lowest a t os n half rest → Start
+  right_begins {a = a} {n = n} i = beside (strands_of_job job) a i.outer i.behind i.at i.column n
 
-  right_fits : (y : Token) (right : InBlocks) (theirs : Note (Memo T)) (p : Start) (r : IsRunning {T = T} {J = J} job of y right mode.Waits [] (base.Right theirs)) → r.start ≡ p → Fits (goes_now y) p opens nothing
-  right_fits y right theirs p r e =
-      subst (λ (a : Start). Fits (goes_now y) a opens nothing) e
-      (subst (λ (t : Trail StrandState). Fits (goes_now y) r.start t nothing) r.stands.trail
-      (subst (λ (cs : Course). Fits (goes_now y) r.start r.trail cs) r.stands.course (fits_goes y r.start r.trail r.course r.written)))
+  -- ## The right one, which was not started
 
-  right_goes_on : (y : Token) (right : InBlocks) (theirs : Note (Memo T)) (p : Start) (r : IsRunning {T = T} {J = J} job of y right mode.Waits [] (base.Right theirs)) → r.start ≡ p
-      → StandsGoing job (goes_now y) right p opens nothing
-  right_goes_on y right theirs p r e =
-      subst (λ (a : Start). StandsGoing job (goes_now y) right a opens nothing) e (record {
-        now = r.start.state;
-        stands = record { leads = tt; goes = starts };
-        there = r.stands.there;
-        free = free_goes job y r.stands.free;
-        phase = refl;
-      })
+  pub unstarted : (y : Token) (right : InBlocks) (g : ℕ) (half theirs : Note (Memo T)) (p : Start) → IsRunning {T = T} {J = J} job of y right mode.Waits [] (base.Right g theirs) → half.of ≡ theirs.of → IsHalf job of half p
+      → Unstarted job y right p
+  unstarted y right g half theirs p r same is =
+      let (lowest_so, over, none) = at_bottom job of (subst IsOutside (sym r.stands.trail) tt) r.below in
+      let e : r.start ≡ p = lowest_so ∙ unsplit job of r.lowest p r.based.2 (sym (one_start job of half theirs p (record r.lowest { split = false }) same is r.based.0)) in
+      let fits = subst (λ (t : Trail StrandState). Fits y r.start t nothing) r.stands.trail (subst (λ (cs : Course). Fits y r.start r.trail cs) r.stands.course r.written) in
+      let s = r.stands in
+      let stands : StandsWaiting job y right r.start opens nothing = record { trail = refl; course = refl; there = s.there; free = s.free; phase = s.phase } in
+      record {
+        reached = subst (λ (a : Start). IsReached (strands_of_job job) a.state) e r.reached;
+        fits = subst (λ (a : Start). Fits y a opens nothing) e fits;
+        stands = subst (λ (a : Start). StandsWaiting job y right a opens nothing) e stands;
+        none = none;
+      }
 
-  pub back_goes : (x y z : Token) (tok : T) (how : Mode) (body right : InBlocks) (n : ℕ) (half theirs : Note (Memo T)) (bs cs : List (Below T J)) (b : Base T J) → how ≡ mode.Goes
-      → IsRunning job of x body how (bs ++ below.Left n half ∷ []) b → MayEnd how x body → IsRunning {T = T} {J = J} job of y right mode.Waits [] (base.Right theirs) → half.of ≡ theirs.of
+  -- ## It is taken back
+
+  pub back_goes : (x y z : Token) (tok : T) (how : Mode) (body right : InBlocks) (n g : ℕ) (half theirs : Note (Memo T)) (bs cs : List (Below T J)) (b : Base T J) → how ≡ mode.Goes
+      → IsRunning job of x body how (bs ++ below.Left n half ∷ []) b → MayEnd how x body → IsRunning {T = T} {J = J} job of y right mode.Waits [] (base.Right g theirs) → half.of ≡ theirs.of
       → of tok ≡ is_over_now x → z ≡ goes_now y → cs ≡ bs ++ below.Taken tok body ∷ [] → IsRunning job of z right mode.Goes cs b
-  back_goes x y z tok how body right n half theirs bs cs b is r0 may r2 same over_now goes pushed_so =
+  back_goes x y z tok how body right n g half theirs bs cs b is r0 may r2 same over_now goes pushed_so =
       let r = runs_so job of is r0 in
       let (outside, over) = goes_outside job of x body (bs ++ below.Left n half ∷ []) b r (may_so x body is may) in
       let i = left_top outside (top_first job of bs (below.Left n half) r.below) in
-      let p = beside (strands_of_job job) r.start i.outer i.behind i.at i.column n in
-      let (starts_there, none) = right_starts y right theirs p r2 (sym (one_start job of half theirs p (record r2.lowest { split = false }) same i.is_half r2.based.0)) in
+      let p = right_begins i in
+      let u = unstarted y right g half theirs p r2 same i.is_half in
       subst (λ (us : List (Below T J)). IsRunning job of z right mode.Goes us b) (sym pushed_so)
       (subst (λ (w : Token). IsRunning job of w right mode.Goes (bs ++ below.Taken tok body ∷ []) b) (sym goes) (record {
         run = r.run;
@@ -136,37 +148,30 @@ module _ {T J : Type 0} (job : Job) (of : T → Token) where
         start = p;
         trail = opens;
         course = nothing;
-        reached = subst (λ (a : Start). IsReached (strands_of_job job) a.state) starts_there r2.reached;
-        written = right_fits y right theirs p r2 starts_there;
-        below = subst (λ (os : List Open). AreBelow job of r.lowest p opens os (reverse (bs ++ below.Taken tok body ∷ []))) (sym none)
+        reached = u.reached;
+        written = fits_goes y p opens nothing u.fits;
+        below = subst (λ (os : List Open). AreBelow job of r.lowest p opens os (reverse (bs ++ below.Taken tok body ∷ []))) (sym u.none)
             (top_last job of bs (below.Taken tok body)
             (waiting.taken (left_taken job of tok x body r.start r.trail i.outer r.course i.behind i.at i.column i.stamp i.trail r.reached r.written r.stands over over_now)
-            (ap (λ (u : Token). u.forks) over_now ∙ i.forks) refl i.under));
-        stands = right_goes_on y right theirs p r2 starts_there;
+            (ap (λ (w : Token). w.forks) over_now ∙ i.forks) refl i.under));
+        stands = right_goes_on job y right p u;
       }))
 
-  -- ## What is asked
-
-  pub back_fork : (x y : Token) (how : Mode) (body right : InBlocks) (n : ℕ) (half theirs : Note (Memo T)) (bs : List (Below T J)) (b : Base T J) → how ≡ mode.Goes
-      → IsRunning job of x body how (bs ++ below.Left n half ∷ []) b → MayEnd how x body → IsRunning {T = T} {J = J} job of y right mode.Waits [] (base.Right theirs) → half.of ≡ theirs.of → AreOfOneFork x y
-  back_fork x y how body right n half theirs bs b is r0 may r2 same =
+  pub back_fork : (x y : Token) (how : Mode) (body right : InBlocks) (n g : ℕ) (half theirs : Note (Memo T)) (bs : List (Below T J)) (b : Base T J) → how ≡ mode.Goes
+      → IsRunning job of x body how (bs ++ below.Left n half ∷ []) b → MayEnd how x body → IsRunning {T = T} {J = J} job of y right mode.Waits [] (base.Right g theirs) → half.of ≡ theirs.of → AreOfOneFork x y
+  back_fork x y how body right n g half theirs bs b is r0 may r2 same =
       let r = runs_so job of is r0 in
       let i = left_top (goes_outside job of x body (bs ++ below.Left n half ∷ []) b r (may_so x body is may)).0 (top_first job of bs (below.Left n half) r.below) in
-      let p = beside (strands_of_job job) r.start i.outer i.behind i.at i.column n in
-      let (starts_there, none) = right_starts y right theirs p r2 (sym (one_start job of half theirs p (record r2.lowest { split = false }) same i.is_half r2.based.0)) in
-      record {
-        inner = opened (Beside n) r.start i.outer;
-        outer = i.others;
-        left = i.forks;
-        fork = ap (λ (m : ℕ). Beside m) (sym (r2.written.fork ∙ ap (λ (a : Start). a.fork) starts_there));
-        right = none;
-      }
+      let u = unstarted y right g half theirs (right_begins i) r2 same i.is_half in
+      record { inner = opened (Beside n) r.start i.outer; outer = i.others; left = i.forks; fork = ap (λ (m : ℕ). Beside m) (sym u.fits.fork); right = u.none }
 
-  pub back_there : (x y : Token) (how : Mode) (body right : InBlocks) (n : ℕ) (half theirs : Note (Memo T)) (bs : List (Below T J)) (b : Base T J) → how ≡ mode.Goes
-      → IsRunning job of x body how (bs ++ below.Left n half ∷ []) b → MayEnd how x body → IsRunning {T = T} {J = J} job of y right mode.Waits [] (base.Right theirs) → MayTakeBack x y
-  back_there x y how body right n half theirs bs b is r0 may r2 =
+  pub back_there : (x y : Token) (how : Mode) (body right : InBlocks) (n g : ℕ) (half theirs : Note (Memo T)) (bs : List (Below T J)) (b : Base T J) → how ≡ mode.Goes
+      → IsRunning job of x body how (bs ++ below.Left n half ∷ []) b → MayEnd how x body → IsRunning {T = T} {J = J} job of y right mode.Waits [] (base.Right g theirs) → MayTakeBack x y
+  back_there x y how body right n g half theirs bs b is r0 may r2 =
       let r = runs_so job of is r0 in
       (r.stands.phase, r.written.place ∙ outside_there r.trail (goes_outside job of x body (bs ++ below.Left n half ∷ []) b r (may_so x body is may)).0 ∙ sym r.written.strand, r2.stands.phase)
 
-  pub waits_alone : (y : Token) (right : InBlocks) (theirs : Note (Memo T)) (rest : List (Below T J)) → rest ≡ [] → IsRunning job of y right mode.Waits rest (base.Right theirs) → IsRunning {T = T} {J = J} job of y right mode.Waits [] (base.Right theirs)
-  waits_alone y right theirs rest e r = subst (λ (us : List (Below T J)). IsRunning job of y right mode.Waits us (base.Right theirs)) e r
+  pub waits_alone : (y : Token) (right : InBlocks) (how : Mode) (g : ℕ) (theirs : Note (Memo T)) (rest : List (Below T J)) → rest ≡ [] → how ≡ mode.Waits → IsRunning job of y right how rest (base.Right g theirs)
+      → IsRunning {T = T} {J = J} job of y right mode.Waits [] (base.Right g theirs)
+  waits_alone y right how g theirs rest e w r =
+      subst (λ (us : List (Below T J)). IsRunning job of y right mode.Waits us (base.Right g theirs)) e (subst (λ (m : Mode). IsRunning job of y right m rest (base.Right g theirs)) w r)

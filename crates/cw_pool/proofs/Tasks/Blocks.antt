@@ -43,7 +43,7 @@ use Rattle.cw_pool.proofs.Tasks.Acting.{going}
 
 pub falling_rest : (bs : List ℕ) → AreFalling bs → AreFalling (drop 1 bs)
 falling_rest [] f = tt
-falling_rest (b ∷ bs) f = f.1
+falling_rest (b ∷ bs) f = f.2
 
 within_rest : (around : List ℕ) (v : ℕ) → Contains (drop 1 around) v → Contains around v
 within_rest [] v (k, r, e) = absurd (omega arith)
@@ -51,10 +51,10 @@ within_rest (b ∷ bs) v (k, r, e) = (suc k, omega arith, e)
 
 -- of falling stamps the first is not behind itself
 first_once : (b : ℕ) (bs : List ℕ) → AreFalling (b ∷ bs) → Contains bs b → ⊥
-first_once b bs (f, more) h = absurd (omega (arith, All-contains (λ c. c < b) bs b f h))
+first_once b bs (some, f, more) h = absurd (omega (arith, All-contains (λ c. c < b) bs b f h))
 
 behind_less : (b : ℕ) (bs : List ℕ) (v : ℕ) → AreFalling (b ∷ bs) → Contains bs v → v < b
-behind_less b bs v (f, more) h = All-contains (λ c. c < b) bs v f h
+behind_less b bs v (some, f, more) h = All-contains (λ c. c < b) bs v f h
 
 -- another one than the first is behind it
 behind_first : (b : ℕ) (bs : List ℕ) (v : ℕ) → (b ≡ v → ⊥) → Contains (b ∷ bs) v → Contains bs v
@@ -81,7 +81,7 @@ fits_began x a t cs b stamp w l = record {
   strand = w.strand;
   place = ap (λ (o : Log). length o.nodes) w.own;
   around = ap (λ bs. stamp ∷ bs) w.around;
-  falling = (l.around, w.falling);
+  falling = (l.some, l.around, w.falling);
   fork = w.fork;
   split = w.split;
 }

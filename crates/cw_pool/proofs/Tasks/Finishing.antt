@@ -9,6 +9,7 @@ use Rattle.cw_job.proofs.Room.Wants.{same_want}
 use Rattle.cw_tree.specs.declared.node.Kind.TheVariants.{Block}
 use Rattle.cw_tree.specs.declared.node.BlockState.TheVariants.{Pending}
 use Rattle.cw_tree.specs.Nodes.{fresh_node}
+use Rattle.cw_log.specs.declared.token.Open.{Open}
 use Rattle.cw_log.specs.declared.token.Phase.TheVariants.{Going, Parted}
 use Rattle.cw_log.specs.declared.token.Token.{Token}
 use Rattle.cw_log.specs.Tokens.{IsDone}
@@ -22,6 +23,7 @@ use Rattle.cw_pool.specs.declared.task.Mode.TheVariants as mode
 use Rattle.cw_pool.specs.declared.task.Below.{Below}
 use Rattle.cw_pool.specs.declared.task.Base.{Base}
 use Rattle.cw_pool.specs.Ends.{MayEnd}
+use Rattle.cw_pool.specs.Tasks as waiting
 use Rattle.cw_pool.specs.Tasks.{Start, IsRun, IsReached, Fits, AreFalling, StandsGoing, StandsDying, StandsStopped, IsBase, AreBelow, IsRunning, stamps_in, rights_of}
 use Rattle.cw_pool.proofs.Tasks.Reaching.{blocks_in, reached_now, over_in_none}
 use Rattle.cw_pool.proofs.Tasks.Pages.{many, many_in_block, innermost}
@@ -65,6 +67,9 @@ module _ {T J : Type 0} (job : Job) (of : T → Token) where
 
 pub not_parted : (fork : ℕ) → Going ≡ Parted fork → ⊥
 not_parted fork e = cc
+
+pub not_waiting : (x : Token) (body : InBlocks) {how : Mode} → MayEnd how x body → how ≡ mode.Waits → ⊥
+not_waiting x body may e = subst (λ (m : Mode). MayEnd m x body) e may
 
 -- outside of blocks the place is the strand
 pub outside_there : (t : Trail StrandState) → IsOutside t → place_of t ≡ strand_in t
@@ -125,7 +130,7 @@ module _ {T J : Type 0} (job : Job) (of : T → Token) where
   out_of_blocks x body bs b run lowest based a (in_block t cs c stamp) js reached own joined fork split falling below s =
       out_of_blocks x body bs b run lowest based a t (block cs Pending stamp 0 js) reached
       (own ∙ ap (λ ns. record { column = a.column; from = a.from; fork = a.at; nodes = ns; conflicts = [] }) (broken t cs js c stamp)) (joined ∙ rights_shut t cs js c stamp 0 a.column Pending)
-      fork split falling.1 (unblock below) (stopped_out job x a t cs js c stamp s)
+      fork split falling.2 (unblock below) (stopped_out job x a t cs js c stamp s)
   out_of_blocks x body bs b run lowest based a opens js reached own joined fork split falling below s =
       record { run = run; lowest = lowest; based = based; start = a; trail = opens; course = js; reached = reached; below = below; leaves = record { outside = tt; own = own; joined = joined; fork = fork; split = split; falling = falling; done = inl s.off; ends = s } }
   out_of_blocks x body bs b run lowest based a (in_left t cs c column stamp) js reached own joined fork split falling below s =
@@ -175,3 +180,8 @@ module _ {T J : Type 0} (job : Job) (of : T → Token) where
       let w = r.written in
       out_of_blocks x body bs b r.run r.lowest r.based r.start r.trail r.course r.reached w.own w.joined w.fork w.split (subst AreFalling w.around w.falling) r.below r.stands
   finished x body mode.Waits bs b r e = absurd e
+
+  -- at the bottom of a task its log is the lowest one, with nothing open
+  pub at_bottom : {lowest a : Start} {t : Trail StrandState} {os : List Open} → IsOutside t → AreBelow {T = T} {J = J} job of lowest a t os [] → (a ≡ lowest) × (t ≡ opens) × (os ≡ [])
+  at_bottom o waiting.bottom = (refl, refl, refl)
+  at_bottom o (waiting.block h) = absurd o

@@ -184,15 +184,15 @@ module _ {T J : Type 0} (job : Job) (of : T → Token) where
   -- and its right one, which waits
   pub right_so : (x y : Token) (how : Mode) (body right : InBlocks) (bs : List (Below T J)) (b : Base T J) (half : Note (Memo T)) (m : Memo T) (fork column : ℕ) → how ≡ mode.Goes
       → IsRunning job of x body how bs b → (strands_of_job job).want body.state ≡ want.Fork → right ≡ bodies.right_of (strands_of_job job) body → y ≡ right_of x fork column
-      → half.of ≡ Some m → m.before.value ≡ body → of m.right.value ≡ right_of x fork column → IsRunning {T = T} {J = J} job of y right mode.Waits [] (base.Right half)
+      → half.of ≡ Some m → m.before.value ≡ body → of m.right.value ≡ right_of x fork column → IsRunning {T = T} {J = J} job of y right mode.Waits [] (base.Right fork half)
   right_so x y how body right bs b half m fork column is r0 wants r_is right_is h before told =
       let r = going job of is r0 in
       let s = r.stands in
       let a = beside (strands_of_job job) r.start r.trail r.course s.now column fork in
-      subst (λ (w : Token). IsRunning {T = T} {J = J} job of w right mode.Waits [] (base.Right half)) (sym right_is) (record {
+      subst (λ (w : Token). IsRunning {T = T} {J = J} job of w right mode.Waits [] (base.Right fork half)) (sym right_is) (record {
         run = r.run;
         lowest = a;
-        based = (half_tells job of half m x body r.start r.trail r.course fork column s r.written h before told, refl);
+        based = (half_tells job of half m x body r.start r.trail r.course fork column s r.written h before told, refl, refl);
         start = a;
         trail = opens;
         course = nothing;

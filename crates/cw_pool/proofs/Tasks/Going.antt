@@ -49,15 +49,15 @@ module _ {T J : Type 0} (job : Job) (of : T → Token) where
   -- one that stops need not be split
   pub base_stops : (b : Base T J) (how : Mode) (a : Start) → IsBase job of b how a → IsBase job of b mode.Stopped a
   base_stops base.Root how a i = i
-  base_stops (base.Right half) how a i = (i.0, tt)
+  base_stops (base.Right fork half) how a i = (i.0, i.1, tt)
 
   pub base_dies : (b : Base T J) (to : ℕ) (a : Start) → IsBase job of b mode.Goes a → IsBase job of b (mode.Dies to) a
   base_dies base.Root to a i = i
-  base_dies (base.Right half) to a i = i
+  base_dies (base.Right fork half) to a i = i
 
   pub base_goes : (b : Base T J) (to : ℕ) (a : Start) → IsBase job of b (mode.Dies to) a → IsBase job of b mode.Goes a
   base_goes base.Root to a i = i
-  base_goes (base.Right half) to a i = i
+  base_goes (base.Right fork half) to a i = i
 
 -- the same is written in it where it was told of a halt, or halted
 pub fits_told : (x : Token) (a : Start) (t : Trail StrandState) (cs : Course) (b : Bool) → Fits x a t cs → Fits (was_told x b) a t cs

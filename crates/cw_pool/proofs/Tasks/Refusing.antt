@@ -1,5 +1,5 @@
 -- A strand whose access is refused.
-use Rattle.std.proofs.Common.{◌≡◌, ℕ, ℤ, List, [], ◌∷◌, length, ap, sym, ◌∙◌, refl, subst, arith, Option, None, Some, length-append, map}
+use Rattle.std.proofs.Common.{◌≡◌, ℕ, ℤ, zero, suc, inl, inr, List, [], ◌∷◌, length, ap, sym, ◌∙◌, refl, subst, arith, Option, None, Some, length-append, map}
 use Rattle.std.specs.Prelude.{◌≤◌, ◌<◌}
 use Rattle.cw_strand.specs.declared.want.Given.{Given}
 use Rattle.std.specs.List.{Contains}
@@ -14,7 +14,7 @@ use Rattle.cw_tree.specs.declared.closed.Halt.TheVariants.{Budget, Memory}
 use Rattle.cw_tree.specs.Nodes.{fresh_node}
 use Rattle.cw_record.specs.Replay.{IsAccessOf}
 use Rattle.cw_log.specs.declared.token.Token.{Token}
-use Rattle.cw_log.specs.Answers.{IsWritten, access_kind}
+use Rattle.cw_log.specs.Answers.{IsAround, IsWritten, access_kind}
 use Rattle.cw_log.specs.Tokens.{Fells, made, IsOn, MayHalt, conflicts_in, logs, halted, refused}
 use Rattle.cw_course.specs.Courses.{Course, Acts, act}
 use Rattle.cw_course.specs.Trails.{Trail, Stands, page, strand_in}
@@ -24,8 +24,8 @@ use Rattle.cw_pool.specs.declared.task.Mode.{Mode}
 use Rattle.cw_pool.specs.declared.task.Mode.TheVariants as mode
 use Rattle.cw_pool.specs.declared.task.Below.{Below}
 use Rattle.cw_pool.specs.declared.task.Base.{Base}
-use Rattle.cw_pool.specs.Tasks.{Start, Fits, IsFree, StandsGoing, StandsDying, IsRunning, begins_in, seen_in}
-use Rattle.cw_pool.specs.Accesses.{access_want, given_for, IsAfter}
+use Rattle.cw_pool.specs.Tasks.{Start, AreFalling, Fits, IsFree, StandsGoing, StandsDying, IsRunning, begins_in, seen_in}
+use Rattle.cw_pool.specs.Accesses.{access_want, given_for, IsAfter, MayFell}
 use Rattle.cw_pool.proofs.Tasks.Lists.{all_more, holds_it}
 use Rattle.cw_pool.proofs.Tasks.Going.{rebuilt, base_dies, fits_made}
 use Rattle.cw_pool.proofs.Tasks.Stopping.{is_halted, budget_no_fault}
@@ -43,6 +43,16 @@ fits_refused x a t cs k w =
 on_refused : (budget : ℕ) (x : Token) (k : Conflict) → IsOn budget x → (k.attempt ≡ budget → ⊥) → IsOn budget (refused x k)
 on_refused budget x k on n = record { stop = on.stop; told = on.told; unspent = all_more (λ c. c.attempt ≡ budget → ⊥) x.own.conflicts k (conflicts_in x.joined) on.unspent n }
 
+-- no block has the begin stamp 0
+none_at_zero : (bs : List ℕ) → AreFalling bs → Contains bs 0 → ⊥
+none_at_zero [] f (k, r, e) = absurd (omega arith)
+none_at_zero (b ∷ bs) (some, f, more) (zero, r, e) = absurd (omega (arith, some, e))
+none_at_zero (b ∷ bs) (some, f, more) (suc k, r, e) = none_at_zero bs more (k, omega arith, e)
+
+may_fell : (x : Token) (k : Conflict) → AreFalling x.around → IsAround x k.victim → MayFell x k
+may_fell x k f (inl z) = (λ n. absurd (n z), λ e h. none_at_zero x.around f (subst (λ (b : ℕ). Contains x.around b) e h))
+may_fell x k f (inr h) = (λ n. h, λ e i. none_at_zero x.around f (subst (λ (b : ℕ). Contains x.around b) e i))
+
 -- where it was the last attempt it may halt so
 pub may_halt : (job : Job) (x : Token) (k : Conflict) → IsFree job x → k.asker ≡ length x.own.nodes → k.attempt ≡ job.limits.aborts
     → MayHalt job.limits.aborts x (Budget 0) → MayHalt job.limits.aborts (refused x k) (Budget 0)
@@ -53,7 +63,7 @@ may_halt job x k f a e m = record {
   spent = record { earlier = x.own.conflicts; last = k; conflicts = refl; newest = omega (arith, a, length-append x.own.nodes (fresh_node x.place (Tried k.cell) 0 ∷ [])); attempt = e };
 }
 
-seen_here : (bs : List PendingBegin) → map (seen_in 0) bs ≡ bs
+pub seen_here : (bs : List PendingBegin) → map (seen_in 0) bs ≡ bs
 seen_here [] = refl
 seen_here (b ∷ bs) = ap (λ (n : ℕ). record { at = b.at; forks = n } ∷ map (seen_in 0) bs) (omega arith) ∙ ap (λ cs. b ∷ cs) (seen_here bs)
 
@@ -127,6 +137,10 @@ module _ {T J : Type 0} (job : Job) (of : T → Token) where
       cell_named (length (first_memory job.program.cells)) cell write
       (subst (λ (w : Want). NamesThere (length (first_memory job.program.cells)) w) here
       (names_there job r.run r.trail s.now (reached_now (strands_of_job job) r.start.state r.trail r.course s.now r.reached s.stands)))
+
+  -- the victim of a refused access is a block around it, or 0
+  pub victim_there : (x z : Token) (how : Mode) (body : InBlocks) (bs : List (Below T J)) (b : Base T J) (k : Conflict) → IsRunning job of x body how bs b → IsAround x k.victim → z ≡ refused x k → MayFell z k
+  victim_there x z how body bs b k r around e = subst (λ (w : Token). MayFell w k) (sym e) (may_fell x k r.written.falling around)
 
   pub refused_so : (x z y : Token) (how after : Mode) (body next : InBlocks) (bs : List (Below T J)) (b : Base T J) (k : Conflict) (cell : ℕ) (write : Option ℤ) → how ≡ mode.Goes
       → IsRunning job of x body how bs b → (strands_of_job job).want body.state ≡ access_want cell write → want_of body ≡ access_want cell write → k.cell ≡ cell → z ≡ refused x k

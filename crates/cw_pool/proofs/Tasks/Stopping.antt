@@ -72,7 +72,7 @@ fault_here z kind cs column strand base c s x y met e f =
     (fault_is kind met y (ap (λ (r : Stop). r.halt) same ∙ f), c ∙ ap (λ (r : Stop). r.column) same, s ∙ ap (λ (r : Stop). r.strand) same)
 
 module _ (job : Job) where
-  waits_stopped : (x : Token) (body : InBlocks) (a : Start) (t : Trail StrandState) (cs : Course) → StandsWaiting job x body a t cs → Stopped (strands_of_job job) a.state t cs
+  pub waits_stopped : (x : Token) (body : InBlocks) (a : Start) (t : Trail StrandState) (cs : Course) → StandsWaiting job x body a t cs → Stopped (strands_of_job job) a.state t cs
   waits_stopped x body a t cs s =
       subst (λ (u : Trail StrandState). Stopped (strands_of_job job) a.state u cs) (sym s.trail)
       (subst (λ (ds : Course). Stopped (strands_of_job job) a.state opens ds) (sym s.course) (record { leads = tt; stops = there starts }))

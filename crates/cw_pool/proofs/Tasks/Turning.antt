@@ -1,40 +1,37 @@
 -- The strands of a fork that has one token, one after the other, and the strand that forked behind them.
 use Rattle.std.proofs.Common.{◌≡◌, ℕ, ◌+◌, List, [], ◌∷◌, ◌++◌, length, map, reverse, refl, ap, sym, ◌∙◌, subst, arith, inl, inr, None, append_assoc, append-nil}
-use Rattle.std.specs.Prelude.{IsTrue, ◌≤◌, ◌<◌}
+use Rattle.std.specs.Prelude.{IsTrue, ◌≤◌}
 use Rattle.std.specs.List.{All, Contains}
 use Rattle.std.proofs.lemmas.List.{reverse-append}
-use Rattle.std.proofs.lemmas.List.Elements.{All-map}
 use Rattle.cw_code.specs.declared.FaultKind.{FaultKind}
 use Rattle.cw_strand.specs.Strands.{is_over}
 use Rattle.cw_job.specs.Jobs.{Job, bare as bare_job}
 use Rattle.cw_job.specs.Room.Strands.{StrandState, strands_of_job}
 use Rattle.cw_job.proofs.Room.Wants.{same_want}
 use Rattle.cw_tree.specs.declared.conflict.Conflict.{Conflict}
-use Rattle.cw_tree.specs.declared.closed.Halt.TheVariants.{Memory}
 use Rattle.cw_log.specs.declared.token.Open.{Open}
 use Rattle.cw_log.specs.declared.token.Side.TheVariants.{First, Second}
 use Rattle.cw_log.specs.declared.token.Token.{Token}
-use Rattle.cw_log.specs.Tokens.{Fells, IsDone, IsInline, conflicts_in, logs, halted, turned, turned_by}
+use Rattle.cw_log.specs.Tokens.{Fells, IsDone, IsInline, conflicts_in, logs, turned, turned_by}
 use Rattle.cw_course.specs.Courses.{Course, nothing, fork, rights, size, there, starts}
 use Rattle.cw_course.specs.Closings.{FaultsIn}
 use Rattle.cw_course.specs.Trails.{Trail, in_left, in_right, forked, page, nodes_of, place_of, strand_in}
 use Rattle.cw_course.proofs.Trails.Moves as move
 use Rattle.cw_course.proofs.Trails.Steps as step
-use Rattle.cw_body.specs.declared.stage.Stage.TheVariants as stage
 use Rattle.cw_body.specs.Bodies as bodies
-use Rattle.cw_body.specs.Bodies.{InBlocks, PendingBegin, HasNoBlock, gave_up, one_fork_less, one_fork_more, want_of}
+use Rattle.cw_body.specs.Bodies.{InBlocks, gave_up, one_fork_more}
 use Rattle.cw_pool.specs.declared.task.Mode.{Mode}
 use Rattle.cw_pool.specs.declared.task.Mode.TheVariants as mode
 use Rattle.cw_pool.specs.declared.task.Below.{Below}
 use Rattle.cw_pool.specs.declared.task.Below.TheVariants as below
 use Rattle.cw_pool.specs.declared.task.Base.{Base}
-use Rattle.cw_pool.specs.Ends.{MayEnd}
+use Rattle.cw_pool.specs.Ends.{IsBehind, MayEnd}
 use Rattle.cw_pool.specs.Tasks as waiting
-use Rattle.cw_pool.specs.Tasks.{Start, IsRun, IsFree, IsReached, Fits, HasFault, StandsGoing, StandsDying, StandsStopped, AreBelow, IsRunning, begins_in, stamps_in, seen_in, rights_to, rights_of, opened, goes_in}
+use Rattle.cw_pool.specs.Tasks.{Start, IsRun, IsFree, IsReached, Fits, StandsGoing, StandsDying, StandsStopped, AreBelow, IsRunning, begins_in, stamps_in, rights_to, rights_of, opened, goes_in}
 use Rattle.cw_pool.proofs.Tasks.Reaching.{reached_fork, start_not_end}
 use Rattle.cw_pool.proofs.Tasks.Pages.{many, many_inline, behind_many}
-use Rattle.cw_pool.proofs.Tasks.Stopping.{wants_memory}
-use Rattle.cw_pool.proofs.Tasks.Finishing.{IsOutside, Leaves, Finished, finished, not_parted}
+use Rattle.cw_pool.proofs.Tasks.Behind.{StandsBehind, behind_whole, body_joined, may_join, gave_up_not_lost, goes_not_lost, seen_more}
+use Rattle.cw_pool.proofs.Tasks.Finishing.{IsOutside, Ending, Leaves, Finished, finished, not_parted}
 
 -- ## Lists
 
@@ -58,12 +55,6 @@ rights_ended t cs ls rs b l stamp column =
     ∙ ap (λ (k : ℕ). (rights_to t column ++ (hc ++ hl)) ++ rights rs column k) q
     ∙ append_assoc (rights_to t column) (hc ++ hl) hr
     ∙ ap (λ us. rights_to t column ++ us) (append_assoc hc hl hr)
-
-pub seen_more : (k : ℕ) (ps : List PendingBegin) → map (seen_in k) (map one_fork_more ps) ≡ map (seen_in (k + 1)) ps
-seen_more k [] = refl
-seen_more k (p ∷ ps) =
-    ap (λ (n : ℕ). record { at = p.at; forks = n } ∷ map (seen_in k) (map one_fork_more ps)) (omega arith)
-    ∙ ap (λ qs. seen_in (k + 1) p ∷ qs) (seen_more k ps)
 
 -- ## What is on top
 
@@ -126,9 +117,6 @@ in_second x a t cs os = let n = length (nodes_of t cs) + 2 in record x { strand 
 -- behind it
 abbrev pub behind_it : Token → Start → Trail StrandState → List Open → Token
 behind_it x a t os = record x { strand = strand_in t; place = place_of t; around = stamps_in t a.above; forks = os }
-
-spared_there : (x : Token) (around : List ℕ) → x.around ≡ around → All (λ c. Fells x c → ⊥) (conflicts_in (logs x)) → All (λ (c : Conflict). Contains around c.victim → ⊥) (conflicts_in (logs x))
-spared_there x around e h = subst (λ (bs : List ℕ). All (λ (c : Conflict). Contains bs c.victim → ⊥) (conflicts_in (logs x))) e h
 
 module _ (job : Job) where
   free_there : (x y : Token) → IsFree job x → (y.around ≡ x.around) → (y.stop ≡ x.stop) → (y.told ≡ x.told) → (logs y ≡ logs x) → IsFree job y
@@ -213,15 +201,30 @@ module _ (job : Job) where
     fault = λ y n kind e f. left_fault t ls cs b stamp a.column y.column y.strand kind (s.fault y n kind e f);
   }
 
+module _ (job : Job) where
+  -- where the left one did not come to its end
+  stands_dead : (run : IsRun job) (how : Mode) (x : Token) (body right : InBlocks) (a : Start) (t : Trail StrandState) (ls : Course) (cs : Course) (b : StrandState) (stamp : ℕ) (os : List Open) → (how ≡ mode.Goes → ⊥)
+      → IsReached (strands_of_job job) a.state → Ending job how x body a (in_left t cs b None stamp) ls → right ≡ goes_in job ((strands_of_job job).right b) (map one_fork_more (begins_in t a.begins))
+      → StandsBehind job how (behind_it x a t os) right body a t (fork cs None stamp ls nothing)
+  stands_dead run mode.Goes x body right a t ls cs b stamp os dead reached d is = absurd (dead refl)
+  stands_dead run (mode.Dies to) x body right a t ls cs b stamp os dead reached d is =
+      (λ e. goes_not_lost (sym (ap (λ (w : InBlocks). w.stage) is) ∙ e), behind_dies job run to x body right a t ls cs b stamp os reached d.0 d.1 is)
+  stands_dead run mode.Stopped x body right a t ls cs b stamp os dead reached d is = behind_stops job x a t ls cs b stamp os d
+  stands_dead run mode.Waits x body right a t ls cs b stamp os dead reached d is = absurd d
+
+  dead_done : (how : Mode) (x : Token) (body : InBlocks) (a : Start) (u : Trail StrandState) (cs : Course) (t : Trail StrandState) (ds : Course) (os : List Open) → (how ≡ mode.Goes → ⊥) → Ending job how x body a u cs
+      → IsDone (in_second x a t ds os)
+  dead_done mode.Goes x body a u cs t ds os dead d = absurd (dead refl)
+  dead_done (mode.Dies to) x body a u cs t ds os dead d = inr (refl, λ n e. not_parted n (sym d.0.phase ∙ e))
+  dead_done mode.Stopped x body a u cs t ds os dead d = inl d.off
+  dead_done mode.Waits x body a u cs t ds os dead d = absurd d
+
 -- what a turn makes of a token with this fork
 pub turned_there : (x z : Token) (a : Start) (t : Trail StrandState) (cs : Course) (os : List Open) → x.forks ≡ opened (First (length (nodes_of t cs) + 2)) a t ∷ os → z ≡ turned x → z ≡ in_second x a t cs os
 turned_there x z a t cs os e f = f ∙ ap (λ us. turned_by x us) e
 
 pub turned_twice : (x y z : Token) (a : Start) (t : Trail StrandState) (cs : Course) (os : List Open) → y ≡ in_second x a t cs os → z ≡ turned y → z ≡ behind_it x a t os
 turned_twice x y z a t cs os e f = f ∙ ap (λ w. turned w) e
-
-goes_not_lost : stage.Goes ≡ stage.Lost → ⊥
-goes_not_lost e = cc
 
 module _ {T J : Type 0} (job : Job) (of : T → Token) where
   pub turns_goes : (x z : Token) (how : Mode) (body right : InBlocks) (bs cs : List (Below T J)) (b : Base T J) → how ≡ mode.Goes → IsRunning job of x body how (bs ++ below.Inline right ∷ []) b → MayEnd how x body
@@ -245,47 +248,17 @@ module _ {T J : Type 0} (job : Job) (of : T → Token) where
         stands = right_goes job x body right f.start i.outer f.course i.behind i.at i.stamp i.others s over around i.right_there;
       }))
 
-  pub turns_dies : (x y z : Token) (how : Mode) (to : ℕ) (body right next : InBlocks) (bs : List (Below T J)) (b : Base T J) → how ≡ mode.Dies to → IsRunning job of x body how (bs ++ below.Inline right ∷ []) b → MayEnd how x body
-      → y ≡ turned x → z ≡ turned y → next ≡ gave_up right → IsRunning job of z next (mode.Dies to) bs b
-  turns_dies x y z how to body right next bs b is r0 may once twice gave =
-      let f = finished job of x body (mode.Dies to) (bs ++ below.Inline right ∷ []) b (subst (λ (m : Mode). IsRunning job of x body m (bs ++ below.Inline right ∷ []) b) is r0) (subst (λ (m : Mode). MayEnd m x body) is may) in
-      let i = inline_of job of x body (mode.Dies to) bs b right f in
-      let v = subst (λ (t : Trail StrandState). Leaves job x body (mode.Dies to) f.start t f.course) i.trail f.leaves in
-      let (d, around) = v.ends in
-      subst (λ (w : InBlocks). IsRunning job of z w (mode.Dies to) bs b) (sym gave)
-      (subst (λ (w : Token). IsRunning job of w (gave_up right) (mode.Dies to) bs b)
-      (sym (turned_twice x y z f.start i.outer i.behind i.others (turned_there x y f.start i.outer i.behind i.others i.forks once) twice)) (record {
-        run = f.run;
-        lowest = f.lowest;
-        based = f.based;
-        start = f.start;
-        trail = i.outer;
-        course = fork i.behind None i.stamp f.course nothing;
-        reached = f.reached;
-        written = behind_fits job x body (mode.Dies to) f.start i.outer f.course i.behind i.at i.stamp i.others v;
-        below = i.under;
-        stands = behind_dies job f.run to x body right f.start i.outer f.course i.behind i.at i.stamp i.others f.reached d around i.right_there;
-      }))
-
-  pub turns_stops : (x y z : Token) (how : Mode) (body right next : InBlocks) (bs : List (Below T J)) (b : Base T J) → how ≡ mode.Stopped → IsRunning job of x body how (bs ++ below.Inline right ∷ []) b → MayEnd how x body
-      → y ≡ turned x → z ≡ turned y → IsRunning job of z next mode.Stopped bs b
-  turns_stops x y z how body right next bs b is r0 may once twice =
-      let f = finished job of x body mode.Stopped (bs ++ below.Inline right ∷ []) b (subst (λ (m : Mode). IsRunning job of x body m (bs ++ below.Inline right ∷ []) b) is r0) (subst (λ (m : Mode). MayEnd m x body) is may) in
-      let i = inline_of job of x body mode.Stopped bs b right f in
-      let v = subst (λ (t : Trail StrandState). Leaves job x body mode.Stopped f.start t f.course) i.trail f.leaves in
-      subst (λ (w : Token). IsRunning job of w next mode.Stopped bs b)
-      (sym (turned_twice x y z f.start i.outer i.behind i.others (turned_there x y f.start i.outer i.behind i.others i.forks once) twice)) (record {
-        run = f.run;
-        lowest = f.lowest;
-        based = f.based;
-        start = f.start;
-        trail = i.outer;
-        course = fork i.behind None i.stamp f.course nothing;
-        reached = f.reached;
-        written = behind_fits job x body mode.Stopped f.start i.outer f.course i.behind i.at i.stamp i.others v;
-        below = i.under;
-        stands = behind_stops job x f.start i.outer f.course i.behind i.at i.stamp i.others v.ends;
-      })
+  -- where the left one died or was stopped: the strand that forked
+  pub turns_behind : (x y z : Token) (how : Mode) (body right : InBlocks) (bs : List (Below T J)) (b : Base T J) → (how ≡ mode.Goes → ⊥) → IsRunning job of x body how (bs ++ below.Inline right ∷ []) b → MayEnd how x body
+      → y ≡ turned x → z ≡ turned y → IsBehind job of how z right body bs b
+  turns_behind x y z how body right bs b dead r may once twice =
+      let f = finished job of x body how (bs ++ below.Inline right ∷ []) b r may in
+      let i = inline_of job of x body how bs b right f in
+      let v = subst (λ (t : Trail StrandState). Leaves job x body how f.start t f.course) i.trail f.leaves in
+      subst (λ (w : Token). IsBehind job of how w right body bs b) (sym (turned_twice x y z f.start i.outer i.behind i.others (turned_there x y f.start i.outer i.behind i.others i.forks once) twice))
+      (behind_whole job of how (behind_it x f.start i.outer i.others) right body bs b f.run f.lowest f.based f.start i.outer (fork i.behind None i.stamp f.course nothing) f.reached
+      (behind_fits job x body how f.start i.outer f.course i.behind i.at i.stamp i.others v) i.under
+      (stands_dead job f.run how x body right f.start i.outer f.course i.behind i.at i.stamp i.others dead f.reached v.ends i.right_there))
 
   -- ## What the turns ask
 
@@ -304,27 +277,15 @@ module _ {T J : Type 0} (job : Job) (of : T → Token) where
       let i = inline_of job of x body how bs b right f in
       record { inner = opened Second f.start i.outer; outer = i.others; there = ap (λ (w : Token). w.forks) (turned_there x y f.start i.outer i.behind i.others i.forks e); side = refl }
 
-  pub second_done : (x y : Token) (how : Mode) (to : ℕ) (body right : InBlocks) (bs : List (Below T J)) (b : Base T J) → how ≡ mode.Dies to → IsRunning job of x body how (bs ++ below.Inline right ∷ []) b → MayEnd how x body
+  pub twice_done : (x y : Token) (how : Mode) (body right : InBlocks) (bs : List (Below T J)) (b : Base T J) → (how ≡ mode.Goes → ⊥) → IsRunning job of x body how (bs ++ below.Inline right ∷ []) b → MayEnd how x body
       → y ≡ turned x → IsDone y
-  second_done x y how to body right bs b is r0 may e =
-      let f = finished job of x body (mode.Dies to) (bs ++ below.Inline right ∷ []) b (subst (λ (m : Mode). IsRunning job of x body m (bs ++ below.Inline right ∷ []) b) is r0) (subst (λ (m : Mode). MayEnd m x body) is may) in
-      let i = inline_of job of x body (mode.Dies to) bs b right f in
-      subst IsDone (sym (turned_there x y f.start i.outer i.behind i.others i.forks e)) (inr (refl, λ fork h. not_parted fork (sym f.leaves.ends.0.phase ∙ h)))
-
-  pub right_stage : (x : Token) (how : Mode) (body right : InBlocks) (bs : List (Below T J)) (b : Base T J) → IsRunning job of x body how (bs ++ below.Inline right ∷ []) b → MayEnd how x body → right.stage ≡ stage.Lost → ⊥
-  right_stage x how body right bs b r may e =
-      let i = inline_of job of x body how bs b right (finished job of x body how (bs ++ below.Inline right ∷ []) b r may) in goes_not_lost (sym (ap (λ (w : InBlocks). w.stage) i.right_there) ∙ e)
+  twice_done x y how body right bs b dead r may e =
+      let f = finished job of x body how (bs ++ below.Inline right ∷ []) b r may in
+      let i = inline_of job of x body how bs b right f in
+      subst IsDone (sym (turned_there x y f.start i.outer i.behind i.others i.forks e)) (dead_done job how x body f.start (in_left i.outer i.behind i.at None i.stamp) f.course i.outer i.behind i.others dead
+      (subst (λ (t : Trail StrandState). Ending job how x body f.start t f.course) i.trail f.leaves.ends))
 
 -- ## Behind the right strand
-
-less_more : (ps : List PendingBegin) → map one_fork_less (map one_fork_more ps) ≡ ps
-less_more [] = refl
-less_more (p ∷ ps) =
-    ap (λ (n : ℕ). record { at = p.at; forks = n } ∷ map one_fork_less (map one_fork_more ps)) (omega arith)
-    ∙ ap (λ qs. p ∷ qs) (less_more ps)
-
-pub all_later : (ps qs : List PendingBegin) → qs ≡ map one_fork_more ps → All (λ (p : PendingBegin). 0 < p.forks) qs
-all_later ps qs e = subst (λ us. All (λ (p : PendingBegin). 0 < p.forks) us) (sym e) (All-map (λ (p : PendingBegin). 0 < p.forks) one_fork_more ps (λ k d r. omega arith))
 
 -- what a turn makes of a token in the right strand of such a fork
 pub second_there : (x z : Token) (a : Start) (t : Trail StrandState) (os : List Open) → x.forks ≡ opened Second a t ∷ os → z ≡ turned x → z ≡ behind_it x a t os
@@ -344,31 +305,23 @@ module _ (job : Job) where
     split = v.split;
   }
 
-  -- the body of the right strand becomes that of the strand that forked
-  pub body_joined : (body left next : InBlocks) (now gone : StrandState) (ps : List PendingBegin) → body ≡ goes_in job now (map one_fork_more ps) → left.state ≡ gone
-      → next ≡ bodies.joined (strands_of_job job) body left → next ≡ goes_in job ((strands_of_job job).joined now gone) ps
-  body_joined body left next now gone ps e l f =
-      f ∙ ap (λ (w : InBlocks). bodies.joined (strands_of_job job) w left) e
-      ∙ ap (λ (q : StrandState). goes_in job ((strands_of_job job).joined now q) (map one_fork_less (map one_fork_more ps))) l
-      ∙ ap (λ qs. goes_in job ((strands_of_job job).joined now gone) qs) (less_more ps)
-
-  forked_goes : (x : Token) (body left next : InBlocks) (a : Start) (t : Trail StrandState) (cs ls rs : Course) (b l : StrandState) (stamp : ℕ) (os : List Open) (s : StandsGoing job x body a (in_right t cs b stamp ls l) rs)
-      → IsTrue (is_over ((strands_of_job job).want s.now)) → x.around ≡ stamps_in t a.above → left.state ≡ l → next ≡ bodies.joined (strands_of_job job) body left
-      → StandsGoing job (behind_it x a t os) next a t (fork cs None stamp ls rs)
-  forked_goes x body left next a t cs ls rs b l stamp os s over around is e = record {
+  forked_goes : (x : Token) (body left : InBlocks) (a : Start) (t : Trail StrandState) (cs ls rs : Course) (b l : StrandState) (stamp : ℕ) (os : List Open) (s : StandsGoing job x body a (in_right t cs b stamp ls l) rs)
+      → IsTrue (is_over ((strands_of_job job).want s.now)) → x.around ≡ stamps_in t a.above → left.state ≡ l
+      → StandsGoing job (behind_it x a t os) (bodies.joined (strands_of_job job) body left) a t (fork cs None stamp ls rs)
+  forked_goes x body left a t cs ls rs b l stamp os s over around is = record {
     now = (strands_of_job job).joined s.now l;
     stands = move.returns (strands_of_job job) a.state t cs ls rs b l s.now stamp s.stands over;
-    there = body_joined body left next s.now l (begins_in t a.begins) s.there is e;
+    there = body_joined job body left (bodies.joined (strands_of_job job) body left) s.now l (begins_in t a.begins) s.there is refl;
     free = free_there job x (behind_it x a t os) s.free (sym around) refl refl refl;
     phase = s.phase;
   }
 
   forked_dies : (to : ℕ) (x : Token) (body : InBlocks) (a : Start) (t : Trail StrandState) (cs ls rs : Course) (b l : StrandState) (stamp : ℕ) (os : List Open) → StandsDying job to x body a (in_right t cs b stamp ls l) rs
-      → x.around ≡ stamps_in t a.above → StandsDying job to (behind_it x a t os) body a t (fork cs None stamp ls rs)
+      → x.around ≡ stamps_in t a.above → StandsDying job to (behind_it x a t os) (gave_up body) a t (fork cs None stamp ls rs)
   forked_dies to x body a t cs ls rs b l stamp os d around = record {
     stopped = move.parts_right (strands_of_job job) a.state t cs ls rs b l stamp d.stopped;
     program = d.program;
-    stage = d.stage;
+    stage = refl;
     further = d.further + 1;
     begins = d.begins ∙ seen_more d.further (begins_in t a.begins);
     stays = d.stays;
@@ -397,6 +350,16 @@ module _ (job : Job) where
     fault = λ y n kind e f. right_fault t cs ls rs b l stamp a.column y.column y.strand kind (s.fault y n kind e f);
   }
 
+module _ (job : Job) where
+  forked_stands : (how : Mode) (x : Token) (body left : InBlocks) (a : Start) (t : Trail StrandState) (cs ls rs : Course) (b l : StrandState) (stamp : ℕ) (os : List Open) → Ending job how x body a (in_right t cs b stamp ls l) rs
+      → left.state ≡ l → StandsBehind job how (behind_it x a t os) body left a t (fork cs None stamp ls rs)
+  forked_stands mode.Goes x body left a t cs ls rs b l stamp os (d, over, around) is =
+      (may_join job body d.now (begins_in t a.begins) d.there over, forked_goes job x body left a t cs ls rs b l stamp os d over around is)
+  forked_stands (mode.Dies to) x body left a t cs ls rs b l stamp os (d, around) is =
+      (λ e. gave_up_not_lost (sym d.stage ∙ e), forked_dies job to x body a t cs ls rs b l stamp os d around)
+  forked_stands mode.Stopped x body left a t cs ls rs b l stamp os d is = forked_stops job x a t cs ls rs b l stamp os d
+  forked_stands mode.Waits x body left a t cs ls rs b l stamp os d is = absurd d
+
 pub may_so : (x : Token) (body : InBlocks) {how now : Mode} → how ≡ now → MayEnd how x body → MayEnd now x body
 may_so x body e may = subst (λ (m : Mode). MayEnd m x body) e may
 
@@ -409,86 +372,19 @@ module _ {T J : Type 0} (job : Job) (of : T → Token) where
   pub runs_so : {x : Token} {body : InBlocks} {how now : Mode} {bs : List (Below T J)} {b : Base T J} → how ≡ now → IsRunning job of x body how bs b → IsRunning job of x body now bs b
   runs_so {x} {body} {how} {now} {bs} {b} e r = subst (λ (m : Mode). IsRunning job of x body m bs b) e r
 
-  pub joins_goes : (x z : Token) (how : Mode) (body left next : InBlocks) (bs : List (Below T J)) (b : Base T J) → how ≡ mode.Goes → IsRunning job of x body how (bs ++ below.Second left ∷ []) b → MayEnd how x body
-      → z ≡ turned x → next ≡ bodies.joined (strands_of_job job) body left → IsRunning job of z next mode.Goes bs b
-  joins_goes x z how body left next bs b is r0 may turned_so next_so =
-      let f = finished job of x body mode.Goes (bs ++ below.Second left ∷ []) b (runs_so is r0) (may_so x body is may) in
-      let i = second_of job of x body mode.Goes bs b left f in
-      let v = second_whole x body mode.Goes bs b left f in
-      let (s, over, around) = v.ends in
-      subst (λ (w : Token). IsRunning job of w next mode.Goes bs b) (sym (second_there x z f.start i.outer i.others i.forks turned_so)) (record {
-        run = f.run;
-        lowest = f.lowest;
-        based = f.based;
-        start = f.start;
-        trail = i.outer;
-        course = fork i.behind None i.stamp i.before f.course;
-        reached = f.reached;
-        written = forked_fits job x body mode.Goes f.start i.outer i.behind i.before f.course i.at i.there i.stamp i.others v;
-        below = i.under;
-        stands = forked_goes job x body left next f.start i.outer i.behind i.before f.course i.at i.there i.stamp i.others s over around i.left_there next_so;
-      })
-
-  pub joins_last : (x z u : Token) (how : Mode) (body left next : InBlocks) (bs : List (Below T J)) (b : Base T J) → how ≡ mode.Goes → IsRunning job of x body how (bs ++ below.Second left ∷ []) b → MayEnd how x body
-      → z ≡ turned x → u ≡ halted z Memory → IsRunning job of u next mode.Stopped bs b
-  joins_last x z u how body left next bs b is r0 may turned_so halted_so =
-      wants_memory job of z u mode.Goes (bodies.joined (strands_of_job job) body left) next bs b
-      (joins_goes x z how body left (bodies.joined (strands_of_job job) body left) bs b is r0 may turned_so refl) halted_so
-
-  pub joins_dies : (x z : Token) (how : Mode) (to : ℕ) (body left : InBlocks) (bs : List (Below T J)) (b : Base T J) → how ≡ mode.Dies to → IsRunning job of x body how (bs ++ below.Second left ∷ []) b → MayEnd how x body
-      → z ≡ turned x → IsRunning job of z body (mode.Dies to) bs b
-  joins_dies x z how to body left bs b is r0 may turned_so =
-      let f = finished job of x body (mode.Dies to) (bs ++ below.Second left ∷ []) b (runs_so is r0) (may_so x body is may) in
-      let i = second_of job of x body (mode.Dies to) bs b left f in
-      let v = second_whole x body (mode.Dies to) bs b left f in
-      subst (λ (w : Token). IsRunning job of w body (mode.Dies to) bs b) (sym (second_there x z f.start i.outer i.others i.forks turned_so)) (record {
-        run = f.run;
-        lowest = f.lowest;
-        based = f.based;
-        start = f.start;
-        trail = i.outer;
-        course = fork i.behind None i.stamp i.before f.course;
-        reached = f.reached;
-        written = forked_fits job x body (mode.Dies to) f.start i.outer i.behind i.before f.course i.at i.there i.stamp i.others v;
-        below = i.under;
-        stands = forked_dies job to x body f.start i.outer i.behind i.before f.course i.at i.there i.stamp i.others v.ends.0 v.ends.1;
-      })
-
-  pub joins_stops : (x z : Token) (how : Mode) (body left next : InBlocks) (bs : List (Below T J)) (b : Base T J) → how ≡ mode.Stopped → IsRunning job of x body how (bs ++ below.Second left ∷ []) b → MayEnd how x body
-      → z ≡ turned x → IsRunning job of z next mode.Stopped bs b
-  joins_stops x z how body left next bs b is r0 may turned_so =
-      let f = finished job of x body mode.Stopped (bs ++ below.Second left ∷ []) b (runs_so is r0) (may_so x body is may) in
-      let i = second_of job of x body mode.Stopped bs b left f in
-      let v = second_whole x body mode.Stopped bs b left f in
-      subst (λ (w : Token). IsRunning job of w next mode.Stopped bs b) (sym (second_there x z f.start i.outer i.others i.forks turned_so)) (record {
-        run = f.run;
-        lowest = f.lowest;
-        based = f.based;
-        start = f.start;
-        trail = i.outer;
-        course = fork i.behind None i.stamp i.before f.course;
-        reached = f.reached;
-        written = forked_fits job x body mode.Stopped f.start i.outer i.behind i.before f.course i.at i.there i.stamp i.others v;
-        below = i.under;
-        stands = forked_stops job x f.start i.outer i.behind i.before f.course i.at i.there i.stamp i.others v.ends;
-      })
+  pub second_behind : (x z : Token) (how : Mode) (body left : InBlocks) (bs : List (Below T J)) (b : Base T J) → IsRunning job of x body how (bs ++ below.Second left ∷ []) b → MayEnd how x body
+      → z ≡ turned x → IsBehind job of how z body left bs b
+  second_behind x z how body left bs b r may turned_so =
+      let f = finished job of x body how (bs ++ below.Second left ∷ []) b r may in
+      let i = second_of job of x body how bs b left f in
+      let v = second_whole x body how bs b left f in
+      subst (λ (w : Token). IsBehind job of how w body left bs b) (sym (second_there x z f.start i.outer i.others i.forks turned_so))
+      (behind_whole job of how (behind_it x f.start i.outer i.others) body left bs b f.run f.lowest f.based f.start i.outer (fork i.behind None i.stamp i.before f.course) f.reached
+      (forked_fits job x body how f.start i.outer i.behind i.before f.course i.at i.there i.stamp i.others v) i.under
+      (forked_stands job how x body left f.start i.outer i.behind i.before f.course i.at i.there i.stamp i.others v.ends i.left_there))
 
   pub joins_inline : (x : Token) (how : Mode) (body left : InBlocks) (bs : List (Below T J)) (b : Base T J) → IsRunning job of x body how (bs ++ below.Second left ∷ []) b → MayEnd how x body → IsInline x
   joins_inline x how body left bs b r may =
       let f = finished job of x body how (bs ++ below.Second left ∷ []) b r may in
       let i = second_of job of x body how bs b left f in
       record { inner = opened Second f.start i.outer; outer = i.others; there = i.forks; side = refl }
-
-  pub joins_blocks : (x : Token) (how : Mode) (body left : InBlocks) (bs : List (Below T J)) (b : Base T J) → how ≡ mode.Goes → IsRunning job of x body how (bs ++ below.Second left ∷ []) b → MayEnd how x body → HasNoBlock body
-  joins_blocks x how body left bs b is r0 may =
-      let f = finished job of x body mode.Goes (bs ++ below.Second left ∷ []) b (runs_so is r0) (may_so x body is may) in
-      let i = second_of job of x body mode.Goes bs b left f in
-      let v = second_whole x body mode.Goes bs b left f in
-      all_later (begins_in i.outer f.start.begins) body.begins (ap (λ (w : InBlocks). w.begins) v.ends.0.there)
-
-  pub turned_off : (x y : Token) (how : Mode) (body right : InBlocks) (bs : List (Below T J)) (b : Base T J) → how ≡ mode.Stopped → IsRunning job of x body how (bs ++ below.Inline right ∷ []) b → MayEnd how x body
-      → y ≡ turned x → IsDone y
-  turned_off x y how body right bs b is r0 may e =
-      let f = finished job of x body mode.Stopped (bs ++ below.Inline right ∷ []) b (runs_so is r0) (may_so x body is may) in
-      let i = inline_of job of x body mode.Stopped bs b right f in
-      subst IsDone (sym (turned_there x y f.start i.outer i.behind i.others i.forks e)) (inl f.leaves.ends.off)

@@ -7,7 +7,6 @@ use Rattle.cw_tree.specs.declared.closed.Halt.{Halt}
 use Rattle.cw_tree.specs.declared.closed.Halt.TheVariants.{Fault, Budget, Memory}
 use Rattle.cw_log.specs.declared.log.Log.{Log}
 use Rattle.cw_log.specs.declared.token.Stop.{Stop}
-use Rattle.cw_log.specs.declared.token.Open.{Open}
 use Rattle.cw_log.specs.declared.token.Token.{Token}
 use Rattle.cw_log.specs.Tokens.{IsOff}
 use Rattle.cw_course.specs.Courses.{Course, own_log}
@@ -20,9 +19,8 @@ use Rattle.cw_pool.specs.declared.task.Below.{Below}
 use Rattle.cw_pool.specs.declared.task.Base.{Base}
 use Rattle.cw_pool.specs.declared.task.Base.TheVariants as base
 use Rattle.cw_pool.specs.Ends.{MayEnd, IsWorked}
-use Rattle.cw_pool.specs.Tasks as waiting
-use Rattle.cw_pool.specs.Tasks.{Start, StandsStopped, AreBelow, IsRunning}
-use Rattle.cw_pool.proofs.Tasks.Finishing.{IsOutside, Leaves, Ending, finished}
+use Rattle.cw_pool.specs.Tasks.{Start, StandsStopped, IsRunning}
+use Rattle.cw_pool.proofs.Tasks.Finishing.{Leaves, Ending, at_bottom, finished}
 
 abbrev first : Job → Start
 first job = record { state = (strands_of_job job).start; begins = []; above = []; column = 0; from = 0; at = 0; fork = 0; split = false }
@@ -61,14 +59,10 @@ module _ (job : Job) where
   }
 
 module _ {T J : Type 0} (job : Job) (of : T → Token) where
-  at_end : {lowest a : Start} {t : Trail StrandState} {os : List Open} → IsOutside t → AreBelow {T = T} {J = J} job of lowest a t os [] → (a ≡ lowest) × (t ≡ opens)
-  at_end o waiting.bottom = (refl, refl)
-  at_end o (waiting.block h) = absurd o
-
   pub root_worked : (x : Token) (how : Mode) (body : InBlocks) (bs : List (Below T J)) (b : Base T J) → IsRunning job of x body how bs b → MayEnd how x body → bs ≡ [] → b ≡ base.Root → IsWorked job x
   root_worked x how body bs b r0 may none root =
       let r : IsRunning {T = T} {J = J} job of x body how [] base.Root = subst (λ (c : Base T J). IsRunning job of x body how [] c) root (subst (λ (us : List (Below T J)). IsRunning job of x body how us b) none r0) in
       let f = finished job of x body how [] base.Root r may in
-      let (same, over) = at_end f.leaves.outside f.below in
+      let (same, over, none) = at_bottom job of f.leaves.outside f.below in
       worked_so job how x body f.course
       (subst (λ (a : Start). Leaves job x body how a opens f.course) (same ∙ f.based) (subst (λ (t : Trail StrandState). Leaves job x body how f.start t f.course) over f.leaves))

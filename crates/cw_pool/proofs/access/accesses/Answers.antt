@@ -8,7 +8,7 @@ use Rattle.cw_log.specs.declared.board.Access.{Access}
 use Rattle.cw_log.specs.Answers.{Meets}
 use Rattle.cw_body.specs.Bodies.{AnswersAct}
 use Rattle.cw_pool.specs.Accesses.{access_want, given_for}
-use Rattle.cw_pool.proofs.Tasks.Refusing.{cell_there, answers_act, made_so, made_last, refused_so}
+use Rattle.cw_pool.proofs.Tasks.Refusing.{cell_there, answers_act, made_so, made_last, refused_so, victim_there}
 use Rattle.cw_pool.proofs.access.accesses.Goals as goal
 
 pub access-requires-clause-cell : goal.access-requires-clause-cell
@@ -20,6 +20,11 @@ pub answer-requires-clause-answers : goal.answer-requires-clause-answers
 answer-requires-clause-answers g c =
     subst (λ (w : Want). AnswersAct w c.given_for.result) (sym (sym (c.want.ensures (bare c.now.inside.body.program)) ∙ c.in-Some.ensures))
     (subst (λ (y : Given). AnswersAct (access_want c.in-Some.cell c.in-Some.write) y) (sym c.given_for.ensures) (answers_act c.in-Some.cell c.in-Some.write _))
+
+pub refused-now-inside-requires-clause-victim : goal.refused-now-inside-requires-clause-victim
+refused-now-inside-requires-clause-victim g c lives within =
+    let (cell, asker, around, refused_now) = subst (λ (a : Access). Meets (g.B.SharedBoard.of c.now.inside.token) (g.B.SharedBoard.of c.access.new.token) c.in-Some.cell c.in-Some.write a) c.in-Conflict.is c.in-Ok.ensures.ok in
+    victim_there _ _ _ _ _ _ _ _ c.in-Conflict.conflict c.now.invariant around refused_now
 
 pub invariant_of-now-in-Ok-answer : goal.invariant_of-now-in-Ok-answer
 invariant_of-now-in-Ok-answer g c =
@@ -35,6 +40,6 @@ invariant_of-now-in-Err g c =
 
 pub invariant_of-now-in-Conflict : goal.invariant_of-now-in-Conflict
 invariant_of-now-in-Conflict g c =
-    let (cell, asker, refused_now) = subst (λ (a : Access). Meets (g.B.SharedBoard.of c.now.inside.token) (g.B.SharedBoard.of c.access.new.token) c.in-Some.cell c.in-Some.write a) c.in-Conflict.is c.in-Ok.ensures.ok in
+    let (cell, asker, around, refused_now) = subst (λ (a : Access). Meets (g.B.SharedBoard.of c.now.inside.token) (g.B.SharedBoard.of c.access.new.token) c.in-Some.cell c.in-Some.write a) c.in-Conflict.is c.in-Ok.ensures.ok in
     refused_so _ _ _ _ _ _ _ _ _ _ _ c.in-Conflict.conflict c.in-Some.cell c.in-Some.write c.in-Goes.is c.now.invariant (sym (c.want.ensures g.J.Naming-1.job) ∙ c.in-Some.ensures)
     (sym (c.want.ensures (bare c.now.inside.body.program)) ∙ c.in-Some.ensures) cell refused_now c.refused-now-inside.ensures

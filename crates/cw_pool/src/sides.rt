@@ -1,0 +1,200 @@
+//! The two tasks of a fork that has two tokens, each taken apart.
+ghost use Rattle.cw_pool.specs.Tasks.{IsRunning};
+
+use crate::ends::may_end;
+use crate::{Base, Below, Memo, Mode, Naming, Running, Scene};
+use cw_body::Body;
+use cw_log::SharedBoard;
+use cw_pair::Half;
+use std::marker::{Model, PhantomData};
+
+/// A task whose strand is the left one of a fork, the right one of which is a task: it has come to its end, has died or was stopped.
+#[derive(Drop)]
+pub(crate) struct LeftTask<B: SharedBoard, J: Naming> {
+    pub(crate) token: B::Token,
+    pub(crate) body: Body,
+    pub(crate) mode: Mode,
+    /// What waits for the strand that forked, with room for one entry more.
+    pub(crate) below: Vec<Below<B::Token, J>>,
+    pub(crate) base: Base<B::Token, J>,
+    pub(crate) fork: u32,
+    pub(crate) half: Half<Memo<B::Token>, J>,
+    pub(crate) of: PhantomData<J>,
+}
+
+impl<B: SharedBoard, J: Naming> Model for LeftTask<B, J> {
+    ghost use Rattle.std.specs.Prelude.{ℕ, ◌<◌, ◌++◌, ◌∷◌, []};
+    ghost use Rattle.std.specs.Vec.{vec_len, vec_capacity};
+    ghost use Rattle.cw_pool.specs.Ends.{MayEnd};
+    ghost use Rattle.cw_pool.specs.Tasks.{IsRunning};
+    ghost use Rattle.cw_pool.specs.declared.task.Below.TheVariants as entry;
+
+    ghost Value = { ℕ };
+
+    ghost view = { λ l. 0 };
+
+    ghost invariant = { λ l. IsRunning J.job B.of (B.of l.token) l.body l.mode (l.below.items ++ entry.Left l.fork l.half ∷ []) l.base × MayEnd l.mode (B.of l.token) l.body × (vec_len l.below < vec_capacity l.below) };
+}
+
+/// A task that began with the right strand of a fork, and in which nothing waits.
+#[derive(Drop)]
+pub(crate) struct RightTask<B: SharedBoard, J: Naming> {
+    pub(crate) token: B::Token,
+    pub(crate) body: Body,
+    pub(crate) mode: Mode,
+    pub(crate) below: Vec<Below<B::Token, J>>,
+    pub(crate) fork: u32,
+    pub(crate) half: Half<Memo<B::Token>, J>,
+    pub(crate) of: PhantomData<J>,
+}
+
+impl<B: SharedBoard, J: Naming> Model for RightTask<B, J> {
+    ghost use Rattle.std.specs.Prelude.{ℕ, ◌≡◌, []};
+    ghost use Rattle.cw_pool.specs.Tasks.{IsRunning};
+    ghost use Rattle.cw_pool.specs.declared.task.Base.TheVariants as bottom;
+
+    ghost Value = { ℕ };
+
+    ghost view = { λ r. 0 };
+
+    ghost invariant = { λ r. IsRunning J.job B.of (B.of r.token) r.body r.mode r.below.items (bottom.Right r.fork r.half) × (r.below.items ≡ []) };
+}
+
+/// A task of these parts.
+pub(crate) fn task_of<B: SharedBoard, J: Naming>(
+    token: B::Token,
+    body: Body,
+    mode: Mode,
+    below: Vec<Below<B::Token, J>>,
+    base: Base<B::Token, J>,
+) -> Running<B, J>
+    requires { IsRunning J.job B.of (B.of token) body mode below.items base }
+{
+    let now = Running {
+        token,
+        body,
+        mode,
+        below,
+        base,
+        of: PhantomData,
+    };
+    now
+}
+
+impl<B: SharedBoard, J: Naming> LeftTask<B, J> {
+    /// The same task taken apart, where it is one.
+    pub(crate) fn of(
+        scene: &Scene<'_, B, J>,
+        now: Running<B, J>,
+    ) -> Result<LeftTask<B, J>, Running<B, J>> {
+        let Running {
+            token,
+            body,
+            mode,
+            mut below,
+            base,
+            ..
+        } = now;
+        let true = may_end(scene, &token, &body, mode) else {
+            return Err(task_of(token, body, mode, below, base));
+        };
+        match below.pop() {
+            Some(Below::Left { fork, half }) => {
+                let left = LeftTask {
+                    token,
+                    body,
+                    mode,
+                    below,
+                    base,
+                    fork,
+                    half,
+                    of: PhantomData,
+                };
+                Ok(left)
+            }
+            Some(entry) => {
+                below.push_reserved(entry);
+                Err(task_of(token, body, mode, below, base))
+            }
+            None => Err(task_of(token, body, mode, below, base)),
+        }
+    }
+
+    /// The task as it was.
+    pub(crate) fn whole(self) -> Running<B, J> {
+        let LeftTask {
+            token,
+            body,
+            mode,
+            mut below,
+            base,
+            fork,
+            half,
+            ..
+        } = self;
+        below.push_reserved(Below::Left { fork, half });
+        task_of(token, body, mode, below, base)
+    }
+}
+
+impl<B: SharedBoard, J: Naming> RightTask<B, J> {
+    /// The same task taken apart, where it is one.
+    pub(crate) fn of(now: Running<B, J>) -> Result<RightTask<B, J>, Running<B, J>> {
+        let Running {
+            token,
+            body,
+            mode,
+            below,
+            base,
+            ..
+        } = now;
+        let true = below.is_empty() else {
+            return Err(task_of(token, body, mode, below, base));
+        };
+        match base {
+            Base::Root => Err(task_of(token, body, mode, below, Base::Root)),
+            Base::Right { fork, half } => {
+                let right = RightTask {
+                    token,
+                    body,
+                    mode,
+                    below,
+                    fork,
+                    half,
+                    of: PhantomData,
+                };
+                Ok(right)
+            }
+        }
+    }
+
+    /// The task as it was.
+    pub(crate) fn whole(self) -> Running<B, J> {
+        let RightTask {
+            token,
+            body,
+            mode,
+            below,
+            fork,
+            half,
+            ..
+        } = self;
+        task_of(token, body, mode, below, Base::Right { fork, half })
+    }
+}
+
+/// The number of the pair of the fork whose left strand this is, where its right one is a task.
+pub(crate) fn left_number<B: SharedBoard, J: Naming>(now: &Running<B, J>) -> Option<u64> {
+    match now.below.last() {
+        Some(Below::Left { half, .. }) => Some(half.number()),
+        _ => None,
+    }
+}
+
+/// The number of the pair of the fork as whose right strand the task began.
+pub(crate) fn right_number<B: SharedBoard, J: Naming>(now: &Running<B, J>) -> Option<u64> {
+    match &now.base {
+        Base::Root => None,
+        Base::Right { half, .. } => Some(half.number()),
+    }
+}

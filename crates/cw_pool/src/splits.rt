@@ -1,0 +1,29 @@
+//! A right strand that was stolen begins.
+use crate::{Base, Mode, Naming, Running, Scene};
+use cw_log::SharedBoard;
+use std::sync::Wait;
+
+/// A right strand that waits goes on, once its fork is split. False where another fork is to be split before: it waits as before.
+pub(crate) fn splits<B: SharedBoard, J: Naming, R: Wait>(
+    rt: &R,
+    scene: &Scene<'_, B, J>,
+    now: &mut Running<B, J>,
+) -> bool {
+    let Mode::Waits = now.mode else {
+        return true;
+    };
+    let Base::Right { fork, .. } = &now.base else {
+        return true;
+    };
+    let fork = *fork;
+    let true = now.below.is_empty() else {
+        return true;
+    };
+    match scene.board.split(rt, &mut now.token, fork) {
+        Ok(()) => {
+            now.mode = Mode::Goes;
+            true
+        }
+        Err(_) => false,
+    }
+}
