@@ -15,7 +15,6 @@ ghost use Rattle.cw_top.specs.Reasons.{WhyNoRun, note_of};
 ghost use Rattle.cw_top.specs.Refusals.{IsMisfit};
 ghost use Rattle.cw_words.specs.Words.{command_in, limits_of, words_of};
 
-use cw_words::{Command, command_of};
 use crate::reading::program_from;
 use crate::reasons::{NoRun, NotWritten, Refusal, Stop};
 use crate::{Note, Reply};
@@ -25,6 +24,7 @@ use cw_job::takes_words;
 use cw_record::{Record, RecordEnd, depth_first};
 use cw_report::{report_text, result_text};
 use cw_sim::simulate;
+use cw_words::{Command, command_of};
 use std::alloc::Global;
 use std::sync::Wait;
 use std::thread::Threads;
