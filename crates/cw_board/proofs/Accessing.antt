@@ -1,6 +1,6 @@
 -- Serves `make_access`: a token that makes an access of a cell that it holds.
-use Rattle.std.proofs.Common.{◌≡◌, ◌∙◌, ◌+◌, ◌-◌, ◌*◌, ◌<◌, ◌≤◌, ◌∷◌, ◌++◌, [], List, ℕ, zero, suc, ap, refl, sym, subst, arith, Bool, true, length}
-use Rattle.std.specs.Prelude.{ℤ, All, IsTrue, is_some, IfSome, Option, Some, None, slice_get, unwrap_or}
+use Rattle.std.proofs.Common.{◌≡◌, ◌∙◌, ◌-◌, ◌<◌, ◌≤◌, ◌∷◌, ◌++◌, [], List, ℕ, zero, suc, ap, sym, subst, arith, Bool, length}
+use Rattle.std.specs.Prelude.{ℤ, All, IsTrue, is_some, IfSome, Option, Some, None, slice_get}
 use Rattle.std.proofs.lemmas.List.Elements.{All-nil, All-cons, All-head, All-tail, All-weaker}
 use Rattle.atomic_table.specs.Table.{rest}
 use Rattle.cw_tree.specs.declared.access.Entry.{Entry}
@@ -18,7 +18,7 @@ use Rattle.cw_steps.specs.declared.view.View.{View}
 use Rattle.cw_steps.specs.declared.view.Whereabouts.{Whereabouts}
 use Rattle.cw_steps.specs.Stands.{brought_token, token_of}
 use Rattle.cw_steps.specs.Tracks.{kind_of_access, HasRoom}
-use Rattle.cw_steps.specs.Views.{drew_view, gave_view, held_by, key_of, newest_slot, newest_used, older, view_of, share, Holding, IsLowCell, IsTokenOf, IsWhole}
+use Rattle.cw_steps.specs.Views.{drew_view, gave_view, held_by, key_of, newest_slot, newest_used, view_of, Holding, IsLowCell, IsTokenOf, IsWhole}
 use Rattle.cw_board.specs.declared.board.Board.{Board}
 use Rattle.cw_board.specs.Boards.{cells_in, columns_of, IsOf}
 use Rattle.cw_board.specs.Sound.{IsSound}

@@ -1,11 +1,10 @@
 -- Serves `HasForked`: a token that forks, and both that come of it.
-use Rattle.std.proofs.Common.{◌≡◌, ◌≢◌, ◌∙◌, ◌+◌, ◌-◌, ◌*◌, ◌<◌, ◌≤◌, ◌∷◌, [], List, ℕ, suc, ap, refl, sym, subst, arith, Bool, true, false, length, eq-eqb}
-use Rattle.std.specs.Prelude.{All, IsTrue, is_some, Option, Some, None, ◌==◌, if◌then◌else◌}
+use Rattle.std.proofs.Common.{◌≡◌, ◌≢◌, ◌∙◌, ◌+◌, ◌-◌, ◌<◌, ◌≤◌, ◌∷◌, [], List, ℕ, suc, ap, refl, sym, subst, arith, Bool, true, false, length, eq-eqb}
+use Rattle.std.specs.Prelude.{All, IsTrue, is_some, Some, ◌==◌, if◌then◌else◌}
 use Rattle.std.proofs.lemmas.List.{length-reverse}
 use Rattle.std.proofs.lemmas.List.Elements.{All-nil, All-cons}
 use Rattle.std.proofs.lemmas.Bool.{ne_eqb}
 use Rattle.atomic_table.specs.Table.{rest}
-use Rattle.cw_log.specs.declared.token.Token.{Token}
 use Rattle.cw_log.specs.Tokens.{branched, forked, right_of}
 use Rattle.cw_steps.specs.declared.view.Key.{Key}
 use Rattle.cw_steps.specs.declared.draw.Draw.TheVariants as draw
@@ -19,9 +18,9 @@ use Rattle.cw_steps.specs.declared.view.View.{View}
 use Rattle.cw_steps.specs.declared.view.Whereabouts.{Whereabouts}
 use Rattle.cw_steps.specs.Stands.{drawn_token, right_token, token_of}
 use Rattle.cw_steps.specs.declared.track.Track.{Track}
-use Rattle.cw_steps.specs.Tracks.{TrackParts, brought, drawn, track_of, CanPart, HasRoom, HasSpare}
+use Rattle.cw_steps.specs.Tracks.{TrackParts, brought, track_of, CanPart, HasRoom, HasSpare}
 use Rattle.cw_steps.specs.Around.{caught_up, innermost}
-use Rattle.cw_steps.specs.Views.{columns_for, drew_view, gave_view, held_by, key_of, newest_slot, newest_used, older, outer_for, parted_view, new_seat_view, right_view, cells_of, CanFork, Holding, IsTierOf, IsWhole, share, view_of, with_more, IsTokenOf}
+use Rattle.cw_steps.specs.Views.{columns_for, drew_view, gave_view, held_by, key_of, newest_slot, newest_used, older, parted_view, new_seat_view, right_view, cells_of, CanFork, Holding, IsTierOf, IsWhole, share, view_of, with_more, IsTokenOf}
 use Rattle.cw_board.specs.declared.board.Board.{Board}
 use Rattle.cw_board.specs.Boards.{cells_in, columns_of, IsOf}
 use Rattle.cw_board.specs.Sound.{IsSound}

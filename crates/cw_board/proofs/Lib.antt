@@ -3,3 +3,5 @@ pub mod Boards
 pub mod Holding
 pub mod Forking
 pub mod Accessing
+pub mod Reading
+pub mod Refusing

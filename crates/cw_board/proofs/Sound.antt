@@ -1,5 +1,5 @@
 -- Serves `IsSound`: what stays true of a token, whatever it does next.
-use Rattle.std.proofs.Common.{◌≡◌, ◌≢◌, ◌^◌, Bool, max, append_assoc, ℕ, zero, suc, ◌+◌, ◌*◌, ◌<◌, ◌≤◌, ◌∙◌, List, [], ◌∷◌, ◌++◌, length, length-append, drop, arith, ap, sym, refl, subst, inl, inr}
+use Rattle.std.proofs.Common.{◌≡◌, ◌^◌, Bool, max, append_assoc, ℕ, zero, suc, ◌+◌, ◌*◌, ◌<◌, ◌≤◌, ◌∙◌, List, [], ◌∷◌, ◌++◌, length, length-append, drop, arith, ap, sym, refl, subst, inl, inr}
 use Rattle.std.specs.Prelude.{◌||◌, All, slice_get, Some, if◌then◌else◌}
 use Rattle.std.proofs.lemmas.List.{length-drop}
 use Rattle.std.proofs.lemmas.List.Elements.{All-nil, All-cons, All-contains, All-head, All-tail, All-weaker}

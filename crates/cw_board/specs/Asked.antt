@@ -1,7 +1,6 @@
 -- What a question reads, and what that tells.
-use Rattle.std.specs.Prelude.{◌≡◌, ◌⊎◌, ℕ, ◌-◌, ◌+◌, ◌<◌, ◌≤◌, ◌++◌, List, [], ◌∷◌, All, Contains, length, take, Option, Some, None}
+use Rattle.std.specs.Prelude.{◌≡◌, ℕ, ◌-◌, ◌<◌, ◌≤◌, ◌++◌, List, [], Contains, length, take, Option, Some, None}
 use Rattle.std.specs.Borrow.{MutBor}
-use Rattle.cw_log.specs.declared.log.Above.{Above}
 use Rattle.cw_tree.specs.declared.access.Mark.{Mark}
 use Rattle.cw_trace.specs.Columns.{ColumnTable}
 use Rattle.cw_trace.specs.Columns as columns

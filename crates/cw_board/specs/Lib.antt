@@ -2,3 +2,4 @@ pub mod Sound
 pub mod Boards
 pub mod Turns
 pub mod Asked
+pub mod Victims

@@ -5,6 +5,8 @@
 //! knows while it has a turn).
 #![tactic(auto)]
 
+mod access;
+mod asking;
 mod blocks;
 mod board;
 mod cells;
@@ -12,6 +14,7 @@ mod forks;
 mod halts;
 mod strands;
 mod turns;
+mod victims;
 
 pub use board::Board;
 

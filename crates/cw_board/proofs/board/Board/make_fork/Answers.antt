@@ -4,7 +4,7 @@ use Rattle.cw_steps.specs.Views.{key_of, newest_used, view_of, Holding, IsWhole}
 use Rattle.cw_steps.specs.declared.view.Slot.{Slot}
 use Rattle.cw_steps.specs.declared.view.Slot.TheVariants as slot
 use Rattle.cw_board.specs.Boards.{cells_in}
-use Rattle.cw_steps.specs.Tracks.{drawn, track_of}
+use Rattle.cw_steps.specs.Tracks.{track_of}
 use Rattle.cw_board.proofs.Forking.{brought_pending, gives_fork, part_kept}
 use Rattle.cw_board.proofs.board.Board.make_fork.Goals as goal
 

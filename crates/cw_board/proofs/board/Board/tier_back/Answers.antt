@@ -2,7 +2,6 @@ use Rattle.std.proofs.Common.{ℕ, refl, sym, subst}
 use Rattle.cw_steps.specs.Views.{key_of, newest_used, view_of, Holding, IsWhole}
 use Rattle.cw_steps.specs.declared.view.Slot.{Slot}
 use Rattle.cw_steps.specs.declared.view.Slot.TheVariants as slot
-use Rattle.cw_board.specs.Boards.{cells_in}
 use Rattle.cw_board.proofs.Holding.{gives_over, gives_back, has_tier_too, over_other}
 use Rattle.cw_board.proofs.board.Board.tier_back.Goals as goal
 
