@@ -5,3 +5,4 @@ pub mod Forking
 pub mod Accessing
 pub mod Reading
 pub mod Refusing
+pub mod Rolls

@@ -12,11 +12,14 @@ mod board;
 mod cells;
 mod forks;
 mod halts;
+mod named;
+mod rolling;
 mod strands;
 mod turns;
 mod victims;
 
 pub use board::Board;
+pub use named::{NamedBoard, NamedToken, Naming};
 
 #[cfg(test)]
 mod tests;
