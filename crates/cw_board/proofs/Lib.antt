@@ -3,3 +3,4 @@ pub mod Boards
 pub mod Holding
 pub mod Forking
 pub mod Accessing
+pub mod Rolls

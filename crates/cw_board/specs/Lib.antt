@@ -1,3 +1,4 @@
 pub mod Sound
 pub mod Boards
 pub mod Turns
+pub mod Rolls

@@ -10,6 +10,7 @@ mod board;
 mod cells;
 mod forks;
 mod halts;
+mod rolling;
 mod strands;
 mod turns;
 

@@ -9,6 +9,7 @@
 mod calls;
 mod draw;
 mod law;
+mod logs;
 mod marks;
 mod places;
 mod seats;
