@@ -4,3 +4,4 @@ pub mod Tracks
 pub mod Views
 pub mod Stands
 pub mod Rule
+pub mod Leaving
