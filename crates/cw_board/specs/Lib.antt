@@ -2,3 +2,4 @@ pub mod Sound
 pub mod Boards
 pub mod Turns
 pub mod Rolls
+pub mod Asked

@@ -1,5 +1,6 @@
 pub mod Places
 pub mod Totals
+pub mod Around
 pub mod Tracks
 pub mod Views
 pub mod Stands
