@@ -4,3 +4,4 @@ pub mod Holding
 pub mod Forking
 pub mod Accessing
 pub mod Rolls
+pub mod Closes

@@ -49,6 +49,8 @@ sound_lent x room seen h = record {
   waiting = h.waiting;
   path = h.path;
   outer = h.outer;
+  own = h.own;
+  outer_own = h.outer_own;
   numbers = h.numbers;
   around = h.around;
   outer_around = h.outer_around;
@@ -66,10 +68,13 @@ pub kept_is : (b : Board) (t u v t' : StrandToken) → IsOf b t → u.seat ≡ t
 kept_is b t u v t' h lent left g seat room kept = record { of = is; later = later; rest = rest; token = token } where
   rest : at_rest (view_of t') ≡ at_rest (view_of t)
   rest = ap (λ s. at_rest s.me.0) seat ∙ g.rest ∙ ap (λ s. at_rest s.me.0) lent
+
   later : (view_of t).seen ≤ (view_of t').seen
   later = subst (λ s. (view_of t).seen ≤ s.me.0.seen) (sym seat) (subst (λ s. s.me.0.seen ≤ (view_of v).seen) lent g.later)
+
   token : token_of t' ≡ token_of t
   token = kept ∙ ap (λ (x : Token). record x { joined = (token_of t).joined }) (g.token ∙ left)
+
   is : IsOf b t'
   is = is_now b t' (view_of v) (token_of t) (ap (λ s. s.table_id) seat ∙ g.of.table) (ap (λ s. s.me.0) seat) token (ap (λ s. s.me.1) seat ∙ g.of.slots)
       (subst (λ r. IsTrue (is_some r)) (sym room) g.of.room) g.of.here g.of.turns g.of.gap g.of.gaps

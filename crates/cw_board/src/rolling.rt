@@ -119,12 +119,7 @@ impl Board {
 
     /// Undoes an access in its cell, with all that came after it there, if there is such an access and such a cell. No rule of the table says
     /// yet that the cells of a log are there.
-    fn undo_access<R: Wait>(
-        &self,
-        rt: &R,
-        token: &mut StrandToken,
-        access: Option<(u32, u64)>,
-    )
+    fn undo_access<R: Wait>(&self, rt: &R, token: &mut StrandToken, access: Option<(u32, u64)>)
         requires { IsOf self.now token.old }
         ensures { HasGiven self.now token.old token.new }
     {
