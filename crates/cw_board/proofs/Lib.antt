@@ -6,3 +6,4 @@ pub mod Accessing
 pub mod Reading
 pub mod Refusing
 pub mod Rolls
+pub mod Closes

@@ -1,7 +1,7 @@
 //! Boards and tokens under a name of their table, by which their types say that the token is one of the board.
 ghost use Rattle.std.specs.Prelude.{◌≡◌};
 ghost use Rattle.cw_steps.specs.Stands.{token_of};
-ghost use Rattle.cw_board.specs.Boards.{budget_of, cells_in, columns_of, table_of, IsAt, IsOf};
+ghost use Rattle.cw_board.specs.Boards.{budget_of, cells_in, columns_of, table_of, IsOf};
 
 use crate::Board;
 use cw_base::OutOfMemory;
@@ -87,16 +87,6 @@ impl Board {
     }
 }
 
-fn named<N: Naming>(token: StrandToken) -> NamedToken<N>
-    requires { IsAt N.table N.columns token }
-    ensures { result ≡ token_of token }
-{
-    NamedToken {
-        token,
-        of: PhantomData,
-    }
-}
-
 impl<N: Naming> SharedBoard for NamedBoard<N> {
     type Token = NamedToken<N>;
 
@@ -118,7 +108,8 @@ impl<N: Naming> SharedBoard for NamedBoard<N> {
 
     fn out(&self, token: &mut NamedToken<N>, value: i64) -> Result<(), OutOfMemory> {
         let NamedToken { token, .. } = token;
-        self.board.out(token, value)
+        self.board.out(token, value)?;
+        Ok(())
     }
 
     fn access<R: Wait>(
@@ -139,15 +130,31 @@ impl<N: Naming> SharedBoard for NamedBoard<N> {
     ) -> Result<Forked<NamedToken<N>>, (NamedToken<N>, OutOfMemory)> {
         let NamedToken { token, .. } = token;
         match self.board.fork(rt, token) {
-            Ok(Forked::Two { fork, left, right }) => Ok(Forked::Two {
-                fork,
-                left: named(left),
-                right: named(right),
-            }),
-            Ok(Forked::Inline { token }) => Ok(Forked::Inline {
-                token: named(token),
-            }),
-            Err((token, error)) => Err((named(token), error)),
+            Ok(Forked::Two { fork, left, right }) => {
+                let left = NamedToken {
+                    token: left,
+                    of: PhantomData,
+                };
+                let right = NamedToken {
+                    token: right,
+                    of: PhantomData,
+                };
+                Ok(Forked::Two { fork, left, right })
+            }
+            Ok(Forked::Inline { token }) => {
+                let token = NamedToken {
+                    token,
+                    of: PhantomData,
+                };
+                Ok(Forked::Inline { token })
+            }
+            Err((token, error)) => {
+                let token = NamedToken {
+                    token,
+                    of: PhantomData,
+                };
+                Err((token, error))
+            }
         }
     }
 
@@ -175,7 +182,10 @@ impl<N: Naming> SharedBoard for NamedBoard<N> {
     fn join(&self, left: NamedToken<N>, right: NamedToken<N>) -> NamedToken<N> {
         let NamedToken { token: left, .. } = left;
         let NamedToken { token: right, .. } = right;
-        named(self.board.join(left, right))
+        NamedToken {
+            token: self.board.join(left, right),
+            of: PhantomData,
+        }
     }
 
     fn merge<R: Wait>(&self, rt: &R, token: &mut NamedToken<N>, fork: u32) {

@@ -43,7 +43,7 @@ IsPlain x = (x.state ≡ Committed) × (x.end ≡ 0)
 -- ## What lay in the slots
 
 -- it took turns and gave them back, and did nothing else
-pub record HasLooked (me me' : Me Slot View) : Type 0 where
+pub record HasReturned (me me' : Me Slot View) : Type 0 where
   pub seen : ℕ
   pub notes : List Note
   pub later : me.0.seen ≤ seen
@@ -54,7 +54,7 @@ pub record HasLooked (me me' : Me Slot View) : Type 0 where
 pub record IsJournal (key : Key) (me : Me Slot View) (n : ℕ) (es : List Entry) : Type 0 where
   pub before : Me Slot View
   pub after : Me Slot View
-  pub looked : HasLooked me before
+  pub looked : HasReturned me before
   pub takes : TakesIt key Look n before after
   pub cell : CellParts
   pub lay : takes.lay ≡ slot.Cell cell

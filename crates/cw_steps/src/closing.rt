@@ -6,7 +6,7 @@ ghost use Rattle.cw_log.specs.Tokens.{logs};
 ghost use Rattle.cw_course.specs.Closings.{conflicts_of, halt_in, tree_of, AreApart, IsPutTogether};
 ghost use Rattle.cw_tree.specs.InOrder.{conflicts_in_order, halt_in_order, in_order};
 ghost use Rattle.cw_tree.specs.Walks.{IsNumbered};
-ghost use Rattle.cw_steps.specs.Leaving.{logs_of_track, AreJournals, HasLooked};
+ghost use Rattle.cw_steps.specs.Leaving.{logs_of_track, AreJournals, HasReturned};
 ghost use Rattle.cw_steps.specs.Stands.{token_of};
 ghost use Rattle.cw_steps.specs.Views.{key_of, IsTokenOf};
 
@@ -59,7 +59,7 @@ impl Shared {
         ensures together { IfOk result (λ c. IsPutTogether (logs (token_of token)) (token_of token).stop c) }
         ensures journals { IfOk result (λ c. AreJournals (key_of self) token.seat.me c.journals) }
         ensures table { IfErr result (λ e. (e.0 ≡ self) × IsTokenOf e.0 e.1) }
-        ensures looked { IfErr result (λ e. HasLooked token.seat.me e.1.seat.me) }
+        ensures looked { IfErr result (λ e. HasReturned token.seat.me e.1.seat.me) }
         ensures kept { IfErr result (λ e. (e.1.track.room ≡ token.track.room) × (token_of e.1 ≡ token_of token)) }
     {
         let mut token = token;
@@ -74,7 +74,7 @@ impl Shared {
         ensures together { IfOk result (λ c. IsPutTogether (logs (token_of token.old)) (token_of token.old).stop c) }
         ensures journals { IfOk result (λ c. AreJournals (key_of self.now) token.old.seat.me c.journals) }
         ensures table { IsTokenOf self.now token.new }
-        ensures looked { HasLooked token.old.seat.me token.new.seat.me }
+        ensures looked { HasReturned token.old.seat.me token.new.seat.me }
         ensures room { token.new.track.room ≡ token.old.track.room }
         ensures token { token_of token.new ≡ token_of token.old }
     {

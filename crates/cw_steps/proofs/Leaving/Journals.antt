@@ -6,7 +6,7 @@ use Rattle.atomic_table.specs.Table.{Me, rest}
 use Rattle.cw_tree.specs.declared.access.Entry.{Entry}
 use Rattle.cw_tree.specs.AccessStacks.{stamps}
 use Rattle.cw_stack.specs.Cells.{CellParts, AreSteps}
-use Rattle.cw_steps.specs.Leaving.{HasLooked, IsJournal}
+use Rattle.cw_steps.specs.Leaving.{HasReturned, IsJournal}
 use Rattle.cw_steps.specs.declared.draw.Aim.TheVariants.{Look}
 use Rattle.cw_steps.specs.declared.draw.Home.TheVariants as home
 use Rattle.cw_steps.specs.declared.table.StrandToken.{StrandToken}
@@ -16,10 +16,10 @@ use Rattle.cw_steps.specs.declared.view.Slot.TheVariants as slot
 use Rattle.cw_steps.specs.declared.view.View.{View}
 use Rattle.cw_steps.specs.Views.{cell_in, gave_view, held_by, newest_slot, newest_used, took_view, view_of, Holding, IsLowCell, IsWhole, LeavesIt, TakesIt}
 
-pub looks_not : (me : Me Slot View) → HasLooked me me
+pub looks_not : (me : Me Slot View) → HasReturned me me
 looks_not me = record { seen = me.0.seen; notes = me.0.notes; later = omega arith; after = refl }
 
-pub looks_more : (a b c : Me Slot View) → HasLooked a b → HasLooked b c → HasLooked a c
+pub looks_more : (a b c : Me Slot View) → HasReturned a b → HasReturned b c → HasReturned a c
 looks_more a b c h g = record {
   seen = g.seen;
   notes = g.notes;
@@ -27,7 +27,7 @@ looks_more a b c h g = record {
   after = g.after ∙ ap (λ (m : Me Slot View). (record m.0 { seen = g.seen; notes = g.notes }, m.1)) h.after;
 }
 
-pub looks_left : (word : ℕ) (a b : Me Slot View) → LeavesIt word a b → HasLooked a b
+pub looks_left : (word : ℕ) (a b : Me Slot View) → LeavesIt word a b → HasReturned a b
 looks_left word a b left = record { seen = a.0.seen; notes = record { word = word; value = left.0 } ∷ a.0.notes; later = omega arith; after = left.2 }
 
 abbrev first_slot : List (ℕ × Slot) → Slot
@@ -76,7 +76,7 @@ module _ (key : Key) (n : ℕ) (t u : StrandToken) (takes : TakesIt key Look n t
       subst (λ (z : View). IsWhole key z.seen (newest_used z.turns) n (slot.Cell x)) (sym view_now) (subst (IsWhole key takes.clock takes.used n) lay takes.whole),
     )
 
-    pub looked_then : (t' : StrandToken) → view_of t' ≡ gave_view home.Plain (view_of w) → held_by t' ≡ rest (held_by w) → HasLooked t.seat.me t'.seat.me
+    pub looked_then : (t' : StrandToken) → view_of t' ≡ gave_view home.Plain (view_of w) → held_by t' ≡ rest (held_by w) → HasReturned t.seat.me t'.seat.me
     looked_then t' view slots = record {
       seen = takes.clock;
       notes = (view_of t).notes;
@@ -89,7 +89,7 @@ module _ (key : Key) (n : ℕ) (t u : StrandToken) (takes : TakesIt key Look n t
 
 -- ## One after another
 
-pub journal_since : (key : Key) (a b : Me Slot View) (n : ℕ) (es : List Entry) → HasLooked a b → IsJournal key b n es → IsJournal key a n es
+pub journal_since : (key : Key) (a b : Me Slot View) (n : ℕ) (es : List Entry) → HasReturned a b → IsJournal key b n es → IsJournal key a n es
 journal_since key a b n es h j = record {
   before = j.before;
   after = j.after;
