@@ -1,12 +1,13 @@
 -- Serves `make_access`: a token that makes an access of a cell that it holds.
-use Rattle.std.proofs.Common.{◌≡◌, ◌∙◌, ◌+◌, ◌-◌, ◌*◌, ◌<◌, ◌≤◌, ◌∷◌, ◌++◌, [], List, ℕ, zero, suc, ap, refl, sym, subst, arith, Bool, true, length}
-use Rattle.std.specs.Prelude.{ℤ, All, IsTrue, is_some, IfSome, Option, Some, None, slice_get, unwrap_or}
+use Rattle.std.proofs.Common.{◌≡◌, ◌∙◌, ◌-◌, ◌<◌, ◌≤◌, ◌∷◌, ◌++◌, [], List, ℕ, zero, suc, ap, sym, subst, arith, Bool, length}
+use Rattle.std.specs.Prelude.{ℤ, All, IsTrue, is_some, IfSome, Option, Some, None, slice_get}
 use Rattle.std.proofs.lemmas.List.Elements.{All-nil, All-cons, All-head, All-tail, All-weaker}
 use Rattle.atomic_table.specs.Table.{rest}
 use Rattle.cw_tree.specs.declared.access.Entry.{Entry}
 use Rattle.cw_tree.specs.declared.access.Mark.{Mark}
 use Rattle.cw_stack.specs.Cells.{CellParts, entry_of, newest_entry}
-use Rattle.cw_log.specs.Answers.{access_kind}
+use Rattle.cw_tree.specs.declared.conflict.Conflict.{Conflict}
+use Rattle.cw_log.specs.Answers.{access_kind, IsAround}
 use Rattle.cw_log.specs.Tokens.{made}
 use Rattle.cw_steps.specs.declared.draw.Draw.TheVariants as draw
 use Rattle.cw_steps.specs.declared.draw.Home.TheVariants as home
@@ -15,16 +16,16 @@ use Rattle.cw_steps.specs.declared.view.Slot.{Slot}
 use Rattle.cw_steps.specs.declared.view.Slot.TheVariants as slot
 use Rattle.cw_steps.specs.declared.view.View.{View}
 use Rattle.cw_steps.specs.declared.view.Whereabouts.{Whereabouts}
-use Rattle.cw_steps.specs.Stands.{token_of}
+use Rattle.cw_steps.specs.Stands.{brought_token, token_of}
 use Rattle.cw_steps.specs.Tracks.{kind_of_access, HasRoom}
-use Rattle.cw_steps.specs.Views.{drew_view, gave_view, held_by, key_of, newest_slot, newest_used, older, view_of, share, Holding, IsLowCell, IsTokenOf, IsWhole}
+use Rattle.cw_steps.specs.Views.{drew_view, gave_view, held_by, key_of, newest_slot, newest_used, view_of, Holding, IsLowCell, IsTokenOf, IsWhole}
 use Rattle.cw_board.specs.declared.board.Board.{Board}
 use Rattle.cw_board.specs.Boards.{cells_in, columns_of, IsOf}
 use Rattle.cw_board.specs.Sound.{IsSound}
 use Rattle.cw_board.specs.Turns.{IsHolding}
 use Rattle.cw_board.proofs.Boards.{is_now}
 use Rattle.cw_board.proofs.Holding.{lists_held}
-use Rattle.cw_board.proofs.Sound.{sound_made, sound_later}
+use Rattle.cw_board.proofs.Sound.{around_low, sound_made, sound_later, sound_refused}
 
 low_at : (P : Entry → Type 0) (es : List Entry) (k : ℕ) → All P es → IfSome (slice_get es k) P
 low_at P [] k all = tt
@@ -76,3 +77,18 @@ module _ (b : Board) (n stamp : ℕ) (wrote : Bool) (x : ℤ) (y z : Slot) (t u 
       (subst (λ q. IsSound q (view_of u).room (view_of u).seen) (sym h.token)
       (subst (λ r. IsSound (token_of t) r (view_of u).seen) (sym (ap (λ (w : View). w.room) h.rest)) (sound_later (token_of t) (view_of t).room (view_of t).seen (view_of u).seen h.later h.was.sound)))
       drawn_now.room stamp (omega arith) later (kind_of_access n wrote x))
+
+-- a refused access is noted
+pub refused_is : (b : Board) (n : ℕ) (y : Slot) (t u u' : StrandToken) (c : Conflict) → IsHolding b n y t u → IsTokenOf b.shared u' → view_of u' ≡ gave_view (home.Refused c) (view_of u) → held_by u' ≡ rest (held_by u)
+    → u'.track.room ≡ u.track.room → token_of u' ≡ brought_token (home.Refused c) (token_of u) → IsAround (token_of u) c.victim → IsOf b u'
+refused_is b n y t u u' c h table view slots room token around =
+    let sound : IsSound (token_of u) (view_of u).room (view_of u).seen =
+    subst (λ q. IsSound q (view_of u).room (view_of u).seen) (sym h.token)
+    (subst (λ r. IsSound (token_of t) r (view_of u).seen) (sym (ap (λ (w : View). w.room) h.rest)) (sound_later (token_of t) (view_of t).room (view_of t).seen (view_of u).seen h.later h.was.sound)) in
+    is_now b u' (gave_view (home.Refused c) (view_of u)) (brought_token (home.Refused c) (token_of u)) table view token (slots ∙ ap (λ ys. rest ys) h.slots)
+    (subst (λ r. IsTrue (is_some r)) (sym room) (subst HasRoom (sym h.track) h.was.room))
+    (ap (λ (w : View). w.here) h.rest ∙ h.was.here) h.alone
+    (subst (λ (k : ℕ). k < columns_of b) (sym (ap (λ (w : View). w.gap) h.rest)) h.was.gap)
+    (subst (All (λ (o : Whereabouts). o.gap < columns_of b)) (sym (ap (λ (w : View). w.outer) h.rest)) h.was.gaps)
+    (lists_held b n y t u h)
+    (sound_refused (token_of u) (view_of u).room (view_of u).seen (record c { asker = length (token_of u).own.nodes }) sound (around_low (token_of u) (view_of u).seen c.victim sound.around around))

@@ -5,14 +5,14 @@ use Rattle.std.proofs.lemmas.List.Elements.{All-nil, All-head, All-tail}
 use Rattle.cw_tree.specs.declared.conflict.Conflict.{Conflict}
 use Rattle.cw_log.specs.declared.token.Open.{Open}
 use Rattle.cw_log.specs.declared.token.Token.{Token}
-use Rattle.cw_steps.specs.declared.table.Shared.{Shared}
 use Rattle.cw_steps.specs.declared.table.StrandToken.{StrandToken}
 use Rattle.cw_steps.specs.declared.track.Stood.{Stood}
 use Rattle.cw_steps.specs.declared.view.View.{View}
 use Rattle.cw_steps.specs.declared.view.Whereabouts.{Whereabouts}
 use Rattle.cw_steps.specs.Tracks.{state_of_end, track_of, HasRoom, IsBeside, WaitsBeside}
 use Rattle.cw_steps.specs.Stands.{opens, root_token, stands_for, token_of}
-use Rattle.cw_steps.specs.Views.{held_by, key_of, root_view, view_of, drew_view, marked_view, told_view, halted_view, joined_view, both_view, stood_at, further_out, caught_up, outwards, share, IsTokenOf}
+use Rattle.cw_steps.specs.Around.{caught_up, outwards}
+use Rattle.cw_steps.specs.Views.{held_by, root_view, view_of, drew_view, marked_view, told_view, halted_view, joined_view, both_view, stood_at, further_out, share, IsTokenOf}
 use Rattle.cw_steps.specs.declared.draw.Draw.TheVariants as draw
 use Rattle.cw_tree.specs.declared.node.Kind.TheVariants as kind
 use Rattle.cw_tree.specs.declared.closed.Halt.{Halt}
@@ -49,6 +49,8 @@ root_sound = record {
   waiting = [];
   path = refl;
   outer = tt;
+  own = omega arith;
+  outer_own = tt;
   numbers = omega arith;
   around = All-nil (λ b. b ≤ 0);
   outer_around = All-nil (λ (o : Open). AreLow 0 o.around);

@@ -1,10 +1,10 @@
 -- Serves `HasForked`: a token that forks, and both that come of it.
-use Rattle.std.proofs.Common.{◌≡◌, ◌≢◌, ◌∙◌, ◌+◌, ◌-◌, ◌*◌, ◌<◌, ◌≤◌, ◌∷◌, [], List, ℕ, suc, ap, refl, sym, subst, arith, Bool, true, false, length, eq-eqb}
-use Rattle.std.specs.Prelude.{All, IsTrue, is_some, Option, Some, None, ◌==◌, if◌then◌else◌}
+use Rattle.std.proofs.Common.{◌≡◌, ◌≢◌, ◌∙◌, ◌+◌, ◌-◌, ◌<◌, ◌≤◌, ◌∷◌, [], List, ℕ, suc, ap, refl, sym, subst, arith, Bool, true, false, length, eq-eqb}
+use Rattle.std.specs.Prelude.{All, IsTrue, is_some, Some, ◌==◌, if◌then◌else◌}
+use Rattle.std.proofs.lemmas.List.{length-reverse}
 use Rattle.std.proofs.lemmas.List.Elements.{All-nil, All-cons}
 use Rattle.std.proofs.lemmas.Bool.{ne_eqb}
 use Rattle.atomic_table.specs.Table.{rest}
-use Rattle.cw_log.specs.declared.token.Token.{Token}
 use Rattle.cw_log.specs.Tokens.{branched, forked, right_of}
 use Rattle.cw_steps.specs.declared.view.Key.{Key}
 use Rattle.cw_steps.specs.declared.draw.Draw.TheVariants as draw
@@ -17,8 +17,10 @@ use Rattle.cw_steps.specs.declared.view.Turn.{Turn}
 use Rattle.cw_steps.specs.declared.view.View.{View}
 use Rattle.cw_steps.specs.declared.view.Whereabouts.{Whereabouts}
 use Rattle.cw_steps.specs.Stands.{drawn_token, right_token, token_of}
-use Rattle.cw_steps.specs.Tracks.{drawn, track_of, HasRoom}
-use Rattle.cw_steps.specs.Views.{columns_for, drew_view, gave_view, held_by, key_of, newest_slot, newest_used, older, outer_for, parted_view, new_seat_view, right_view, caught_up, innermost, cells_of, CanFork, Holding, IsTierOf, IsWhole, share, view_of, with_more, IsTokenOf}
+use Rattle.cw_steps.specs.declared.track.Track.{Track}
+use Rattle.cw_steps.specs.Tracks.{TrackParts, brought, track_of, CanPart, HasRoom, HasSpare}
+use Rattle.cw_steps.specs.Around.{caught_up, innermost}
+use Rattle.cw_steps.specs.Views.{columns_for, drew_view, gave_view, held_by, key_of, newest_slot, newest_used, older, parted_view, new_seat_view, right_view, cells_of, CanFork, Holding, IsTierOf, IsWhole, share, view_of, with_more, IsTokenOf}
 use Rattle.cw_board.specs.declared.board.Board.{Board}
 use Rattle.cw_board.specs.Boards.{cells_in, columns_of, IsOf}
 use Rattle.cw_board.specs.Sound.{IsSound}
@@ -180,3 +182,18 @@ gives_fork b left right gap n behind second y z t u v h view slots tier = (
     tier = λ e. subst (λ (k : ℕ). IsTierOf (columns_of b) k z) (sym (ap (λ (w : View). newest_used w.turns) view ∙ used_more (columns_for left right) (cells_in b) (view_of u).turns h.turn)) tier;
   },
 )
+
+-- ## Room for what a right strand begins with
+
+pub brought_pending : (m : Home) (c : TrackParts) → (brought m c).pending ≡ c.pending
+brought_pending home.Plain c = refl
+brought_pending (home.Refused k) c = refl
+brought_pending (home.Split fork used) c = refl
+brought_pending (home.Merge fork used) c = refl
+brought_pending (home.Inline used) c = refl
+brought_pending (home.Early before used) c = refl
+
+pub part_kept : (c c' : Track) → (track_of c').pending ≡ (track_of c).pending → c'.spare ≡ c.spare → CanPart c → CanPart c'
+part_kept c c' e f h =
+    let same : length c.pending.items ≡ length c'.pending.items = sym (length-reverse c.pending.items) ∙ ap length (sym e) ∙ length-reverse c'.pending.items in
+    subst (HasSpare (length c'.pending.items)) (sym f) (subst (λ (n : ℕ). HasSpare n c.spare) same h)

@@ -21,7 +21,8 @@ use Rattle.cw_steps.specs.Views.{gap_home, gave_view, held_by, key_of, newest_sl
 use Rattle.cw_board.specs.Boards.{cells_in, columns_of, IsOf}
 use Rattle.cw_board.specs.declared.board.Board.{Board}
 use Rattle.cw_board.specs.Sound.{IsSound}
-use Rattle.cw_board.specs.Turns.{at_rest, HasTier, HasWaited, HasTaken, IsHolding, IsOfTier}
+use Rattle.cw_board.specs.Turns.{at_rest, HasTier, HasTierOver, HasWaited, HasTaken, IsHolding, IsOfTier}
+use Rattle.cw_board.specs.Asked.{HasLooked}
 use Rattle.cw_board.proofs.Sound.{sound_brought, sound_later}
 use Rattle.cw_board.proofs.Boards.{is_now}
 
@@ -48,15 +49,15 @@ takes_then b aim n t u u' h takes track stop token = record {
 
 -- ## What lies in the slot
 
-module _ (b : Board) (aim : Aim) (n : ℕ) (t u : StrandToken) (of : IsOf b t) (table : IsTokenOf b.shared u) (h : HasTaken b aim n t u) where
+module _ (b : Board) (aim : Aim) (n : ℕ) (t u : StrandToken) (h : HasTaken b aim n t u) where
   abbrev now : View
   now = took_view n aim h.takes.lay h.takes.used h.takes.clock (record (view_of t) { notes = h.notes })
 
   view_now : view_of u ≡ now
   view_now = ap (λ m. m.0) h.takes.after
 
-  pub holds_now : IsHolding b n h.takes.lay t u
-  holds_now = record {
+  pub holds_now : IsOf b t → IsTokenOf b.shared u → IsHolding b n h.takes.lay t u
+  holds_now of table = record {
     was = of;
     table = table;
     turn = ap (λ (v : View). newest_slot v.turns) view_now;
@@ -79,6 +80,58 @@ module _ (b : Board) (aim : Aim) (n : ℕ) (t u : StrandToken) (of : IsOf b t) (
     whole = subst (λ (v : View). IsTierOf (columns_of b) (newest_used v.turns) h.takes.lay) (sym view_now) (h.takes.whole.tier last);
   }
 
+-- what a slot that was written has, of the list of those that are out
+abbrev first_slot : List (ℕ × Slot) → Slot
+first_slot [] = slot.Empty
+first_slot (x ∷ xs) = x.1
+
+-- the tier's turn, beside those that it had
+pub takes_over : (b : Board) (aim : Aim) (t u : StrandToken) (h : HasTaken b aim (cells_in b) t u) → IsTokenOf b.shared u → HasTierOver b h.takes.lay t u
+takes_over b aim t u h table =
+    let view = view_now b aim (cells_in b) t u h in record {
+      table = table;
+      turn = ap (λ (v : View). newest_slot v.turns) view;
+      older = ap (λ (v : View). older v.turns) view;
+      slots = ap (λ m. m.1) h.takes.after;
+      later = subst (λ (v : View). (view_of t).seen ≤ v.seen) (sym view) h.takes.later;
+      rest = ap at_rest view;
+      track = h.track;
+      token = h.token;
+    }
+
+pub over_other : (b : Board) (y z : Slot) (t u u' : StrandToken) → HasTierOver b y t u → IsTokenOf b.shared u' → view_of u' ≡ view_of u → held_by u' ≡ (cells_in b, z) ∷ rest (held_by u)
+    → u'.track ≡ u.track → token_of u' ≡ token_of u → HasTierOver b z t u'
+over_other b y z t u u' h table view slots track token = record {
+  table = table;
+  turn = ap (λ (v : View). newest_slot v.turns) view ∙ h.turn;
+  older = ap (λ (v : View). older v.turns) view ∙ h.older;
+  slots = slots ∙ ap (λ ys. (cells_in b, z) ∷ rest ys) h.slots;
+  later = subst (λ (v : View). (view_of t).seen ≤ v.seen) (sym view) h.later;
+  rest = ap at_rest view ∙ h.rest;
+  track = track ∙ h.track;
+  token = token ∙ h.token;
+}
+
+pub over_lies : (b : Board) (y z : Slot) (t u : StrandToken) (ys : List (ℕ × Slot)) → HasTierOver b y t u → held_by u ≡ (cells_in b, z) ∷ ys → y ≡ z
+over_lies b y z t u ys h e = ap first_slot (sym h.slots ∙ e)
+
+pub holding_over : (b : Board) (y : Slot) (t u : StrandToken) → HasTierOver b y t u → Holding u (cells_in b) y
+holding_over b y t u h = record { turn = h.turn; slot = h.slots ∙ ap (λ ys. (cells_in b, y) ∷ rest ys) (sym h.slots) }
+
+-- that of a token that had none
+pub over_holds : (b : Board) (y : Slot) (t u : StrandToken) → IsOf b t → HasTierOver b y t u → IsHolding b (cells_in b) y t u
+over_holds b y t u of h = record {
+  was = of;
+  table = h.table;
+  turn = h.turn;
+  alone = h.older ∙ of.turns;
+  slots = h.slots ∙ ap (λ ys. (cells_in b, y) ∷ ys) of.slots;
+  later = h.later;
+  rest = h.rest;
+  track = h.track;
+  token = h.token;
+}
+
 -- another thing lies there now
 pub holds_other : (b : Board) (n : ℕ) (y z : Slot) (t u u' : StrandToken) → IsHolding b n y t u → IsTokenOf b.shared u' → view_of u' ≡ view_of u → held_by u' ≡ (n, z) ∷ rest (held_by u)
     → u'.track ≡ u.track → token_of u' ≡ token_of u → IsHolding b n z t u'
@@ -96,11 +149,6 @@ holds_other b n y z t u u' h table view slots track token = record {
 
 pub holding : (b : Board) (n : ℕ) (y : Slot) (t u : StrandToken) → IsHolding b n y t u → Holding u n y
 holding b n y t u h = record { turn = h.turn; slot = h.slots ∙ ap (λ ys. (n, y) ∷ rest ys) (sym h.slots) }
-
--- what a slot that was written has, of the list of those that are out
-abbrev first_slot : List (ℕ × Slot) → Slot
-first_slot [] = slot.Empty
-first_slot (x ∷ xs) = x.1
 
 pub lies_there : (b : Board) (n : ℕ) (y z : Slot) (t u : StrandToken) (ys : List (ℕ × Slot)) → IsHolding b n y t u → held_by u ≡ (n, z) ∷ ys → y ≡ z
 lies_there b n y z t u ys h e = ap first_slot (sym h.slots ∙ e)
@@ -180,3 +228,20 @@ gives_tier b y t u h tier = (
   record { turn = h.turn; slot = h.slots ∙ ap (λ ys. (cells_in b, y) ∷ rest ys) (sym h.slots) },
   record { cell = λ less. absurd (omega (arith, less)); tier = λ e. tier.whole },
 )
+
+pub gives_over : (b : Board) (y : Slot) (t u : StrandToken) → HasTierOver b y t u → HasTier b y u
+    → (z : Slot) × Holding u (cells_in b) z × IsWhole (key_of b.shared) (view_of u).seen (newest_used (view_of u).turns) (cells_in b) z
+gives_over b y t u h tier = (y, holding_over b y t u h, record { cell = λ less. absurd (omega (arith, less)); tier = λ e. tier.whole })
+
+-- the tier was only looked at
+pub gives_back : (b : Board) (y : Slot) (t u u' : StrandToken) → HasTierOver b y t u → IsTokenOf b.shared u' → view_of u' ≡ gave_view home.Plain (view_of u) → held_by u' ≡ rest (held_by u)
+    → u'.track ≡ u.track → token_of u' ≡ token_of u → HasLooked b t u'
+gives_back b y t u u' h table view slots track token = record {
+  table = table;
+  turns = ap (λ (v : View). v.turns) view ∙ h.older;
+  slots = slots ∙ ap (λ ys. rest ys) h.slots;
+  later = subst (λ (v : View). (view_of t).seen ≤ v.seen) (sym view) h.later;
+  rest = ap at_rest view ∙ h.rest;
+  track = track ∙ h.track;
+  token = token ∙ h.token;
+}

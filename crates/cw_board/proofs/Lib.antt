@@ -3,3 +3,7 @@ pub mod Boards
 pub mod Holding
 pub mod Forking
 pub mod Accessing
+pub mod Reading
+pub mod Refusing
+pub mod Rolls
+pub mod Closes

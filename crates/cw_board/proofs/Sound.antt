@@ -1,10 +1,11 @@
 -- Serves `IsSound`: what stays true of a token, whatever it does next.
-use Rattle.std.proofs.Common.{◌≡◌, ◌≢◌, ◌^◌, Bool, max, append_assoc, ℕ, zero, suc, ◌+◌, ◌*◌, ◌<◌, ◌≤◌, ◌∙◌, List, [], ◌∷◌, ◌++◌, length, length-append, drop, arith, ap, sym, refl, subst}
+use Rattle.std.proofs.Common.{◌≡◌, ◌^◌, Bool, max, append_assoc, ℕ, zero, suc, ◌+◌, ◌*◌, ◌<◌, ◌≤◌, ◌∙◌, List, [], ◌∷◌, ◌++◌, length, length-append, drop, arith, ap, sym, refl, subst, inl, inr}
 use Rattle.std.specs.Prelude.{◌||◌, All, slice_get, Some, if◌then◌else◌}
-use Rattle.std.proofs.lemmas.List.Elements.{All-nil, All-cons, All-head, All-tail, All-weaker}
+use Rattle.std.proofs.lemmas.List.{length-drop}
+use Rattle.std.proofs.lemmas.List.Elements.{All-nil, All-cons, All-contains, All-head, All-tail, All-weaker}
 use Rattle.cw_tree.specs.declared.node.Node.{Node}
 use Rattle.cw_tree.specs.declared.node.Kind.{Kind}
-use Rattle.cw_tree.specs.declared.node.Kind.TheVariants.{Block, Fork, Strand}
+use Rattle.cw_tree.specs.declared.node.Kind.TheVariants.{Block, Fork, Strand, Tried}
 use Rattle.cw_steps.specs.declared.track.Ahead.{Ahead}
 use Rattle.cw_tree.specs.declared.node.BlockState.{BlockState}
 use Rattle.cw_tree.specs.declared.conflict.Conflict.{Conflict}
@@ -18,14 +19,15 @@ use Rattle.cw_log.specs.declared.log.Log.{Log}
 use Rattle.cw_log.specs.declared.token.Phase.TheVariants.{Going, Parted}
 use Rattle.cw_log.specs.declared.token.Side.{Side}
 use Rattle.cw_log.specs.declared.token.Side.TheVariants.{Beside, First, Second}
-use Rattle.cw_log.specs.Tokens.{made, began, ended, halted, was_told, branched, forked, left_behind, turned, turned_by, taken_in, kept_stop, conflicts_in, logs, HasBlock, IsLater}
+use Rattle.cw_log.specs.Answers.{IsAround}
+use Rattle.cw_log.specs.Tokens.{refused, made, began, ended, halted, was_told, branched, forked, left_behind, turned, turned_by, taken_in, kept_stop, conflicts_in, logs, HasBlock, IsLater}
 use Rattle.cw_steps.specs.declared.draw.Home.{Home}
 use Rattle.cw_steps.specs.declared.draw.Home.TheVariants as home
-use Rattle.cw_steps.specs.Stands.{brought_token, right_token}
+use Rattle.cw_steps.specs.Stands.{blocks_outside, brought_token, right_token}
 use Rattle.cw_steps.specs.Totals.{total}
 use Rattle.cw_steps.specs.Views.{share}
 use Rattle.cw_board.specs.Turns.{IsOfTier}
-use Rattle.cw_board.specs.Sound.{Climbs, ClimbOut, AreLow, IsSound}
+use Rattle.cw_board.specs.Sound.{Climbs, ClimbOut, OwnOut, AreLow, IsSound}
 
 -- ## Nodes that stand
 
@@ -87,6 +89,14 @@ module _ (x : Token) (room seen : ℕ) (h : IsSound x room seen) where
   pub numbers_left : length x.own.nodes < 2 ^ 32 → 0 < room
   numbers_left few = omega (arith, h.numbers, few)
 
+  own_from : (k : ℕ) → Climbs x.own.nodes x.strand x.place k → k + blocks_outside x.forks ≤ length x.around → HasBlock x → blocks_outside x.forks < length x.around
+  own_from zero p own block = absurd (block p)
+  own_from (suc k) p own block = omega (arith, own)
+
+  -- the innermost block around it was begun in its strand
+  pub own_block : HasBlock x → blocks_outside x.forks < length x.around
+  own_block block = own_from h.begun h.path h.own block
+
   pub later : (n : ℕ) → seen < n → IsLater x n
   later n less = record {
     some = omega (arith, less);
@@ -101,6 +111,8 @@ module _ (x : Token) (room seen : ℕ) (h : IsSound x room seen) where
       waiting = h.waiting;
       path = climbs_more x.own.nodes (fresh_node x.place k n ∷ []) x.strand x.place h.begun h.path;
       outer = out_more x.own.nodes (fresh_node x.place k n ∷ []) x.forks h.waiting h.outer;
+      own = h.own;
+      outer_own = h.outer_own;
       numbers = omega (arith, h.numbers, paid, length-append x.own.nodes (fresh_node x.place k n ∷ []));
       around = low_more seen n x.around (omega (arith, less)) h.around;
       outer_around = outs_more seen n x.forks (omega (arith, less)) h.outer_around;
@@ -119,19 +131,24 @@ module _ (x : Token) (room seen : ℕ) (h : IsSound x room seen) where
             subst (λ (q : ℕ). Climbs more x.strand q h.begun) (sym parent) (climbs_more x.own.nodes (fresh_node x.place Block n ∷ []) x.strand x.place h.begun h.path),
           );
           outer = out_more x.own.nodes (fresh_node x.place Block n ∷ []) x.forks h.waiting h.outer;
+          own = omega (arith, h.own);
+          outer_own = h.outer_own;
           numbers = omega (arith, h.numbers, paid, length-append x.own.nodes (fresh_node x.place Block n ∷ []));
           around = All-cons (λ b. b ≤ n) n x.around (omega arith) (low_more seen n x.around (omega (arith, less)) h.around);
           outer_around = outs_more seen n x.forks (omega (arith, less)) h.outer_around;
           victims = victims_more seen n (conflicts_in (logs x)) (omega (arith, less)) h.victims;
         }
 
-    ended_from : (state : BlockState) (k : ℕ) → Climbs x.own.nodes x.strand x.place k → share + k + total (λ j. j) h.waiting ≤ room + 2 * length x.own.nodes → HasBlock x → IsSound (ended x state n) room' n
-    ended_from state zero p numbers block = absurd (block p)
-    ended_from state (suc k) p numbers block = record {
+    ended_from : (state : BlockState) (k : ℕ) → Climbs x.own.nodes x.strand x.place k → share + k + total (λ j. j) h.waiting ≤ room + 2 * length x.own.nodes → k + blocks_outside x.forks ≤ length x.around → HasBlock x
+        → IsSound (ended x state n) room' n
+    ended_from state zero p numbers own block = absurd (block p)
+    ended_from state (suc k) p numbers own block = record {
       begun = k;
       waiting = h.waiting;
       path = climbs_closed x.own.nodes x.place state n x.strand (parent_of x.own.nodes x.place) k p.1;
       outer = out_closed x.own.nodes x.place state n x.forks h.waiting h.outer;
+      own = omega (arith, own, length-drop 1 x.around);
+      outer_own = h.outer_own;
       numbers = omega (arith, numbers, paid, length_closed x.own.nodes x.place state n);
       around = low_rest n x.around (low_more seen n x.around (omega (arith, less)) h.around);
       outer_around = outs_more seen n x.forks (omega (arith, less)) h.outer_around;
@@ -139,30 +156,32 @@ module _ (x : Token) (room seen : ℕ) (h : IsSound x room seen) where
     }
 
     pub sound_ended : (state : BlockState) → HasBlock x → IsSound (ended x state n) room' n
-    sound_ended state block = ended_from state h.begun h.path h.numbers block
+    sound_ended state block = ended_from state h.begun h.path h.numbers h.own block
 
 -- ## What does not change the log
 
 module _ (x : Token) (room seen : ℕ) (h : IsSound x room seen) where
   pub sound_told : (b : Bool) → IsSound (was_told x b) room seen
-  sound_told b = record { begun = h.begun; waiting = h.waiting; path = h.path; outer = h.outer; numbers = h.numbers; around = h.around; outer_around = h.outer_around; victims = h.victims }
+  sound_told b = record { begun = h.begun; waiting = h.waiting; path = h.path; outer = h.outer; own = h.own; outer_own = h.outer_own; numbers = h.numbers; around = h.around; outer_around = h.outer_around; victims = h.victims }
 
   pub sound_halted : (halt : Halt) → IsSound (halted x halt) room seen
-  sound_halted halt = record { begun = h.begun; waiting = h.waiting; path = h.path; outer = h.outer; numbers = h.numbers; around = h.around; outer_around = h.outer_around; victims = h.victims }
+  sound_halted halt = record { begun = h.begun; waiting = h.waiting; path = h.path; outer = h.outer; own = h.own; outer_own = h.outer_own; numbers = h.numbers; around = h.around; outer_around = h.outer_around; victims = h.victims }
 
   pub sound_phase : (phase : Phase) → IsSound (record x { phase = phase }) room seen
-  sound_phase phase = record { begun = h.begun; waiting = h.waiting; path = h.path; outer = h.outer; numbers = h.numbers; around = h.around; outer_around = h.outer_around; victims = h.victims }
+  sound_phase phase = record { begun = h.begun; waiting = h.waiting; path = h.path; outer = h.outer; own = h.own; outer_own = h.outer_own; numbers = h.numbers; around = h.around; outer_around = h.outer_around; victims = h.victims }
 
   -- ## From one strand of a fork to the next
 
-  out_of : (o : Open) (os : List Open) (ks : List ℕ) → ClimbOut x.own.nodes (o ∷ os) ks → share + h.begun + total (λ k. k) ks ≤ room + 2 * length x.own.nodes
+  out_of : (o : Open) (os : List Open) (ks : List ℕ) → ClimbOut x.own.nodes (o ∷ os) ks → OwnOut (o ∷ os) ks → share + h.begun + total (λ k. k) ks ≤ room + 2 * length x.own.nodes
       → All (λ (p : Open). AreLow seen p.around) (o ∷ os) → IsSound (left_behind x (o ∷ os)) room seen
-  out_of o os [] climb numbers low = absurd climb
-  out_of o os (k ∷ ks) climb numbers low = record {
+  out_of o os [] climb own numbers low = absurd climb
+  out_of o os (k ∷ ks) climb own numbers low = record {
     begun = k;
     waiting = ks;
     path = climb.0;
     outer = climb.1;
+    own = own.0;
+    outer_own = own.1;
     numbers = omega (arith, numbers);
     around = All-head (λ (p : Open). AreLow seen p.around) o os low;
     outer_around = All-tail (λ (p : Open). AreLow seen p.around) o os low;
@@ -170,17 +189,19 @@ module _ (x : Token) (room seen : ℕ) (h : IsSound x room seen) where
   }
 
   pub sound_behind : (o : Open) (os : List Open) → x.forks ≡ o ∷ os → IsSound (left_behind x (o ∷ os)) room seen
-  sound_behind o os e = out_of o os h.waiting (subst (λ ps. ClimbOut x.own.nodes ps h.waiting) e h.outer) h.numbers (subst (λ ps. All (λ (p : Open). AreLow seen p.around) ps) e h.outer_around)
+  sound_behind o os e = out_of o os h.waiting (subst (λ ps. ClimbOut x.own.nodes ps h.waiting) e h.outer) (subst (λ ps. OwnOut ps h.waiting) e h.outer_own) h.numbers (subst (λ ps. All (λ (p : Open). AreLow seen p.around) ps) e h.outer_around)
 
-  second_of : (o : Open) (os : List Open) (right : ℕ) (ks : List ℕ) → ClimbOut x.own.nodes (o ∷ os) ks → share + h.begun + total (λ k. k) ks ≤ room + 2 * length x.own.nodes
+  second_of : (o : Open) (os : List Open) (right : ℕ) (ks : List ℕ) → ClimbOut x.own.nodes (o ∷ os) ks → OwnOut (o ∷ os) ks → share + h.begun + total (λ k. k) ks ≤ room + 2 * length x.own.nodes
       → All (λ (p : Open). AreLow seen p.around) (o ∷ os)
       → IsSound (record x { strand = right; place = right; around = o.around; forks = record o { side = Second } ∷ os }) room seen
-  second_of o os right [] climb numbers low = absurd climb
-  second_of o os right (k ∷ ks) climb numbers low = record {
+  second_of o os right [] climb own numbers low = absurd climb
+  second_of o os right (k ∷ ks) climb own numbers low = record {
     begun = 0;
     waiting = k ∷ ks;
     path = refl;
     outer = (climb.0, climb.1);
+    own = omega arith;
+    outer_own = (own.0, own.1);
     numbers = omega (arith, numbers);
     around = All-head (λ (p : Open). AreLow seen p.around) o os low;
     outer_around = All-cons (λ (p : Open). AreLow seen p.around) (record o { side = Second }) os (All-head (λ (p : Open). AreLow seen p.around) o os low) (All-tail (λ (p : Open). AreLow seen p.around) o os low);
@@ -191,7 +212,7 @@ module _ (x : Token) (room seen : ℕ) (h : IsSound x room seen) where
   turned_side o os (Beside fork) e = h
   turned_side o os (First right) e =
       let o' : Open = record o { side = First right } in
-      second_of o' os right h.waiting (subst (λ ps. ClimbOut x.own.nodes ps h.waiting) e h.outer) h.numbers (subst (λ ps. All (λ (p : Open). AreLow seen p.around) ps) e h.outer_around)
+      second_of o' os right h.waiting (subst (λ ps. ClimbOut x.own.nodes ps h.waiting) e h.outer) (subst (λ ps. OwnOut ps h.waiting) e h.outer_own) h.numbers (subst (λ ps. All (λ (p : Open). AreLow seen p.around) ps) e h.outer_around)
   turned_side o os Second e = sound_behind (record o { side = Second }) os e
 
   turned_from : (os : List Open) → x.forks ≡ os → IsSound (turned_by x os) room seen
@@ -207,6 +228,8 @@ sound_later x room seen n le h = record {
   waiting = h.waiting;
   path = h.path;
   outer = h.outer;
+  own = h.own;
+  outer_own = h.outer_own;
   numbers = h.numbers;
   around = low_more seen n x.around le h.around;
   outer_around = outs_more seen n x.forks le h.outer_around;
@@ -216,7 +239,7 @@ sound_later x room seen n le h = record {
 pub sound_brought : (m : Home) (x : Token) (room seen : ℕ) → IsOfTier m → IsSound x room seen → IsSound (brought_token m x) room seen
 sound_brought (home.Refused c) x room seen of h = absurd of
 sound_brought home.Plain x room seen of h = h
-sound_brought (home.Split fork used) x room seen of h = record { begun = h.begun; waiting = h.waiting; path = h.path; outer = h.outer; numbers = h.numbers; around = h.around; outer_around = h.outer_around; victims = h.victims }
+sound_brought (home.Split fork used) x room seen of h = record { begun = h.begun; waiting = h.waiting; path = h.path; outer = h.outer; own = h.own; outer_own = h.outer_own; numbers = h.numbers; around = h.around; outer_around = h.outer_around; victims = h.victims }
 sound_brought (home.Merge fork used) x room seen of h = sound_phase x room seen h Going
 sound_brought (home.Inline used) x room seen of h = h
 sound_brought (home.Early before used) x room seen of h = h
@@ -231,6 +254,8 @@ module _ (x : Token) (room seen : ℕ) (h : IsSound x room seen) (room' n : ℕ)
         waiting = h.begun ∷ h.waiting;
         path = refl;
         outer = (climbs_more x.own.nodes xs x.strand x.place h.begun h.path, out_more x.own.nodes xs x.forks h.waiting h.outer);
+        own = omega arith;
+        outer_own = (h.own, h.outer_own);
         numbers = omega (arith, h.numbers, paid, length-append x.own.nodes xs);
         around = low_more seen n x.around (omega (arith, less)) h.around;
         outer_around = All-cons (λ (o : Open). AreLow n o.around) (record { side = Beside fork; strand = x.strand; place = x.place; around = x.around }) x.forks (low_more seen n x.around (omega (arith, less)) h.around)
@@ -245,6 +270,8 @@ module _ (x : Token) (room seen : ℕ) (h : IsSound x room seen) (room' n : ℕ)
         waiting = h.begun ∷ h.waiting;
         path = refl;
         outer = (climbs_more x.own.nodes xs x.strand x.place h.begun h.path, out_more x.own.nodes xs x.forks h.waiting h.outer);
+        own = omega arith;
+        outer_own = (h.own, h.outer_own);
         numbers = omega (arith, h.numbers, paid, length-append x.own.nodes xs);
         around = low_more seen n x.around (omega (arith, less)) h.around;
         outer_around = All-cons (λ (o : Open). AreLow n o.around) (record { side = First (length x.own.nodes + 2); strand = x.strand; place = x.place; around = x.around }) x.forks (low_more seen n x.around (omega (arith, less)) h.around)
@@ -259,6 +286,8 @@ sound_right x room seen a h = record {
   waiting = [];
   path = refl;
   outer = tt;
+  own = omega arith;
+  outer_own = tt;
   numbers = omega arith;
   around = h.around;
   outer_around = All-nil (λ (o : Open). AreLow seen o.around);
@@ -289,9 +318,41 @@ module _ (x y : Token) (room seen room' seen' : ℕ) (h : IsSound x room seen) (
         waiting = q.waiting;
         path = q.path;
         outer = q.outer;
+        own = q.own;
+        outer_own = q.outer_own;
         numbers = omega (arith, q.numbers);
         around = low_more seen (max seen seen') o.around (omega arith) q.around;
         outer_around = outs_more seen (max seen seen') os (omega arith) q.outer_around;
         victims = victims_of_both;
       } in
       subst (λ ps. IsSound (record (left_behind x ps) { joined = x.joined ++ y.own ∷ y.joined; phase = (if y.split then Parted y.fork else Going); stop = kept_stop x.stop y.stop; told = x.told || y.told }) (room + room') (max seen seen')) (sym e) z
+
+-- ## Refused accesses
+
+all_split : (P : Conflict → Type 0) (xs ys : List Conflict) → All P (xs ++ ys) → All P xs × All P ys
+all_split P [] ys all = (All-nil P, all)
+all_split P (x ∷ xs) ys all =
+    let q = all_split P xs ys (All-tail P x (xs ++ ys) all) in
+    (All-cons P x xs (All-head P x (xs ++ ys) all) q.0, q.1)
+
+-- a block around it was begun before the greatest number that it knows
+pub around_low : (x : Token) (seen begin : ℕ) → AreLow seen x.around → IsAround x begin → begin ≤ seen
+around_low x seen begin low (inl e) = omega (arith, e)
+around_low x seen begin low (inr h) = All-contains (λ b. b ≤ seen) x.around begin low h
+
+pub sound_refused : (x : Token) (room seen : ℕ) (c : Conflict) → IsSound x room seen → c.victim ≤ seen → IsSound (refused x c) room seen
+sound_refused x room seen c h low =
+    let node : Node = fresh_node x.place (Tried c.cell) 0 in
+    let P : Conflict → Type 0 = λ k. k.victim ≤ seen in
+    let both = all_split P x.own.conflicts (conflicts_in x.joined) h.victims in record {
+      begun = h.begun;
+      waiting = h.waiting;
+      path = climbs_more x.own.nodes (node ∷ []) x.strand x.place h.begun h.path;
+      outer = out_more x.own.nodes (node ∷ []) x.forks h.waiting h.outer;
+      own = h.own;
+      outer_own = h.outer_own;
+      numbers = omega (arith, h.numbers, length-append x.own.nodes (node ∷ []));
+      around = h.around;
+      outer_around = h.outer_around;
+      victims = all_both P (x.own.conflicts ++ c ∷ []) (conflicts_in x.joined) (all_both P x.own.conflicts (c ∷ []) both.0 (All-cons P c [] low (All-nil P))) both.1;
+    }

@@ -1,10 +1,11 @@
 -- Boards and their tokens.
 use Rattle.std.specs.Prelude.{◌≡◌, ℕ, ◌+◌, ◌<◌, ◌≤◌, true, All, [], length}
+use Rattle.atomic_table.specs.Seated.{TableId}
 use Rattle.cw_steps.specs.declared.table.StrandToken.{StrandToken}
 use Rattle.cw_steps.specs.declared.view.Whereabouts.{Whereabouts}
 use Rattle.cw_steps.specs.Tracks.{HasRoom}
 use Rattle.cw_steps.specs.Stands.{token_of}
-use Rattle.cw_steps.specs.Views.{cells_of, held_by, key_of, view_of, IsTokenOf}
+use Rattle.cw_steps.specs.Views.{cells_of, held_by, key_of, view_of}
 use Rattle.cw_board.specs.declared.board.Board.{Board}
 use Rattle.cw_board.specs.Sound.{IsSound}
 
@@ -18,15 +19,32 @@ budget_of b = (key_of b.shared).aborts
 abbrev pub columns_of : Board → ℕ
 columns_of b = (key_of b.shared).columns
 
--- A token of this board between two calls: it has no turn, the gaps that it and the strands that wait use are there, and it owns a column for
--- each of its logs.
-pub record IsOf (b : Board) (t : StrandToken) : Type 0 where
-  pub table : IsTokenOf b.shared t
+-- which table it is
+abbrev pub table_of : Board → TableId
+table_of b = b.shared.table.shared.table_id
+
+-- any table: each run picks its own
+abbrev pub no_table : TableId
+no_table = record { words = 0; slots = 0; views_name = 0; atom = 0; block = 0; offset = 0; slot_names = [] }
+
+-- what a board with a name shows: how many cells it has, and how many attempts a block or an access may have
+pub record Extent : Type 0 where
+  pub cells : ℕ
+  pub budget : ℕ
+
+-- A token at this table, with so many columns, between two calls: it has no turn, the gaps that it and the strands that wait use are there, and
+-- it owns a column for each of its logs.
+pub record IsAt (id : TableId) (columns : ℕ) (t : StrandToken) : Type 0 where
+  pub table : t.seat.table_id ≡ id
   pub here : (view_of t).here ≡ true
   pub turns : (view_of t).turns ≡ []
   pub slots : held_by t ≡ []
-  pub gap : (view_of t).gap < columns_of b
-  pub gaps : All (λ (o : Whereabouts). o.gap < columns_of b) (view_of t).outer
+  pub gap : (view_of t).gap < columns
+  pub gaps : All (λ (o : Whereabouts). o.gap < columns) (view_of t).outer
   pub room : HasRoom t.track
   pub lists : length (token_of t).joined + 1 ≤ (view_of t).owns
   pub sound : IsSound (token_of t) (view_of t).room (view_of t).seen
+
+-- a token of this board
+abbrev pub IsOf : Board → StrandToken → Type 0
+IsOf b t = IsAt (table_of b) (columns_of b) t

@@ -6,6 +6,7 @@ use Rattle.cw_tree.specs.Nodes.{parent_of}
 use Rattle.cw_log.specs.declared.token.Open.{Open}
 use Rattle.cw_log.specs.declared.token.Token.{Token}
 use Rattle.cw_log.specs.Tokens.{conflicts_in, logs}
+use Rattle.cw_steps.specs.Stands.{blocks_outside}
 use Rattle.cw_steps.specs.Totals.{total}
 use Rattle.cw_steps.specs.Views.{share}
 
@@ -20,17 +21,25 @@ ClimbOut ns [] ks = Unit {0}
 ClimbOut ns (o ∷ os) [] = ⊥
 ClimbOut ns (o ∷ os) (k ∷ ks) = Climbs ns o.strand o.place k × ClimbOut ns os ks
 
+-- of the blocks around each of their places so many are its strand's own
+abbrev pub OwnOut : List Open → List ℕ → Type 0
+OwnOut [] ks = Unit {0}
+OwnOut (o ∷ os) [] = ⊥
+OwnOut (o ∷ os) (k ∷ ks) = (k + blocks_outside os ≤ length o.around) × OwnOut os ks
+
 -- no number is greater
 abbrev pub AreLow : (seen : ℕ) → List ℕ → Type 0
 AreLow seen = All (λ b. b ≤ seen)
 
--- It is in so many blocks of its own, in its strand and in those that wait. So many numbers may still be drawn by it; of those that it knows
+-- It is in so many blocks of its own, in its strand and in those that wait, which are innermost around each place. So many numbers may still be drawn by it; of those that it knows
 -- none is greater than this one.
 pub record IsSound (x : Token) (room seen : ℕ) : Type 0 where
   pub begun : ℕ
   pub waiting : List ℕ
   pub path : Climbs x.own.nodes x.strand x.place begun
   pub outer : ClimbOut x.own.nodes x.forks waiting
+  pub own : begun + blocks_outside x.forks ≤ length x.around
+  pub outer_own : OwnOut x.forks waiting
   pub numbers : share + begun + total (λ k. k) waiting ≤ room + 2 * length x.own.nodes
   pub around : AreLow seen x.around
   pub outer_around : All (λ (o : Open). AreLow seen o.around) x.forks

@@ -11,7 +11,7 @@ use Rattle.cw_steps.specs.declared.view.View.{View}
 use Rattle.cw_steps.specs.declared.draw.Draw.TheVariants as draw
 use Rattle.cw_steps.specs.Tracks.{drawn, track_of}
 use Rattle.cw_steps.specs.Views.{drew_view, gave_view, held_by, key_of, newest_slot, newest_used, older, view_of, CanFork, IsTierOf, IsTokenOf, TakesIt}
-use Rattle.cw_board.specs.Boards.{columns_of, IsOf}
+use Rattle.cw_board.specs.Boards.{cells_in, columns_of, IsOf}
 use Rattle.cw_log.specs.declared.board.Forked.{Forked}
 use Rattle.cw_log.specs.declared.board.Forked.TheVariants.{Two, Inline}
 use Rattle.cw_board.specs.declared.board.Board.{Board}
@@ -43,6 +43,17 @@ pub record IsHolding (b : Board) (n : ℕ) (y : Slot) (t u : StrandToken) : Type
   pub turn : newest_slot (view_of u).turns ≡ Some n
   pub alone : older (view_of u).turns ≡ []
   pub slots : held_by u ≡ (n, y) ∷ []
+  pub later : (view_of t).seen ≤ (view_of u).seen
+  pub rest : at_rest (view_of u) ≡ at_rest (view_of t)
+  pub track : u.track ≡ t.track
+  pub token : token_of u ≡ token_of t
+
+-- Since it was t it took the tier's turn, beside those that it had, and y lies there now.
+pub record HasTierOver (b : Board) (y : Slot) (t u : StrandToken) : Type 0 where
+  pub table : IsTokenOf b.shared u
+  pub turn : newest_slot (view_of u).turns ≡ Some (cells_in b)
+  pub older : older (view_of u).turns ≡ (view_of t).turns
+  pub slots : held_by u ≡ (cells_in b, y) ∷ held_by t
   pub later : (view_of t).seen ≤ (view_of u).seen
   pub rest : at_rest (view_of u) ≡ at_rest (view_of t)
   pub track : u.track ≡ t.track

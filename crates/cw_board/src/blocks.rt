@@ -72,7 +72,7 @@ impl Board {
         self.shared.draw(token, Draw::Out { value });
     }
 
-    fn end(&self, token: &mut StrandToken, aborted: bool)
+    pub(crate) fn end(&self, token: &mut StrandToken, aborted: bool)
         requires of { IsOf self.now token.old }
         requires block { HasBlock (token_of token.old) }
         ensures of { IsOf self.now token.new }
@@ -94,7 +94,7 @@ impl Board {
     }
 
     /// Shows no block by the word of the token's gap.
-    fn hide(&self, token: &mut StrandToken)
+    pub(crate) fn hide(&self, token: &mut StrandToken)
         requires { IsOf self.now token.old }
         ensures of { IsOf self.now token.new }
         ensures token { token_of token.new ≡ token_of token.old }

@@ -7,7 +7,8 @@ ghost use Rattle.cw_log.specs.Answers.{access_kind, IsWritten};
 ghost use Rattle.cw_log.specs.Tokens.{made};
 ghost use Rattle.cw_steps.specs.Stands.{token_of};
 ghost use Rattle.cw_steps.specs.Tracks.{IsReady};
-ghost use Rattle.cw_steps.specs.Views.{view_of, IsLowCell};
+ghost use Rattle.cw_steps.specs.declared.draw.Home.TheVariants as home;
+ghost use Rattle.cw_steps.specs.Views.{gave_view, view_of, IsLowCell};
 ghost use Rattle.cw_board.specs.Boards.{cells_in, IsOf};
 ghost use Rattle.cw_board.specs.Turns.{IsHolding};
 
@@ -45,6 +46,7 @@ impl Board {
         requires held { (t : StrandToken) × (y : Slot) × IsHolding self.now cell y t token.old }
         requires low { IsLowCell (view_of token.old).seen (slot.Cell held) }
         ensures of { IsOf self.now token.new }
+        ensures view { view_of token.new ≡ gave_view home.Plain (view_of token.old) }
         ensures token { token_of token.new ≡ token_of token.old }
     {
         self.shared.swap_cell(token, cell, Some(held));

@@ -55,9 +55,7 @@ impl Board {
         ensures held { IsHolding self.now (cells_in self.now) slot.Empty token.old token.new }
         ensures tier { HasTier self.now (slot.Tier result) token.new }
     {
-        let place = self.shared.cells();
-        self.take_turn(rt, token, place, aim);
-        self.shared.tier_out(token)
+        self.tier_over(rt, token, aim)
     }
 
     /// Puts the tier where it lay, and gives its turn back, with what was done.

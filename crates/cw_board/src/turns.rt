@@ -1,11 +1,16 @@
 //! Turns, for which a token waits.
-ghost use Rattle.std.specs.Prelude.{◌≤◌};
-ghost use Rattle.cw_steps.specs.Views.{IsTokenOf};
+ghost use Rattle.std.specs.Prelude.{◌≡◌, ◌≤◌};
+ghost use Rattle.cw_steps.specs.declared.table.StrandToken.{StrandToken};
+ghost use Rattle.cw_steps.specs.declared.view.Slot.{Slot};
+ghost use Rattle.cw_steps.specs.declared.view.Slot.TheVariants as slot;
+ghost use Rattle.cw_steps.specs.Views.{view_of, IsTokenOf};
 ghost use Rattle.cw_board.specs.Boards.{cells_in};
-ghost use Rattle.cw_board.specs.Turns.{HasTaken};
+ghost use Rattle.cw_board.specs.Turns.{HasTaken, HasTier, HasTierOver};
+ghost use Rattle.cw_board.specs.Asked.{HasLooked};
 
 use crate::Board;
-use cw_steps::{Aim, StrandToken};
+use cw_steps::{Aim, Home, StrandToken};
+use cw_trace::Tier;
 use std::hint::spin_loop;
 use std::sync::Wait;
 use std::thread::yield_now;
@@ -39,5 +44,28 @@ impl Board {
             tries = pause(tries);
         }
         unreachable!()
+    }
+
+    /// Waits for the tier's turn, beside those that the token has, and takes the tier.
+    pub(crate) fn tier_over<R: Wait>(&self, rt: &R, token: &mut StrandToken, aim: Aim) -> Tier
+        requires { IsTokenOf self.now.shared token.old }
+        ensures held { HasTierOver self.now slot.Empty token.old token.new }
+        ensures tier { HasTier self.now (slot.Tier result) token.new }
+    {
+        let place = self.shared.cells();
+        self.take_turn(rt, token, place, aim);
+        self.shared.tier_out(token)
+    }
+
+    /// Puts the tier where it lay, which was only looked at, and gives its turn back.
+    pub(crate) fn tier_back(&self, token: &mut StrandToken, tier: Tier)
+        requires held { (t : StrandToken) × (y : Slot) × HasTierOver self.now y t token.old }
+        requires tier { HasTier self.now (slot.Tier tier) token.old }
+        ensures looked { (t : StrandToken) (y : Slot) → HasTierOver self.now y t token.old → HasLooked self.now t token.new }
+        ensures notes { (view_of token.new).notes ≡ (view_of token.old).notes }
+    {
+        let place = self.shared.cells();
+        self.shared.tier_in(token, tier);
+        self.shared.give(token, place, Home::Plain);
     }
 }

@@ -124,13 +124,18 @@ module _ {A : Type 0} (s : Strands A) where
 
 -- ## What a board owes
 
--- A board over a memory with these first values, in which a strand may have that many attempts, gives this when it is closed with these logs.
-pub record IsClosing (first : List ℤ) (budget : ℕ) (all : List Log) (stop : Option Stop) (c : Closed) : Type 0 where
+-- What logs and a halt are put together to: their tree in depth-first order, and with its numbers their conflicts, as the tree lists the askers,
+-- and the halt.
+pub record IsPutTogether (all : List Log) (stop : Option Stop) (c : Closed) : Type 0 where
   pub apart : AreApart all
   pub numbered : IsNumbered (tree_of all)
   pub tree : c.tree ≡ in_order (tree_of all)
   pub conflicts : c.conflicts ≡ conflicts_in_order (tree_of all) (conflicts_of all all)
   pub halt : c.halt ≡ halt_in_order (tree_of all) (halt_in all stop)
+
+-- A board over a memory with these first values, in which a strand may have that many attempts, gives this when it is closed with these logs.
+pub record IsClosing (first : List ℤ) (budget : ℕ) (all : List Log) (stop : Option Stop) (c : Closed) : Type 0 where
+  pub together : IsPutTogether all stop c
   pub history : IsHistory c.tree first c.journals c.conflicts
   -- a run that was stopped may have stopped so
   pub faulted : MayFault c.tree c.halt

@@ -2,3 +2,4 @@ pub mod Counts
 pub mod Tracks
 pub mod Concerns
 pub mod Steps
+pub mod Leaving

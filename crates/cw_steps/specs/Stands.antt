@@ -1,5 +1,5 @@
 -- What a token stands for on a board, and what each step makes of that.
-use Rattle.std.specs.Prelude.{ℕ, ◌==◌, false, List, [], ◌∷◌, length, Option, None, if◌then◌else◌}
+use Rattle.std.specs.Prelude.{ℕ, ◌<◌, ◌==◌, false, List, [], ◌∷◌, length, Option, None, if◌then◌else◌}
 use Rattle.cw_log.specs.declared.token.Open.{Open}
 use Rattle.cw_log.specs.declared.token.Phase.TheVariants.{Going, Waiting}
 use Rattle.cw_log.specs.declared.token.Stop.{Stop}
@@ -15,7 +15,8 @@ use Rattle.cw_steps.specs.declared.track.Stood.{Stood}
 use Rattle.cw_steps.specs.declared.view.View.{View}
 use Rattle.cw_steps.specs.declared.table.StrandToken.{StrandToken}
 use Rattle.cw_steps.specs.Tracks.{TrackParts, track_of, fresh_log, kind_of_access, state_of_end}
-use Rattle.cw_steps.specs.Views.{view_of, caught_up, innermost, outwards}
+use Rattle.cw_steps.specs.Around.{caught_up, innermost, outwards}
+use Rattle.cw_steps.specs.Views.{view_of}
 
 -- the forks in whose strands it stands, with the blocks around each
 abbrev pub opens : List Stood → List (List ℕ) → List Open
@@ -60,9 +61,14 @@ root_token = record {
   told = false;
 }
 
--- an end is that of a block
+-- so many blocks are around the fork in whose strand it stands
+abbrev pub blocks_outside : List Open → ℕ
+blocks_outside [] = 0
+blocks_outside (o ∷ os) = length o.around
+
+-- an end is that of a block, which was begun in its strand
 abbrev pub EndsBlock : Draw → Token → Type 0
-EndsBlock (draw.End aborted) x = tokens.HasBlock x
+EndsBlock (draw.End aborted) x = tokens.HasBlock x × (blocks_outside x.forks < length x.around)
 EndsBlock (draw.Access c wrote v) x = Unit {0}
 EndsBlock (draw.Fork left right gap) x = Unit {0}
 EndsBlock (draw.Out v) x = Unit {0}

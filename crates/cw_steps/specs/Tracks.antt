@@ -1,19 +1,22 @@
 -- A token's log and where its strand stands in it, and what each step makes of that.
-use Rattle.std.specs.Prelude.{ℕ, ℤ, ◌+◌, ◌<◌, ◌≤◌, ◌^◌, ◌==◌, Bool, true, false, List, [], ◌∷◌, ◌++◌, length, reverse, vec_len, vec_capacity, Option, Some, None, IsTrue, is_some, find, if◌then◌else◌}
+use Rattle.std.specs.Prelude.{ℕ, ℤ, ◌+◌, ◌-◌, ◌<◌, ◌≤◌, ◌^◌, ◌==◌, ◌&&◌, nat_le, min, Bool, true, false, List, [], ◌∷◌, ◌++◌, drop, length, map, reverse, vec_len, vec_capacity, Option, Some, None, IsTrue, is_some, find, if◌then◌else◌}
 use Rattle.cw_tree.specs.declared.node.Node.{Node}
 use Rattle.cw_tree.specs.declared.node.Kind.{Kind}
 use Rattle.cw_tree.specs.declared.node.Kind.TheVariants.{Strand, Fork, Block, Read, Write, Tried}
 use Rattle.cw_tree.specs.declared.node.Kind.TheVariants as kind
 use Rattle.cw_tree.specs.declared.node.BlockState.{BlockState}
-use Rattle.cw_tree.specs.declared.node.BlockState.TheVariants.{Committed, Aborted}
+use Rattle.cw_tree.specs.declared.node.BlockState.TheVariants.{Pending, Committed, Aborted}
 use Rattle.cw_tree.specs.declared.conflict.Conflict.{Conflict}
 use Rattle.cw_tree.specs.Nodes.{parent_of, fresh_node, closed}
+use Rattle.cw_log.specs.declared.log.Above.{Above}
 use Rattle.cw_log.specs.declared.log.Log.{Log}
 use Rattle.cw_log.specs.declared.token.Side.{Side}
 use Rattle.cw_log.specs.declared.token.Side.TheVariants.{Beside, First, Second}
 use Rattle.cw_steps.specs.declared.track.Track.{Track}
 use Rattle.cw_steps.specs.declared.track.Stood.{Stood}
 use Rattle.cw_steps.specs.declared.track.Ahead.{Ahead}
+use Rattle.cw_steps.specs.declared.track.Spare.{Spare}
+use Rattle.cw_steps.specs.declared.track.Tail.{Tail}
 use Rattle.cw_log.specs.declared.token.Stop.{Stop}
 use Rattle.cw_tree.specs.declared.closed.Halt.{Halt}
 use Rattle.cw_steps.specs.declared.view.Coming.{Coming}
@@ -23,7 +26,7 @@ use Rattle.cw_steps.specs.declared.draw.Draw.TheVariants as draw
 use Rattle.cw_steps.specs.declared.draw.Home.{Home}
 use Rattle.cw_steps.specs.declared.draw.Home.TheVariants as home
 
--- What is seen of a track; the strands that wait are listed innermost first
+-- What is seen of a track; the strands that wait and the pending blocks are listed innermost first
 pub record TrackParts : Type 0 where
   pub own : Log
   pub joined : List Log
@@ -33,6 +36,8 @@ pub record TrackParts : Type 0 where
   pub gap : ℕ
   pub word : ℕ
   pub outer : List Stood
+  pub pending : List Above
+  pub tail : Tail
   pub ahead : Option Ahead
   pub behind : ℕ
   pub second : Bool
@@ -47,6 +52,8 @@ track_of c = record {
   gap = c.gap;
   word = c.word;
   outer = reverse c.outer.items;
+  pending = reverse c.pending.items;
+  tail = c.tail;
   ahead = c.ahead;
   behind = c.behind;
   second = c.second;
@@ -58,10 +65,16 @@ pub record IsReady (c : Track) (n : ℕ) : Type 0 where
   pub nodes : vec_len c.nodes + n ≤ vec_capacity c.nodes
   pub conflicts : vec_len c.conflicts + n ≤ vec_capacity c.conflicts
   pub forks : vec_len c.outer + n ≤ vec_capacity c.outer
+  pub blocks : vec_len c.pending + n ≤ vec_capacity c.pending
+
+-- with room for so many pending blocks
+abbrev pub HasSpare : (n : ℕ) → Option Spare → Type 0
+HasSpare n None = ⊥
+HasSpare n (Some s) = n ≤ vec_capacity s.pending
 
 -- it has room for what a right strand begins with
 abbrev pub CanPart : Track → Type 0
-CanPart c = IsTrue (is_some c.spare)
+CanPart c = HasSpare (length c.pending.items) c.spare
 
 -- it may be taken in by another token's list
 abbrev pub HasRoom : Track → Type 0
@@ -69,6 +82,10 @@ HasRoom c = IsTrue (is_some c.room)
 
 abbrev pub fresh_log : (column from fork : ℕ) → Log
 fresh_log column from fork = record { column = column; from = from; fork = fork; nodes = fresh_node 0 Strand 0 ∷ []; conflicts = [] }
+
+-- the nodes end with none, or with one of another kind
+abbrev pub plain_tail : Tail
+plain_tail = record { aborted = 0; tried = 0; cell = 0 }
 
 -- nothing was done yet
 abbrev pub fresh_track : (column from fork gap : ℕ) → TrackParts
@@ -81,10 +98,43 @@ fresh_track column from fork gap = record {
   gap = gap;
   word = 0;
   outer = [];
+  pending = [];
+  tail = plain_tail;
   ahead = None;
   behind = 0;
   second = false;
 }
+
+-- ## Pending blocks, and attempts
+
+abbrev pub begins : List Above → List ℕ
+begins blocks = map (λ (a : Above). a.begin) blocks
+
+-- the n that were begun first, of blocks that are listed innermost first
+abbrev pub first_begun : (n : ℕ) → List Above → List Above
+first_begun n blocks = drop (length blocks - n) blocks
+
+-- one attempt more, of which no more are counted than a number of 32 bits holds
+abbrev pub one_more : ℕ → ℕ
+one_more n = min (n + 1) (2 ^ 32 - 1)
+
+-- a block that was rolled back is one attempt
+abbrev pub tail_behind : BlockState → Option Above → Tail
+tail_behind Aborted (Some a) = record plain_tail { aborted = a.attempt }
+tail_behind Aborted None = plain_tail
+tail_behind Committed a = plain_tail
+tail_behind Pending a = plain_tail
+
+-- so many refused accesses of a cell come last
+abbrev pub tries_of : Tail → (cell : ℕ) → ℕ
+tries_of t c = if t.cell == c then t.tried else 0
+
+abbrev pub tail_tried : (cell : ℕ) → Tail → Tail
+tail_tried c t = record { aborted = 0; tried = one_more (tries_of t c); cell = c }
+
+abbrev pub innermost_of : List Above → Option Above
+innermost_of [] = None
+innermost_of (a ∷ blocks) = Some a
 
 -- ## What each draw makes of it
 
@@ -105,15 +155,26 @@ settled c = record c { behind = 0; second = false }
 
 -- a node more in its place
 abbrev pub made_at : TrackParts → Kind → (stamp : ℕ) → TrackParts
-made_at c k stamp = with_nodes c (c.own.nodes ++ fresh_node c.place k stamp ∷ [])
+made_at c k stamp = record (with_nodes c (c.own.nodes ++ fresh_node c.place k stamp ∷ [])) { tail = plain_tail }
 
 -- a block more in its place, in which it goes on
 abbrev pub begun : TrackParts → (stamp : ℕ) → TrackParts
-begun c stamp = record (made_at c Block stamp) { place = length c.own.nodes }
+begun c stamp = record (made_at c Block stamp) {
+  place = length c.own.nodes;
+  pending = record { begin = stamp; column = c.column; attempt = one_more c.tail.aborted } ∷ c.pending;
+}
 
 -- the block in its place is closed, and it goes on behind that
 abbrev pub closed_at : TrackParts → BlockState → (end : ℕ) → TrackParts
-closed_at c state end = record (with_nodes c (closed c.own.nodes c.place state end)) { place = parent_of c.own.nodes c.place }
+closed_at c state end = record (with_nodes c (closed c.own.nodes c.place state end)) {
+  place = parent_of c.own.nodes c.place;
+  pending = drop 1 c.pending;
+  tail = tail_behind state (innermost_of c.pending);
+}
+
+-- where its strand stands, which waits on this side of a fork
+abbrev pub stood_in : Side → TrackParts → Stood
+stood_in side c = record { side = side; strand = c.strand; place = c.place; column = c.column; gap = c.gap; word = c.word; pending = length c.pending }
 
 module _ (shared : Bool) where
   -- how many strands of fork n get a node of this log: both where they share a column
@@ -140,7 +201,8 @@ module _ (shared : Bool) where
         column = left;
         gap = gap;
         word = word_in c.word;
-        outer = record { side = side_in n left; strand = c.strand; place = c.place; column = c.column; gap = c.gap; word = c.word } ∷ c.outer;
+        outer = stood_in (side_in n left) c ∷ c.outer;
+        tail = plain_tail;
         ahead = ahead_in n left right gap c.ahead;
       }
 
@@ -175,6 +237,7 @@ refused_at c x = record c {
     nodes = c.own.nodes ++ fresh_node c.place (Tried x.cell) 0 ∷ [];
     conflicts = c.own.conflicts ++ record x { asker = length c.own.nodes } ∷ [];
   };
+  tail = tail_tried x.cell c.tail;
 }
 
 abbrev pub brought : Home → TrackParts → TrackParts
@@ -213,13 +276,23 @@ abbrev pub outer_of : List Stood → List Whereabouts
 outer_of [] = []
 outer_of (o ∷ os) = put_first o.side o (outer_of os)
 
+-- the begin stamps of the blocks around its place, and of those around the places of the strands that wait
+abbrev pub arounds_of : List Above → List Stood → List (List ℕ)
+arounds_of blocks [] = begins blocks ∷ []
+arounds_of blocks (o ∷ os) = begins blocks ∷ arounds_of (first_begun o.pending blocks) os
+
+-- and none is around a strand that waits but not around those further in
+abbrev pub are_within : (n : ℕ) → List Stood → Bool
+are_within n [] = true
+are_within n (o ∷ os) = nat_le o.pending n && are_within o.pending os
+
 -- ## From one strand of a fork to the next
 
 -- from the left strand of an inline fork to the right one, and from there to the strand that forked
 abbrev pub turned_on : TrackParts → Stood → List Stood → Side → TrackParts
 turned_on c o os (Beside fork) = c
-turned_on c o os (First right) = record c { strand = right; place = right; outer = record o { side = Second } ∷ os; second = true }
-turned_on c o os Second = record c { strand = o.strand; place = o.place; outer = os; behind = c.behind + 1; second = false }
+turned_on c o os (First right) = record c { strand = right; place = right; outer = record o { side = Second } ∷ os; pending = first_begun o.pending c.pending; tail = plain_tail; second = true }
+turned_on c o os Second = record c { strand = o.strand; place = o.place; outer = os; pending = first_begun o.pending c.pending; tail = plain_tail; behind = c.behind + 1; second = false }
 
 abbrev pub turned_by : TrackParts → List Stood → TrackParts
 turned_by c [] = c
@@ -242,10 +315,10 @@ column_in c n = if n == c.strand then c.column else column_or (find (λ (o : Sto
 abbrev pub parted : TrackParts → TrackParts
 parted c = record (settled c) { ahead = None }
 
--- the right strand, before it has done anything; its log hangs from the log with the column `from`
-abbrev pub right_track : (from : ℕ) → Option Ahead → TrackParts
-right_track from None = fresh_track 0 from 0 0
-right_track from (Some a) = fresh_track a.column from a.node a.gap
+-- the right strand, before it has done anything; its log hangs from the log with the column `from`, and these blocks are around it
+abbrev pub right_track : (from : ℕ) → (around : List Above) → Option Ahead → TrackParts
+right_track from around None = record (fresh_track 0 from 0 0) { pending = around }
+right_track from around (Some a) = record (fresh_track a.column from a.node a.gap) { pending = around }
 
 -- of a token that only carries a note
 abbrev pub note_track : (column gap : ℕ) → TrackParts
@@ -254,7 +327,16 @@ note_track column gap = record (fresh_track column 0 0 gap) { own = record (fres
 -- where the innermost strand stands that waits
 abbrev pub stood_by : TrackParts → List Stood → TrackParts
 stood_by c [] = c
-stood_by c (o ∷ os) = record c { strand = o.strand; place = o.place; column = o.column; gap = o.gap; word = o.word; outer = os }
+stood_by c (o ∷ os) = record c {
+  strand = o.strand;
+  place = o.place;
+  column = o.column;
+  gap = o.gap;
+  word = o.word;
+  outer = os;
+  pending = first_begun o.pending c.pending;
+  tail = plain_tail;
+}
 
 -- the innermost strand waits for a fork whose right strand has a token of its own
 abbrev pub IsBeside : Side → Type 0

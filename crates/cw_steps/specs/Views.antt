@@ -20,6 +20,7 @@ use Rattle.cw_steps.specs.declared.view.Coming.{Coming}
 use Rattle.cw_steps.specs.declared.view.Whereabouts.{Whereabouts}
 use Rattle.cw_steps.specs.declared.view.Turn.{Turn}
 use Rattle.cw_steps.specs.declared.view.View.{View}
+use Rattle.cw_steps.specs.Around.{caught_up, innermost, outwards}
 use Rattle.cw_steps.specs.declared.table.Shared.{Shared}
 use Rattle.cw_steps.specs.declared.table.StrandToken.{StrandToken}
 
@@ -144,31 +145,6 @@ abbrev pub cell_in : Slot → Option CellParts
 cell_in (slot.Cell c) = Some c
 cell_in (slot.Tier t) = None
 cell_in slot.Empty = None
-
--- ## Around a place
-
--- the blocks around the place itself
-abbrev pub innermost : List (List ℕ) → List ℕ
-innermost [] = []
-innermost (w ∷ ws) = w
-
--- and around those further out
-abbrev pub outwards : List (List ℕ) → List (List ℕ)
-outwards [] = []
-outwards (w ∷ ws) = ws
-
--- behind so many forks
-abbrev pub gone_behind : ℕ → List (List ℕ) → List (List ℕ)
-gone_behind zero ws = ws
-gone_behind (suc n) ws = outwards (gone_behind n ws)
-
--- and into the right strand of the next
-abbrev pub gone_over : Bool → List (List ℕ) → List (List ℕ)
-gone_over false ws = ws
-gone_over true ws = innermost (outwards ws) ∷ outwards ws
-
-abbrev pub caught_up : (behind : ℕ) → (second : Bool) → List (List ℕ) → List (List ℕ)
-caught_up n b ws = gone_over b (gone_behind n ws)
 
 -- ## Draws
 

@@ -4,6 +4,7 @@ ghost use Rattle.atomic_table.specs.Table.{rest};
 ghost use Rattle.cw_steps.specs.Tracks.{added, added_home, brought, track_of, drawn, IsReady};
 ghost use Rattle.cw_steps.specs.Places as places;
 ghost use Rattle.cw_steps.specs.Stands.{brought_token, drawn_token, token_of, EndsBlock};
+ghost use Rattle.cw_steps.specs.declared.draw.Home.TheVariants as home_of;
 ghost use Rattle.cw_steps.specs.declared.view.Slot.TheVariants as slot_of;
 ghost use Rattle.cw_steps.specs.Views.{cells_of, cell_in, drew_view, gave_view, held_by, key_of, newest_slot, newest_used, slot_with, view_of, CanDraw, Holding, IsTokenOf, IsWhole, LeavesIt, TakesIt};
 
@@ -195,6 +196,7 @@ impl Shared {
         ensures track { track_of token.new.track ≡ brought home (track_of token.old.track) }
         ensures stop { token.new.stop ≡ token.old.stop }
         ensures token { token_of token.new ≡ brought_token home (token_of token.old) }
+        ensures plain { home ≡ home_of.Plain → token.new.track ≡ token.old.track }
         ensures ready { (n : ℕ) → IsReady token.old.track (added_home home + n) → IsReady token.new.track n }
         ensures kept { (token.new.track.spare ≡ token.old.track.spare) × (token.new.track.room ≡ token.old.track.room) }
     {

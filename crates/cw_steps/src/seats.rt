@@ -86,7 +86,7 @@ impl Shared {
         ensures right { view_of result ≡ new_seat_view false token.old.track.behind token.old.track.second (view_of token.old) }
         ensures slots { (held_by token.new ≡ held_by token.old) × (held_by result ≡ []) }
         ensures track { track_of token.new.track ≡ parted (track_of token.old.track) }
-        ensures new_track { track_of result.track ≡ right_track (track_of token.old.track).own.column (track_of token.old.track).ahead }
+        ensures new_track { track_of result.track ≡ right_track (track_of token.old.track).own.column (track_of token.old.track).pending (track_of token.old.track).ahead }
         ensures stop { (token.new.stop ≡ token.old.stop) × (result.stop ≡ None) }
         ensures room { (token.new.track.room ≡ token.old.track.room) × HasRoom result.track }
         ensures token { token_of token.new ≡ token_of token.old }
@@ -178,7 +178,7 @@ impl Shared {
         ensures slots { (held_by token.new ≡ held_by token.old) × (held_by result ≡ []) }
         ensures stop { (token.new.stop ≡ token.old.stop) × (result.stop ≡ None) }
         ensures parted { take_back ≡ false → (track_of token.new.track ≡ parted (track_of token.old.track)) × (token.new.track.room ≡ token.old.track.room) × (token_of token.new ≡ token_of token.old) }
-        ensures begun { take_back ≡ false → (track_of result.track ≡ right_track (track_of token.old.track).own.column (track_of token.old.track).ahead) × HasRoom result.track }
+        ensures begun { take_back ≡ false → (track_of result.track ≡ right_track (track_of token.old.track).own.column (track_of token.old.track).pending (track_of token.old.track).ahead) × HasRoom result.track }
         ensures begun_as { take_back ≡ false → (a : Ahead) → token.old.track.ahead ≡ Some a → token_of result ≡ right_token (token_of token.old) a }
         ensures over { take_back ≡ true → (token.new.track ≡ token.old.track) × (token_of token.new ≡ record (token_of token.old) { phase = Over }) }
         ensures note { take_back ≡ true → (track_of result.track ≡ note_track token.old.track.column token.old.track.gap) × (result.track.room ≡ None) }

@@ -1,7 +1,8 @@
 //! The table, and a strand's token.
-ghost use Rattle.std.specs.Prelude.{◌≡◌, suc, length, reverse};
+ghost use Rattle.std.specs.Prelude.{◌≡◌, suc, true, length, reverse};
 ghost use Rattle.cw_steps.specs.Places.{all_words};
-ghost use Rattle.cw_steps.specs.Tracks.{coming_of, halt_of, outer_of};
+ghost use Rattle.cw_steps.specs.Tracks.{arounds_of, are_within, coming_of, halt_of, outer_of};
+ghost use Rattle.cw_steps.specs.Around.{caught_up};
 
 mod opening;
 mod reads;
@@ -32,4 +33,6 @@ pub struct StrandToken {
     ghost halt_is: { seat.me.0.halt ≡ halt_of stop },
     ghost outer: { seat.me.0.outer ≡ outer_of (reverse track.outer.items) },
     ghost coming: { seat.me.0.coming ≡ coming_of track.ahead },
+    ghost arounds: { caught_up track.behind track.second seat.me.0.arounds ≡ arounds_of (reverse track.pending.items) (reverse track.outer.items) },
+    ghost within: { are_within (length (reverse track.pending.items)) (reverse track.outer.items) ≡ true },
 }

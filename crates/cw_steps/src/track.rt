@@ -5,13 +5,29 @@ ghost use Rattle.cw_tree.specs.Nodes.{fresh_node};
 
 mod moves;
 mod parting;
+mod pending;
 mod turning;
 
-use cw_log::{LogRoom, Logs, Side};
+use cw_log::{Above, LogRoom, Logs, Side};
 use cw_tree::{Conflict, Node};
 
+/// How the nodes end that go in one place: with so many blocks that were rolled back, or with so many refused accesses of a cell.
+#[derive(Clone, Copy, Drop, Debug)]
+pub struct Tail {
+    pub aborted: u32,
+    pub tried: u32,
+    pub cell: u32,
+}
+
+/// They end with a node of another kind, or there is none.
+pub(crate) const PLAIN: Tail = Tail {
+    aborted: 0,
+    tried: 0,
+    cell: 0,
+};
+
 /// Where a strand stands that forked: on which side of that fork the token goes on, its node in the log and the place behind its fork, its
-/// column, its gap and the word of that.
+/// column, its gap and the word of that, and how many blocks are pending around that place.
 #[derive(Clone, Copy, Drop, Debug)]
 pub struct Stood {
     pub side: Side,
@@ -20,6 +36,7 @@ pub struct Stood {
     pub column: u32,
     pub gap: u32,
     pub word: u64,
+    pub pending: usize,
 }
 
 /// The right strand of a fork, whose token is yet to be split off: the fork's number and its node in the log, and the strand's column and gap.
@@ -31,17 +48,20 @@ pub struct Ahead {
     pub gap: u32,
 }
 
-/// What a right strand begins with: the nodes of its log, and room for that in the list of the token that takes it in.
+/// What a right strand begins with: the nodes of its log, room for the pending blocks around it, and room for its log in the list of the
+/// token that takes it in.
 #[derive(Drop)]
 pub(crate) struct Spare {
     pub(crate) nodes: Vec<Node>,
+    pub(crate) pending: Vec<Above>,
     pub(crate) room: LogRoom,
     ghost one: { nodes.items ≡ fresh_node 0 Strand 0 ∷ [] },
+    ghost none: { pending.items ≡ [] },
 }
 
 /// What a token did, from its begin on, and where its strand stands: the strand, the node in which the next one goes, its column, the gap that
-/// it uses and the word of that; and the strands that wait for forks of this log, innermost last. Its log has a column, and hangs from a fork
-/// of the log with the column `from`.
+/// it uses and the word of that; the strands that wait for forks of this log, innermost last; and the pending blocks around its place, those of
+/// other seats included, outermost first. Its log has a column, and hangs from a fork of the log with the column `from`.
 #[derive(Drop)]
 pub struct Track {
     pub(crate) first: u32,
@@ -56,6 +76,8 @@ pub struct Track {
     pub(crate) gap: u32,
     pub(crate) word: u64,
     pub(crate) outer: Vec<Stood>,
+    pub(crate) pending: Vec<Above>,
+    pub(crate) tail: Tail,
     pub(crate) ahead: Option<Ahead>,
     /// Behind so many inline forks it went since its last draw, and then into the right strand of one or not.
     pub(crate) behind: u32,

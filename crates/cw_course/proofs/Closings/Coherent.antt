@@ -58,7 +58,7 @@ module _ {A : Type 0} (s : Strands A) (first : List ℤ) (budget : ℕ) (all : L
   t = tree_of all
 
   abbrev rooted : IsRooted t
-  rooted = k.numbered.rooted
+  rooted = k.together.numbered.rooted
 
   abbrev new : List Node
   new = in_order t
@@ -74,10 +74,10 @@ module _ {A : Type 0} (s : Strands A) (first : List ℤ) (budget : ℕ) (all : L
 
   -- the states of the nodes in depth-first order
   abbrev in_new : (ℕ → A) → ℕ → A
-  in_new = moved s t k.numbered before after reached
+  in_new = moved s t k.together.numbered before after reached
 
   apart : AreApart (logs_of cs 0 0 0)
-  apart = subst AreApart written (bare_apart all k.apart)
+  apart = subst AreApart written (bare_apart all k.together.apart)
 
   same_tree : t ≡ tree_of (logs_of cs 0 0 0)
   same_tree = sym (bare_together all all 0) ∙ ap tree_of written
@@ -101,16 +101,16 @@ module _ {A : Type 0} (s : Strands A) (first : List ℤ) (budget : ℕ) (all : L
 
   live_stand : (b : A) → Goes s s.start cs b → is_over (s.want b) ≡ true → (x : ℕ) → x < length new → (is_strand new x && is_live new x) ≡ true → StrandEnded s new (in_new before) (in_new after) (in_new reached) x
   live_stand b g o =
-      each_number t k.numbered (λ x. (is_strand new x && is_live new x) ≡ true → StrandEnded s new (in_new before) (in_new after) (in_new reached) x)
+      each_number t k.together.numbered (λ x. (is_strand new x && is_live new x) ≡ true → StrandEnded s new (in_new before) (in_new after) (in_new reached) x)
       (λ x l e.
       let was : (is_strand t x && is_live t x) ≡ true =
-      sym (ap (λ b. b && is_live new (renamed t x)) (strand_kept t k.numbered x l) ∙ ap (λ b. is_strand t x && b) (live_renamed t k.numbered x l)) ∙ e in
-      ended_at s t k.numbered before after reached x l (live_ended t rooted s cs shown b g o x l was))
+      sym (ap (λ b. b && is_live new (renamed t x)) (strand_kept t k.together.numbered x l) ∙ ap (λ b. is_strand t x && b) (live_renamed t k.together.numbered x l)) ∙ e in
+      ended_at s t k.together.numbered before after reached x l (live_ended t rooted s cs shown b g o x l was))
 
   finished_stands : c.halt ≡ None → (b : A) → Goes s s.start cs b → is_over (s.want b) ≡ true → Stands (ends.Finished first_left shown_left)
   finished_stands e b g o =
       let P : List Node → Type 0 = λ u. (x : ℕ) → x < length u → (is_strand u x && is_live u x) ≡ true → StrandEnded s u (in_new before) (in_new after) (in_new reached) x in
-      (k.finished e, subst P (sym k.tree) (live_stand b g o))
+      (k.finished e, subst P (sym k.together.tree) (live_stand b g o))
 
   fault_stands : (kind : FaultKind) (column strand : ℕ) → Stops s s.start cs → FaultsIn kind column strand cs 0 0 1 → Stands (ends.Fault (renamed t (base_of all column + strand)) kind)
   fault_stands kind column strand st i =
@@ -118,21 +118,21 @@ module _ {A : Type 0} (s : Strands A) (first : List ℤ) (budget : ℕ) (all : L
       let At : ℕ → Type 0 = λ n. Faults kind (n + strand) cs 0 1 (1 + size cs) in
       let d = at_fault s t rooted kind x cs shown st (subst At (same_base column) (faults_in_tree cs apart kind column strand i)) in
       let low = strand_there t x d.stands.strand in
-      let inside = chain_low t k.numbered x d.place d.way.chain low in
-      let pl = let P : List Node → Type 0 = PendingLast in subst P k.tree k.history.pending_last in
-      let here = place_renamed t k.numbered (all_held t rooted cs shown) pl x d.place low d.stands.strand d.way in
+      let inside = chain_low t k.together.numbered x d.place d.way.chain low in
+      let pl = let P : List Node → Type 0 = PendingLast in subst P k.together.tree k.history.pending_last in
+      let here = place_renamed t k.together.numbered (all_held t rooted cs shown) pl x d.place low d.stands.strand d.way in
       let Q : ℕ → Type 0 = λ p. (s.want (in_new reached p) ≡ want.Fault kind) × HasNoOpenFork s new (in_new before) (in_new after) (in_new reached) p in
       let U : List Node → Type 0 = λ u. EndStands s u (in_new before) (in_new after) (in_new reached) (ends.Fault (renamed t x) kind) in
-      subst U (sym k.tree)
+      subst U (sym k.together.tree)
       (subst Q (sym here)
-      (ap s.want (moved_at s t k.numbered before after reached reached d.place inside) ∙ d.stands.wants, shut_renamed s t k.numbered before after reached d.place inside d.stands.shut))
+      (ap s.want (moved_at s t k.together.numbered before after reached reached d.place inside) ∙ d.stands.wants, shut_renamed s t k.together.numbered before after reached d.place inside d.stands.shut))
 
   -- ## The record
 
   follows_new : Stops s s.start cs → Follows s c.tree (in_new before) (in_new after) (in_new reached)
   follows_new st =
       let P : List Node → Type 0 = λ u. Follows s u (in_new before) (in_new after) (in_new reached) in
-      subst P (sym k.tree) (follows_at s t k.numbered before after reached (follows t rooted s cs shown st))
+      subst P (sym k.together.tree) (follows_at s t k.together.numbered before after reached (follows t rooted s cs shown st))
 
   coherent_from : (h : Option Halt) → c.halt ≡ h → Stops s s.start cs → Stands (end_after h false first_left shown_left) → IsCoherent s first budget c.tree c.journals c.conflicts (end_left first budget c false)
   coherent_from h e st stands =
@@ -148,14 +148,14 @@ coherent_stopped : {A : Type 0} (s : Strands A) (first : List ℤ) (budget : ℕ
     → (cs : Course) (written : map bare all ≡ logs_of cs 0 0 0) → Ends s (Some (record { halt = h; column = column; strand = strand })) cs → (c.halt ≡ Some Memory → ⊥)
     → IsCoherent s first budget c.tree c.journals c.conflicts (end_left first budget c false)
 coherent_stopped s first budget all (Fault y kind) column strand c k cs written end memory =
-    coherent_from s first budget all _ c k cs written _ k.halt end.0 (fault_stands s first budget all _ c k cs written kind column strand end.0 end.1)
-coherent_stopped s first budget all (Budget y) column strand c k cs written end memory = coherent_from s first budget all _ c k cs written _ k.halt end tt
-coherent_stopped s first budget all Memory column strand c k cs written end memory = absurd (memory k.halt)
+    coherent_from s first budget all _ c k cs written _ k.together.halt end.0 (fault_stands s first budget all _ c k cs written kind column strand end.0 end.1)
+coherent_stopped s first budget all (Budget y) column strand c k cs written end memory = coherent_from s first budget all _ c k cs written _ k.together.halt end tt
+coherent_stopped s first budget all Memory column strand c k cs written end memory = absurd (memory k.together.halt)
 
 coherent_so : {A : Type 0} (s : Strands A) (first : List ℤ) (budget : ℕ) (all : List Log) (stop : Option Stop) (c : Closed) (k : IsClosing first budget all stop c) (cs : Course) (written : map bare all ≡ logs_of cs 0 0 0)
     → Ends s stop cs → (c.halt ≡ Some Memory → ⊥) → IsCoherent s first budget c.tree c.journals c.conflicts (end_left first budget c false)
 coherent_so s first budget all None c k cs written (b, g, o) memory =
-    coherent_from s first budget all None c k cs written None k.halt (there g) (finished_stands s first budget all None c k cs written k.halt b g o)
+    coherent_from s first budget all None c k cs written None k.together.halt (there g) (finished_stands s first budget all None c k cs written k.together.halt b g o)
 coherent_so s first budget all (Some x) c k cs written end memory = coherent_stopped s first budget all x.halt x.column x.strand c k cs written end memory
 
 pub worked_are_coherent : {A : Type 0} → WorkedAreCoherent A

@@ -113,17 +113,19 @@ finishes_all : Finishes
 finishes_all = record {
   worked = record { course = nested; written = refl; ends = (script.done, nested_goes, refl) };
   closing = record {
-    apart = ((other 0 2 (lit< tt), tt), (tt, tt));
-    numbered = numbered (tree_of nested_logs) refl refl (lit< tt);
-    tree = refl;
-    conflicts = refl;
-    halt = refl;
+    together = record {
+      apart = ((other 0 2 (lit< tt), tt), (tt, tt));
+      numbered = numbered (tree_of nested_logs) refl refl (lit< tt);
+      tree = refl;
+      conflicts = refl;
+      halt = refl;
+    };
     history = holds.history;
     faulted = tt;
     spent = tt;
     finished = λ e. holds.none_pending;
   };
-  silent = λ k. none_is_not_one refused_write [] k.conflicts;
+  silent = λ k. none_is_not_one refused_write [] k.together.conflicts;
 }
 
 -- ## All of it
@@ -175,17 +177,19 @@ closes_all = record {
     ends = apart starts refl (within starts refl (there (acts starts (refl, refl)))) (within starts refl (apart starts refl (there (acts starts (refl, refl))) (there starts)));
   };
   closing = record {
-    apart = ((other 0 1 (lit< tt), (other 0 2 (lit< tt), tt)), ((other 1 2 (lit< tt), tt), (tt, tt)));
-    numbered = numbered (tree_of spent_logs) refl refl (lit< tt);
-    tree = refl;
-    conflicts = refl;
-    halt = refl;
+    together = record {
+      apart = ((other 0 1 (lit< tt), (other 0 2 (lit< tt), tt)), ((other 1 2 (lit< tt), tt), (tt, tt)));
+      numbered = numbered (tree_of spent_logs) refl refl (lit< tt);
+      tree = refl;
+      conflicts = refl;
+      halt = refl;
+    };
     history = at_victim.holds.history;
     faulted = tt;
     spent = at_victim.holds.spent;
     finished = λ e. absurd (cc e);
   };
-  refused = λ w. less 5 8 (lit< tt) (sym (ap told w.halt));
+  refused = λ w. less 5 8 (lit< tt) (sym (ap told w.together.halt));
 }
 
 pub courses : WorkedCourses

@@ -16,7 +16,8 @@ use Rattle.cw_steps.specs.declared.view.Turn.{Turn}
 use Rattle.cw_steps.specs.declared.view.View.{View}
 use Rattle.cw_steps.specs.declared.view.Whereabouts.{Whereabouts}
 use Rattle.cw_steps.specs.Totals.{total}
-use Rattle.cw_steps.specs.Views.{cells_of, share, has_turn, turns_of, new_seat_view, parted_view, both_view, joined_view, spent_view, kept_halt, right_view, caught_up, innermost, stood_at, further_out}
+use Rattle.cw_steps.specs.Around.{caught_up, innermost}
+use Rattle.cw_steps.specs.Views.{cells_of, share, has_turn, turns_of, new_seat_view, parted_view, both_view, joined_view, spent_view, kept_halt, right_view, stood_at, further_out}
 use Rattle.cw_steps.specs.Rule.{Holds, HasHalted, BringsHome, StandsIn, ComesIn, WaitsIn}
 use Rattle.cw_steps.proofs.Counts.{set_there, total_set, total_snoc}
 use Rattle.cw_steps.proofs.Concerns.Clock.{clock_views}

@@ -1,13 +1,13 @@
 //! What a token shows, and the room that it takes ahead.
-ghost use Rattle.std.specs.Prelude.{◌≡◌, OnOk};
-ghost use Rattle.cw_steps.specs.Tracks.{column_in, halt_of, track_of, turned, CanPart, IsReady};
+ghost use Rattle.std.specs.Prelude.{◌≡◌, OnOk, reverse};
+ghost use Rattle.cw_steps.specs.Tracks.{begins, column_in, halt_of, one_more, track_of, tries_of, turned, CanPart, IsReady};
 ghost use Rattle.cw_tree.specs.Nodes.{stamp_of};
 ghost use Rattle.cw_log.specs.Tokens as tokens;
 ghost use Rattle.cw_steps.specs.Stands.{token_of};
 
 use super::StrandToken;
 use cw_base::OutOfMemory;
-use cw_log::Logs;
+use cw_log::{Above, Logs};
 use cw_tree::{Conflict, Halt, Node};
 
 impl StrandToken {
@@ -70,6 +70,21 @@ impl StrandToken {
         ensures { result ≡ (track_of self.now.track).word }
     {
         self.track.word
+    }
+
+    /// The pending blocks around its place, those of other seats included, outermost first.
+    pub fn pending(&self) -> &[Above]
+        ensures blocks { reverse result.now ≡ (track_of self.now.track).pending }
+        ensures around { begins (reverse result.now) ≡ (token_of self.now).around }
+    {
+        self.track.pending.as_slice()
+    }
+
+    /// Which attempt a refused access of a cell is that comes next: so many right before it are of that cell, and it is one more.
+    pub fn attempt(&self, cell: u32) -> u32
+        ensures { result ≡ one_more (tries_of (track_of self.now.track).tail cell) }
+    {
+        self.track.attempt(cell)
     }
 
     /// The logs of the tokens that were joined to it, in their order.

@@ -1,12 +1,15 @@
 //! What is added to a log.
-ghost use Rattle.std.specs.Prelude.{◌≡◌, ℕ, ◌+◌, ◌<◌, ◌^◌, OnOk};
+ghost use Rattle.std.specs.Prelude.{◌≡◌, ℕ, ◌+◌, ◌<◌, ◌^◌, true, false, OnOk};
 ghost use Rattle.cw_tree.specs.Nodes as nodes;
-ghost use Rattle.cw_steps.specs.Tracks.{added, added_home, brought, drawn, begun, closed_at, forked_at, made_at, refused_at, settled, side_in, track_of, kind_of_access, IsReady};
+ghost use Rattle.cw_steps.specs.declared.draw.Home.TheVariants as home_of;
+ghost use Rattle.cw_steps.specs.Tracks as tracks;
+ghost use Rattle.cw_steps.specs.Tracks.{added, added_home, brought, drawn, begun, closed_at, forked_at, made_at, refused_at, settled, track_of, kind_of_access, IsReady};
 
-use super::{Ahead, Stood, Track};
+use super::pending::{count, one_more, pop_innermost, tail_behind, tail_tried};
+use super::{Ahead, PLAIN, Stood, Track};
 use crate::{Draw, Home};
 use cw_base::{OutOfMemory, put};
-use cw_log::Side;
+use cw_log::{Above, Side};
 use cw_tree::{BlockState, Conflict, Kind, Node};
 
 fn first_state(kind: &Kind) -> BlockState
@@ -41,17 +44,6 @@ fn access_kind(cell: u32, wrote: bool, value: i64) -> Kind
     }
 }
 
-fn side_of(shared: bool, node: u32, left: u32) -> Side
-    requires { node + 2 < 2 ^ 32 }
-    ensures { result ≡ side_in shared node left }
-{
-    if shared {
-        Side::First(node + 2)
-    } else {
-        Side::Beside(left)
-    }
-}
-
 impl Track {
     /// Takes room for so many nodes, conflicts and forks.
     pub(crate) fn reserve_nodes(&mut self, count: u32) -> Result<(), OutOfMemory>
@@ -63,6 +55,7 @@ impl Track {
             nodes,
             conflicts,
             outer,
+            pending,
             ..
         } = self;
         if nodes.len() + count as usize > u32::MAX as usize {
@@ -71,6 +64,7 @@ impl Track {
         nodes.reserve(count as usize)?;
         conflicts.reserve(count as usize)?;
         outer.reserve(count as usize)?;
+        pending.reserve(count as usize)?;
         Ok(())
     }
 
@@ -80,8 +74,14 @@ impl Track {
         ensures ready { (n : ℕ) → IsReady self.old (1 + n) → IsReady self.new n }
         ensures kept { (self.new.spare ≡ self.old.spare) × (self.new.room ≡ self.old.room) }
     {
-        let Track { nodes, place, .. } = self;
+        let Track {
+            nodes,
+            place,
+            tail,
+            ..
+        } = self;
         put(nodes, fresh_node(*place, kind, stamp));
+        *tail = PLAIN;
     }
 
     fn begin(&mut self, stamp: u64)
@@ -90,10 +90,27 @@ impl Track {
         ensures ready { (n : ℕ) → IsReady self.old (1 + n) → IsReady self.new n }
         ensures kept { (self.new.spare ≡ self.old.spare) × (self.new.room ≡ self.old.room) }
     {
-        let Track { nodes, place, .. } = self;
+        let Track {
+            nodes,
+            place,
+            column,
+            pending,
+            tail,
+            ..
+        } = self;
         let block = nodes.len() as u32;
         put(nodes, fresh_node(*place, Kind::Block, stamp));
+        let attempt = one_more(tail.aborted);
+        put(
+            pending,
+            Above {
+                begin: stamp,
+                column: *column,
+                attempt,
+            },
+        );
         *place = block;
+        *tail = PLAIN;
     }
 
     fn close(&mut self, state: BlockState, end: u64)
@@ -101,7 +118,14 @@ impl Track {
         ensures ready { (n : ℕ) → IsReady self.old n → IsReady self.new n }
         ensures kept { (self.new.spare ≡ self.old.spare) × (self.new.room ≡ self.old.room) }
     {
-        let Track { nodes, place, .. } = self;
+        let Track {
+            nodes,
+            place,
+            pending,
+            tail,
+            ..
+        } = self;
+        *tail = tail_behind(&state, pop_innermost(pending));
         *place = match nodes.get_mut(*place as usize) {
             Some(node) => {
                 node.state = state;
@@ -112,12 +136,60 @@ impl Track {
         };
     }
 
-    fn fork(&mut self, left: u32, right: u32, gap: u32, stamp: u64)
+    /// Where its strand stands, which waits on this side of a fork.
+    fn stands(&self, side: Side) -> Stood
+        ensures { result ≡ tracks.stood_in side (track_of self.now) }
+    {
+        Stood {
+            side,
+            strand: self.strand,
+            place: self.place,
+            column: self.column,
+            gap: self.gap,
+            word: self.word,
+            pending: count(&self.pending),
+        }
+    }
+
+    /// A fork whose strands share the column.
+    fn fork_shared(&mut self, left: u32, gap: u32, stamp: u64)
         requires { IsReady self.old 3 }
-        ensures track { track_of self.new ≡ forked_at (track_of self.old) left right gap stamp }
+        ensures track { track_of self.new ≡ tracks.forked_in true (track_of self.old) left left gap stamp }
         ensures ready { (n : ℕ) → IsReady self.old (3 + n) → IsReady self.new n }
         ensures kept { (self.new.spare ≡ self.old.spare) × (self.new.room ≡ self.old.room) }
     {
+        let node = self.nodes.len() as u32;
+        let stood = self.stands(Side::First(node + 2));
+        let Track {
+            nodes,
+            strand,
+            place,
+            column,
+            gap: own_gap,
+            outer,
+            tail,
+            ..
+        } = self;
+        put(outer, stood);
+        put(nodes, fresh_node(*place, Kind::Fork, stamp));
+        put(nodes, fresh_node(node, Kind::Strand, 0));
+        put(nodes, fresh_node(node, Kind::Strand, 0));
+        *strand = node + 1;
+        *place = node + 1;
+        *column = left;
+        *own_gap = gap;
+        *tail = PLAIN;
+    }
+
+    /// A fork whose strands have two columns: the right one's token is yet to be split off.
+    fn fork_apart(&mut self, left: u32, right: u32, gap: u32, stamp: u64)
+        requires { IsReady self.old 3 }
+        ensures track { track_of self.new ≡ tracks.forked_in false (track_of self.old) left right gap stamp }
+        ensures ready { (n : ℕ) → IsReady self.old (3 + n) → IsReady self.new n }
+        ensures kept { (self.new.spare ≡ self.old.spare) × (self.new.room ≡ self.old.room) }
+    {
+        let node = self.nodes.len() as u32;
+        let stood = self.stands(Side::Beside(left));
         let Track {
             nodes,
             strand,
@@ -126,38 +198,38 @@ impl Track {
             gap: own_gap,
             word,
             outer,
+            tail,
             ahead,
             ..
         } = self;
-        let node = nodes.len() as u32;
-        put(
-            outer,
-            Stood {
-                side: side_of(left == right, node, left),
-                strand: *strand,
-                place: *place,
-                column: *column,
-                gap: *own_gap,
-                word: *word,
-            },
-        );
+        put(outer, stood);
         put(nodes, fresh_node(*place, Kind::Fork, stamp));
         put(nodes, fresh_node(node, Kind::Strand, 0));
-        if left == right {
-            put(nodes, fresh_node(node, Kind::Strand, 0));
-        } else {
-            *word = 0;
-            *ahead = Some(Ahead {
-                fork: left,
-                node,
-                column: right,
-                gap,
-            });
-        }
         *strand = node + 1;
         *place = node + 1;
         *column = left;
         *own_gap = gap;
+        *word = 0;
+        *tail = PLAIN;
+        *ahead = Some(Ahead {
+            fork: left,
+            node,
+            column: right,
+            gap,
+        });
+    }
+
+    fn fork(&mut self, left: u32, right: u32, gap: u32, stamp: u64)
+        requires { IsReady self.old 3 }
+        ensures track { track_of self.new ≡ forked_at (track_of self.old) left right gap stamp }
+        ensures ready { (n : ℕ) → IsReady self.old (3 + n) → IsReady self.new n }
+        ensures kept { (self.new.spare ≡ self.old.spare) × (self.new.room ≡ self.old.room) }
+    {
+        if left == right {
+            self.fork_shared(left, gap, stamp);
+        } else {
+            self.fork_apart(left, right, gap, stamp);
+        }
     }
 
     fn settle(&mut self)
@@ -211,8 +283,10 @@ impl Track {
             nodes,
             conflicts,
             place,
+            tail,
             ..
         } = self;
+        *tail = tail_tried(conflict.cell, *tail);
         let asker = nodes.len() as u32;
         let kind = Kind::Tried {
             cell: conflict.cell,
@@ -225,6 +299,7 @@ impl Track {
     pub(crate) fn bring(&mut self, home: Home)
         requires { IsReady self.old (added_home home) }
         ensures track { track_of self.new ≡ brought home (track_of self.old) }
+        ensures plain { home ≡ home_of.Plain → self.new ≡ self.old }
         ensures ready { (n : ℕ) → IsReady self.old (added_home home + n) → IsReady self.new n }
         ensures kept { (self.new.spare ≡ self.old.spare) × (self.new.room ≡ self.old.room) }
     {
@@ -233,6 +308,13 @@ impl Track {
             Home::Split { .. } => self.gap = self.column,
             _ => {}
         }
+    }
+
+    /// Which attempt a refused access of a cell is that comes next.
+    pub(crate) fn attempt(&self, cell: u32) -> u32
+        ensures { result ≡ tracks.one_more (tracks.tries_of (track_of self.now).tail cell) }
+    {
+        one_more(self.tail.tries(cell))
     }
 
     /// The stamp of the node at its place.

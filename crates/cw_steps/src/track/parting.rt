@@ -1,13 +1,14 @@
 //! What a right strand begins with, and what a strand that ends leaves.
-ghost use Rattle.std.specs.Prelude.{◌≡◌, ◌<◌, ◌+◌, ◌^◌, [], ◌∷◌, IfOk, OnOk, None, Some, length};
+ghost use Rattle.std.specs.Prelude.{◌≡◌, ◌<◌, ◌≤◌, ◌+◌, ◌^◌, [], ◌∷◌, IfOk, OnOk, None, Some, length, reverse, vec_capacity};
 ghost use Rattle.cw_tree.specs.declared.node.Kind.TheVariants as kinds;
 ghost use Rattle.cw_tree.specs.Nodes as nodes;
 ghost use Rattle.cw_steps.specs.Tracks.{fresh_track, note_track, parted, right_track, settled, stood_by, taken_in, track_of, CanPart, HasRoom, IsReady};
 
 use super::moves::fresh_node;
-use super::{Ahead, Spare, Track};
+use super::pending::{copy, cut};
+use super::{Ahead, PLAIN, Spare, Track};
 use cw_base::{OutOfMemory, Seq, put};
-use cw_log::{Log, LogRoom, Logs};
+use cw_log::{Above, Log, LogRoom, Logs};
 use cw_tree::{Kind, Node};
 use std::alloc::Global;
 
@@ -20,18 +21,41 @@ fn fresh_nodes(alloc: Global) -> Result<Vec<Node>, OutOfMemory>
 }
 
 impl Spare {
-    fn new(alloc: Global) -> Result<Spare, OutOfMemory> {
+    fn new(alloc: Global, around: usize) -> Result<Spare, OutOfMemory>
+        ensures { IfOk result (λ s. around ≤ vec_capacity s.pending) }
+    {
         let nodes = fresh_nodes(alloc)?;
         let room = LogRoom::new(alloc)?;
-        Ok(Spare { nodes, room })
+        let pending = Vec::with_capacity(alloc, around)?;
+        Ok(Spare {
+            nodes,
+            pending,
+            room,
+        })
+    }
+
+    /// Takes room for so many pending blocks around it.
+    fn reserve(&mut self, around: usize) -> Result<(), OutOfMemory>
+        ensures { OnOk result (around ≤ vec_capacity self.new.pending) }
+    {
+        let Spare { pending, .. } = self;
+        pending.reserve(around)?;
+        Ok(())
     }
 }
 
-fn right_strand(alloc: Global, from: u32, right: Ahead, begin: Spare) -> Track
-    ensures track { track_of result ≡ right_track from (Some right) }
+fn right_strand(alloc: Global, from: u32, around: &[Above], right: Ahead, begin: Spare) -> Track
+    requires { length around.now ≤ vec_capacity begin.pending }
+    ensures track { track_of result ≡ right_track from (reverse around.now) (Some right) }
     ensures given { HasRoom result }
 {
-    let Spare { nodes, room } = begin;
+    let Spare {
+        nodes,
+        pending,
+        room,
+    } = begin;
+    let mut pending = pending;
+    copy(&mut pending, around);
     Track {
         first: right.column,
         from,
@@ -45,6 +69,8 @@ fn right_strand(alloc: Global, from: u32, right: Ahead, begin: Spare) -> Track
         gap: right.gap,
         word: 0,
         outer: Vec::new(alloc),
+        pending,
+        tail: PLAIN,
         ahead: None,
         behind: 0,
         second: false,
@@ -74,6 +100,8 @@ impl Track {
             gap: 0,
             word: 0,
             outer: Vec::new(alloc),
+            pending: Vec::new(alloc),
+            tail: PLAIN,
             ahead: None,
             behind: 0,
             second: false,
@@ -89,11 +117,19 @@ impl Track {
         ensures room { self.new.room ≡ self.old.room }
     {
         self.reserve_nodes(count)?;
-        let Track { nodes, spare, .. } = self;
-        if spare.is_none() {
-            *spare = Some(Spare::new(*nodes.allocator())?);
+        let Track {
+            nodes,
+            pending,
+            spare,
+            ..
+        } = self;
+        match spare {
+            Some(begin) => begin.reserve(pending.len()),
+            None => {
+                *spare = Some(Spare::new(*nodes.allocator(), pending.len())?);
+                Ok(())
+            }
         }
-        Ok(())
     }
 
     /// The track of the right strand that is ahead.
@@ -102,12 +138,13 @@ impl Track {
         requires ahead { (a : _) × (self.old.ahead ≡ Some a) }
         ensures left { track_of self.new ≡ parted (track_of self.old) }
         ensures room { self.new.room ≡ self.old.room }
-        ensures right { track_of result ≡ right_track (track_of self.old).own.column (track_of self.old).ahead }
+        ensures right { track_of result ≡ right_track (track_of self.old).own.column (track_of self.old).pending (track_of self.old).ahead }
         ensures given { HasRoom result }
     {
         let Track {
             first,
             nodes,
+            pending,
             ahead,
             behind,
             second,
@@ -119,7 +156,7 @@ impl Track {
         let (Some(right), Some(begin)) = (ahead.take(), spare.take()) else {
             unreachable!()
         };
-        right_strand(*nodes.allocator(), *first, right, begin)
+        right_strand(*nodes.allocator(), *first, pending.as_slice(), right, begin)
     }
 
     /// The track of a token that only carries a note.
@@ -141,6 +178,8 @@ impl Track {
             gap: self.gap,
             word: 0,
             outer: Vec::new(alloc),
+            pending: Vec::new(alloc),
+            tail: PLAIN,
             ahead: None,
             behind: 0,
             second: false,
@@ -199,6 +238,8 @@ impl Track {
             gap,
             word,
             outer,
+            pending,
+            tail,
             behind,
             second,
             ..
@@ -211,6 +252,8 @@ impl Track {
             *column = stood.column;
             *gap = stood.gap;
             *word = stood.word;
+            cut(pending, stood.pending);
+            *tail = PLAIN;
         }
     }
 }

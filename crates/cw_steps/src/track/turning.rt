@@ -2,7 +2,8 @@
 ghost use Rattle.std.specs.Prelude.{◌≡◌};
 ghost use Rattle.cw_steps.specs.Tracks.{column_in, track_of, turned};
 
-use super::{Stood, Track};
+use super::pending::cut;
+use super::{PLAIN, Stood, Track};
 use cw_base::put;
 use cw_log::Side;
 
@@ -16,6 +17,8 @@ impl Track {
             strand,
             place,
             outer,
+            pending,
+            tail,
             behind,
             second,
             ..
@@ -35,11 +38,15 @@ impl Track {
                 );
                 *strand = right;
                 *place = right;
+                cut(pending, stood.pending);
+                *tail = PLAIN;
                 *second = true;
             }
             Side::Second => {
                 *strand = stood.strand;
                 *place = stood.place;
+                cut(pending, stood.pending);
+                *tail = PLAIN;
                 *behind += 1;
                 *second = false;
             }

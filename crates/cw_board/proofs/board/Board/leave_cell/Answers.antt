@@ -1,5 +1,5 @@
-use Rattle.std.proofs.Common.{ap, sym, subst}
-use Rattle.cw_steps.specs.Views.{view_of, IsLowCell}
+use Rattle.std.proofs.Common.{sym, subst}
+use Rattle.cw_steps.specs.Views.{IsLowCell}
 use Rattle.cw_steps.specs.declared.view.View.{View}
 use Rattle.cw_steps.specs.declared.view.Slot.TheVariants as slot
 use Rattle.cw_steps.specs.declared.draw.Home.TheVariants as home

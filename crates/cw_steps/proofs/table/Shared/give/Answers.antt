@@ -10,9 +10,9 @@ invariant_of-token c =
     let t = c.args.token.now in
     let v : View = t.seat.me.0 in
     let same = ap (λ m. m.0) c.give_as.ensures.seat in
-    let was : Agrees (track_of t.track) v = record { column = t.column; gap = t.gap; word = t.word; outer = t.outer; coming = t.coming } in
+    let was : Agrees (track_of t.track) v = record { column = t.column; gap = t.gap; word = t.word; outer = t.outer; coming = t.coming; arounds = t.arounds; within = t.within } in
     let now : Agrees (track_of c.bring.new.self) c.give_as.new.seat.me.0 = agrees_too _ _ _ _ c.bring.ensures.track same (brought_agrees v (track_of t.track) was c.args.home) in
-    record { column = now.column; gap = now.gap; word = now.word; halt_is = ap (λ (u : View). u.halt) same ∙ t.halt_is; outer = now.outer; coming = now.coming }
+    record { column = now.column; gap = now.gap; word = now.word; halt_is = ap (λ (u : View). u.halt) same ∙ t.halt_is; outer = now.outer; coming = now.coming; arounds = now.arounds; within = now.within }
 
 pub returns-clause-token : goal.returns-clause-token
 returns-clause-token c =

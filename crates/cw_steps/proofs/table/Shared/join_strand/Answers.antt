@@ -11,7 +11,7 @@ invariant_of-token c =
     let d = c.args.ending in
     let v : View = t.seat.me.0 in
     let same = ap (λ m. m.0) c.join_as.ensures.seat ∙ here_both t.track.behind t.track.second v d.seat.me.0 c.requires.here.0 in
-    let was : Agrees (track_of t.track) v = record { column = t.column; gap = t.gap; word = t.word; outer = t.outer; coming = t.coming } in
+    let was : Agrees (track_of t.track) v = record { column = t.column; gap = t.gap; word = t.word; outer = t.outer; coming = t.coming; arounds = t.arounds; within = t.within } in
     let now : Agrees (track_of c.take_in.new.self) c.join_as.new.seat.me.0 = agrees_too _ _ _ _ c.take_in.ensures.track same (joined_agrees v (track_of t.track) was (track_of d.track) d.seat.me.0 c.requires.fork) in
     record {
       column = now.column;
@@ -20,6 +20,8 @@ invariant_of-token c =
       halt_is = ap (λ (u : View). u.halt) same ∙ halts_kept v.halt d.seat.me.0.halt t.stop d.stop t.halt_is d.halt_is ∙ ap halt_of (sym c.kept.ensures);
       outer = now.outer;
       coming = now.coming;
+      arounds = now.arounds;
+      within = now.within;
     }
 
 pub returns-clause-token : goal.returns-clause-token

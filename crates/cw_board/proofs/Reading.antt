@@ -1,0 +1,231 @@
+-- Serves `HasRead`, `ToldBy` and `HasLooked`: a token that reads words while it has a turn.
+use Rattle.std.proofs.Common.{◌≡◌, ◌∙◌, ℕ, ◌+◌, ◌-◌, ◌<◌, ◌≤◌, List, [], ◌∷◌, ◌++◌, length, length-append, take, ap, refl, sym, subst, arith, append_assoc}
+use Rattle.std.specs.Prelude.{All, Bool, Option, Some, None}
+use Rattle.std.specs.Borrow.{MutBor}
+use Rattle.std.proofs.lemmas.List.{take_at}
+use Rattle.std.proofs.lemmas.List.Elements.{All-weaker, Contains-append_left, Contains-append_right, Contains-push}
+use Rattle.cw_tree.specs.declared.access.Entry.{Entry}
+use Rattle.cw_trace.specs.Columns.{ColumnTable}
+use Rattle.cw_trace.specs.Columns as columns
+use Rattle.cw_trace.specs.Traces.{Traces}
+use Rattle.cw_trace.specs.Query.{Gives}
+use Rattle.cw_trace.specs.declared.verdict.Verdict.{Verdict}
+use Rattle.cw_tree.specs.declared.access.Mark.{Mark}
+use Rattle.cw_trace.specs.Told.{Owner, Lead, Up, Word, Inside, Number, Maybe, Test, Stays}
+use Rattle.cw_steps.specs.declared.table.StrandToken.{StrandToken}
+use Rattle.cw_steps.specs.declared.view.Note.{Note}
+use Rattle.cw_steps.specs.declared.view.Slot.{Slot}
+use Rattle.cw_steps.specs.declared.view.Slot.TheVariants as slot
+use Rattle.cw_steps.specs.declared.view.View.{View}
+use Rattle.cw_steps.specs.declared.view.Whereabouts.{Whereabouts}
+use Rattle.cw_steps.specs.Places.{gap_word}
+use Rattle.cw_steps.specs.Stands.{token_of}
+use Rattle.cw_steps.specs.Tracks.{HasRoom}
+use Rattle.cw_steps.specs.Views.{held_by, newest_slot, newest_used, noted_view, older, view_of, IsLowCell, IsTierOf, IsTokenOf}
+use Rattle.cw_board.specs.declared.board.Board.{Board}
+use Rattle.cw_board.specs.Boards.{cells_in, columns_of, IsOf}
+use Rattle.cw_board.specs.Sound.{IsSound}
+use Rattle.cw_board.specs.Turns.{at_rest, HasTier, HasTierOver, IsHolding}
+use Rattle.cw_board.specs.Asked.{noted_since, HasLooked, HasRead, IsAnswered, IsReading, Question, ReadsFor, ToldBy, ToldFor}
+use Rattle.cw_board.proofs.Boards.{is_now}
+use Rattle.cw_board.proofs.Sound.{sound_later}
+
+pub reads_not : (t : StrandToken) → HasRead t t
+reads_not t = record { notes = []; me = refl; table = refl; track = refl; token = refl }
+
+pub reads_more : (t u u' : StrandToken) (word value : ℕ) → HasRead t u → u'.seat.table_id ≡ u.seat.table_id → view_of u' ≡ noted_view word value (view_of u) → held_by u' ≡ held_by u → u'.track ≡ u.track → token_of u' ≡ token_of u → HasRead t u'
+reads_more t u u' word value h table view slots track token = record {
+  notes = record { word = word; value = value } ∷ h.notes;
+  me = λ i. ((view ∙ ap (λ m. noted_view word value m.0) h.me) i, (slots ∙ ap (λ m. m.1) h.me) i);
+  table = table ∙ h.table;
+  track = track ∙ h.track;
+  token = token ∙ h.token;
+}
+
+pub reads_then : (t u u' : StrandToken) → HasRead t u → HasRead u u' → HasRead t u'
+reads_then t u u' h g = record {
+  notes = g.notes ++ h.notes;
+  me = g.me ∙ ap (λ m. (record m.0 { notes = g.notes ++ m.0.notes }, m.1)) h.me ∙ ap (λ ns. (record (view_of t) { notes = ns }, held_by t)) (sym (append_assoc g.notes h.notes (view_of t).notes));
+  table = g.table ∙ h.table;
+  track = g.track ∙ h.track;
+  token = g.token ∙ h.token;
+}
+
+-- those that were made since
+pub since_is : (t u : StrandToken) (h : HasRead t u) → noted_since t u ≡ h.notes
+since_is t u h =
+    let all : (view_of u).notes ≡ h.notes ++ (view_of t).notes = ap (λ m. m.0.notes) h.me in
+    let many : length (view_of u).notes - length (view_of t).notes ≡ length h.notes = omega (arith, ap length all, length-append h.notes (view_of t).notes) in
+    (λ i. take (many i) (all i)) ∙ take_at h.notes (view_of t).notes (length h.notes) refl
+
+-- what was told stays told
+told_more : (c : ColumnTable) (cells : ℕ) (more notes : List Note) → Stays (ToldBy c cells notes) (ToldBy c cells (more ++ notes))
+told_more c cells more notes (Owner i) a h = h
+told_more c cells more notes (Lead t) a h = h
+told_more c cells more notes (Up t) a h = h
+told_more c cells more notes (Inside t o) a h = h
+told_more c cells more notes (Word g) (Number n) h = record { word = λ l. Contains-append_right more notes _ (h.word l); none = h.none }
+told_more c cells more notes (Word g) (Maybe o) h = h
+told_more c cells more notes (Word g) (Test b) h = h
+
+-- a word was read
+module _ (c : ColumnTable) (cells gap value : ℕ) (t u u' : StrandToken) (h : HasRead t u) (g : HasRead t u') (more : g.notes ≡ record { word = gap_word cells gap; value = value } ∷ h.notes) where
+  abbrev note : Note
+  note = record { word = gap_word cells gap; value = value }
+
+  pub told_word : gap < columns.used c → ToldBy c cells (noted_since t u') (Word gap) (Number value)
+  told_word less = subst (λ ns. ToldBy c cells ns (Word gap) (Number value)) (sym (since_is t u' g ∙ more)) (record {
+    word = λ l. Contains-append_left (note ∷ []) h.notes note (Contains-push [] note);
+    none = λ le. absurd (omega (arith, less, le));
+  })
+
+  pub told_still : Stays (ToldBy c cells (noted_since t u)) (ToldBy c cells (noted_since t u'))
+  told_still r a told = subst (λ ns. ToldBy c cells ns r a) (sym (since_is t u' g ∙ more)) (told_more c cells (note ∷ []) h.notes r a (subst (λ ns. ToldBy c cells ns r a) (since_is t u h) told))
+
+-- ## One question
+
+pub told_owner : (o : Option Question) (b : Board) (lent : MutBor StrandToken) (c : ColumnTable) (i n : ℕ) → ReadsFor o b lent c → n ≡ columns.owner c i → ToldFor o lent.now (Owner i) (Number n)
+told_owner None b lent c i n h e = absurd h
+told_owner (Some q) b lent c i n h e = ap (λ d. Number (columns.owner d i)) (sym h.tier) ∙ ap Number (sym e)
+
+pub told_lead : (o : Option Question) (b : Board) (lent : MutBor StrandToken) (c : ColumnTable) (i : ℕ) (x : Option ℕ) → ReadsFor o b lent c → x ≡ columns.lead c i → ToldFor o lent.now (Lead i) (Maybe x)
+told_lead None b lent c i x h e = absurd h
+told_lead (Some q) b lent c i x h e = ap (λ d. Maybe (columns.lead d i)) (sym h.tier) ∙ ap Maybe (sym e)
+
+pub told_up : (o : Option Question) (b : Board) (lent : MutBor StrandToken) (c : ColumnTable) (i : ℕ) (x : Option ℕ) → ReadsFor o b lent c → x ≡ columns.up c i → ToldFor o lent.now (Up i) (Maybe x)
+told_up None b lent c i x h e = absurd h
+told_up (Some q) b lent c i x h e = ap (λ d. Maybe (columns.up d i)) (sym h.tier) ∙ ap Maybe (sym e)
+
+pub told_inside : (o : Option Question) (b : Board) (lent : MutBor StrandToken) (c : ColumnTable) (i j : ℕ) (x : Bool) → ReadsFor o b lent c → x ≡ columns.inside c i j → ToldFor o lent.now (Inside i j) (Test x)
+told_inside None b lent c i j x h e = absurd h
+told_inside (Some q) b lent c i j x h e = ap (λ d. Test (columns.inside d i j)) (sym h.tier) ∙ ap Test (sym e)
+
+-- of a gap that is not in use
+pub told_none : (o : Option Question) (b : Board) (lent : MutBor StrandToken) (c : ColumnTable) (gap : ℕ) → ReadsFor o b lent c → columns.used c ≤ gap → ToldFor o lent.now (Word gap) (Number 0)
+told_none None b lent c gap h le = absurd h
+told_none (Some q) b lent c gap h le = let past : columns.used q.tier ≤ gap = subst (λ d. columns.used d ≤ gap) h.tier le in record { word = λ l. absurd (omega (arith, l, past)); none = λ l. refl }
+
+pub reads_table : (o : Option Question) (b : Board) (lent : MutBor StrandToken) (c : ColumnTable) → ReadsFor o b lent c → IsTokenOf b.shared lent.now
+reads_table None b lent c h = absurd h
+reads_table (Some q) b lent c h = h.table
+
+pub reads_there : (o : Option Question) (b : Board) (lent : MutBor StrandToken) (c : ColumnTable) (gap : ℕ) → ReadsFor o b lent c → gap < columns.used c → gap < columns_of b
+reads_there None b lent c gap h l = absurd h
+reads_there (Some q) b lent c gap h l = let less : gap < columns.used q.tier = subst (λ d. gap < columns.used d) h.tier l in omega (arith, less, h.few)
+
+-- the word of a gap was loaded
+pub record WasLoaded (b : Board) (gap n : ℕ) (lent lent' : MutBor StrandToken) : Type 0 where
+  pub name : lent'.ghost_name ≡ lent.ghost_name
+  pub table : IsTokenOf b.shared lent'.now
+  pub view : view_of lent'.now ≡ noted_view (gap_word (cells_in b) gap) n (view_of lent.now)
+  pub slots : held_by lent'.now ≡ held_by lent.now
+  pub track : lent'.now.track ≡ lent.now.track
+  pub token : token_of lent'.now ≡ token_of lent.now
+
+module _ (q : Question) (b : Board) (lent lent' : MutBor StrandToken) (c : ColumnTable) (gap n : ℕ) (h : IsReading q b lent c) (l : WasLoaded b gap n lent lent') where
+  read_now : HasRead q.token.now lent'.now
+  read_now = reads_more q.token.now lent.now lent'.now (gap_word (cells_in b) gap) n h.read (l.table ∙ sym h.table) l.view l.slots l.track l.token
+
+  note_now : read_now.notes ≡ record { word = gap_word q.cells gap; value = n } ∷ h.read.notes
+  unfolding read_now reads_more
+  note_now = ap (λ (k : ℕ). record { word = gap_word k gap; value = n } ∷ h.read.notes) h.cells
+
+  one_reads : IsReading q b lent' c
+  one_reads = record { name = l.name ∙ h.name; read = read_now; table = l.table; tier = h.tier; cells = h.cells; few = h.few }
+
+  one_told : gap < columns.used c → ToldFor (Some q) lent'.now (Word gap) (Number n)
+  one_told less = told_word q.tier q.cells gap n q.token.now lent.now lent'.now h.read read_now note_now (subst (λ d. gap < columns.used d) h.tier less)
+
+  one_stays : Stays (ToldFor (Some q) lent.now) (ToldFor (Some q) lent'.now)
+  one_stays = told_still q.tier q.cells gap n q.token.now lent.now lent'.now h.read read_now note_now
+
+module _ (b : Board) (lent lent' : MutBor StrandToken) (c : ColumnTable) (gap n : ℕ) (l : WasLoaded b gap n lent lent') where
+  pub word_reads : (o : Option Question) → ReadsFor o b lent c → ReadsFor o b lent' c
+  word_reads None h = absurd h
+  word_reads (Some q) h = one_reads q b lent lent' c gap n h l
+
+  pub word_told : (o : Option Question) → ReadsFor o b lent c → gap < columns.used c → ToldFor o lent'.now (Word gap) (Number n)
+  word_told None h less = absurd h
+  word_told (Some q) h less = one_told q b lent lent' c gap n h l less
+
+  pub word_stays : (o : Option Question) → ReadsFor o b lent c → Stays (ToldFor o lent.now) (ToldFor o lent'.now)
+  word_stays None h = absurd h
+  word_stays (Some q) h = one_stays q b lent lent' c gap n h l
+
+-- ## With a turn
+
+module _ (b : Board) (t u : StrandToken) (h : HasLooked b t u) where
+  -- a token of the board is still one
+  pub looked_is : IsOf b t → IsOf b u
+  looked_is of = is_now b u (view_of u) (token_of t) h.table refl h.token (h.slots ∙ of.slots) (subst HasRoom (sym h.track) of.room) (ap (λ (v : View). v.here) h.rest ∙ of.here) (h.turns ∙ of.turns)
+      (subst (λ (n : ℕ). n < columns_of b) (sym (ap (λ (v : View). v.gap) h.rest)) of.gap)
+      (subst (All (λ (o : Whereabouts). o.gap < columns_of b)) (sym (ap (λ (v : View). v.outer) h.rest)) of.gaps)
+      (subst (λ (k : ℕ). length (token_of t).joined + 1 ≤ k) (sym (ap (λ (v : View). v.owns) h.rest)) of.lists)
+      (subst (λ (r : ℕ). IsSound (token_of t) r (view_of u).seen) (sym (ap (λ (v : View). v.room) h.rest)) (sound_later (token_of t) (view_of t).room (view_of t).seen (view_of u).seen h.later of.sound))
+
+  -- and it still has the turn that it had
+  pub looked_holds : (n : ℕ) (y : Slot) (s : StrandToken) → IsHolding b n y s t → IsHolding b n y s u
+  looked_holds n y s g = record {
+    was = g.was;
+    table = h.table;
+    turn = ap newest_slot h.turns ∙ g.turn;
+    alone = ap older h.turns ∙ g.alone;
+    slots = h.slots ∙ g.slots;
+    later = omega (arith, g.later, h.later);
+    rest = h.rest ∙ g.rest;
+    track = h.track ∙ g.track;
+    token = h.token ∙ g.token;
+  }
+
+  pub looked_low : (y : Slot) → IsLowCell (view_of t).seen y → IsLowCell (view_of u).seen y
+  looked_low (slot.Cell x) low = All-weaker (λ (e : Entry). e.mark.stamp ≤ (view_of t).seen) (λ (e : Entry). e.mark.stamp ≤ (view_of u).seen) (λ e l. omega (arith, l, h.later)) x.entries low
+  looked_low (slot.Tier x) low = absurd low
+  looked_low slot.Empty low = absurd low
+
+-- words are read while the tier's turn is held
+pub over_read : (b : Board) (y : Slot) (t u u' : StrandToken) → HasTierOver b y t u → HasRead u u' → HasTierOver b y t u'
+over_read b y t u u' h g =
+    let view : view_of u' ≡ record (view_of u) { notes = g.notes ++ (view_of u).notes } = ap (λ m. m.0) g.me in record {
+      table = g.table ∙ h.table;
+      turn = ap (λ (v : View). newest_slot v.turns) view ∙ h.turn;
+      older = ap (λ (v : View). older v.turns) view ∙ h.older;
+      slots = ap (λ m. m.1) g.me ∙ h.slots;
+      later = subst (λ (v : View). (view_of t).seen ≤ v.seen) (sym view) h.later;
+      rest = ap at_rest view ∙ h.rest;
+      track = g.track ∙ h.track;
+      token = g.token ∙ h.token;
+    }
+
+pub tier_read : (b : Board) (y : Slot) (u u' : StrandToken) → HasTier b y u → HasRead u u' → HasTier b y u'
+tier_read b y u u' h g =
+    let view : view_of u' ≡ record (view_of u) { notes = g.notes ++ (view_of u).notes } = ap (λ m. m.0) g.me in record {
+      few = subst (λ (v : View). newest_used v.turns ≤ columns_of b) (sym view) h.few;
+      column = subst (λ (v : View). v.column < newest_used v.turns) (sym view) h.column;
+      gap = subst (λ (v : View). v.gap < newest_used v.turns) (sym view) h.gap;
+      whole = subst (λ (v : View). IsTierOf (columns_of b) (newest_used v.turns) y) (sym view) h.whole;
+    }
+
+-- no gap in use is beyond the words
+pub few_used : (b : Board) (x : Traces) (u : StrandToken) → HasTier b (slot.Tier x) u → columns.used x.columns ≤ columns_of b
+few_used b x u h = omega (arith, h.few, h.whole.1)
+
+-- the notes of one question stay in a row
+pub answered_later : (cells asker : ℕ) (last : Mark) (u u' : StrandToken) (more : List Note) (v : Verdict) → (view_of u').notes ≡ more ++ (view_of u).notes → IsAnswered cells last asker u v → IsAnswered cells last asker u' v
+answered_later cells asker last u u' more v e h = record {
+  tier = h.tier;
+  newer = more ++ h.newer;
+  notes = h.notes;
+  older = h.older;
+  noted = e ∙ ap (λ ns. more ++ ns) h.noted ∙ sym (append_assoc more (h.newer ++ h.notes) h.older) ∙ ap (λ ns. ns ++ h.older) (sym (append_assoc more h.newer h.notes));
+  gives = h.gives;
+}
+
+pub answered_now : (c : ColumnTable) (cells asker : ℕ) (last : Mark) (t u : StrandToken) (v : Verdict) → HasRead t u → Gives (ToldBy c cells (noted_since t u)) last asker v → IsAnswered cells last asker u v
+answered_now c cells asker last t u v h g = record {
+  tier = c;
+  newer = [];
+  notes = noted_since t u;
+  older = (view_of t).notes;
+  noted = ap (λ m. m.0.notes) h.me ∙ ap (λ ns. ns ++ (view_of t).notes) (sym (since_is t u h));
+  gives = g;
+}

@@ -1,0 +1,27 @@
+use Rattle.std.proofs.Common.{ℕ, [], subst}
+use Rattle.cw_steps.specs.declared.view.Slot.TheVariants as slot
+use Rattle.cw_board.specs.Asked.{IsAnswered}
+use Rattle.cw_board.specs.Boards.{cells_in}
+use Rattle.cw_board.proofs.Reading.{answered_later, answered_now, looked_is, over_read}
+use Rattle.cw_board.proofs.board.Board.ask.Goals as goal
+
+pub tier_back-requires-clause-held : goal.tier_back-requires-clause-held
+tier_back-requires-clause-held g c = (c.args.token.now, slot.Empty, over_read c.args.self.now slot.Empty c.args.token.now c.tier_over-tier.new.token c.ask_tier-verdict.new.token c.tier_over-tier.ensures.held c.ask_tier-verdict.ensures.read)
+
+pub returns-clause-of : goal.returns-clause-of
+returns-clause-of g c =
+    let over = over_read c.args.self.now slot.Empty c.args.token.now c.tier_over-tier.new.token c.ask_tier-verdict.new.token c.tier_over-tier.ensures.held c.ask_tier-verdict.ensures.read in
+    looked_is c.args.self.now c.args.token.now c.tier_back.new.token (c.tier_back.ensures.looked c.args.token.now slot.Empty over) c.requires.of
+
+pub returns-clause-token : goal.returns-clause-token
+returns-clause-token g c =
+    let over = over_read c.args.self.now slot.Empty c.args.token.now c.tier_over-tier.new.token c.ask_tier-verdict.new.token c.tier_over-tier.ensures.held c.ask_tier-verdict.ensures.read in
+    (c.tier_back.ensures.looked c.args.token.now slot.Empty over).token
+
+pub returns-clause-answered : goal.returns-clause-answered
+returns-clause-answered g c =
+    let cells = cells_in c.args.self.now in
+    let q = c.ask_tier-verdict in
+    subst (λ (n : ℕ). IsAnswered cells c.args.last n c.tier_back.new.token q.result) c.column-asker.ensures
+    (answered_later cells c.column-asker.result c.args.last q.new.token c.tier_back.new.token [] q.result c.tier_back.ensures.notes
+    (answered_now c.tier_over-tier.result.columns cells c.column-asker.result c.args.last c.tier_over-tier.new.token q.new.token q.result q.ensures.read q.ensures.given))

@@ -1,0 +1,23 @@
+use Rattle.cw_steps.specs.declared.view.Slot.TheVariants as slot
+use Rattle.cw_board.specs.Boards.{cells_in}
+use Rattle.cw_board.specs.Victims.{IsBarrier}
+use Rattle.cw_board.proofs.Reading.{over_read}
+use Rattle.cw_board.proofs.Refusing.{barrier_later, some_too}
+use Rattle.cw_board.proofs.board.Board.judge_counted.Goals as goal
+
+pub tier_back-requires-clause-held : goal.tier_back-requires-clause-held
+tier_back-requires-clause-held g c = (c.args.token.now, slot.Empty, over_read c.args.self.now slot.Empty c.args.token.now c.tier_over-tier.new.token c.barrier-found.new.token c.tier_over-tier.ensures.held c.barrier-found.ensures.read)
+
+pub returns-clause-looked : goal.returns-clause-looked
+returns-clause-looked g c = c.tier_back.ensures.looked c.args.token.now slot.Empty
+    (over_read c.args.self.now slot.Empty c.args.token.now c.tier_over-tier.new.token c.barrier-found.new.token c.tier_over-tier.ensures.held c.barrier-found.ensures.read)
+
+pub returns-clause-found : goal.returns-clause-found
+returns-clause-found g c =
+    let cells = cells_in c.args.self.now in
+    let t = c.args.token.now in
+    let u = c.tier_over-tier.new.token in
+    let v = c.barrier-found.new.token in
+    let held = c.tier_over-tier.ensures.held in
+    some_too (IsBarrier cells c.args.last u v) (IsBarrier cells c.args.last t c.tier_back.new.token) c.barrier-found.result
+    (λ x h. barrier_later cells c.args.last u t v c.tier_back.new.token x held.track held.token c.tier_back.ensures.notes h) c.barrier-found.ensures.found

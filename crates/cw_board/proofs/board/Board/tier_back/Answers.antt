@@ -1,0 +1,26 @@
+use Rattle.std.proofs.Common.{ℕ, refl, sym, subst}
+use Rattle.cw_steps.specs.Views.{key_of, newest_used, view_of, Holding, IsWhole}
+use Rattle.cw_steps.specs.declared.view.Slot.{Slot}
+use Rattle.cw_steps.specs.declared.view.Slot.TheVariants as slot
+use Rattle.cw_board.proofs.Holding.{gives_over, gives_back, has_tier_too, over_other}
+use Rattle.cw_board.proofs.board.Board.tier_back.Goals as goal
+
+pub give-requires-clause-held : goal.give-requires-clause-held
+give-requires-clause-held c =
+    let b = c.args.self.now in
+    let u = c.args.token.now in
+    let v = c.tier_in.new.token in
+    let o = c.tier_in.ensures in
+    let h = c.requires.held in
+    let now = over_other b h.1 (slot.Tier c.args.tier) h.0 u v h.2 o.table o.view o.slots o.track o.token in
+    subst (λ (n : ℕ). (z : Slot) × Holding v n z × IsWhole (key_of b.shared) (view_of v).seen (newest_used (view_of v).turns) n z) (sym c.cells-place.ensures)
+    (gives_over b (slot.Tier c.args.tier) h.0 v now (has_tier_too b (slot.Tier c.args.tier) (slot.Tier c.args.tier) u v refl o.view c.requires.tier))
+
+pub returns-clause-looked : goal.returns-clause-looked
+returns-clause-looked c = λ t y h.
+    let b = c.args.self.now in
+    let u = c.args.token.now in
+    let v = c.tier_in.new.token in
+    let o = c.tier_in.ensures in
+    let e = c.give.ensures in
+    gives_back b (slot.Tier c.args.tier) t v c.give.new.token (over_other b y (slot.Tier c.args.tier) t u v h o.table o.view o.slots o.track o.token) e.table e.view e.slots (e.plain refl) e.token

@@ -1,0 +1,38 @@
+use Rattle.std.proofs.Common.{ℕ, refl, subst}
+use Rattle.cw_steps.specs.Views.{Holding}
+use Rattle.cw_steps.specs.declared.view.Slot.TheVariants as slot
+use Rattle.cw_board.specs.Boards.{cells_in}
+use Rattle.cw_board.specs.Turns.{HasTaken}
+use Rattle.cw_board.proofs.Holding.{has_tier_too, holding_over, over_lies, over_other, takes_over, tier_lies, tier_now}
+use Rattle.cw_board.proofs.board.Board.tier_over.Goals as goal
+
+pub tier_out-requires-clause-held : goal.tier_out-requires-clause-held
+tier_out-requires-clause-held g c =
+    let b = c.args.self.now in
+    let t = c.args.token.now in
+    let u = c.take_turn.new.token in
+    let e = c.take_turn.ensures in
+    let taken : HasTaken b c.args.aim (cells_in b) t u = subst (λ (n : ℕ). HasTaken b c.args.aim n t u) c.cells-place.ensures e.taken in
+    let lies = tier_lies _ _ taken.takes.lay (tier_now b c.args.aim (cells_in b) t u taken refl).whole in
+    (lies.0, subst (Holding u (cells_in b)) lies.1 (holding_over b taken.takes.lay t u (takes_over b c.args.aim t u taken e.table)))
+
+pub returns-clause-held : goal.returns-clause-held
+returns-clause-held g c =
+    let b = c.args.self.now in
+    let t = c.args.token.now in
+    let u = c.take_turn.new.token in
+    let e = c.take_turn.ensures in
+    let o = c.tier_out.ensures in
+    let taken : HasTaken b c.args.aim (cells_in b) t u = subst (λ (n : ℕ). HasTaken b c.args.aim n t u) c.cells-place.ensures e.taken in
+    over_other b taken.takes.lay slot.Empty t u c.tier_out.new.token (takes_over b c.args.aim t u taken e.table) o.table o.view o.slots o.track o.token
+
+pub returns-clause-tier : goal.returns-clause-tier
+returns-clause-tier g c =
+    let b = c.args.self.now in
+    let t = c.args.token.now in
+    let u = c.take_turn.new.token in
+    let e = c.take_turn.ensures in
+    let o = c.tier_out.ensures in
+    let taken : HasTaken b c.args.aim (cells_in b) t u = subst (λ (n : ℕ). HasTaken b c.args.aim n t u) c.cells-place.ensures e.taken in
+    let h = takes_over b c.args.aim t u taken e.table in
+    has_tier_too b taken.takes.lay (slot.Tier c.tier_out.result) u c.tier_out.new.token (over_lies b taken.takes.lay (slot.Tier c.tier_out.result) t u _ h o.out) o.view (tier_now b c.args.aim (cells_in b) t u taken refl)

@@ -1,0 +1,98 @@
+-- What a question reads, and what that tells.
+use Rattle.std.specs.Prelude.{◌≡◌, ℕ, ◌-◌, ◌<◌, ◌≤◌, ◌++◌, List, [], Contains, length, take, Option, Some, None}
+use Rattle.std.specs.Borrow.{MutBor}
+use Rattle.cw_tree.specs.declared.access.Mark.{Mark}
+use Rattle.cw_trace.specs.Columns.{ColumnTable}
+use Rattle.cw_trace.specs.Columns as columns
+use Rattle.cw_trace.specs.Told.{Read, Answer, Owner, Lead, Up, Word, Inside, Number, Maybe, Test, held}
+use Rattle.cw_trace.specs.Query.{Gives}
+use Rattle.cw_trace.specs.declared.verdict.Verdict.{Verdict}
+use Rattle.cw_trace.specs.declared.verdict.Verdict.TheVariants.{Against}
+use Rattle.cw_log.specs.declared.board.Access.{Access}
+use Rattle.cw_log.specs.declared.board.Access.TheVariants.{Value, Conflict}
+use Rattle.cw_steps.specs.declared.table.StrandToken.{StrandToken}
+use Rattle.cw_steps.specs.declared.view.Note.{Note}
+use Rattle.cw_steps.specs.Places.{gap_word}
+use Rattle.cw_steps.specs.Stands.{token_of}
+use Rattle.cw_steps.specs.Views.{held_by, view_of, IsTokenOf}
+use Rattle.cw_board.specs.declared.board.Board.{Board}
+use Rattle.cw_board.specs.Boards.{cells_in, columns_of}
+use Rattle.cw_board.specs.Turns.{at_rest}
+
+-- the notes that it made since it was t, newest first
+abbrev pub noted_since : (t u : StrandToken) → List Note
+noted_since t u = take (length (view_of u).notes - length (view_of t).notes) (view_of u).notes
+
+-- since it was t it only read words
+pub record HasRead (t u : StrandToken) : Type 0 where
+  pub notes : List Note
+  pub me : u.seat.me ≡ (record (view_of t) { notes = notes ++ (view_of t).notes }, held_by t)
+  pub table : u.seat.table_id ≡ t.seat.table_id
+  pub track : u.track ≡ t.track
+  pub token : token_of u ≡ token_of t
+
+-- the word of gap g was noted to be n; a gap that is not in use reads as 0
+pub record IsNoted (c : ColumnTable) (cells : ℕ) (notes : List Note) (g n : ℕ) : Type 0 where
+  pub word : g < columns.used c → Contains notes (record { word = gap_word cells g; value = n })
+  pub none : columns.used c ≤ g → n ≡ 0
+
+-- what the columns of a tier tell, and notes of gap words
+abbrev pub ToldBy : ColumnTable → (cells : ℕ) → List Note → Read → Answer → Type 0
+ToldBy c cells notes (Owner i) a = held c [] (Owner i) ≡ a
+ToldBy c cells notes (Lead t) a = held c [] (Lead t) ≡ a
+ToldBy c cells notes (Up t) a = held c [] (Up t) ≡ a
+ToldBy c cells notes (Inside t o) a = held c [] (Inside t o) ≡ a
+ToldBy c cells notes (Word g) (Number n) = IsNoted c cells notes g n
+ToldBy c cells notes (Word g) (Maybe o) = ⊥
+ToldBy c cells notes (Word g) (Test b) = ⊥
+
+-- ## One question
+
+-- the token as it was lent, the columns of the tier that is out, and the number of cells
+pub record Question : Type 0 where
+  pub token : MutBor StrandToken
+  pub tier : ColumnTable
+  pub cells : ℕ
+
+abbrev pub ToldFor : Option Question → StrandToken → Read → Answer → Type 0
+ToldFor None u r a = ⊥
+ToldFor (Some q) u r a = ToldBy q.tier q.cells (noted_since q.token.now u) r a
+
+-- it reads what the question is of, for the token that was lent, which only read words since
+pub record IsReading (q : Question) (b : Board) (lent : MutBor StrandToken) (c : ColumnTable) : Type 0 where
+  pub name : lent.ghost_name ≡ q.token.ghost_name
+  pub read : HasRead q.token.now lent.now
+  pub table : IsTokenOf b.shared lent.now
+  pub tier : c ≡ q.tier
+  pub cells : cells_in b ≡ q.cells
+  pub few : columns.used q.tier ≤ columns_of b
+
+abbrev pub ReadsFor : Option Question → Board → MutBor StrandToken → ColumnTable → Type 0
+ReadsFor None b lent c = ⊥
+ReadsFor (Some q) b lent c = IsReading q b lent c
+
+-- ## With the tier's turn taken and given back
+
+-- it looked at the tier and at words, and so knows a number that may be greater
+pub record HasLooked (b : Board) (t u : StrandToken) : Type 0 where
+  pub table : IsTokenOf b.shared u
+  pub turns : (view_of u).turns ≡ (view_of t).turns
+  pub slots : held_by u ≡ held_by t
+  pub later : (view_of t).seen ≤ (view_of u).seen
+  pub rest : at_rest (view_of u) ≡ at_rest (view_of t)
+  pub track : u.track ≡ t.track
+  pub token : token_of u ≡ token_of t
+
+-- the verdict on the access made last and one of this asker, by the columns of a tier and by words that the token noted in one row
+pub record IsAnswered (cells : ℕ) (last : Mark) (asker : ℕ) (u : StrandToken) (v : Verdict) : Type 0 where
+  pub tier : ColumnTable
+  pub newer : List Note
+  pub notes : List Note
+  pub older : List Note
+  pub noted : (view_of u).notes ≡ newer ++ notes ++ older
+  pub gives : Gives (ToldBy tier cells notes) last asker v
+
+-- an access is only refused where the verdict was against it
+abbrev pub IsRefusedAfter : (cells asker : ℕ) → StrandToken → Access → Type 0
+IsRefusedAfter cells asker u (Value v) = Unit {0}
+IsRefusedAfter cells asker u (Conflict k) = (last : Mark) × (k.last ≡ last.stamp) × IsAnswered cells last asker u (Against k.block)

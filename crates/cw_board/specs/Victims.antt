@@ -1,0 +1,47 @@
+-- What stands in the way of an access, and what is refused with it.
+use Rattle.std.specs.Prelude.{◌≡◌, ℕ, List, Option, Some, None, length}
+use Rattle.cw_tree.specs.declared.access.Mark.{Mark}
+use Rattle.cw_tree.specs.declared.conflict.Conflict.{Conflict}
+use Rattle.cw_trace.specs.declared.verdict.Verdict.TheVariants.{Against}
+use Rattle.cw_log.specs.declared.board.Access.{Access}
+use Rattle.cw_log.specs.declared.board.Access.TheVariants as access
+use Rattle.cw_log.specs.declared.log.Above.{Above}
+use Rattle.cw_log.specs.declared.token.Token.{Token}
+use Rattle.cw_log.specs.Answers.{IsAround}
+use Rattle.cw_log.specs.Tokens.{refused}
+use Rattle.cw_steps.specs.declared.table.StrandToken.{StrandToken}
+use Rattle.cw_steps.specs.Stands.{token_of}
+use Rattle.cw_steps.specs.Tracks.{track_of}
+use Rattle.cw_board.specs.declared.victims.Barrier.{Barrier}
+use Rattle.cw_board.specs.Asked.{IsAnswered}
+
+-- the stamp of the block that has to fall, or 0
+abbrev pub begin_of : Option Above → ℕ
+begin_of None = 0
+begin_of (Some a) = a.begin
+
+-- and which attempt that is; of an access for which none has to, its own
+abbrev pub attempt_of : Option Above → (own : ℕ) → ℕ
+attempt_of None n = n
+attempt_of (Some a) n = a.attempt
+
+-- the verdict was against the token's next access, and what has to fall is a pending block around its place, or nothing
+pub record IsBarrier (cells : ℕ) (last : Mark) (t u : StrandToken) (x : Barrier) : Type 0 where
+  pub against : IsAnswered cells last (track_of t.track).column u (Against x.block)
+  pub around : IsAround (token_of t) (begin_of x.victim)
+
+abbrev pub conflict_with : (cell asker last : ℕ) → Barrier → (own : ℕ) → (chain : List ℕ) → Conflict
+conflict_with c asker last x own chain = record {
+  cell = c;
+  last = last;
+  asker = asker;
+  block = x.block;
+  victim = begin_of x.victim;
+  attempt = attempt_of x.victim own;
+  chain = chain;
+}
+
+-- the refused access is in the log, with this conflict
+abbrev pub Refuses : (before after : Token) → (cell last : ℕ) → Barrier → (own : ℕ) → (chain : List ℕ) → Access → Type 0
+Refuses x y c last b own chain (access.Value v) = ⊥
+Refuses x y c last b own chain (access.Conflict k) = (k ≡ conflict_with c (length x.own.nodes) last b own chain) × (y ≡ refused x k)

@@ -1,0 +1,143 @@
+//! Rollbacks: each access beneath a block is undone in its cell, under the cell's turn, and then the block is closed.
+//! All that a log got since its innermost pending block was begun stands beneath that block, for the strand has stood in it since; and so do
+//! all logs from the first on that was joined from a fork there. So a walk in the order of the logs needs no memory.
+ghost use Rattle.std.specs.Prelude.{◌≡◌, ◌<◌, ℕ, filter, nat_lt, drop, Contains, IfSome};
+ghost use Rattle.cw_tree.specs.declared.node.BlockState.TheVariants.{Aborted};
+ghost use Rattle.cw_tree.specs.AccessStacks.{stamps};
+ghost use Rattle.cw_log.specs.Tokens.{ended, GoesBack, HasBlock};
+ghost use Rattle.cw_steps.specs.Stands.{token_of};
+ghost use Rattle.cw_steps.specs.declared.view.Slot.TheVariants as slot;
+ghost use Rattle.cw_steps.specs.Views.{IsLowCell};
+ghost use Rattle.cw_board.specs.Boards.{budget_of, cells_in, IsOf};
+ghost use Rattle.cw_board.specs.Rolls.{HasGiven};
+
+use crate::Board;
+use cw_log::{Log, Logs};
+use cw_stack::Cell;
+use cw_steps::{Aim, StrandToken};
+use cw_tree::{Kind, Node};
+use std::sync::Wait;
+
+/// The cell that a node touched, and the stamp of that, where the node is an access.
+fn touched(node: &Node) -> Option<(u32, u64)> {
+    match node.kind {
+        Kind::Read { cell, .. } | Kind::Write { cell, .. } => Some((cell, node.stamp)),
+        _ => None,
+    }
+}
+
+/// Takes an access out of its cell, with all that came after it there. It may be gone, where an earlier one was taken out; no rule of the
+/// table says yet that it is there else.
+fn cut(cell: &mut Cell, stamp: u64)
+    ensures cut { Contains (stamps (drop cell.old.cleaned cell.old.entries)) stamp → cell.new.entries ≡ filter (λ e. nat_lt e.mark.stamp stamp) cell.old.entries }
+    ensures low { (most : ℕ) → IsLowCell most (slot.Cell cell.old) → IsLowCell most (slot.Cell cell.new) }
+{
+    if cell.may_roll(stamp) {
+        cell.roll(stamp);
+    }
+}
+
+impl Board {
+    /// Undoes and closes the innermost block that is pending in the token's strand.
+    pub fn roll<R: Wait>(&self, rt: &R, token: &mut StrandToken)
+        requires of { IsOf self.now token.old }
+        requires block { HasBlock (token_of token.old) }
+        requires back { GoesBack (budget_of self.now) (token_of token.old) }
+        ensures of { IsOf self.now token.new }
+        ensures token { (stamp : ℕ) × (token_of token.new ≡ ended (token_of token.old) Aborted stamp) }
+    {
+        let outermost = token.word() == token.begun();
+        self.undo(rt, token);
+        self.end(token, true);
+        if outermost {
+            self.hide(token);
+        }
+    }
+
+    /// Undoes all accesses beneath the block in the token's place.
+    fn undo<R: Wait>(&self, rt: &R, token: &mut StrandToken)
+        requires { IsOf self.now token.old }
+        ensures { HasGiven self.now token.old token.new }
+    {
+        self.undo_own(rt, token);
+        self.undo_joined(rt, token);
+    }
+
+    /// Undoes those of the token's own log.
+    fn undo_own<R: Wait>(&self, rt: &R, token: &mut StrandToken)
+        requires { IsOf self.now token.old }
+        ensures { HasGiven self.now token.old token.new }
+    {
+        let block = token.place() as usize;
+        let count = token.nodes().len();
+        for n in block..count {
+            let access = token.nodes().get(n).and_then(touched);
+            self.undo_access(rt, token, access);
+        }
+    }
+
+    /// Undoes those of the logs that were joined since the block was begun.
+    fn undo_joined<R: Wait>(&self, rt: &R, token: &mut StrandToken)
+        requires { IsOf self.now token.old }
+        ensures { HasGiven self.now token.old token.new }
+    {
+        let column = token.log_column();
+        let block = token.place();
+        let joined = token.lend_joined();
+        self.undo_logs(rt, token, &joined, column, block);
+        token.keep_joined(joined);
+    }
+
+    fn undo_logs<R: Wait>(
+        &self,
+        rt: &R,
+        token: &mut StrandToken,
+        logs: &Logs,
+        column: u32,
+        block: u32,
+    )
+        requires { IsOf self.now token.old }
+        ensures { HasGiven self.now token.old token.new }
+    {
+        let mut beneath = false;
+        for log in logs.iter() {
+            beneath |= log.from == column && log.fork > block;
+            if beneath {
+                self.undo_log(rt, token, log);
+            }
+        }
+    }
+
+    fn undo_log<R: Wait>(&self, rt: &R, token: &mut StrandToken, log: &Log)
+        requires { IsOf self.now token.old }
+        ensures { HasGiven self.now token.old token.new }
+    {
+        for node in log.nodes.as_slice() {
+            self.undo_access(rt, token, touched(node));
+        }
+    }
+
+    /// Undoes an access in its cell, with all that came after it there, if there is such an access and such a cell. No rule of the table says
+    /// yet that the cells of a log are there.
+    fn undo_access<R: Wait>(&self, rt: &R, token: &mut StrandToken, access: Option<(u32, u64)>)
+        requires { IsOf self.now token.old }
+        ensures { HasGiven self.now token.old token.new }
+    {
+        let Some((cell, stamp)) = access else {
+            return;
+        };
+        if cell < self.shared.cells() {
+            self.undo_there(rt, token, cell, stamp);
+        }
+    }
+
+    fn undo_there<R: Wait>(&self, rt: &R, token: &mut StrandToken, cell: u32, stamp: u64)
+        requires of { IsOf self.now token.old }
+        requires cell { cell < cells_in self.now }
+        ensures { HasGiven self.now token.old token.new }
+    {
+        let mut held = self.hold_cell(rt, token, cell, Aim::Undo);
+        cut(&mut held, stamp);
+        self.leave_cell(token, cell, held);
+    }
+}

@@ -1,0 +1,4 @@
+pub mod Bases
+pub mod Trees
+pub mod Told
+pub mod Journals

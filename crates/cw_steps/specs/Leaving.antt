@@ -1,0 +1,68 @@
+-- What a table leaves that is closed: where each log begins in the tree, and what lay in the slots.
+use Rattle.std.specs.Prelude.{◌≡◌, ℕ, ◌≤◌, List, ◌∷◌, ◌++◌, length, Some, None, slice_get}
+use Rattle.std.specs.List.Sorted.{IsStrictlyIncreasing}
+use Rattle.atomic_table.specs.Table.{Me}
+use Rattle.cw_tree.specs.declared.access.Entry.{Entry}
+use Rattle.cw_tree.specs.declared.node.BlockState.TheVariants.{Committed}
+use Rattle.cw_tree.specs.declared.node.Node.{Node}
+use Rattle.cw_tree.specs.AccessStacks.{stamps}
+use Rattle.cw_stack.specs.Cells.{CellParts, AreSteps}
+use Rattle.cw_log.specs.declared.log.Log.{Log}
+use Rattle.cw_course.specs.Closings.{base_of, HasNone, AreApart}
+use Rattle.cw_steps.specs.declared.closing.bases.Bases.{Bases}
+use Rattle.cw_steps.specs.declared.draw.Aim.TheVariants.{Look}
+use Rattle.cw_steps.specs.declared.track.Track.{Track}
+use Rattle.cw_steps.specs.declared.view.Key.{Key}
+use Rattle.cw_steps.specs.declared.view.Note.{Note}
+use Rattle.cw_steps.specs.declared.view.Slot.{Slot}
+use Rattle.cw_steps.specs.declared.view.Slot.TheVariants as slot
+use Rattle.cw_steps.specs.declared.view.View.{View}
+use Rattle.cw_steps.specs.Totals.{total}
+use Rattle.cw_steps.specs.Tracks.{track_of}
+use Rattle.cw_steps.specs.Views.{cells_of, TakesIt}
+
+-- ## Logs
+
+abbrev pub logs_of_track : Track → List Log
+logs_of_track c = (track_of c).own ∷ (track_of c).joined
+
+abbrev pub nodes_in : List Log → ℕ
+nodes_in = total (λ (l : Log). length l.nodes)
+
+-- This table has, for each column of these logs, where the log begins whose column it is; whatever comes behind them.
+pub record HasBases (b : Bases) (ls : List Log) : Type 0 where
+  pub found : (column base : ℕ) → slice_get b.table.items column ≡ Some (Some base) → (more : List Log) → base_of (ls ++ more) column ≡ base
+  pub free : (column : ℕ) → slice_get b.table.items column ≡ Some None → HasNone column ls
+  pub count : b.count ≡ nodes_in ls
+  pub apart : AreApart ls
+
+-- it is committed and has no end
+abbrev pub IsPlain : Node → Type 0
+IsPlain x = (x.state ≡ Committed) × (x.end ≡ 0)
+
+-- ## What lay in the slots
+
+-- it took turns and gave them back, and did nothing else
+pub record HasReturned (me me' : Me Slot View) : Type 0 where
+  pub seen : ℕ
+  pub notes : List Note
+  pub later : me.0.seen ≤ seen
+  pub after : me' ≡ (record me.0 { seen = seen; notes = notes }, me.1)
+
+-- These are the entries of the cell that lay in slot n when the seat, which had done nothing but look, took its turn: their stamps rise, and each
+-- has the value that those before it left.
+pub record IsJournal (key : Key) (me : Me Slot View) (n : ℕ) (es : List Entry) : Type 0 where
+  pub before : Me Slot View
+  pub after : Me Slot View
+  pub looked : HasReturned me before
+  pub takes : TakesIt key Look n before after
+  pub cell : CellParts
+  pub lay : takes.lay ≡ slot.Cell cell
+  pub entries : es ≡ cell.entries
+  pub rising : IsStrictlyIncreasing (stamps es)
+  pub steps : AreSteps cell.first es
+
+-- one for each cell
+pub record AreJournals (key : Key) (me : Me Slot View) (js : List (List Entry)) : Type 0 where
+  pub many : length js ≡ cells_of key
+  pub each : (n : ℕ) (es : List Entry) → slice_get js n ≡ Some es → IsJournal key me n es

@@ -1,0 +1,59 @@
+//! The conflicts of logs, with the numbers of their askers in the tree.
+ghost use Rattle.std.specs.Prelude.{◌≡◌, ◌+◌, ◌++◌, map, IfOk, OnOk};
+ghost use Rattle.cw_tree.specs.declared.conflict.Conflict.{Conflict};
+ghost use Rattle.cw_course.specs.Closings.{conflicts_of};
+ghost use Rattle.cw_steps.specs.Leaving.{logs_of_track, HasBases};
+
+use super::bases::Bases;
+use crate::Track;
+use cw_base::{OutOfMemory, Seq};
+use cw_tree::Conflict;
+use std::alloc::Global;
+
+/// The same conflict, of a log that begins at this number.
+fn moved(alloc: Global, base: u32, conflict: &Conflict) -> Result<Conflict, OutOfMemory>
+    ensures { IfOk result (λ c. c ≡ record conflict.now { asker = base + conflict.now.asker }) }
+{
+    let Some(asker) = base.checked_add(conflict.asker) else {
+        return Err(OutOfMemory);
+    };
+    let chain = Vec::from_slice(alloc, conflict.chain.as_slice())?;
+    Ok(Conflict {
+        cell: conflict.cell,
+        last: conflict.last,
+        asker,
+        block: conflict.block,
+        victim: conflict.victim,
+        attempt: conflict.attempt,
+        chain: Seq::from_vec(chain),
+    })
+}
+
+/// The conflicts of a log that begins at this number.
+fn add_moved(list: &mut Vec<Conflict>, base: u32, conflicts: &[Conflict]) -> Result<(), OutOfMemory>
+    ensures { OnOk result (list.new.items ≡ list.old.items ++ map (λ (c : Conflict). record c { asker = base + c.asker }) conflicts.now) }
+{
+    let alloc = *list.allocator();
+    for conflict in conflicts {
+        list.push(moved(alloc, base, conflict)?)?;
+    }
+    Ok(())
+}
+
+pub(crate) fn conflicts_of(
+    alloc: Global,
+    track: &Track,
+    bases: &Bases,
+) -> Result<Seq<Conflict>, OutOfMemory>
+    requires { HasBases bases.now (logs_of_track track.now) }
+    ensures { IfOk result (λ cs. cs ≡ conflicts_of (logs_of_track track.now) (logs_of_track track.now)) }
+{
+    let mut list = Vec::new(alloc);
+    let base = bases.base(track.first)?;
+    add_moved(&mut list, base, track.conflicts.as_slice())?;
+    for log in track.joined.iter() {
+        let base = bases.base(log.column)?;
+        add_moved(&mut list, base, log.conflicts.as_slice())?;
+    }
+    Ok(Seq::from_vec(list))
+}
