@@ -1,6 +1,11 @@
 //! Forks.
+ghost use Rattle.std.specs.Prelude.{◌<◌};
+ghost use Rattle.std.specs.Vec.{vec_len, vec_capacity};
+ghost use Rattle.cw_pool.specs.Forks.{HasForked, IsForking};
+
 use crate::moves::halts;
 use crate::{Base, Below, Memo, Mode, Naming, Running, Scene};
+use cw_body::Body;
 use cw_log::{Forked, SharedBoard};
 use cw_pair::Source;
 use cw_strand::Want;
@@ -40,11 +45,32 @@ pub(crate) fn forks<B: SharedBoard, J: Naming, R: Wait>(
     let Running {
         token,
         body: right,
-        mut below,
+        below,
         base,
         ..
     } = now;
-    match scene.board.fork(rt, token) {
+    parts(rt, scene, source, token, before, left, right, below, base)
+}
+
+/// The strand whose body has forked forks on the board, too.
+fn parts<B: SharedBoard, J: Naming, R: Wait>(
+    rt: &R,
+    scene: &Scene<'_, B, J>,
+    source: &mut Source<Memo<B::Token>, J>,
+    token: B::Token,
+    before: Snapshot<Body>,
+    left: Body,
+    right: Body,
+    below: Vec<Below<B::Token, J>>,
+    base: Base<B::Token, J>,
+) -> (Running<B, J>, Option<Running<B, J>>)
+    requires forking { IsForking J.job B.of (B.of token) before.value left right below.items base }
+    requires room { vec_len below < vec_capacity below }
+    requires more { source.old.next < source.old.end }
+{
+    let mut below = below;
+    let forked = match scene.board.fork(rt, token) {
+        Ok(forked) => forked,
         Err((mut token, _)) => {
             scene.board.halt(&mut token, Halt::Memory);
             let now = Running {
@@ -55,50 +81,71 @@ pub(crate) fn forks<B: SharedBoard, J: Naming, R: Wait>(
                 base,
                 of: PhantomData,
             };
+            return (now, None);
+        }
+    };
+    match forked {
+        Forked::Inline { token } => {
+            below.push_reserved(Below::Inline { right });
+            let now = Running {
+                token,
+                body: left,
+                mode: Mode::Goes,
+                below,
+                base,
+                of: PhantomData,
+            };
             (now, None)
         }
-        Ok(forked) => match forked {
-            Forked::Inline { token } => {
-                below.push_reserved(Below::Inline { right });
-                let now = Running {
-                    token,
-                    body: left,
-                    mode: Mode::Goes,
-                    below,
-                    base,
-                    of: PhantomData,
-                };
-                (now, None)
-            }
-            Forked::Two {
-                fork,
-                left: token,
-                right: other,
-            } => {
-                let memo = Memo {
-                    before,
-                    right: Snapshot::of(&other),
-                };
-                let (half, theirs) = source.pair(scene.pairs, &memo);
-                below.push_reserved(Below::Left { fork, half });
-                let waiting = Running {
-                    token: other,
-                    body: right,
-                    mode: Mode::Waits,
-                    below: Vec::new(scene.alloc),
-                    base: Base::Right { fork, half: theirs },
-                    of: PhantomData,
-                };
-                let now = Running {
-                    token,
-                    body: left,
-                    mode: Mode::Goes,
-                    below,
-                    base,
-                    of: PhantomData,
-                };
-                (now, Some(waiting))
-            }
-        },
+        Forked::Two {
+            fork,
+            left: token,
+            right: other,
+        } => apart(
+            scene, source, fork, token, other, before, left, right, below, base,
+        ),
     }
+}
+
+/// Both strands of a fork with two tokens, each with its half of what ties them: the left one goes on, the right one waits.
+fn apart<B: SharedBoard, J: Naming>(
+    scene: &Scene<'_, B, J>,
+    source: &mut Source<Memo<B::Token>, J>,
+    fork: u32,
+    token: B::Token,
+    other: B::Token,
+    before: Snapshot<Body>,
+    left: Body,
+    right: Body,
+    below: Vec<Below<B::Token, J>>,
+    base: Base<B::Token, J>,
+) -> (Running<B, J>, Option<Running<B, J>>)
+    requires forked { HasForked J.job B.of (B.of token) (B.of other) fork before.value left right below.items base }
+    requires room { vec_len below < vec_capacity below }
+    requires more { source.old.next < source.old.end }
+{
+    let mut below = below;
+    let memo = Memo {
+        before,
+        right: Snapshot::of(&other),
+    };
+    let (half, theirs) = source.pair(scene.pairs, &memo);
+    below.push_reserved(Below::Left { fork, half });
+    let waiting = Running {
+        token: other,
+        body: right,
+        mode: Mode::Waits,
+        below: Vec::new(scene.alloc),
+        base: Base::Right { fork, half: theirs },
+        of: PhantomData,
+    };
+    let now = Running {
+        token,
+        body: left,
+        mode: Mode::Goes,
+        below,
+        base,
+        of: PhantomData,
+    };
+    (now, Some(waiting))
 }

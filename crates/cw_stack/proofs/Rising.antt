@@ -26,6 +26,16 @@ rising_front k ns h r i l =
     let next : get_or ns i 0 < get_or ns (i + 1) 0 = r i (omega arith) in
     omega (arith, get_or-take k ns i 0 (omega arith), get_or-take k ns (i + 1) 0 (omega arith))
 
+pub rising_rest : (n : ℕ) (es : List Entry) → IsStrictlyIncreasing (stamps es) → IsStrictlyIncreasing (stamps (drop n es))
+rising_rest n es r i l =
+    let rest : stamps (drop n es) ≡ drop n (stamps es) = sym (drop-map (λ e. e.mark.stamp) n es) in
+    let len = length-drop n (stamps es) in
+    let one : get_or (stamps (drop n es)) i 0 ≡ get_or (stamps es) (n + i) 0 = ap (λ ns. get_or ns i 0) rest ∙ get_or-drop n (stamps es) i 0 in
+    let two : get_or (stamps (drop n es)) (i + 1) 0 ≡ get_or (stamps es) (n + (i + 1)) 0 = ap (λ ns. get_or ns (i + 1) 0) rest ∙ get_or-drop n (stamps es) (i + 1) 0 in
+    let same : get_or (stamps es) (n + (i + 1)) 0 ≡ get_or (stamps es) (n + i + 1) 0 = ap (λ k. get_or (stamps es) k 0) (let e : n + (i + 1) ≡ n + i + 1 = omega arith in e) in
+    let next : get_or (stamps es) (n + i) 0 < get_or (stamps es) (n + i + 1) 0 = r (n + i) (omega (arith, ap length rest)) in
+    omega arith
+
 -- a number behind those that rise, greater than the last
 pub rising_more : (ns : List ℕ) (n : ℕ) → IsStrictlyIncreasing ns → (0 < length ns → get_or ns (length ns - 1) 0 < n) → IsStrictlyIncreasing (ns ++ n ∷ [])
 rising_more ns n r last i l = by_place (cases_lt (i + 1) (length ns)) where

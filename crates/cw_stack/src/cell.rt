@@ -1,4 +1,4 @@
-ghost use Rattle.std.specs.Prelude.{◌≡◌, ◌↔◌, IsNone, ◌+◌, ◌<◌, ◌≤◌, List, ◌++◌, ◌∷◌, [], length, filter, take, drop, nat_lt, slice_index, unwrap_or, Contains, IfOk, IsOk, OnOk, IfSome};
+ghost use Rattle.std.specs.Prelude.{◌≡◌, ◌↔◌, IsTrue, IsNone, ◌+◌, ◌<◌, ◌≤◌, List, ◌++◌, ◌∷◌, [], length, filter, take, drop, nat_lt, slice_index, unwrap_or, Contains, IfOk, IsOk, OnOk, IfSome};
 ghost use Rattle.std.specs.Option.{option_map};
 ghost use Rattle.std.specs.List.Sorted.{IsStrictlyIncreasing};
 ghost use Rattle.cw_tree.specs.declared.access.Entry.{Entry};
@@ -108,6 +108,13 @@ impl Cell {
         self.entries.truncate(left);
     }
 
+    /// Whether an entry has this stamp that may be rolled back.
+    pub fn may_roll(&self, first: u64) -> bool
+        ensures { IsTrue result ↔ Contains (stamps (drop self.now.cleaned self.now.entries)) first }
+    {
+        has_stamp(&self.entries[self.cleaned..], first)
+    }
+
     /// The value.
     pub fn value(&self) -> i64
         ensures { result ≡ entries_value self.now }
@@ -144,6 +151,18 @@ impl Cell {
         }
         Ok(chain)
     }
+}
+
+// Whether an entry has this stamp, looked for from the newest on.
+fn has_stamp(entries: &[Entry], first: u64) -> bool
+    requires { IsStrictlyIncreasing (stamps entries.now) }
+    ensures { IsTrue result ↔ Contains (stamps entries.now) first }
+{
+    let mut left = entries.len();
+    while left > 0 && entries[left - 1].mark.stamp > first {
+        left -= 1;
+    }
+    left > 0 && entries[left - 1].mark.stamp == first
 }
 
 // The place of the entry with a stamp, found from the newest on.

@@ -16,7 +16,7 @@ use Rattle.cw_record.specs.Replay.{IsSpent, SameEnd}
 use Rattle.cw_record.proofs.Replay.OneRun.{same_end}
 use Rattle.cw_replay.proofs.Found.{find_contains}
 use Rattle.cw_replay.proofs.Attempts.Recorded.{conflict_has_fork, records_attempts}
-use Rattle.cw_top.specs.declared.command.Command.{Command}
+use Rattle.cw_words.specs.declared.command.Command.{Command}
 use Rattle.cw_top.specs.declared.outcome.Note.{Note}
 use Rattle.cw_top.specs.declared.outcome.Note.TheVariants as note
 use Rattle.cw_top.specs.Outcome.{IsRunBy, IsRunOf, IsStatus, SpentItsBudget, end_of_one_memory, status_of_end}

@@ -6,10 +6,10 @@ use Rattle.cw_strand.specs.Programs.{IsCompiled}
 use Rattle.cw_job.specs.Jobs.{TakesWords}
 use Rattle.cw_record.specs.declared.record.Record.{Record}
 use Rattle.cw_record.specs.Records.{HasItsOutputs, IsCoherentRun, IsNumberedDepthFirst, IsReplayed}
-use Rattle.cw_top.specs.declared.command.Command.{Command}
+use Rattle.cw_words.specs.declared.command.Command.{Command}
 use Rattle.cw_top.specs.Outcome.{IsRunBy}
 use Rattle.cw_top.specs.Refusals.{Spells}
-use Rattle.cw_top.specs.Words.{limits_of, words_of}
+use Rattle.cw_words.specs.Words.{limits_of, words_of}
 
 module _ (co : Command) (left : Option (List ℕ)) (p : Program) (spelled : IfSome left (λ bytes. Spells bytes p)) (compiled : IsCompiled p) (takes : TakesWords p (length (words_of co))) where
   pub is_run : (r : Record) → r.program ≡ p → r.words ≡ words_of co → r.limits ≡ limits_of co → IsCoherentRun r → HasItsOutputs r → IsReplayed r → IsNumberedDepthFirst r.tree → IsRunBy co left r

@@ -1,8 +1,3 @@
-mod FirstOption
-mod Numbers
-mod Parts
-mod Passes
-mod Commands
 mod Ready
 mod SpentMoves
 mod Budgets

@@ -8,10 +8,10 @@ use Rattle.cw_job.proofs.Room.Lawful.{source_takes}
 use Rattle.cw_record.specs.declared.record.Record.{Record}
 use Rattle.cw_record.specs.Replay.{Replays}
 use Rattle.cw_replay.proofs.OverSource.OverSource.{over_source}
-use Rattle.cw_top.specs.declared.command.Command.{Command}
+use Rattle.cw_words.specs.declared.command.Command.{Command}
 use Rattle.cw_top.specs.Outcome.{IsRunBy, IsRunOf}
 use Rattle.cw_top.specs.OverSource.{IsRunOfSource, IsRunOfSyntax}
-use Rattle.cw_top.specs.Words.{limits_of, words_of}
+use Rattle.cw_words.specs.Words.{limits_of, words_of}
 
 of_syntax : (co : Command) (bytes : List ℕ) (r : Record) → IsRunBy co (Some bytes) r → IsRunOfSyntax (words_of co) (limits_of co) bytes r
 of_syntax co bytes r run =

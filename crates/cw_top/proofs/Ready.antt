@@ -6,8 +6,9 @@ use Rattle.std.specs.Str.Parse.{digits_value}
 use Rattle.cw_code.specs.declared.Limits.{Limits}
 use Rattle.cw_io.specs.declared.schedule.Schedule.TheVariants.{List as Listed, Seeded}
 use Rattle.cw_sim.specs.Turns.{ListsWorkers}
-use Rattle.cw_top.specs.Options.{Given, GivenOption, NumberOption, are_known, given, integers_of, list_below, number_in, number_given, number_within, numbers_below, parts_of, option_value}
-use Rattle.cw_top.specs.Words.{IsReady, aborts_option, command_of, fuel_option, limits_given, moves_option, report_given, run_given, run_options, schedule_given, schedule_in, sim_given, sim_options, size_option, strands_option, workers_option, most_listed}
+use Rattle.cw_words.specs.Options.{Given, GivenOption, NumberOption, are_known, given, integers_of, list_below, number_in, number_given, number_within, numbers_below, parts_of, option_value}
+use Rattle.cw_words.specs.Words.{aborts_option, command_of, fuel_option, limits_given, moves_option, report_given, run_given, run_options, schedule_given, schedule_in, sim_given, sim_options, size_option, strands_option, workers_option, most_listed}
+use Rattle.cw_top.specs.Outcome.{IsReady}
 
 -- ## Values that may be missing
 

@@ -2,7 +2,7 @@
 use Rattle.std.proofs.Common.{◌≡◌, ℕ, List, Option, Some, None, IfSome, IsSomeAnd}
 use Rattle.cw_record.specs.declared.record.Record.{Record}
 use Rattle.cw_replay.proofs.Spawning.ForksSpawned.{forks_need_spawns}
-use Rattle.cw_top.specs.declared.command.Command.{Command}
+use Rattle.cw_words.specs.declared.command.Command.{Command}
 use Rattle.cw_top.specs.declared.outcome.Note.{Note}
 use Rattle.cw_top.specs.Outcome.{IsRunOf, IsStatus, SpentItsBudget}
 use Rattle.cw_top.specs.OverSource.{Spawns}

@@ -5,8 +5,8 @@ use Rattle.cw_record.specs.declared.record.Record.{Record}
 use Rattle.cw_record.specs.declared.record_end.RecordEnd.{RecordEnd}
 use Rattle.cw_record.specs.declared.record_end.RecordEnd.TheVariants.{Finished, Fault, Budget, Moves}
 use Rattle.cw_record.specs.Records.{HasEnded, job_of_record}
-use Rattle.cw_top.specs.declared.command.Command.{Command}
-use Rattle.cw_top.specs.declared.command.Command.TheVariants.{Run, Sim}
+use Rattle.cw_words.specs.declared.command.Command.{Command}
+use Rattle.cw_words.specs.declared.command.Command.TheVariants.{Run, Sim}
 use Rattle.cw_top.specs.declared.outcome.Note.{Note}
 use Rattle.cw_top.specs.declared.outcome.Note.TheVariants as note
 use Rattle.cw_top.specs.Outcome.{HasSpentMoves, IsDoneAs, IsDoneBy, IsStatus, status_of_end}

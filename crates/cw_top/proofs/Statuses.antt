@@ -17,15 +17,15 @@ use Rattle.cw_record.specs.declared.record_end.RecordEnd.TheVariants.{Finished, 
 use Rattle.cw_record.specs.Records.{HasEnded, IsReplayed}
 use Rattle.cw_record.specs.Replay.{SameEnd}
 use Rattle.cw_record.proofs.Replay.OneRun.{same_end}
-use Rattle.cw_top.specs.declared.command.Command.{Command}
-use Rattle.cw_top.specs.declared.command.Command.TheVariants.{Run, Sim}
+use Rattle.cw_words.specs.declared.command.Command.{Command}
+use Rattle.cw_words.specs.declared.command.Command.TheVariants.{Run, Sim}
 use Rattle.cw_top.specs.declared.outcome.Note.{Note}
 use Rattle.cw_top.specs.declared.outcome.Note.TheVariants as note
 use Rattle.cw_top.specs.Refusals.{AsksFor, IsMisfit, refusal}
 use Rattle.cw_top.proofs.Parameters.{fits, spelled_accepted}
 use Rattle.cw_report.specs.Results.{end_text, finished_text}
-use Rattle.cw_top.specs.Outcome.{Accepts, MayBeMisusedWith, MayEndWith, HasCause, HasSeveralWorkers, IsDoneAs, IsDoneBy, IsMisused, IsOfMoves, IsRefusedFor, IsRefusedWith, IsRunBy, IsRunOf, IsStatus, IsSurelyMisused, IsSurelyRefused, Writes, WritesEndOfOneMemory, end_of_one_memory, report_if, status_of_end}
-use Rattle.cw_top.specs.Words.{IsReady, asks_report, words_of}
+use Rattle.cw_top.specs.Outcome.{Accepts, MayBeMisusedWith, MayEndWith, HasCause, HasSeveralWorkers, IsDoneAs, IsDoneBy, IsMisused, IsOfMoves, IsRefusedFor, IsRefusedWith, IsRunBy, IsRunOf, IsStatus, IsSurelyMisused, IsSurelyRefused, Writes, WritesEndOfOneMemory, end_of_one_memory, report_if, status_of_end, IsReady}
+use Rattle.cw_words.specs.Words.{asks_report, words_of}
 
 -- words that are no command come to status 2
 of_none : (kept : Option Record) (status : ℕ) (n : Note) → n ≡ note.Usage → IsStatus kept status n → status ≡ 2

@@ -1,10 +1,5 @@
-pub mod Options
-pub mod Words
-pub mod Given
-pub mod Reading
 pub mod Refusals
 pub mod Reasons
 pub mod Texts
 pub mod Outcome
 pub mod OverSource
-pub mod Worked

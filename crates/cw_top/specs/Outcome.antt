@@ -20,15 +20,23 @@ use Rattle.cw_record.specs.Records.{job_of_record, BlocksEnded, HasEnded, HasIts
 use Rattle.cw_replay.specs.Attempts.{RecordsAttempts}
 use Rattle.cw_sim.specs.Moves.{is_run_over}
 use Rattle.cw_sim.specs.Runs.{IsRecordOf, simulation_of}
+use Rattle.cw_sim.specs.Turns.{ListsWorkers}
 use Rattle.cw_sim.specs.OneWorker.{IsUnrefused}
-use Rattle.cw_top.specs.declared.command.Command.{Command}
-use Rattle.cw_top.specs.declared.command.Command.TheVariants.{Run, Sim}
+use Rattle.cw_words.specs.declared.command.Command.{Command}
+use Rattle.cw_words.specs.declared.command.Command.TheVariants.{Run, Sim}
 use Rattle.cw_top.specs.declared.outcome.Note.{Note}
 use Rattle.cw_top.specs.declared.outcome.Note.TheVariants as note
 use Rattle.cw_top.specs.Refusals.{AsksFor, IsMisfit, refusal, Spells}
 use Rattle.cw_report.specs.Results.{finished_text, run_text}
 use Rattle.cw_report.specs.Report.{report_text}
-use Rattle.cw_top.specs.Words.{asks_report, limits_of, words_of}
+use Rattle.cw_words.specs.Words.{asks_report, limits_of, words_of}
+
+-- ## The command
+
+-- A simulation has workers, each worker that is listed is one of them, and there is a column for the first strand.
+abbrev pub IsReady : Command → Type 0
+IsReady (Run words limits report) = Unit {0}
+IsReady (Sim words limits workers schedule report) = (0 < workers) × ListsWorkers schedule workers × (0 < limits.strands)
 
 -- ## The status, the note and the run
 

@@ -9,8 +9,8 @@ use Rattle.cw_strand.specs.Meaning.{MainTakes, strands_of_syntax}
 use Rattle.cw_record.specs.declared.record.Record.{Record}
 use Rattle.cw_record.specs.Replay.{Replays}
 use Rattle.cw_replay.specs.Spawning.{any_spawns}
-use Rattle.cw_top.specs.declared.command.Command.{Command}
-use Rattle.cw_top.specs.Words.{words_of, limits_of}
+use Rattle.cw_words.specs.declared.command.Command.{Command}
+use Rattle.cw_words.specs.Words.{words_of, limits_of}
 
 -- A run of the syntax tree that these bytes spell, with these words and limits: one memory that runs the strands of the tree, in the order
 -- that is kept, does at each step what the run's tree has there, each atomic block without a break, and comes to the end of the run.

@@ -9,13 +9,13 @@ ghost use Rattle.cw_top.specs.declared.outcome.Note.{Note};
 ghost use Rattle.cw_top.specs.declared.outcome.Note.TheVariants.{Nothing};
 ghost use Rattle.cw_top.specs.declared.reasons.NoRun.TheVariants.{Misfit};
 ghost use Rattle.cw_top.specs.declared.reasons.NotWritten.TheVariants.{OutOfMemory, WriteFault};
-ghost use Rattle.cw_top.specs.Outcome.{Accepts, HasCause, HasSeveralWorkers, HasSpentMoves, IsDoneAs, IsDoneBy, IsMisused, IsRefusedFor, IsRefusedWith, IsRunOf, IsSurelyMisused, IsSurelyRefused, IsStatus, MayBeMisusedWith, MayEndWith, ReadsWhole, RisesAtMost, SpentItsBudget, StillTells, TakesAtMost, Writes, WritesEndOfOneMemory, most_bytes, most_ends, most_read, status_of_end, text_by};
+ghost use Rattle.cw_top.specs.Outcome.{Accepts, HasCause, HasSeveralWorkers, HasSpentMoves, IsDoneAs, IsDoneBy, IsMisused, IsRefusedFor, IsRefusedWith, IsRunOf, IsSurelyMisused, IsSurelyRefused, IsStatus, MayBeMisusedWith, MayEndWith, ReadsWhole, RisesAtMost, SpentItsBudget, StillTells, TakesAtMost, Writes, WritesEndOfOneMemory, most_bytes, most_ends, most_read, status_of_end, text_by, IsReady};
 ghost use Rattle.cw_top.specs.OverSource.{IsRunOfSource, Spawns};
 ghost use Rattle.cw_top.specs.Reasons.{WhyNoRun, note_of};
 ghost use Rattle.cw_top.specs.Refusals.{IsMisfit};
-ghost use Rattle.cw_top.specs.Words.{IsReady, command_in, limits_of, words_of};
+ghost use Rattle.cw_words.specs.Words.{command_in, limits_of, words_of};
 
-use crate::command::{Command, command_of};
+use cw_words::{Command, command_of};
 use crate::reading::program_from;
 use crate::reasons::{NoRun, NotWritten, Refusal, Stop};
 use crate::{Note, Reply};

@@ -1,6 +1,6 @@
+use Rattle.cw_top.specs.Outcome.{IsReady}
 use Rattle.std.proofs.Common.{map, string_bytes, subst, sym}
 use Rattle.std.specs.Prelude.{IfSome}
-use Rattle.cw_top.specs.Words.{IsReady}
 use Rattle.cw_top.proofs.Budgets.{spends}
 use Rattle.cw_top.proofs.OverSource.{of_source}
 use Rattle.cw_top.proofs.Pieces as pieces

@@ -1,6 +1,6 @@
 use Rattle.std.proofs.Common.{◌≡◌, ◌∙◌, Bool, true, false, ap, length, rules, subst, sym}
 use Rattle.cw_job.specs.Jobs.{TakesWords}
-use Rattle.cw_top.specs.Words.{words_of}
+use Rattle.cw_words.specs.Words.{words_of}
 use Rattle.cw_top.proofs.Parameters.{misfits}
 use Rattle.cw_top.proofs.CommandRuns.{is_run}
 use Rattle.cw_top.proofs.top.run_of.Goals as goal

@@ -1,0 +1,5 @@
+mod FirstOption
+mod Numbers
+mod Parts
+mod Passes
+mod Commands

@@ -1,0 +1,5 @@
+pub mod Options
+pub mod Words
+pub mod Given
+pub mod Reading
+pub mod Worked

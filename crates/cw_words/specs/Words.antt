@@ -1,0 +1,114 @@
+-- Which words are a command, and what they say. There are two: `run` has three options, `sim` has nine, and both have the words of main.
+use Rattle.std.specs.Prelude.{◌-◌, ◌^◌, Bool, true, false, List, [], ◌∷◌, ℕ, ℤ, Option, Some, None, codes, if◌then◌else◌, map, option_and_then, option_map, string_bytes, String}
+use Rattle.std.specs.declared.alloc.Global.{Global}
+use Rattle.std.specs.Str.{bytes_eq}
+use Rattle.cw_code.specs.declared.Limits.{Limits}
+use Rattle.cw_io.specs.declared.schedule.Schedule.{Schedule}
+use Rattle.cw_io.specs.declared.schedule.Schedule.TheVariants.{List as Listed, Seeded}
+use Rattle.cw_words.specs.declared.command.Command.{Command}
+use Rattle.cw_words.specs.declared.command.Command.TheVariants.{Run, Sim}
+use Rattle.cw_words.specs.Options.{Given, GivenOption, NumberOption, are_known, given, integers_of, list_below, number_given, number_within, option_value}
+
+-- ## Options
+
+abbrev pub fuel_option : NumberOption
+fuel_option = record { name = codes "fuel"; least = 1; most = 10 ^ 9; default = 10 ^ 6 }
+
+abbrev pub size_option : NumberOption
+size_option = record { name = codes "size"; least = 1; most = 10 ^ 7; default = 10 ^ 6 }
+
+-- how many attempts a block or an access may have
+abbrev pub aborts_option : NumberOption
+aborts_option = record { name = codes "aborts"; least = 1; most = 10 ^ 9; default = 100000 }
+
+-- how many strands may have columns
+abbrev pub strands_option : NumberOption
+strands_option = record { name = codes "strands"; least = 1; most = 10 ^ 6; default = 262144 }
+
+abbrev pub moves_option : NumberOption
+moves_option = record { name = codes "moves"; least = 1; most = 10 ^ 9; default = 10 ^ 7 }
+
+abbrev pub workers_option : NumberOption
+workers_option = record { name = codes "workers"; least = 1; most = 64; default = 4 }
+
+-- the names of the options of each command
+abbrev pub run_options : List (List ℕ)
+run_options = codes "fuel" ∷ codes "size" ∷ codes "report" ∷ []
+
+abbrev pub sim_options : List (List ℕ)
+sim_options = codes "fuel" ∷ codes "size" ∷ codes "aborts" ∷ codes "strands" ∷ codes "moves" ∷ codes "workers" ∷ codes "schedule" ∷ codes "seed" ∷ codes "report" ∷ []
+
+-- The limits that options give. One that is not given, or that is no option of the command, has its default.
+abbrev pub limits_given : List GivenOption → Option Limits
+limits_given os =
+    option_and_then (λ f. option_and_then (λ n. option_and_then (λ b. option_and_then (λ m. option_map (λ c.
+    record { fuel = f; size = n; aborts = b; strands = m; moves = c })
+    (number_given moves_option os)) (number_given strands_option os)) (number_given aborts_option os)) (number_given size_option os)) (number_given fuel_option os)
+
+-- Whether a report is asked for. Its one value is 1, the number of its form.
+abbrev pub report_in : (value : Option (List ℕ)) → Option Bool
+report_in None = Some false
+report_in (Some v) = option_map (λ n. true) (number_within 1 1 v)
+
+abbrev pub report_given : List GivenOption → Option Bool
+report_given os = option_and_then report_in (option_value (codes "report") os)
+
+-- ## Schedules
+
+-- so many workers may be listed
+abbrev pub most_listed : ℕ
+most_listed = 20000
+
+-- The schedule of so many workers by the values of its two options: a list of their numbers, or a seed, and not both; with neither the list
+-- is empty.
+abbrev pub schedule_in : (workers : ℕ) → (list seed : Option (List ℕ)) → Option Schedule
+schedule_in workers None None = Some (Listed [])
+schedule_in workers (Some v) None = option_map Listed (list_below workers most_listed v)
+schedule_in workers None (Some v) = option_map Seeded (number_within 0 (2 ^ 64 - 1) v)
+schedule_in workers (Some v) (Some w) = None
+
+abbrev pub schedule_given : (workers : ℕ) → List GivenOption → Option Schedule
+schedule_given workers os =
+    option_and_then (λ list. option_and_then (λ seed. schedule_in workers list seed) (option_value (codes "seed") os)) (option_value (codes "schedule") os)
+
+-- ## Commands
+
+-- the run that options and words ask for
+abbrev pub run_given : Given → Option Command
+run_given g =
+    if are_known run_options g.options then option_and_then (λ limits. option_and_then (λ report. option_map (λ ns. Run ns limits report)
+    (integers_of g.words)) (report_given g.options)) (limits_given g.options)
+    else None
+
+-- the simulation that options and words ask for
+abbrev pub sim_given : Given → Option Command
+sim_given g =
+    if are_known sim_options g.options then
+    option_and_then (λ limits. option_and_then (λ report. option_and_then (λ workers. option_and_then (λ schedule. option_map (λ ns. Sim ns limits workers schedule report)
+    (integers_of g.words)) (schedule_given workers g.options)) (number_given workers_option g.options)) (report_given g.options)) (limits_given g.options)
+    else None
+
+-- The first word says which command it is.
+abbrev pub command_of : List (List ℕ) → Option Command
+command_of [] = None
+command_of (name ∷ words) =
+    if bytes_eq name (codes "run") then option_and_then run_given (given words)
+    else if bytes_eq name (codes "sim") then option_and_then sim_given (given words)
+    else None
+
+abbrev pub words_of : Command → List ℤ
+words_of (Run words limits report) = words
+words_of (Sim words limits workers schedule report) = words
+
+abbrev pub limits_of : Command → Limits
+limits_of (Run words limits report) = limits
+limits_of (Sim words limits workers schedule report) = limits
+
+-- whether a report is asked for
+abbrev pub asks_report : Command → Bool
+asks_report (Run words limits report) = report
+asks_report (Sim words limits workers schedule report) = report
+
+-- the command that these words are, which come behind the program's name, if they are one
+abbrev pub command_in : List (String Global) → Option Command
+command_in words = command_of (map string_bytes words)

@@ -1,0 +1,128 @@
+ghost use Rattle.std.specs.Prelude.{◌≡◌, IfOk, IsSome, OnErr, map, option_and_then, string_bytes};
+ghost use Rattle.cw_words.specs.Options.{given};
+ghost use Rattle.cw_words.specs.Words.{asks_report, command_of, run_given, sim_given, words_of};
+
+use crate::asked::{are_known, integers_of, limits_of, report_of, schedule_of, workers_of};
+use cw_base::{OutOfMemory, Seq};
+use cw_code::Limits;
+use cw_io::Schedule;
+use std::alloc::Global;
+
+/// What the words of a command ask for, and what they say of it.
+#[derive(Drop)]
+pub enum Command {
+    /// Reads a program from the source, runs it with these words and limits, and writes its result, and the report where it is asked for.
+    Run {
+        words: Seq<i64>,
+        limits: Limits,
+        report: bool,
+    },
+    /// The same by so many virtual workers, who move in the turns of this schedule.
+    Sim {
+        words: Seq<i64>,
+        limits: Limits,
+        workers: u32,
+        schedule: Schedule,
+        report: bool,
+    },
+}
+
+impl Command {
+    /// The words of main.
+    pub fn words(&self) -> &Seq<i64>
+        ensures { result.now ≡ words_of self.now }
+    {
+        match self {
+            Command::Run { words, .. } => words,
+            Command::Sim { words, .. } => words,
+        }
+    }
+
+    /// Whether a report is asked for.
+    pub fn asks_report(&self) -> bool
+        ensures { result ≡ asks_report self.now }
+    {
+        match self {
+            Command::Run { report, .. } => *report,
+            Command::Sim { report, .. } => *report,
+        }
+    }
+}
+
+// The run that the words behind `run` ask for.
+fn run_with(alloc: Global, words: &[String]) -> Result<Option<Command>, OutOfMemory>
+    ensures exact { IfOk result (λ c. c ≡ option_and_then run_given (given (map string_bytes words.now))) }
+    ensures memory { OnErr result (IsSome (option_and_then run_given (given (map string_bytes words.now)))) }
+{
+    if !are_known(words, &["fuel", "size", "report"]) {
+        return Ok(None);
+    }
+    let Some(limits) = limits_of(words) else {
+        return Ok(None);
+    };
+    let Some(report) = report_of(words) else {
+        return Ok(None);
+    };
+    let Some(kept) = integers_of(alloc, words) else {
+        return Ok(None);
+    };
+    Ok(Some(Command::Run {
+        words: kept?,
+        limits,
+        report,
+    }))
+}
+
+// The simulation that the words behind `sim` ask for.
+fn sim_with(alloc: Global, words: &[String]) -> Result<Option<Command>, OutOfMemory>
+    ensures exact { IfOk result (λ c. c ≡ option_and_then sim_given (given (map string_bytes words.now))) }
+    ensures memory { OnErr result (IsSome (option_and_then sim_given (given (map string_bytes words.now)))) }
+{
+    let names = [
+        "fuel", "size", "aborts", "strands", "moves", "workers", "schedule", "seed", "report",
+    ];
+    if !are_known(words, &names) {
+        return Ok(None);
+    }
+    let Some(limits) = limits_of(words) else {
+        return Ok(None);
+    };
+    let Some(report) = report_of(words) else {
+        return Ok(None);
+    };
+    let Some(workers) = workers_of(words) else {
+        return Ok(None);
+    };
+    let Some(schedule) = schedule_of(alloc, words, workers) else {
+        return Ok(None);
+    };
+    let Some(kept) = integers_of(alloc, words) else {
+        return Ok(None);
+    };
+    Ok(Some(Command::Sim {
+        words: kept?,
+        limits,
+        workers,
+        schedule: schedule?,
+        report,
+    }))
+}
+
+/// The command that these words are, which come behind the program's name, if they are one. Want of memory is told only of words
+/// that are one.
+pub fn command_of(alloc: Global, words: &[String]) -> Result<Option<Command>, OutOfMemory>
+    ensures exact { IfOk result (λ c. c ≡ command_of (map string_bytes words.now)) }
+    ensures memory { OnErr result (IsSome (command_of (map string_bytes words.now))) }
+{
+    let Some((name, words)) = words.split_first() else {
+        return Ok(None);
+    };
+    let name = name.as_str();
+    if name == "run" {
+        run_with(alloc, words)
+    } else if name == "sim" {
+        sim_with(alloc, words)
+    } else {
+        Ok(None)
+    }
+}

@@ -1,0 +1,20 @@
+//! The words of the command line: which of them are a command, and what they say.
+//! Stands on `cw_base`, `cw_code` and `cw_io`.
+//! Contracts cite `specs/Words.antt` (which words are which command, from `specs/Options.antt`, how words give options). Private ones cite
+//! `specs/Given.antt` (how words are read one after another) and `specs/Reading.antt` (in passes).
+#![tactic(auto)]
+
+mod asked;
+mod command;
+mod given;
+mod options;
+
+ghost use Rattle.cw_words.specs.Worked.{Commands, Simulations};
+
+pub use command::{Command, command_of};
+
+/// Worked words.
+pub fn worked_words()
+    ensures runs { Commands }
+    ensures simulations { Simulations }
+{}

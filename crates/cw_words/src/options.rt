@@ -1,0 +1,104 @@
+ghost use Rattle.std.specs.Prelude.{◌≡◌, ◌<◌, ◌≤◌, ◌≢◌, ◌∷◌, ◌++◌, [], codes, IfNone, IfOk, IfSome, IsOkAnd, IsTrue, None, length, map, option_map, string_bytes};
+ghost use Rattle.cw_words.specs.Given.{Reads};
+ghost use Rattle.cw_words.specs.Options.{given, has_hyphen, integer_of, list_below, number_within, parts_of, with_option};
+ghost use Rattle.cw_words.specs.Reading.{parts_behind};
+
+use cw_base::{OutOfMemory, Seq};
+use std::alloc::Global;
+
+/// What was read, or want of memory, which stays: so it hides nothing behind it that is of no use.
+pub type Kept<T> = Result<Seq<T>, OutOfMemory>;
+
+/// With one more.
+pub fn with_one<T: Drop>(kept: Kept<T>, item: T) -> Kept<T>
+    ensures { IfOk result (λ ns. IsOkAnd kept (λ ms. ns ≡ ms ++ item ∷ [])) }
+{
+    let mut items = kept?;
+    items.push(item)?;
+    Ok(items)
+}
+
+/// The option that a word begins, with its value and the words behind both. The word `--` begins none.
+pub fn option_of<'a>(
+    word: &'a str,
+    behind: &'a [String],
+) -> Option<(&'a str, &'a str, &'a [String])>
+    ensures some { IfSome result (λ r. given (word.now ∷ map string_bytes behind.now)
+        ≡ option_map (with_option r.0.now r.1.now) (given (map string_bytes r.2.now))) }
+    ensures none { IfNone result (IsTrue (has_hyphen word.now) → word.now ≢ codes "--" → given (word.now ∷ map string_bytes behind.now) ≡ None) }
+    ensures fewer { IfSome result (λ r. length r.2.now ≤ length behind.now) }
+{
+    let text = word.strip_prefix("--")?;
+    if text.is_empty() {
+        return None;
+    }
+    if let Some((name, value)) = text.split_once('=') {
+        return Some((name, value, behind));
+    }
+    let (next, behind) = behind.split_first()?;
+    let value = next.as_str();
+    if value.starts_with("-") {
+        return None;
+    }
+    Some((text, value, behind))
+}
+
+/// The number within these bounds that a value spells.
+pub fn number_within(value: &str, least: u64, most: u64) -> Option<u64>
+    ensures exact { result ≡ number_within least most value.now }
+    ensures within { IfSome result (λ n. (least ≤ n) × (n ≤ most)) }
+{
+    // `parse` takes a sign, which a number here may not have.
+    if value.starts_with('+') {
+        return None;
+    }
+    let number = value.parse::<u64>().ok()?;
+    if number < least || most < number {
+        return None;
+    }
+    Some(number)
+}
+
+/// The integer that a word spells.
+pub fn integer_of(word: &str) -> Option<i64>
+    ensures { result ≡ integer_of word.now }
+{
+    // `parse` takes a plus, which a word may not have.
+    if word.starts_with('+') {
+        return None;
+    }
+    word.parse::<i64>().ok()
+}
+
+// The part of a text before its first comma, and what stands behind that comma.
+fn first_part(text: &str) -> (&str, Option<&str>)
+    ensures { parts_of text.now ≡ result.0.now ∷ parts_behind result.1 }
+{
+    match text.split_once(',') {
+        Some((part, behind)) => (part, Some(behind)),
+        None => (text, None),
+    }
+}
+
+/// The list that a text spells: numbers below this one, with commas between them, at most so many.
+pub fn list_below(alloc: Global, text: &str, limit: u32, most: usize) -> Option<Kept<u32>>
+    requires { 0 < limit }
+    ensures { Reads (list_below limit most text.now) result }
+{
+    let mut kept = Ok(Seq::new(alloc));
+    let mut count = 0;
+    let mut rest = text;
+    'parts: loop {
+        if count == most {
+            return None;
+        }
+        let (part, behind) = first_part(rest);
+        let number = number_within(part, 0, u64::from(limit) - 1)?;
+        kept = with_one(kept, number as u32);
+        count += 1;
+        let Some(behind) = behind else {
+            return Some(kept);
+        };
+        rest = behind;
+    }
+}
