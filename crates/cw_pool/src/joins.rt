@@ -3,7 +3,7 @@ ghost use Rattle.std.specs.Prelude.{◌≡◌};
 ghost use Rattle.cw_pool.specs.Ends.{IsMerged, IsToMerge, both};
 
 use crate::ends::{behind, may_end};
-use crate::sides::{LeftTask, RightTask, task_of};
+use crate::sides::{LeftTask, RightTask, taken_apart, task_of};
 use crate::{Below, Mode, Naming, Running, Scene};
 use cw_log::SharedBoard;
 use std::sync::Wait;
@@ -51,14 +51,7 @@ pub(crate) fn takes_back_task<B: SharedBoard, J: Naming>(
     left: Running<B, J>,
     right: Running<B, J>,
 ) -> Result<Running<B, J>, (Running<B, J>, Running<B, J>)> {
-    let left = match LeftTask::of(scene, left) {
-        Ok(left) => left,
-        Err(left) => return Err((left, right)),
-    };
-    let right = match RightTask::of(right) {
-        Ok(right) => right,
-        Err(right) => return Err((left.whole(), right)),
-    };
+    let (left, right) = taken_apart(scene, left, right)?;
     let Mode::Waits = right.mode else {
         return Err((left.whole(), right.whole()));
     };
@@ -98,14 +91,7 @@ pub(crate) fn meets<B: SharedBoard, J: Naming, R: Wait>(
     left: Running<B, J>,
     right: Running<B, J>,
 ) -> Result<Running<B, J>, (Running<B, J>, Running<B, J>)> {
-    let left = match LeftTask::of(scene, left) {
-        Ok(left) => left,
-        Err(left) => return Err((left, right)),
-    };
-    let right = match RightTask::of(right) {
-        Ok(right) => right,
-        Err(right) => return Err((left.whole(), right)),
-    };
+    let (left, right) = taken_apart(scene, left, right)?;
     let true = may_end(scene, &right.token, &right.body, right.mode) else {
         return Err((left.whole(), right.whole()));
     };

@@ -3,7 +3,8 @@
 //! Stands on `cw_base`, `cw_code`, `cw_strand`, `cw_job`, `cw_tree`, `cw_log`, `cw_course`, `cw_pair` and `cw_body`.
 //! `specs/Tasks.antt` says what a task stands for (`IsRunning`): a strand that runs, with its token and its body, and what waits for it. That
 //! is the invariant of the type `Running`, which each function keeps; most have no clause but that. `specs/Accesses.antt` and
-//! `specs/Blocks.antt` have what small calls answer, `specs/Ends.antt` when a strand may end, and what is true of the root's token then.
+//! `specs/Blocks.antt` have what small calls answer, `specs/Ends.antt` when a strand may end, how the strand that forked stands behind both its
+//! strands, and what is true of the root's token at the end.
 #![tactic(auto)]
 
 mod access;

@@ -183,6 +183,21 @@ impl<B: SharedBoard, J: Naming> RightTask<B, J> {
     }
 }
 
+/// The tasks of the left and of the right strand of a fork, taken apart; or both as they were.
+pub(crate) fn taken_apart<B: SharedBoard, J: Naming>(
+    scene: &Scene<'_, B, J>,
+    left: Running<B, J>,
+    right: Running<B, J>,
+) -> Result<(LeftTask<B, J>, RightTask<B, J>), (Running<B, J>, Running<B, J>)> {
+    match LeftTask::of(scene, left) {
+        Err(left) => Err((left, right)),
+        Ok(left) => match RightTask::of(right) {
+            Err(right) => Err((left.whole(), right)),
+            Ok(right) => Ok((left, right)),
+        },
+    }
+}
+
 /// The number of the pair of the fork whose left strand this is, where its right one is a task.
 pub(crate) fn left_number<B: SharedBoard, J: Naming>(now: &Running<B, J>) -> Option<u64> {
     match now.below.last() {
