@@ -1,5 +1,7 @@
 //! Boards and tokens under a name of their table, by which their types say that the token is one of the board.
-ghost use Rattle.std.specs.Prelude.{◌≡◌};
+ghost use Rattle.std.specs.Prelude.{◌≡◌, IfOk, IfErr};
+ghost use Rattle.cw_course.specs.Closings.{IsPutTogether};
+ghost use Rattle.cw_log.specs.Tokens.{logs};
 ghost use Rattle.cw_steps.specs.Stands.{token_of};
 ghost use Rattle.cw_board.specs.Boards.{budget_of, cells_in, columns_of, table_of, IsOf};
 
@@ -8,7 +10,7 @@ use cw_base::OutOfMemory;
 use cw_log::{Access, Forked, SharedBoard};
 use cw_steps::StrandToken;
 use cw_trace::Early;
-use cw_tree::{Halt, Node};
+use cw_tree::{Closed, Halt, Node};
 use std::marker::{Brand, Model, PhantomData};
 use std::sync::Wait;
 
@@ -84,6 +86,35 @@ impl Board {
             of: PhantomData,
         };
         (board, token)
+    }
+}
+
+impl<N: Naming> NamedBoard<N> {
+    /// What the board gives with the root's token, to which all others were joined, as `Board::close` does. Without the memory for it, board
+    /// and token are handed back.
+    pub fn close(
+        self,
+        token: NamedToken<N>,
+    ) -> Result<Closed, (NamedBoard<N>, NamedToken<N>, OutOfMemory)>
+        ensures together { IfOk result (λ c. IsPutTogether (logs token) token.stop c) }
+        ensures err { IfErr result (λ e. (e.0 ≡ self) × (e.1 ≡ token)) }
+    {
+        let NamedBoard { board, .. } = self;
+        let NamedToken { token, .. } = token;
+        match board.close(token) {
+            Ok(closed) => Ok(closed),
+            Err((board, token, error)) => {
+                let board = NamedBoard {
+                    board,
+                    of: PhantomData,
+                };
+                let token = NamedToken {
+                    token,
+                    of: PhantomData,
+                };
+                Err((board, token, error))
+            }
+        }
     }
 }
 
