@@ -1,4 +1,4 @@
-mod Closings
-mod Courses
+pub mod Closings
+pub mod Courses
 pub mod Trails
 mod Worked

@@ -7,7 +7,7 @@ use Rattle.cw_log.specs.Tokens.{conflicts_in, logs}
 use Rattle.cw_log.specs.Going as going
 
 -- a stamp more around, which exceeds all victims, fells none
-with_stamp : (stamp : ℕ) (around : List ℕ) (cs : List Conflict) → All (λ c. Contains around c.victim → ⊥) cs → All (λ c. c.victim < stamp) cs → All (λ c. Contains (stamp ∷ around) c.victim → ⊥) cs
+pub with_stamp : (stamp : ℕ) (around : List ℕ) (cs : List Conflict) → All (λ c. Contains around c.victim → ⊥) cs → All (λ c. c.victim < stamp) cs → All (λ c. Contains (stamp ∷ around) c.victim → ⊥) cs
 with_stamp stamp around cs none less k d r h = older (slice_index_or cs k d).victim h (less k d r) (none k d r) where
   older : (v : ℕ) → Contains (stamp ∷ around) v → v < stamp → (Contains around v → ⊥) → ⊥
   older v (zero, r, e) l n = absurd (omega arith)
@@ -23,7 +23,7 @@ in_blocks budget stamp x g l = record {
   free = with_stamp stamp x.around (conflicts_in (logs x)) g.free l.victims;
 }
 
-within_rest : (around : List ℕ) (v : ℕ) → Contains (drop 1 around) v → Contains around v
+pub within_rest : (around : List ℕ) (v : ℕ) → Contains (drop 1 around) v → Contains around v
 within_rest [] v (k, r, e) = absurd (omega arith)
 within_rest (b ∷ bs) v (k, r, e) = (suc k, omega arith, e)
 

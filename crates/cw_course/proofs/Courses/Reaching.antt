@@ -12,10 +12,10 @@ use Rattle.cw_course.specs.Courses as course
 
 module _ {A : Type 0} (s : Strands A) where
   -- one way behind another
-  further : (from own to : List ℕ) (a b c : A) → GoesTo s from a own b → GoesTo s own b to c → GoesTo s from a to c
-  further from own to a b c g stays = g
-  further from own to a b c g (answered h given is) = answered (further from _ _ a b _ g h) given is
-  further from own to a b c g (joins h e l lo r ro) = joins (further from _ _ a b _ g h) e l lo r ro
+  pub further : {from own to : List ℕ} {a b c : A} → GoesTo s from a own b → GoesTo s own b to c → GoesTo s from a to c
+  further g stays = g
+  further g (answered h given is) = answered (further g h) given is
+  further g (joins h e l lo r ro) = joins (further g h) e l lo r ro
 
   -- and an answer behind it
   next : (from own : List ℕ) (a b : A) (w : Want) (given : Given) → GoesTo s from a own b → s.want b ≡ w → IsAnswer w given → GoesTo s from a (own_after w own) (s.answer b given)
@@ -31,12 +31,12 @@ module _ {A : Type 0} (s : Strands A) where
   act_goes own a b c Fork g d = absurd d
   act_goes own a b c Block g d = absurd d
 
-  goes_to : (n : ℕ) (ns : List ℕ) (a b : A) (cs : Course) → Goes s a cs b → GoesTo s (n ∷ ns) a (n ∷ ns) b
+  pub goes_to : (n : ℕ) (ns : List ℕ) (a b : A) (cs : Course) → Goes s a cs b → GoesTo s (n ∷ ns) a (n ∷ ns) b
   goes_to n ns a b cs course.starts = stays
   goes_to n ns a b cs (course.acts {b = x} {kind = kind} g d) = act_goes (n ∷ ns) a x b kind (goes_to n ns a x _ g) d
   goes_to n ns a b cs (course.commits {b = x} {c = y} g e h f) =
       let begun = next (n ∷ ns) (n ∷ ns) a x want.Begin Nothing (goes_to n ns a x _ g) e tt in
-      let inside = further (n ∷ ns) (suc n ∷ ns) (suc n ∷ ns) a (s.answer x Nothing) y begun (goes_to (suc n) ns _ y _ h) in
+      let inside = further begun (goes_to (suc n) ns _ y _ h) in
       next (n ∷ ns) (suc n ∷ ns) a y want.End Nothing inside f tt
   goes_to n ns a b cs (course.aborts g e h) = goes_to n ns a b _ g
   goes_to n ns a b cs (course.joins {b = x} {l = l} {r = r} g e h lo k ro) =

@@ -20,7 +20,7 @@ closed_at : (t : List Node) (b : ℕ) (state : BlockState) (end : ℕ) (x : Node
 closed_at t b state end x e = rw e refl
 
 -- so many nodes stand behind a course
-behind_many : (p : Page) (cs : Course) → length (behind p cs) ≡ length p.nodes + size cs
+pub behind_many : (p : Page) (cs : Course) → length (behind p cs) ≡ length p.nodes + size cs
 behind_many p cs = length-append p.nodes (laid cs (length p.nodes) p.place) ∙ omega (arith, laid_many cs (length p.nodes) p.place)
 
 module _ {A : Type 0} where

@@ -2,7 +2,7 @@
 use Rattle.std.proofs.Common.{◌≡◌, ℕ, zero, suc, ◌+◌, ◌<◌, List, [], ◌∷◌, ◌++◌, length, drop, map, refl, ap, sym, ◌∙◌, subst, arith, Option, None, Some, append_assoc, append-nil}
 use Rattle.std.proofs.lemmas.List.{length-map}
 use Rattle.std.specs.Prelude.{◌≤◌, reverse}
-use Rattle.std.specs.List.{All, Contains}
+use Rattle.std.specs.List.{Contains}
 use Rattle.std.proofs.lemmas.List.Elements.{All-weaker, All-contains}
 use Rattle.cw_strand.specs.declared.want.Want.TheVariants as want
 use Rattle.cw_strand.specs.declared.want.Given.TheVariants.{Nothing}
@@ -26,12 +26,13 @@ use Rattle.cw_course.proofs.Trails.Steps as step
 use Rattle.cw_body.specs.Bodies as bodies
 use Rattle.cw_body.specs.Bodies.{InBlocks, PendingBegin, back_to, begun, forgot, went_back, seen_from}
 use Rattle.cw_body.specs.declared.stage.Stage.TheVariants as stage
+use Rattle.cw_log.proofs.Going.{with_stamp, within_rest}
 use Rattle.cw_pool.specs.Blocks.{begin_at}
 use Rattle.cw_pool.specs.declared.task.Mode.{Mode}
 use Rattle.cw_pool.specs.declared.task.Mode.TheVariants as mode
 use Rattle.cw_pool.specs.declared.task.Below.{Below}
 use Rattle.cw_pool.specs.declared.task.Base.{Base}
-use Rattle.cw_pool.specs.Tasks.{Start, IsRun, IsReached, Fits, IsFree, AreFalling, StandsGoing, StandsDying, StandsSo, IsBase, AreBelow, IsRunning, begins_in, stamps_in, seen_in, rights_to, rights_of}
+use Rattle.cw_pool.specs.Tasks.{Start, IsRun, IsReached, Fits, IsFree, AreFalling, StandsGoing, StandsDying, IsBase, AreBelow, IsRunning, begins_in, stamps_in, seen_in, rights_to, rights_of}
 use Rattle.cw_pool.specs.Tasks as waiting
 use Rattle.cw_pool.proofs.Tasks.Reaching.{blocks_in, reached_now, end_in_block}
 use Rattle.cw_pool.proofs.Tasks.Pages.{many_in_block, in_some_block, innermost, begin_found}
@@ -45,10 +46,6 @@ pub falling_rest : (bs : List ℕ) → AreFalling bs → AreFalling (drop 1 bs)
 falling_rest [] f = tt
 falling_rest (b ∷ bs) f = f.2
 
-within_rest : (around : List ℕ) (v : ℕ) → Contains (drop 1 around) v → Contains around v
-within_rest [] v (k, r, e) = absurd (omega arith)
-within_rest (b ∷ bs) v (k, r, e) = (suc k, omega arith, e)
-
 -- of falling stamps the first is not behind itself
 first_once : (b : ℕ) (bs : List ℕ) → AreFalling (b ∷ bs) → Contains bs b → ⊥
 first_once b bs (some, f, more) h = absurd (omega (arith, All-contains (λ c. c < b) bs b f h))
@@ -60,14 +57,6 @@ behind_less b bs v (some, f, more) h = All-contains (λ c. c < b) bs v f h
 behind_first : (b : ℕ) (bs : List ℕ) (v : ℕ) → (b ≡ v → ⊥) → Contains (b ∷ bs) v → Contains bs v
 behind_first b bs v n (zero, r, e) = absurd (n e)
 behind_first b bs v n (suc k, r, e) = (k, omega arith, e)
-
--- a stamp more around, which exceeds all victims, fells none
-spared : (stamp : ℕ) (around : List ℕ) (v : ℕ) → v < stamp → (Contains around v → ⊥) → Contains (stamp ∷ around) v → ⊥
-spared stamp around v l n (zero, r, e) = absurd (omega (arith, l, e))
-spared stamp around v l n (suc k, r, e) = n (k, omega arith, e)
-
-all_both : {X : Type 0} → (P Q R : X → Type 0) → ((x : X) → P x → Q x → R x) → (xs : List X) → All P xs → All Q xs → All R xs
-all_both P Q R f xs p q k d r = f _ (p k d r) (q k d r)
 
 -- ## What is written in the token
 
@@ -116,7 +105,7 @@ module _ (job : Job) where
   free_began : (x : Token) (stamp : ℕ) → IsFree job x → IsLater x stamp → IsFree job (began x stamp)
   free_began x stamp f l = record {
     on = record { stop = f.on.stop; told = f.on.told; unspent = f.on.unspent };
-    none = all_both (λ c. c.victim < stamp) (λ c. Fells x c → ⊥) (λ (c : Conflict). Contains (stamp ∷ x.around) c.victim → ⊥) (λ c l n. spared stamp x.around c.victim l n) (conflicts_in (logs x)) l.victims f.none;
+    none = with_stamp stamp x.around (conflicts_in (logs x)) f.none l.victims;
   }
 
   free_ended : (x : Token) (state : BlockState) (end : ℕ) → IsFree job x → IsFree job (ended x state end)

@@ -5,36 +5,10 @@ use Rattle.cw_tree.specs.declared.node.Node.{Node}
 use Rattle.cw_tree.specs.declared.node.Kind.TheVariants.{Strand, Fork, Block}
 use Rattle.cw_tree.specs.Nodes.{fresh_node}
 use Rattle.cw_tree.proofs.NextNodes.Growing.{get_next}
-use Rattle.cw_course.specs.Courses.{Course, nothing, act, block, fork, fault, size, laid}
-use Rattle.cw_course.specs.Trails.{Trail, Page, opens, in_block, in_left, in_right, behind, page, place_of, nodes_of, strand_in, strands_with, forked}
+use Rattle.cw_course.specs.Courses.{Course, nothing, block, size}
+use Rattle.cw_course.specs.Trails.{Trail, opens, in_block, in_left, in_right, page, place_of, nodes_of, strand_in, strands_with, forked}
+use Rattle.cw_course.proofs.Trails.Steps.{behind_many}
 use Rattle.cw_pool.specs.Blocks.{begin_at}
-
--- so many nodes a course has
-laid_many : (cs : Course) (base under : ℕ) → length (laid cs base under) ≡ size cs
-laid_many nothing base under = refl
-laid_many (act cs kind stamp) base under = omega (arith, length-append (laid cs base under) (fresh_node under kind stamp ∷ []), laid_many cs base under)
-laid_many (block cs state stamp end js) base under =
-    let n = base + size cs in
-    omega (arith, length-append (laid cs base under) (record (fresh_node under Block stamp) { state = state; end = end } ∷ laid js (n + 1) n), laid_many cs base under, laid_many js (n + 1) n)
-laid_many (fork cs None stamp ls rs) base under =
-    let n = base + size cs in
-    let ll = laid ls (n + 3) (n + 1) in
-    let lr = laid rs (n + 3 + size ls) (n + 2) in
-    omega (
-      arith,
-      length-append (laid cs base under) (fresh_node under Fork stamp ∷ fresh_node n Strand 0 ∷ fresh_node n Strand 0 ∷ (ll ++ lr)),
-      laid_many cs base under,
-      length-append ll lr,
-      laid_many ls (n + 3) (n + 1),
-      laid_many rs (n + 3 + size ls) (n + 2),
-    )
-laid_many (fork cs (Some column) stamp ls rs) base under =
-    let n = base + size cs in
-    omega (arith, length-append (laid cs base under) (fresh_node under Fork stamp ∷ fresh_node n Strand 0 ∷ laid ls (n + 2) (n + 1)), laid_many cs base under, laid_many ls (n + 2) (n + 1))
-laid_many (fault cs kind) base under = laid_many cs base under
-
-pub behind_many : (p : Page) (cs : Course) → length (behind p cs) ≡ length p.nodes + size cs
-behind_many p cs = length-append p.nodes (laid cs (length p.nodes) p.place) ∙ omega (arith, laid_many cs (length p.nodes) p.place)
 
 module _ {A : Type 0} where
   pub many : (t : Trail A) (cs : Course) → length (nodes_of t cs) ≡ length (page t).nodes + size cs

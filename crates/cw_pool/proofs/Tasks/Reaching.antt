@@ -3,56 +3,24 @@ use Rattle.std.proofs.Common.{◌≡◌, Option, ℕ, suc, List, [], ◌∷◌, 
 use Rattle.std.specs.Prelude.{IsTrue, length}
 use Rattle.cw_strand.specs.declared.want.Want.{Want}
 use Rattle.cw_strand.specs.declared.want.Want.TheVariants as want
-use Rattle.cw_strand.specs.declared.want.Given.{Given}
-use Rattle.cw_strand.specs.declared.want.Given.TheVariants.{Nothing, Value}
-use Rattle.cw_tree.specs.declared.node.Kind.{Kind}
-use Rattle.cw_tree.specs.declared.node.Kind.TheVariants.{Strand, Fork, Block, Read, Write, Out, Tried}
-use Rattle.cw_strand.specs.Strands.{Strands, IsAnswer, MayWant, own_after, is_over, GoesTo, stays, answered, joins, Reached, of_main, of_left, of_right}
+use Rattle.cw_strand.specs.declared.want.Given.TheVariants.{Nothing}
+use Rattle.cw_tree.specs.declared.node.Kind.TheVariants.{Fork}
+use Rattle.cw_strand.specs.Strands.{Strands, IsAnswer, MayWant, own_after, is_over, GoesTo, stays, answered, Reached, of_main, of_left, of_right}
 use Rattle.cw_job.specs.Jobs.{Job}
 use Rattle.cw_job.specs.Room.Strands.{StrandState, strands_of_job}
 use Rattle.cw_job.proofs.Room.Elements.{NamesThere, wants_there}
 use Rattle.cw_job.proofs.Room.Lawful.{closes_of}
 use Rattle.cw_strand.specs.Names.{first_memory}
-use Rattle.cw_course.specs.Courses as course
-use Rattle.cw_course.specs.Courses.{Course, Goes, Acts}
+use Rattle.cw_course.specs.Courses.{Course, Goes}
 use Rattle.cw_course.specs.Trails.{Trail, opens, in_block, in_left, in_right, entry, Leads, Stands}
+use Rattle.cw_course.proofs.Courses.Reaching.{further, goes_to}
 use Rattle.cw_pool.specs.Tasks.{IsRun, IsReached}
 
 module _ {A : Type 0} (s : Strands A) where
-  further : {from own to : List ℕ} {a b c : A} → GoesTo s from a own b → GoesTo s own b to c → GoesTo s from a to c
-  further g stays = g
-  further g (answered h given is) = answered (further g h) given is
-  further g (joins h e l lo r ro) = joins (further g h) e l lo r ro
-
-  -- and an answer behind it
-  next : (from own : List ℕ) (a b : A) (w : Want) (given : Given) → GoesTo s from a own b → s.want b ≡ w → IsAnswer w given → GoesTo s from a (own_after w own) (s.answer b given)
-  next from own a b w given g e is =
-      subst (λ (to : List ℕ). GoesTo s from a to (s.answer b given)) (ap (λ z. own_after z own) e) (answered g given (subst (λ z. IsAnswer z given) (sym e) is))
-
-  act_goes : (own : List ℕ) (a b c : A) (kind : Kind) → GoesTo s own a own b → Acts s b kind c → GoesTo s own a own c
-  act_goes own a b c (Read k v) g d = subst (GoesTo s own a own) (sym d.1) (next own own a b (want.Load k) (Value v) g d.0 tt)
-  act_goes own a b c (Write k v) g d = subst (GoesTo s own a own) (sym d.1) (next own own a b (want.Store k v) Nothing g d.0 tt)
-  act_goes own a b c (Out v) g d = subst (GoesTo s own a own) (sym d.1) (next own own a b (want.Out v) Nothing g d.0 tt)
-  act_goes own a b c (Tried k) g d = subst (GoesTo s own a own) (sym d.1) g
-  act_goes own a b c Strand g d = absurd d
-  act_goes own a b c Fork g d = absurd d
-  act_goes own a b c Block g d = absurd d
-
-  goes_to : (n : ℕ) (ns : List ℕ) (a b : A) (cs : Course) → Goes s a cs b → GoesTo s (n ∷ ns) a (n ∷ ns) b
-  goes_to n ns a b cs course.starts = stays
-  goes_to n ns a b cs (course.acts {b = x} {kind = kind} g d) = act_goes (n ∷ ns) a x b kind (goes_to n ns a x _ g) d
-  goes_to n ns a b cs (course.commits {b = x} {c = y} g e h f) =
-      let begun = next (n ∷ ns) (n ∷ ns) a x want.Begin Nothing (goes_to n ns a x _ g) e tt in
-      let inside = further begun (goes_to (suc n) ns _ y _ h) in
-      next (n ∷ ns) (suc n ∷ ns) a y want.End Nothing inside f tt
-  goes_to n ns a b cs (course.aborts g e h) = goes_to n ns a b _ g
-  goes_to n ns a b cs (course.joins {b = x} {l = l} {r = r} g e h lo k ro) =
-      joins (goes_to n ns a x _ g) e (goes_to 0 [] _ l _ h) lo (goes_to 0 (n ∷ ns) _ r _ k) ro
-
   reached_on : {own to : List ℕ} {a b : A} → Reached s own a → GoesTo s own a to b → Reached s to b
-  reached_on (of_main g) h = of_main (further g h)
-  reached_on (of_left r e g) h = of_left r e (further g h)
-  reached_on (of_right r e g) h = of_right r e (further g h)
+  reached_on (of_main g) h = of_main (further s g h)
+  reached_on (of_left r e g) h = of_left r e (further s g h)
+  reached_on (of_right r e g) h = of_right r e (further s g h)
 
   -- it has begun so many blocks that are pending
   abbrev pub blocks_in : Trail A → ℕ
@@ -65,7 +33,7 @@ module _ {A : Type 0} (s : Strands A) where
   ReachedAt t a = (outer : List ℕ) × Reached s (blocks_in t ∷ outer) a
 
   along : (t : Trail A) (cs : Course) (a b : A) → ReachedAt t a → Goes s a cs b → ReachedAt t b
-  along t cs a b (outer, r) g = (outer, reached_on r (goes_to (blocks_in t) outer a b cs g))
+  along t cs a b (outer, r) g = (outer, reached_on r (goes_to s (blocks_in t) outer a b cs g))
 
   begun : (n : ℕ) (outer : List ℕ) (a : A) → s.want a ≡ want.Begin → Reached s (n ∷ outer) a → Reached s (suc n ∷ outer) (s.answer a Nothing)
   begun n outer a e r = subst (λ (own : List ℕ). Reached s own (s.answer a Nothing)) (ap (λ w. own_after w (n ∷ outer)) e)

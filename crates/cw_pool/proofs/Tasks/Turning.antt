@@ -18,6 +18,7 @@ use Rattle.cw_course.specs.Closings.{FaultsIn}
 use Rattle.cw_course.specs.Trails.{Trail, in_left, in_right, forked, page, nodes_of, place_of, strand_in}
 use Rattle.cw_course.proofs.Trails.Moves as move
 use Rattle.cw_course.proofs.Trails.Steps as step
+use Rattle.cw_course.proofs.Trails.Steps.{behind_many}
 use Rattle.cw_body.specs.Bodies as bodies
 use Rattle.cw_body.specs.Bodies.{InBlocks, gave_up, one_fork_more}
 use Rattle.cw_pool.specs.declared.task.Mode.{Mode}
@@ -29,7 +30,7 @@ use Rattle.cw_pool.specs.Ends.{IsBehind, MayEnd}
 use Rattle.cw_pool.specs.Tasks as waiting
 use Rattle.cw_pool.specs.Tasks.{Start, IsRun, IsFree, IsReached, Fits, StandsGoing, StandsDying, StandsStopped, AreBelow, IsRunning, begins_in, stamps_in, rights_to, rights_of, opened, goes_in}
 use Rattle.cw_pool.proofs.Tasks.Reaching.{reached_fork, start_not_end}
-use Rattle.cw_pool.proofs.Tasks.Pages.{many, many_inline, behind_many}
+use Rattle.cw_pool.proofs.Tasks.Pages.{many, many_inline}
 use Rattle.cw_pool.proofs.Tasks.Behind.{StandsBehind, behind_whole, body_joined, may_join, gave_up_not_lost, goes_not_lost, seen_more}
 use Rattle.cw_pool.proofs.Tasks.Finishing.{IsOutside, Ending, Leaves, Finished, finished, not_parted}
 
