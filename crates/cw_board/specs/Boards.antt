@@ -1,9 +1,10 @@
 -- Boards and their tokens.
-use Rattle.std.specs.Prelude.{◌≡◌, ℕ, ◌+◌, ◌<◌, ◌≤◌, true, All, [], length}
+use Rattle.std.specs.Prelude.{◌≡◌, ℕ, ◌+◌, ◌<◌, ◌≤◌, ◌==◌, true, All, [], length, if◌then◌else◌}
 use Rattle.atomic_table.specs.Seated.{TableId}
 use Rattle.cw_steps.specs.declared.table.StrandToken.{StrandToken}
 use Rattle.cw_steps.specs.declared.view.Whereabouts.{Whereabouts}
-use Rattle.cw_steps.specs.Tracks.{HasRoom}
+use Rattle.cw_tree.specs.Nodes.{stamp_of}
+use Rattle.cw_steps.specs.Tracks.{TrackParts, HasRoom}
 use Rattle.cw_steps.specs.Stands.{token_of}
 use Rattle.cw_steps.specs.Views.{cells_of, held_by, key_of, view_of}
 use Rattle.cw_board.specs.declared.board.Board.{Board}
@@ -22,6 +23,14 @@ columns_of b = (key_of b.shared).columns
 -- which table it is
 abbrev pub table_of : Board → TableId
 table_of b = b.shared.table.shared.table_id
+
+-- the word of its gap shows a block: as it did, or the one in its place now
+abbrev pub IsShown : (before after : TrackParts) → Type 0
+IsShown c d = d.word ≡ (if c.word == 0 then stamp_of d.own.nodes d.place else c.word)
+
+-- it shows none, once the block is closed that it showed
+abbrev pub IsHidden : (before after : TrackParts) → Type 0
+IsHidden c d = d.word ≡ (if c.word == stamp_of c.own.nodes c.place then 0 else c.word)
 
 -- any table: each run picks its own
 abbrev pub no_table : TableId

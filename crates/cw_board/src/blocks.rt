@@ -4,8 +4,8 @@ ghost use Rattle.cw_tree.specs.declared.node.BlockState.TheVariants.{Committed};
 ghost use Rattle.cw_tree.specs.declared.node.Kind.TheVariants as kind;
 ghost use Rattle.cw_log.specs.Tokens.{began, ended, made, Goes, HasBlock, IsLater};
 ghost use Rattle.cw_steps.specs.Stands.{token_of};
-ghost use Rattle.cw_steps.specs.Tracks.{state_of_end, IsReady};
-ghost use Rattle.cw_board.specs.Boards.{budget_of, IsOf};
+ghost use Rattle.cw_steps.specs.Tracks.{state_of_end, track_of, IsReady};
+ghost use Rattle.cw_board.specs.Boards.{budget_of, IsHidden, IsOf, IsShown};
 
 use crate::Board;
 use cw_base::OutOfMemory;
@@ -19,6 +19,7 @@ impl Board {
         ensures of { IsOf self.now token.new }
         ensures ok { OnOk result ((stamp : ℕ) × IsLater (token_of token.old) stamp × (token_of token.new ≡ began (token_of token.old) stamp)) }
         ensures err { OnErr result (token_of token.new ≡ token_of token.old) }
+        ensures word { OnOk result (IsShown (track_of token.old.track) (track_of token.new.track)) }
     {
         token.reserve(1)?;
         self.start(token);
@@ -33,6 +34,7 @@ impl Board {
         requires block { HasBlock (token_of token.old) }
         ensures of { IsOf self.now token.new }
         ensures token { (stamp : ℕ) × (token_of token.new ≡ ended (token_of token.old) Committed stamp) }
+        ensures word { IsHidden (track_of token.old.track) (track_of token.new.track) }
     {
         let outermost = token.word() == token.begun();
         self.end(token, false);
@@ -59,6 +61,7 @@ impl Board {
         requires ready { IsReady token.old.track 1 }
         ensures of { IsOf self.now token.new }
         ensures token { (stamp : ℕ) × IsLater (token_of token.old) stamp × (token_of token.new ≡ began (token_of token.old) stamp) }
+        ensures word { (track_of token.new.track).word ≡ (track_of token.old.track).word }
     {
         self.shared.draw(token, Draw::Begin);
     }
@@ -77,6 +80,7 @@ impl Board {
         requires block { HasBlock (token_of token.old) }
         ensures of { IsOf self.now token.new }
         ensures token { (stamp : ℕ) × (token_of token.new ≡ ended (token_of token.old) (state_of_end aborted) stamp) }
+        ensures word { (track_of token.new.track).word ≡ (track_of token.old.track).word }
     {
         self.shared.draw(token, Draw::End { aborted });
     }
@@ -86,6 +90,7 @@ impl Board {
         requires { IsOf self.now token.old }
         ensures of { IsOf self.now token.new }
         ensures token { token_of token.new ≡ token_of token.old }
+        ensures word { IsShown (track_of token.old.track) (track_of token.new.track) }
     {
         if token.word() == 0 {
             let gap = token.gap();
@@ -98,6 +103,7 @@ impl Board {
         requires { IsOf self.now token.old }
         ensures of { IsOf self.now token.new }
         ensures token { token_of token.new ≡ token_of token.old }
+        ensures word { (track_of token.new.track).word ≡ 0 }
     {
         let gap = token.gap();
         self.shared.clear_gap(token, gap);
