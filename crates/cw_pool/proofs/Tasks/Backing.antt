@@ -26,7 +26,8 @@ use Rattle.cw_pool.specs.Tasks as waiting
 use Rattle.cw_pool.specs.Tasks.{Start, IsFree, IsHalf, IsReached, IsTaken, Fits, StandsGoing, StandsWaiting, AreBelow, IsRunning, beside, opened, told_by}
 use Rattle.cw_pool.proofs.Tasks.Stopping.{one_some}
 use Rattle.cw_pool.proofs.Tasks.Finishing.{IsOutside, Finished, at_bottom, goes_outside, outside_there}
-use Rattle.cw_pool.proofs.Tasks.Turning.{top_first, top_last, may_so, runs_so}
+use Rattle.cw_pool.proofs.Tasks.Going.{top_first, top_last}
+use Rattle.cw_pool.proofs.Tasks.Turning.{may_so, runs_so}
 
 -- the left strand's token is only joined, and the right one goes on
 abbrev pub is_over_now : Token → Token

@@ -37,7 +37,7 @@ use Rattle.cw_pool.specs.Tasks as waiting
 use Rattle.cw_pool.proofs.Tasks.Reaching.{blocks_in, reached_now, end_in_block}
 use Rattle.cw_pool.proofs.Tasks.Pages.{many_in_block, in_some_block, innermost, begin_found}
 use Rattle.cw_pool.proofs.Tasks.Going.{base_goes}
-use Rattle.cw_pool.proofs.Tasks.Stopping.{wants_memory}
+use Rattle.cw_pool.proofs.Tasks.Stopping.{one_some, wants_memory}
 use Rattle.cw_pool.proofs.Tasks.Acting.{going}
 
 -- ## Lists of stamps, and their victims
@@ -139,9 +139,6 @@ module _ (job : Job) where
   pub in_found_none : (x : Token) (a : Start) (t : Trail StrandState) (cs : Course) → Fits x a t cs → begin_at x.own.nodes x.place ≡ None → innermost t ≡ None
   in_found_none x a t cs w e =
       sym (ap (λ (o : Log). begin_at o.nodes x.place) w.own ∙ ap (λ (p : ℕ). begin_at (nodes_of t cs) p) w.place ∙ begin_found t cs) ∙ e
-
-one_some : {A : Type 0} → (x y : A) → Some x ≡ Some y → x ≡ y
-one_some x y e = cc
 
 none_some : {A : Type 0} → (x : A) → None ≡ Some x → ⊥
 none_some x e = cc

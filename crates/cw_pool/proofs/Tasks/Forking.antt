@@ -1,6 +1,5 @@
 -- A strand that forks.
 use Rattle.std.proofs.Common.{◌≡◌, ℕ, ◌+◌, List, [], ◌∷◌, ◌++◌, length, map, reverse, refl, ap, sym, ◌∙◌, subst, false, Option, None, Some, append-nil}
-use Rattle.std.proofs.lemmas.List.{reverse-append}
 use Rattle.std.proofs.lemmas.List.Elements.{All-nil}
 use Rattle.cw_strand.specs.declared.want.Want.TheVariants as want
 use Rattle.cw_strand.specs.Strands.{Strands}
@@ -32,6 +31,7 @@ use Rattle.cw_pool.specs.declared.task.Base.TheVariants as base
 use Rattle.cw_pool.specs.Tasks as waiting
 use Rattle.cw_pool.specs.Tasks.{Start, Fits, IsFree, IsReached, StandsGoing, IsHalf, AreBelow, IsRunning, begins_in, stamps_in, rights_of, beside, opened, told_by, goes_in}
 use Rattle.cw_pool.proofs.Tasks.Reaching.{reached_now, reached_right}
+use Rattle.cw_pool.proofs.Tasks.Going.{top_last}
 use Rattle.cw_pool.proofs.Tasks.Stopping.{wants_memory}
 use Rattle.cw_pool.proofs.Tasks.Acting.{going}
 
@@ -133,14 +133,11 @@ module _ {T : Type 0} (job : Job) (of : T → Token) where
       )
 
 module _ {T J : Type 0} (job : Job) (of : T → Token) where
-  top : {lowest a : Start} {t : Trail StrandState} {os : List Open} (bs : List (Below T J)) (e : Below T J) → AreBelow job of lowest a t os (e ∷ reverse bs) → AreBelow job of lowest a t os (reverse (bs ++ e ∷ []))
-  top {lowest} {a} {t} {os} bs e h = subst (λ (us : List (Below T J)). AreBelow job of lowest a t os us) (sym (reverse-append bs (e ∷ []))) h
-
   below_left : (x : Token) (body : InBlocks) (bs : List (Below T J)) (b : Base T J) (r : IsRunning job of x body mode.Goes bs b) (side : Side) (column : Option ℕ) (stamp : ℕ) (e : Below T J)
       → AreBelow job of r.lowest r.start (in_left r.trail r.course r.stands.now column stamp) (opened side r.start r.trail ∷ x.forks) (e ∷ reverse bs)
       → AreBelow job of r.lowest r.start (in_left r.trail r.course r.stands.now column stamp) (forked_with x side column stamp).forks (reverse (bs ++ e ∷ []))
   below_left x body bs b r side column stamp e h =
-      top bs e (subst (λ (o : Open). AreBelow job of r.lowest r.start (in_left r.trail r.course r.stands.now column stamp) (o ∷ x.forks) (e ∷ reverse bs)) (sym (fits_opened x r.start r.trail r.course side r.written)) h)
+      top_last job of bs e (subst (λ (o : Open). AreBelow job of r.lowest r.start (in_left r.trail r.course r.stands.now column stamp) (o ∷ x.forks) (e ∷ reverse bs)) (sym (fits_opened x r.start r.trail r.course side r.written)) h)
 
   goes_on_left : (x : Token) (body left : InBlocks) (bs : List (Below T J)) (b : Base T J) (r : IsRunning job of x body mode.Goes bs b) (side : Side) (column : Option ℕ) (stamp : ℕ) (e : Below T J)
       → (strands_of_job job).want body.state ≡ want.Fork → left ≡ bodies.left_of (strands_of_job job) body

@@ -1,6 +1,7 @@
 -- A task that goes on in the same log.
 use Rattle.std.proofs.Common.{◌≡◌, ℕ, List, [], ◌∷◌, ◌++◌, ap, sym, ◌∙◌, subst}
 use Rattle.std.specs.Prelude.{reverse, Bool}
+use Rattle.std.proofs.lemmas.List.{reverse-append}
 use Rattle.cw_job.specs.Jobs.{Job}
 use Rattle.cw_tree.specs.declared.node.Kind.{Kind}
 use Rattle.cw_tree.specs.Nodes.{fresh_node}
@@ -45,6 +46,13 @@ module _ {T J : Type 0} (job : Job) (of : T → Token) where
   -- with an equal stack
   pub with_below : (x : Token) (body : InBlocks) (how : Mode) (bs cs : List (Below T J)) (b : Base T J) → cs ≡ bs → IsRunning job of x body how bs b → IsRunning job of x body how cs b
   with_below x body how bs cs b e r = subst (λ (us : List (Below T J)). IsRunning job of x body how us b) (sym e) r
+
+  -- what is on top of a stack stands last in it
+  pub top_first : {lowest a : Start} {t : Trail StrandState} {os : List Open} (bs : List (Below T J)) (e : Below T J) → AreBelow job of lowest a t os (reverse (bs ++ e ∷ [])) → AreBelow job of lowest a t os (e ∷ reverse bs)
+  top_first {lowest} {a} {t} {os} bs e h = subst (λ (us : List (Below T J)). AreBelow job of lowest a t os us) (reverse-append bs (e ∷ [])) h
+
+  pub top_last : {lowest a : Start} {t : Trail StrandState} {os : List Open} (bs : List (Below T J)) (e : Below T J) → AreBelow job of lowest a t os (e ∷ reverse bs) → AreBelow job of lowest a t os (reverse (bs ++ e ∷ []))
+  top_last {lowest} {a} {t} {os} bs e h = subst (λ (us : List (Below T J)). AreBelow job of lowest a t os us) (sym (reverse-append bs (e ∷ []))) h
 
   -- one that stops need not be split
   pub base_stops : (b : Base T J) (how : Mode) (a : Start) → IsBase job of b how a → IsBase job of b mode.Stopped a

@@ -22,7 +22,7 @@ use Rattle.cw_pool.specs.Tasks.{Start, IsTaken, AreFalling, AreBelow, IsRunning,
 use Rattle.cw_pool.proofs.Tasks.Stopping.{no_fault}
 use Rattle.cw_pool.proofs.Tasks.Finishing.{IsOutside, Leaves, Finished, finished, not_waiting}
 use Rattle.cw_pool.proofs.Tasks.Behind.{behind_whole}
-use Rattle.cw_pool.proofs.Tasks.Turning.{top_first}
+use Rattle.cw_pool.proofs.Tasks.Going.{top_first}
 use Rattle.cw_pool.proofs.Tasks.Joining.{LeftLeaves, RightLeaves, as_one, fits_joined, goes_unsplit, joined_there, phase_behind, right_leaves, spares_there, stands_joined}
 
 over_not_parted : (n : ℕ) → Over ≡ Parted n → ⊥

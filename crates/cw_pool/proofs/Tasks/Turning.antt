@@ -2,7 +2,6 @@
 use Rattle.std.proofs.Common.{◌≡◌, ℕ, ◌+◌, List, [], ◌∷◌, ◌++◌, length, map, reverse, refl, ap, sym, ◌∙◌, subst, arith, inl, inr, None, append_assoc, append-nil}
 use Rattle.std.specs.Prelude.{IsTrue, ◌≤◌}
 use Rattle.std.specs.List.{All, Contains}
-use Rattle.std.proofs.lemmas.List.{reverse-append}
 use Rattle.cw_code.specs.declared.FaultKind.{FaultKind}
 use Rattle.cw_strand.specs.Strands.{is_over}
 use Rattle.cw_job.specs.Jobs.{Job, bare as bare_job}
@@ -31,6 +30,7 @@ use Rattle.cw_pool.specs.Tasks as waiting
 use Rattle.cw_pool.specs.Tasks.{Start, IsRun, IsFree, IsReached, Fits, StandsGoing, StandsDying, StandsStopped, AreBelow, IsRunning, begins_in, stamps_in, rights_to, rights_of, opened, goes_in}
 use Rattle.cw_pool.proofs.Tasks.Reaching.{reached_fork, start_not_end}
 use Rattle.cw_pool.proofs.Tasks.Pages.{many, many_inline}
+use Rattle.cw_pool.proofs.Tasks.Going.{top_first, top_last}
 use Rattle.cw_pool.proofs.Tasks.Behind.{StandsBehind, behind_whole, body_joined, may_join, gave_up_not_lost, goes_not_lost, seen_more}
 use Rattle.cw_pool.proofs.Tasks.Finishing.{IsOutside, Ending, Leaves, Finished, finished, not_parted}
 
@@ -95,19 +95,13 @@ module _ {T J : Type 0} (job : Job) (of : T → Token) where
   second_top o (waiting.second {t = u} {os = os} {cs = cs} {ls = ls} {b = b} {l = l} {stamp = stamp} e h) =
       record { outer = u; behind = cs; at = b; stamp = stamp; before = ls; there = l; others = os; trail = refl; forks = refl; left_there = e; under = h }
 
-  pub top_first : {lowest a : Start} {t : Trail StrandState} {os : List Open} (bs : List (Below T J)) (e : Below T J) → AreBelow job of lowest a t os (reverse (bs ++ e ∷ [])) → AreBelow job of lowest a t os (e ∷ reverse bs)
-  top_first {lowest} {a} {t} {os} bs e h = subst (λ (us : List (Below T J)). AreBelow job of lowest a t os us) (reverse-append bs (e ∷ [])) h
-
-  pub top_last : {lowest a : Start} {t : Trail StrandState} {os : List Open} (bs : List (Below T J)) (e : Below T J) → AreBelow job of lowest a t os (e ∷ reverse bs) → AreBelow job of lowest a t os (reverse (bs ++ e ∷ []))
-  top_last {lowest} {a} {t} {os} bs e h = subst (λ (us : List (Below T J)). AreBelow job of lowest a t os us) (sym (reverse-append bs (e ∷ []))) h
-
   pub inline_of : (x : Token) (body : InBlocks) (how : Mode) (bs : List (Below T J)) (b : Base T J) (right : InBlocks) (f : Finished job of x body how (bs ++ below.Inline right ∷ []) b)
       → InlineTop f.lowest f.start f.trail x.forks right (reverse bs)
-  inline_of x body how bs b right f = inline_top f.leaves.outside (top_first bs (below.Inline right) f.below)
+  inline_of x body how bs b right f = inline_top f.leaves.outside (top_first job of bs (below.Inline right) f.below)
 
   pub second_of : (x : Token) (body : InBlocks) (how : Mode) (bs : List (Below T J)) (b : Base T J) (left : InBlocks) (f : Finished job of x body how (bs ++ below.Second left ∷ []) b)
       → SecondTop f.lowest f.start f.trail x.forks left (reverse bs)
-  second_of x body how bs b left f = second_top f.leaves.outside (top_first bs (below.Second left) f.below)
+  second_of x body how bs b left f = second_top f.leaves.outside (top_first job of bs (below.Second left) f.below)
 
 -- ## Tokens
 
