@@ -1,1 +1,2 @@
 mod Tasks
+mod Starts

@@ -1,24 +1,31 @@
-//! What workers do with the strands of a program on any board: each move of a strand, each fork, and what follows a strand's end. There is
-//! no loop of workers yet.
-//! Stands on `cw_base`, `cw_code`, `cw_strand`, `cw_job`, `cw_tree`, `cw_log`, `cw_course`, `cw_pair` and `cw_body`.
+//! A pool of workers that runs the strands of a program on any board: each move of a strand, each fork, what follows a strand's end, and
+//! what a worker does in turn. No thread is started yet.
+//! Stands on `cw_base`, `cw_io`, `cw_code`, `cw_strand`, `cw_job`, `cw_tree`, `cw_deck`, `cw_pair`, `cw_log`, `cw_course` and `cw_body`.
 //! `specs/Tasks.antt` says what a task stands for (`IsRunning`): a strand that runs, with its token and its body, and what waits for it. That
 //! is the invariant of the type `Running`, which each function keeps; most have no clause but that. `specs/Accesses.antt` and
-//! `specs/Blocks.antt` have what small calls answer, `specs/Ends.antt` when a strand may end, how the strand that forked stands behind both its
-//! strands, and what is true of the root's token at the end.
+//! `specs/Blocks.antt` have what small calls answer; `specs/Forks.antt` a strand between the fork of its body and that on the board;
+//! `specs/Ends.antt` when a strand may end, how the strand that forked stands behind both its strands, and what is true of the root's token
+//! at the end; `specs/Starts.antt` how a run begins.
 #![tactic(auto)]
 
 mod access;
 mod blocks;
+mod boxes;
+mod crew;
 mod ends;
 mod forks;
+mod frames;
 mod joins;
 mod last;
 mod moves;
 mod naming;
+mod run;
 mod scene;
 mod sides;
 mod splits;
 mod task;
+mod turns;
+mod worker;
 
 pub use last::Ended;
 pub use naming::Naming;

@@ -1,6 +1,14 @@
-/// Which run this is: what is run, and the table on which its pairs stand.
+use std::marker::Brand;
+
+/// Which run this is: what is run, and the table on which its pairs stand. Each run picks it.
 pub trait Naming: cw_pair::Naming {
     ghost use Rattle.cw_job.specs.Jobs.{Job};
 
     ghost job: { Job };
+}
+
+impl Naming for Brand {
+    ghost use Rattle.cw_pool.specs.Starts.{no_job};
+
+    ghost job = { no_job };
 }

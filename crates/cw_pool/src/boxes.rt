@@ -1,0 +1,113 @@
+//! Boxes of tasks. Deques, lists and frames hold tasks in boxes; a task keeps the one in which it came while it runs, so that nothing has to
+//! be found for it where it is left.
+ghost use Rattle.std.specs.Prelude.{◌<◌, OnOk};
+ghost use Rattle.std.specs.Vec.{vec_len, vec_capacity};
+
+use crate::{Naming, Running};
+use cw_base::OutOfMemory;
+use cw_deck::{Deck, Thief};
+use cw_log::SharedBoard;
+use std::alloc::Global;
+
+/// So many empty boxes are kept for later.
+const SPARE: usize = 64;
+
+/// Room for a task.
+#[derive(Drop)]
+pub(crate) struct Room<B: SharedBoard, J: Naming> {
+    task: Option<Running<B, J>>,
+}
+
+pub(crate) type TaskBox<B, J> = Box<Room<B, J>>;
+
+/// A task that a worker has taken up, and the box in which it came.
+#[derive(Drop)]
+pub(crate) struct Task<B: SharedBoard, J: Naming> {
+    pub(crate) home: TaskBox<B, J>,
+    pub(crate) now: Running<B, J>,
+}
+
+pub(crate) fn empty_box<B: SharedBoard, J: Naming>(
+    alloc: Global,
+) -> Result<TaskBox<B, J>, OutOfMemory> {
+    Ok(Box::new(alloc, Room { task: None })?)
+}
+
+/// The task that is in a box.
+pub(crate) fn taken_up<B: SharedBoard, J: Naming>(full: TaskBox<B, J>) -> Option<Task<B, J>> {
+    let mut home = full;
+    let room: &mut Room<B, J> = &mut home;
+    let now = room.task.take()?;
+    Some(Task { home, now })
+}
+
+/// A box with this task in it.
+pub(crate) fn packed<B: SharedBoard, J: Naming>(task: Task<B, J>) -> TaskBox<B, J> {
+    let Task { mut home, now } = task;
+    let room: &mut Room<B, J> = &mut home;
+    room.task = Some(now);
+    home
+}
+
+/// The boxes of a worker: those in its own end of its deque; those that the deque could not take, the newest last; and empty ones.
+#[derive(Drop)]
+pub(crate) struct Boxes<B: SharedBoard, J: Naming> {
+    deck: Deck<TaskBox<B, J>>,
+    kept: Vec<TaskBox<B, J>>,
+    spare: Vec<TaskBox<B, J>>,
+}
+
+impl<B: SharedBoard, J: Naming> Boxes<B, J> {
+    pub(crate) fn new(alloc: Global) -> Result<Boxes<B, J>, OutOfMemory> {
+        Ok(Boxes {
+            deck: Deck::new(alloc)?,
+            kept: Vec::new(alloc),
+            spare: Vec::new(alloc),
+        })
+    }
+
+    pub(crate) fn thief(&mut self) -> Result<Thief<TaskBox<B, J>>, OutOfMemory> {
+        self.deck.thief()
+    }
+
+    /// An empty box, with room for it in the list.
+    pub(crate) fn room(&mut self, alloc: Global) -> Result<TaskBox<B, J>, OutOfMemory>
+        ensures { OnOk result (vec_len self.new.kept < vec_capacity self.new.kept) }
+    {
+        self.kept.reserve(1)?;
+        match self.spare.pop() {
+            Some(empty) => Ok(empty),
+            None => empty_box(alloc),
+        }
+    }
+
+    /// A task waits here: in the deque, or where that takes none, in the list. No thief looks there, so later ones go there, too.
+    pub(crate) fn keeps(&mut self, task: Task<B, J>)
+        requires { vec_len self.old.kept < vec_capacity self.old.kept }
+    {
+        let full = packed(task);
+        if !self.kept.is_empty() {
+            self.kept.push_reserved(full);
+            return;
+        }
+        match self.deck.push(full) {
+            Ok(()) => {}
+            Err(back) => self.kept.push_reserved(back),
+        }
+    }
+
+    /// The newest task that waits here.
+    pub(crate) fn newest(&mut self) -> Option<Task<B, J>> {
+        match self.kept.pop() {
+            Some(full) => taken_up(full),
+            None => taken_up(self.deck.pop()?),
+        }
+    }
+
+    /// A box that is to be used again.
+    pub(crate) fn spares(&mut self, empty: TaskBox<B, J>) {
+        if self.spare.len() < SPARE && self.spare.reserve(1).is_ok() {
+            self.spare.push_reserved(empty);
+        }
+    }
+}

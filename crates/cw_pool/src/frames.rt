@@ -1,0 +1,85 @@
+//! Where the two strands of a stolen fork meet.
+use crate::Naming;
+use crate::boxes::{Task, TaskBox, packed};
+use cw_base::OutOfMemory;
+use cw_log::SharedBoard;
+use std::alloc::Global;
+use std::sync::{Mutex, OnceLock, Wait};
+
+/// So many frames are made at once.
+const ROW: u64 = 1024;
+
+/// The task of the strand that came first lies here.
+pub(crate) type Frame<B, J> = Mutex<Option<TaskBox<B, J>>>;
+
+#[derive(Drop)]
+struct Row<B: SharedBoard, J: Naming> {
+    frames: Vec<Frame<B, J>>,
+}
+
+/// The frames of a worker's forks, by their count. They are made a row at a time, before the worker forks into them.
+#[derive(Drop)]
+pub(crate) struct Frames<B: SharedBoard, J: Naming> {
+    rows: Vec<OnceLock<Row<B, J>>>,
+}
+
+fn fresh_row<B: SharedBoard, J: Naming>(alloc: Global) -> Result<Row<B, J>, OutOfMemory> {
+    let mut frames = Vec::new(alloc);
+    frames.reserve(ROW as usize)?;
+    for _ in 0..ROW {
+        frames.push(Mutex::new(None))?;
+    }
+    Ok(Row { frames })
+}
+
+impl<B: SharedBoard, J: Naming> Frames<B, J> {
+    /// For so many forks. No frame is made yet.
+    pub(crate) fn new(alloc: Global, forks: u32) -> Result<Frames<B, J>, OutOfMemory> {
+        let mut rows = Vec::new(alloc);
+        for _ in 0..u64::from(forks) / ROW + 1 {
+            rows.push(OnceLock::new())?;
+        }
+        Ok(Frames { rows })
+    }
+
+    /// Makes the frame with this count, where it is not there yet.
+    pub(crate) fn make<R: Wait>(
+        &self,
+        rt: &R,
+        alloc: Global,
+        count: u64,
+    ) -> Result<(), OutOfMemory> {
+        let Some(row) = self.rows.get((count / ROW) as usize) else {
+            return Err(OutOfMemory);
+        };
+        if row.get().is_some() {
+            return Ok(());
+        }
+        let fresh = fresh_row(alloc)?;
+        let _ = row.set(rt, fresh);
+        Ok(())
+    }
+
+    /// The frame with this count, where it was made.
+    pub(crate) fn at(&self, count: u64) -> Option<&Frame<B, J>> {
+        let row = self.rows.get((count / ROW) as usize)?.get()?;
+        row.frames.get((count % ROW) as usize)
+    }
+}
+
+/// The task that lies in a frame, together with this one; or where none does, this one is left there.
+pub(crate) fn meet<B: SharedBoard, J: Naming, R: Wait>(
+    rt: &R,
+    frame: &Frame<B, J>,
+    mine: Task<B, J>,
+) -> Option<(Task<B, J>, TaskBox<B, J>)> {
+    let mut guard = frame.lock(rt);
+    let held: &mut Option<TaskBox<B, J>> = &mut guard;
+    match held.take() {
+        Some(other) => Some((mine, other)),
+        None => {
+            *held = Some(packed(mine));
+            None
+        }
+    }
+}

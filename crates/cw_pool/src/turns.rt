@@ -1,0 +1,81 @@
+//! A step of a strand by itself.
+ghost use Rattle.std.specs.Prelude.{◌≡◌};
+
+use crate::access::accesses;
+use crate::blocks::{begins, ends, rolls};
+use crate::moves::{faults, puts_out};
+use crate::{Mode, Naming, Running, Scene};
+use cw_io::{Gate, Point};
+use cw_log::SharedBoard;
+use cw_strand::Want;
+use cw_tree::{Kind, Node};
+use std::sync::Wait;
+use std::thread::Threads;
+use std::{hint, thread};
+
+/// So many empty turns lie between two tries of a refused access or block.
+const TURNS: u32 = 1_000;
+
+fn pauses() {
+    for _ in 0..TURNS {
+        hint::spin_loop();
+    }
+    thread::yield_now();
+}
+
+/// Whether the last node is a refused access.
+fn is_refused(nodes: &[Node]) -> bool {
+    match nodes.last() {
+        Some(node) => matches!(node.kind, Kind::Tried { .. }),
+        None => false,
+    }
+}
+
+/// A strand whose access was refused tries again after a little.
+fn waits_if_refused<B: SharedBoard, J: Naming>(scene: &Scene<'_, B, J>, now: &Running<B, J>) {
+    if let Mode::Goes = now.mode {
+        if is_refused(scene.board.nodes(&now.token)) {
+            pauses();
+        }
+    }
+}
+
+/// A strand that goes on does what it wants, a fork and its end aside.
+pub(crate) fn acts<B: SharedBoard, J: Naming, G: Gate, R: Threads + Wait + Sync>(
+    rt: &R,
+    scene: &Scene<'_, B, J>,
+    gate: &G,
+    worker: u32,
+    now: &mut Running<B, J>,
+) {
+    match now.body.want() {
+        Want::Begin => {
+            gate.at(rt, worker, Point::Begin);
+            begins(scene, now);
+        }
+        Want::End => {
+            gate.at(rt, worker, Point::Commit);
+            ends(scene, now);
+        }
+        Want::Load(_) | Want::Store(..) => {
+            gate.at(rt, worker, Point::Access);
+            accesses(rt, scene, now);
+            waits_if_refused(scene, now);
+        }
+        Want::Out(_) => puts_out(scene, now),
+        Want::Fault(_) => faults(scene, now),
+        Want::Fork | Want::Sync | Want::Done => {}
+    }
+}
+
+/// A strand that goes back rolls a block back. Where it stands at its begin again, it waits a little.
+pub(crate) fn goes_back<B: SharedBoard, J: Naming, R: Wait>(
+    rt: &R,
+    scene: &Scene<'_, B, J>,
+    now: &mut Running<B, J>,
+) {
+    rolls(rt, scene, now);
+    if let Mode::Goes = now.mode {
+        pauses();
+    }
+}

@@ -1,0 +1,291 @@
+//! A worker, and what it does in turn.
+use crate::boxes::{Boxes, Task, TaskBox, taken_up};
+use crate::ends::{After, ends, may_end};
+use crate::forks::forks;
+use crate::frames::{Frame, Frames, meet};
+use crate::joins::{meets, takes_back_task};
+use crate::moves::{halts, looks};
+use crate::sides::{left_number, right_number};
+use crate::splits::splits;
+use crate::turns::{acts, goes_back};
+use crate::{Ended, Memo, Mode, Naming, Running, Scene};
+use crossbeam_utils::{Backoff, CachePadded};
+use cw_base::OutOfMemory;
+use cw_deck::Thief;
+use cw_io::{Gate, Point};
+use cw_log::SharedBoard;
+use cw_pair::{NUMBERS, Source};
+use cw_strand::Want;
+use std::sync::atomic::{AtomicU64, Ordering};
+use std::sync::{Mutex, Wait};
+use std::thread;
+use std::thread::Threads;
+
+/// What the workers of a run have in common.
+#[derive(Drop)]
+pub(crate) struct Common<'a, B: SharedBoard, J: Naming, G: Gate> {
+    pub(crate) scene: Scene<'a, B, J>,
+    pub(crate) gate: &'a G,
+    /// Those of each worker's forks.
+    pub(crate) frames: Vec<Frames<B, J>>,
+    pub(crate) end: Mutex<Option<Ended<B, J>>>,
+    /// Not 0 once the run has ended.
+    pub(crate) over: AtomicU64,
+}
+
+impl<'a, B: SharedBoard, J: Naming, G: Gate> Common<'a, B, J, G> {
+    /// The frame of the fork whose pair has this number.
+    fn frame(&self, number: u64) -> Option<&Frame<B, J>> {
+        self.frames
+            .get((number / NUMBERS) as usize)?
+            .at(number % NUMBERS)
+    }
+
+    fn is_over(&self) -> bool {
+        self.over.load(Ordering::SeqCst) != 0
+    }
+}
+
+/// The design excludes what would lead here: it waits for ever.
+pub(crate) fn never<R: Wait, T>(rt: &R) -> T
+    ensures { ⊥ }
+{
+    for _ in rt.forever() {
+        thread::yield_now();
+    }
+    unreachable!()
+}
+
+#[derive(Drop)]
+pub(crate) struct Worker<B: SharedBoard, J: Naming> {
+    pub(crate) number: u32,
+    pub(crate) boxes: CachePadded<Boxes<B, J>>,
+    pub(crate) others: Vec<Thief<TaskBox<B, J>>>,
+    pub(crate) source: Source<Memo<B::Token>, J>,
+}
+
+impl<B: SharedBoard, J: Naming> Worker<B, J> {
+    /// Works until the run is over.
+    pub(crate) fn works<G: Gate, R: Threads + Wait + Sync>(
+        &mut self,
+        rt: &R,
+        common: &Common<'_, B, J, G>,
+        first: Option<Task<B, J>>,
+    ) {
+        let mut now = first;
+        let idle = Backoff::new();
+        for _ in rt.forever() {
+            match now {
+                Some(task) => {
+                    now = self.turn(rt, common, task);
+                }
+                None => {
+                    if common.is_over() {
+                        return;
+                    }
+                    now = self.steals(rt, common);
+                    if now.is_some() {
+                        idle.reset();
+                    } else {
+                        idle.snooze();
+                    }
+                }
+            }
+        }
+    }
+
+    /// A step of a strand, and with what the worker goes on.
+    fn turn<G: Gate, R: Threads + Wait + Sync>(
+        &mut self,
+        rt: &R,
+        common: &Common<'_, B, J, G>,
+        task: Task<B, J>,
+    ) -> Option<Task<B, J>> {
+        let mut task = task;
+        let now = &mut task.now;
+        looks(&common.scene, now);
+        if may_end(&common.scene, &now.token, &now.body, now.mode) {
+            return self.ends(rt, common, task);
+        }
+        match now.mode {
+            Mode::Goes => match now.body.want() {
+                Want::Fork => return Some(self.forks(rt, common, task)),
+                _ => acts(rt, &common.scene, common.gate, self.number, now),
+            },
+            _ => goes_back(rt, &common.scene, now),
+        }
+        Some(task)
+    }
+
+    /// A strand forks: the worker goes on with the left strand. All memory is there before the board's fork.
+    fn forks<G: Gate, R: Threads + Wait + Sync>(
+        &mut self,
+        rt: &R,
+        common: &Common<'_, B, J, G>,
+        task: Task<B, J>,
+    ) -> Task<B, J> {
+        let Task { home, mut now } = task;
+        let scene = &common.scene;
+        let Worker {
+            number,
+            boxes,
+            source,
+            ..
+        } = self;
+        let boxes: &mut Boxes<B, J> = boxes;
+        let Ok(()) = makes_frame(rt, common, *number, source.next()) else {
+            halts(scene, &mut now);
+            return Task { home, now };
+        };
+        let Ok(empty) = boxes.room(scene.alloc) else {
+            halts(scene, &mut now);
+            return Task { home, now };
+        };
+        let (now, waiting) = forks(rt, scene, source, now);
+        match waiting {
+            Some(right) => boxes.keeps(Task {
+                home: empty,
+                now: right,
+            }),
+            None => boxes.spares(empty),
+        }
+        Task { home, now }
+    }
+
+    /// What follows a strand that has come to its end, has died or was stopped.
+    fn ends<G: Gate, R: Threads + Wait + Sync>(
+        &mut self,
+        rt: &R,
+        common: &Common<'_, B, J, G>,
+        task: Task<B, J>,
+    ) -> Option<Task<B, J>> {
+        let Task { home, now } = task;
+        match ends(&common.scene, now) {
+            Err(now) => Some(Task { home, now }),
+            Ok(After::Goes(now)) => Some(Task { home, now }),
+            Ok(After::Left(now)) => self.after_left(rt, common, Task { home, now }),
+            Ok(After::Right(now)) => {
+                let number = right_number(&now);
+                self.at_frame(rt, common, number, Task { home, now }, false)
+            }
+            Ok(After::Ended(ended)) => {
+                *common.end.lock(rt) = Some(ended);
+                common.over.store(1, Ordering::SeqCst);
+                None
+            }
+        }
+    }
+
+    /// After the left strand of a fork: its right one waits here, or was stolen.
+    fn after_left<G: Gate, R: Threads + Wait + Sync>(
+        &mut self,
+        rt: &R,
+        common: &Common<'_, B, J, G>,
+        task: Task<B, J>,
+    ) -> Option<Task<B, J>> {
+        let boxes: &mut Boxes<B, J> = &mut self.boxes;
+        let Some(waiting) = boxes.newest() else {
+            let number = left_number(&task.now);
+            return self.at_frame(rt, common, number, task, true);
+        };
+        let Task {
+            home: emptied,
+            now: right,
+        } = waiting;
+        boxes.spares(emptied);
+        let Task { home, now } = task;
+        match takes_back_task(&common.scene, now, right) {
+            Ok(now) => Some(Task { home, now }),
+            Err(_) => never(rt),
+        }
+    }
+
+    /// A strand of a stolen fork waits for the other one, or both are joined.
+    fn at_frame<G: Gate, R: Threads + Wait + Sync>(
+        &mut self,
+        rt: &R,
+        common: &Common<'_, B, J, G>,
+        number: Option<u64>,
+        task: Task<B, J>,
+        is_left: bool,
+    ) -> Option<Task<B, J>> {
+        let Some(number) = number else {
+            return never(rt);
+        };
+        let Some(frame) = common.frame(number) else {
+            return never(rt);
+        };
+        let (task, other) = meet(rt, frame, task)?;
+        let Some(other) = taken_up(other) else {
+            return never(rt);
+        };
+        let Task { home, now } = task;
+        let Task {
+            home: emptied,
+            now: then,
+        } = other;
+        let boxes: &mut Boxes<B, J> = &mut self.boxes;
+        boxes.spares(emptied);
+        let (left, right) = if is_left { (now, then) } else { (then, now) };
+        match meets(rt, &common.scene, left, right) {
+            Ok(now) => Some(Task { home, now }),
+            Err(_) => never(rt),
+        }
+    }
+
+    /// Takes the oldest task of another worker. Its strand begins once its fork is split, unless the run was stopped.
+    fn steals<G: Gate, R: Threads + Wait + Sync>(
+        &mut self,
+        rt: &R,
+        common: &Common<'_, B, J, G>,
+    ) -> Option<Task<B, J>> {
+        let mut task = self.looks_around(rt, common)?;
+        splits_at_last(rt, common, &mut task.now);
+        Some(task)
+    }
+
+    fn looks_around<G: Gate, R: Threads + Wait + Sync>(
+        &mut self,
+        rt: &R,
+        common: &Common<'_, B, J, G>,
+    ) -> Option<Task<B, J>> {
+        for other in self.others.iter_mut() {
+            common.gate.at(rt, self.number, Point::Steal);
+            if let Some(full) = other.steal(rt) {
+                return taken_up(full);
+            }
+        }
+        None
+    }
+}
+
+/// Makes the frame of a worker's fork with this number.
+fn makes_frame<B: SharedBoard, J: Naming, G: Gate, R: Wait>(
+    rt: &R,
+    common: &Common<'_, B, J, G>,
+    worker: u32,
+    number: u64,
+) -> Result<(), OutOfMemory> {
+    match common.frames.get(worker as usize) {
+        Some(frames) => frames.make(rt, common.scene.alloc, number % NUMBERS),
+        None => Err(OutOfMemory),
+    }
+}
+
+/// While another fork is to be split before, it is tried again.
+fn splits_at_last<B: SharedBoard, J: Naming, G: Gate, R: Threads + Wait + Sync>(
+    rt: &R,
+    common: &Common<'_, B, J, G>,
+    now: &mut Running<B, J>,
+) {
+    for _ in rt.forever() {
+        looks(&common.scene, now);
+        let Mode::Waits = now.mode else {
+            return;
+        };
+        if splits(rt, &common.scene, now) {
+            return;
+        }
+        thread::yield_now();
+    }
+}
