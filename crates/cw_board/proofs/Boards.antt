@@ -10,7 +10,7 @@ use Rattle.cw_steps.specs.declared.track.Stood.{Stood}
 use Rattle.cw_steps.specs.declared.view.View.{View}
 use Rattle.cw_steps.specs.declared.view.Whereabouts.{Whereabouts}
 use Rattle.cw_steps.specs.Tracks.{state_of_end, track_of, HasRoom, IsBeside, WaitsBeside}
-use Rattle.cw_steps.specs.Stands.{opens, root_token, stands_for, token_of}
+use Rattle.cw_steps.specs.Stands.{opens, stands_for, token_of}
 use Rattle.cw_steps.specs.Around.{caught_up, outwards}
 use Rattle.cw_steps.specs.Views.{held_by, root_view, view_of, drew_view, marked_view, told_view, halted_view, joined_view, both_view, stood_at, further_out, share, IsTokenOf}
 use Rattle.cw_steps.specs.declared.draw.Draw.TheVariants as draw
@@ -21,7 +21,7 @@ use Rattle.cw_log.specs.declared.token.Phase.TheVariants.{Going}
 use Rattle.cw_log.specs.declared.token.Side.{Side}
 use Rattle.cw_log.specs.declared.token.Side.TheVariants.{Beside, First, Second}
 use Rattle.cw_log.specs.declared.log.Log.{Log}
-use Rattle.cw_log.specs.Tokens.{made, began, ended, halted, was_told, turned, turned_by, taken_in, AreOfOneFork, HasBlock}
+use Rattle.cw_log.specs.Tokens.{made, began, ended, halted, was_told, turned, turned_by, taken_in, root_token, AreOfOneFork, HasBlock}
 use Rattle.cw_board.proofs.Sound.{sound_made, sound_began, sound_ended, sound_told, sound_halted, sound_turned, sound_phase, sound_joined}
 use Rattle.cw_steps.proofs.Tracks.{here_both}
 use Rattle.cw_board.specs.declared.board.Board.{Board}

@@ -14,7 +14,8 @@ pub struct Board {
 }
 
 impl Board {
-    ghost use Rattle.cw_steps.specs.Stands.{root_token, token_of};
+    ghost use Rattle.cw_log.specs.Tokens.{root_token};
+    ghost use Rattle.cw_steps.specs.Stands.{token_of};
     ghost use Rattle.cw_board.specs.Boards.{budget_of, cells_in, IsOf};
 
     /// A board with these cells, whose tier may have as many columns as the limits say, and the root's token.

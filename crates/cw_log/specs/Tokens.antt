@@ -20,6 +20,22 @@ use Rattle.cw_log.specs.declared.token.Token.{Token}
 abbrev pub logs : Token → List Log
 logs x = x.own ∷ x.joined
 
+-- the root's token, before it has done anything
+abbrev pub root_token : Token
+root_token = record {
+  own = record { column = 0; from = 0; fork = 0; nodes = fresh_node 0 Strand 0 ∷ []; conflicts = [] };
+  joined = [];
+  strand = 0;
+  place = 0;
+  around = [];
+  forks = [];
+  fork = 0;
+  split = false;
+  phase = Going;
+  stop = None;
+  told = false;
+}
+
 -- ## What each call makes of it
 
 abbrev pub with_nodes : Token → List Node → Token

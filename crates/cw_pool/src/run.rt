@@ -2,9 +2,9 @@
 ghost use Rattle.std.specs.Prelude.{◌≡◌};
 ghost use Rattle.cw_job.specs.Jobs.{Job};
 ghost use Rattle.cw_job.specs.Room.Strands.{strands_of_job};
+ghost use Rattle.cw_log.specs.Tokens.{root_token};
 ghost use Rattle.cw_body.specs.Bodies.{goes_from};
 ghost use Rattle.cw_pool.specs.Ends.{IsWorked};
-ghost use Rattle.cw_pool.specs.Starts.{root_token};
 ghost use Rattle.cw_pool.specs.Tasks.{IsRun};
 
 use crate::boxes::{TaskBox, empty_box};

@@ -1,7 +1,7 @@
 -- What a token stands for on a board, and what each step makes of that.
 use Rattle.std.specs.Prelude.{ℕ, ◌<◌, ◌==◌, false, List, [], ◌∷◌, length, Option, None, if◌then◌else◌}
 use Rattle.cw_log.specs.declared.token.Open.{Open}
-use Rattle.cw_log.specs.declared.token.Phase.TheVariants.{Going, Waiting}
+use Rattle.cw_log.specs.declared.token.Phase.TheVariants.{Waiting}
 use Rattle.cw_log.specs.declared.token.Stop.{Stop}
 use Rattle.cw_log.specs.declared.token.Token.{Token}
 use Rattle.cw_tree.specs.declared.node.Kind.TheVariants as kind
@@ -44,22 +44,6 @@ stands_for c v stop = stands_over c (caught_up c.behind c.second v.arounds) v st
 
 abbrev pub token_of : StrandToken → Token
 token_of t = stands_for (track_of t.track) (view_of t) t.stop
-
--- that of the root, before it has done anything
-abbrev pub root_token : Token
-root_token = record {
-  own = fresh_log 0 0 0;
-  joined = [];
-  strand = 0;
-  place = 0;
-  around = [];
-  forks = [];
-  fork = 0;
-  split = false;
-  phase = Going;
-  stop = None;
-  told = false;
-}
 
 -- so many blocks are around the fork in whose strand it stands
 abbrev pub blocks_outside : List Open → ℕ

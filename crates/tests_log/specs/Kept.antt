@@ -1,11 +1,8 @@
 -- What the tokens of tests stand for.
-use Rattle.std.specs.Prelude.{◌≡◌, All, Contains, ℕ, zero, suc, ◌^◌, sum, List, [], ◌∷◌, None, false, map, reverse}
-use Rattle.cw_tree.specs.declared.node.Kind.TheVariants.{Strand}
-use Rattle.cw_tree.specs.Nodes.{fresh_node}
+use Rattle.std.specs.Prelude.{◌≡◌, All, Contains, ℕ, zero, suc, ◌^◌, sum, List, ◌∷◌, false, map, reverse}
 use Rattle.cw_tree.specs.declared.conflict.Conflict.{Conflict}
 use Rattle.cw_log.specs.declared.token.Token.{Token}
 use Rattle.cw_log.specs.declared.token.Open.{Open}
-use Rattle.cw_log.specs.declared.token.Phase.TheVariants.{Going}
 use Rattle.cw_log.specs.declared.token.Side as side
 use Rattle.cw_log.specs.declared.token.Side.{Side}
 use Rattle.cw_log.specs.Tokens.{is_inline, conflicts_in, logs, Fells}
@@ -43,21 +40,6 @@ beside_number side.TheVariants.Second = 0
 -- the innermost fork has this number, and its right strand has a token of its own
 abbrev pub StandsBeside : List Open → ℕ → Type 0
 StandsBeside os n = (o : Open) × (rest : List Open) × (os ≡ o ∷ rest) × (is_inline o.side ≡ false) × (beside_number o.side ≡ n)
-
-abbrev pub root : Token
-root = record {
-  own = record { column = 0; from = 0; fork = 0; nodes = fresh_node 0 Strand 0 ∷ []; conflicts = [] };
-  joined = [];
-  strand = 0;
-  place = 0;
-  around = [];
-  forks = [];
-  fork = 0;
-  split = false;
-  phase = Going;
-  stop = None;
-  told = false;
-}
 
 -- some conflict has this block for its victim
 abbrev pub HasVictim : List Conflict → (begin : ℕ) → Type 0

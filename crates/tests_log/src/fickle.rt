@@ -1,7 +1,7 @@
 //! A board that grants what it likes and refuses what it likes, by numbers that are drawn from a seed.
 ghost use Rattle.std.specs.Prelude.{◌≡◌, ◌<◌, ◌≤◌, ℤ, Option, [], IfOk, OnErr};
 ghost use Rattle.cw_log.specs.Answers.{Meets, IsAround};
-ghost use Rattle.tests_log.specs.Kept.{root};
+ghost use Rattle.cw_log.specs.Tokens.{root_token};
 
 use crate::StrandToken;
 use crate::values::{Values, access_kind};
@@ -44,7 +44,7 @@ impl Fickle {
         seed: u64,
     ) -> Result<(Fickle, StrandToken), OutOfMemory>
         ensures board { IfOk result (λ r. (r.0.cells ≡ cells) × (r.0.attempts ≡ attempts)) }
-        ensures token { IfOk result (λ r. r.1 ≡ root) }
+        ensures token { IfOk result (λ r. r.1 ≡ root_token) }
     {
         let values = Values::new(alloc, cells)?;
         let token = StrandToken::root(alloc)?;

@@ -1,6 +1,6 @@
 //! A board for one thread, which keeps its values in one list: it refuses nothing, and its forks have one token.
 ghost use Rattle.std.specs.Prelude.{◌≡◌, IfOk};
-ghost use Rattle.tests_log.specs.Kept.{root};
+ghost use Rattle.cw_log.specs.Tokens.{root_token};
 
 use crate::StrandToken;
 use crate::values::{Values, access_kind};
@@ -28,7 +28,7 @@ impl OneList {
         attempts: u32,
     ) -> Result<(OneList, StrandToken), OutOfMemory>
         ensures board { IfOk result (λ r. (r.0.cells ≡ cells) × (r.0.attempts ≡ attempts)) }
-        ensures token { IfOk result (λ r. r.1 ≡ root) }
+        ensures token { IfOk result (λ r. r.1 ≡ root_token) }
     {
         let board = OneList {
             cells,

@@ -1,8 +1,8 @@
 //! A token that keeps what it stands for, with what every board does to it.
 ghost use Rattle.std.specs.Prelude.{◌≡◌, ◌<◌, IsTrue, All, ◌≤◌, ◌^◌, ◌∷◌, ◌++◌, length, OnOk, OnErr, IfOk};
 ghost use Rattle.cw_tree.specs.Nodes as nodes;
-ghost use Rattle.cw_log.specs.Tokens.{AreOfOneFork, began, branched, ended, forked, halted, left_behind, made, once_split, refused, right_of, taken_in, turned, was_told, IsInline, IsLater};
-ghost use Rattle.tests_log.specs.Kept.{logs_of, root, StandsBeside};
+ghost use Rattle.cw_log.specs.Tokens.{AreOfOneFork, began, branched, ended, forked, halted, left_behind, made, once_split, refused, right_of, root_token, taken_in, turned, was_told, IsInline, IsLater};
+ghost use Rattle.tests_log.specs.Kept.{logs_of, StandsBeside};
 
 use crate::kept::{Kept, Promise, Spot, Twice};
 use cw_base::{OutOfMemory, Seq, Stack};
@@ -127,7 +127,7 @@ fn all_three(a: bool, b: bool, c: bool) -> bool
 impl StrandToken {
     /// The root's token.
     pub fn root(alloc: Global) -> Result<StrandToken, OutOfMemory>
-        ensures { IfOk result (λ t. t ≡ root) }
+        ensures { IfOk result (λ t. t ≡ root_token) }
     {
         let mut nodes = Vec::new(alloc);
         nodes.push(fresh_node(0, Kind::Strand, 0))?;

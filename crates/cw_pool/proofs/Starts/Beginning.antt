@@ -5,6 +5,7 @@ use Rattle.cw_strand.specs.Strands.{of_main, stays}
 use Rattle.cw_job.specs.Jobs.{Job}
 use Rattle.cw_job.specs.Room.Strands.{strands_of_job}
 use Rattle.cw_log.specs.declared.token.Token.{Token}
+use Rattle.cw_log.specs.Tokens.{root_token}
 use Rattle.cw_course.specs.Courses.{nothing, starts}
 use Rattle.cw_course.specs.Trails.{opens}
 use Rattle.cw_body.specs.Bodies.{InBlocks, goes_from}
@@ -13,7 +14,6 @@ use Rattle.cw_pool.specs.declared.task.Below.{Below}
 use Rattle.cw_pool.specs.declared.task.Base.TheVariants as base
 use Rattle.cw_pool.specs.Tasks as waiting
 use Rattle.cw_pool.specs.Tasks.{Start, Fits, IsFree, IsRun, IsRunning}
-use Rattle.cw_pool.specs.Starts.{root_token}
 
 abbrev first : Job → Start
 first job = record { state = (strands_of_job job).start; begins = []; above = []; column = 0; from = 0; at = 0; fork = 0; split = false }

@@ -1,7 +1,8 @@
 //! A new table.
 ghost use Rattle.std.specs.Prelude.{◌≡◌, ◌<◌, [], map, replicate, IfOk};
 ghost use Rattle.cw_steps.specs.Tracks.{track_of, fresh_track, HasRoom};
-ghost use Rattle.cw_steps.specs.Stands.{root_token, token_of};
+ghost use Rattle.cw_log.specs.Tokens.{root_token};
+ghost use Rattle.cw_steps.specs.Stands.{token_of};
 ghost use Rattle.cw_steps.specs.Places.{all_words};
 ghost use Rattle.cw_steps.specs.Views.{fresh_slot, held_by, key_of, root_view, view_of, IsTokenOf};
 
