@@ -19,6 +19,7 @@ mod joins;
 mod last;
 mod moves;
 mod naming;
+mod recording;
 mod run;
 mod scene;
 mod sides;
@@ -29,5 +30,6 @@ mod worker;
 
 pub use last::Ended;
 pub use naming::Naming;
+pub use recording::run;
 pub use scene::Scene;
 pub use task::{Base, Below, Memo, Mode, Running};
