@@ -20,13 +20,13 @@ mod last;
 mod moves;
 mod naming;
 mod recording;
-mod run;
 mod scene;
 mod sides;
 mod splits;
 mod task;
 mod turns;
 mod worker;
+mod works;
 
 pub use last::Ended;
 pub use naming::Naming;
