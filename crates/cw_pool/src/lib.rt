@@ -27,6 +27,7 @@ mod task;
 mod turns;
 mod worker;
 mod works;
+mod works;
 
 pub use last::Ended;
 pub use naming::Naming;
