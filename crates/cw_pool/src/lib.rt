@@ -27,7 +27,6 @@ mod task;
 mod turns;
 mod worker;
 mod works;
-mod works;
 
 pub use last::Ended;
 pub use naming::Naming;
