@@ -1,5 +1,5 @@
 //! A STUB, never to be merged: the contract of `run`.
-ghost use Rattle.std.specs.Prelude.{◌≡◌, ◌<◌, IfOk, IsTrue, length, ⊥};
+ghost use Rattle.std.specs.Prelude.{◌≡◌, ◌<◌, IfOk, IsTrue, length};
 ghost use Rattle.cw_tree.specs.Nodes.{is_strand};
 ghost use Rattle.cw_strand.specs.Programs.{IsCompiled};
 ghost use Rattle.cw_job.specs.Jobs.{TakesWords};
