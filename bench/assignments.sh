@@ -17,11 +17,11 @@ for bytes in 102400 1048576; do
     print "}"
   }' > "$folder/source.cw"
   begin=$(date +%s%N)
-  for _ in 1 2 3 4 5 6 7 8 9 10; do "$program" run < "$folder/source.cw" > "$folder/text"; done
+  for _ in 1 2 3 4 5 6 7 8 9 10; do "$program" run --workers 1 < "$folder/source.cw" > "$folder/text"; done
   end=$(date +%s%N)
   memory=unknown
   if [ -x /usr/bin/time ]; then
-    memory=$(/usr/bin/time -f '%M KiB' "$program" run < "$folder/source.cw" 2>&1 > /dev/null)
+    memory=$(/usr/bin/time -f '%M KiB' "$program" run --workers 1 < "$folder/source.cw" 2>&1 > /dev/null)
   fi
   echo "$(wc -c < "$folder/source.cw") bytes: $(((end - begin) / 10000000)) ms, $memory, $(tr '\n' ' ' < "$folder/text")"
 done

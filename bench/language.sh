@@ -20,11 +20,11 @@ source_of() {
 for count in 450 900 1800 3600; do
   source_of "$count" > "$folder/source.cw"
   begin=$(date +%s%N)
-  for _ in 1 2 3; do "$program" run < "$folder/source.cw" > "$folder/text"; done
+  for _ in 1 2 3; do "$program" run --workers 1 < "$folder/source.cw" > "$folder/text"; done
   end=$(date +%s%N)
   memory=unknown
   if [ -x /usr/bin/time ]; then
-    memory=$(/usr/bin/time -f '%M KiB' "$program" run < "$folder/source.cw" 2>&1 > /dev/null)
+    memory=$(/usr/bin/time -f '%M KiB' "$program" run --workers 1 < "$folder/source.cw" 2>&1 > /dev/null)
   fi
   echo "$count functions: $(wc -c < "$folder/source.cw") bytes, $(((end - begin) / 3000000)) ms, $memory, $(head -1 "$folder/text")"
 done

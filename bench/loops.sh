@@ -10,12 +10,12 @@ trap 'rm -rf "$folder"' EXIT
 for rounds in 1000000 10000000; do
   echo "fn main() { let i = 0; while i < $rounds { i = i + 1; } out i; }" > "$folder/source.cw"
   begin=$(date +%s%N)
-  for _ in 1 2 3; do "$program" run --fuel 1000000000 < "$folder/source.cw" > "$folder/text"; done
+  for _ in 1 2 3; do "$program" run --workers 1 --fuel 1000000000 < "$folder/source.cw" > "$folder/text"; done
   end=$(date +%s%N)
   time=$(((end - begin) / 3000000))
   memory=unknown
   if [ -x /usr/bin/time ]; then
-    memory=$(/usr/bin/time -f '%M KiB' "$program" run --fuel 1000000000 < "$folder/source.cw" 2>&1 > /dev/null)
+    memory=$(/usr/bin/time -f '%M KiB' "$program" run --workers 1 --fuel 1000000000 < "$folder/source.cw" 2>&1 > /dev/null)
   fi
   echo "$rounds rounds: $time ms, $memory, $((rounds * 11 / (time > 0 ? time : 1) / 1000)) million instructions a second, $(tr '\n' ' ' < "$folder/text")"
 done

@@ -1,6 +1,6 @@
 #!/usr/bin/env bash
-# Shows that a simulation of one worker does what the depth-first run does: of generated programs, each with its number as seed, `run`
-# and `sim --workers 1` write the same text and end with the same status, with few columns and many, and with one attempt alone.
+# Shows that a simulation of one worker does what the depth-first run does: of generated programs, each with its number as seed,
+# `run --workers 1` and `sim --workers 1` write the same text and end with the same status, with few columns and many, and with one attempt alone.
 # Usage: bench/one-worker.sh PROGRAM [COUNT], with the program as the gate builds it: crates/cwstm/out/cwstm, once `rt ci` has passed.
 set -eu
 program=$1
@@ -64,7 +64,7 @@ declare -A ends
 for seed in $(seq "$count"); do
   source_of "$seed" > "$folder/source.cw"
   words="$((seed % 5)) $((seed % 3 + 1))"
-  run=0; "$program" run $words < "$folder/source.cw" > "$folder/run" 2> "$folder/note" || run=$?
+  run=0; "$program" run --workers 1 $words < "$folder/source.cw" > "$folder/run" 2> "$folder/note" || run=$?
   case $run in
     0 | 6) ;;
     *) echo "program $seed: status $run, $(cat "$folder/note")"; exit 1 ;;
@@ -81,5 +81,5 @@ for seed in $(seq "$count"); do
   end=$([ "$run" = 0 ] && echo finished || sed 's/ in .*//' "$folder/run")
   ends[$end]=$((${ends[$end]:-0} + 1))
 done
-echo "$count programs, $spawned with a spawn: run and sim --workers 1 agree"
+echo "$count programs, $spawned with a spawn: run and sim, both with --workers 1, agree"
 for end in "${!ends[@]}"; do echo "  $end: ${ends[$end]}"; done

@@ -10,10 +10,10 @@ trap 'rm -rf "$folder"' EXIT
 measure() {
   local begin end memory=unknown
   begin=$(date +%s%N)
-  for _ in 1 2 3; do "$program" run < "$folder/source.cw" > "$folder/text"; done
+  for _ in 1 2 3; do "$program" run --workers 1 < "$folder/source.cw" > "$folder/text"; done
   end=$(date +%s%N)
   if [ -x /usr/bin/time ]; then
-    memory=$(/usr/bin/time -f '%M KiB' "$program" run < "$folder/source.cw" 2>&1 > /dev/null)
+    memory=$(/usr/bin/time -f '%M KiB' "$program" run --workers 1 < "$folder/source.cw" 2>&1 > /dev/null)
   fi
   echo "$1: $(wc -c < "$folder/source.cw") bytes, $(((end - begin) / 3000000)) ms, $memory, $(tr '\n' ' ' < "$folder/text")"
 }

@@ -120,7 +120,7 @@ try 'a word that is no UTF-8' 2 '' "$usage" $'\xff'
 try 'run and a word that is no UTF-8' 2 '' "$usage" run $'r\xffun'
 
 printf 'cell c = 4;\nfn main() { spawn { atomic { c = c + 1; } } atomic { c = c * 2; } sync; out c; out -c; }' > source
-try 'spawned and atomic blocks' 0 $'out 10\nout -10\nc = 10\nend\n' '' run
+try 'spawned and atomic blocks' 0 $'out 10\nout -10\nc = 10\nend\n' '' run --workers 1
 
 printf '' > source
 try 'no text' 5 '' $'cwstm: line 0: NoMain\n' run
@@ -156,7 +156,7 @@ try 'one counted thing too many' 6 $'fault Size in 0\n' '' run --size 3
 try 'as many counted things and units as it needs' 0 $'out 1\nc = 1\nend\n' '' run --size=4 --fuel 2
 try 'one unit of fuel too few' 6 $'fault Fuel in 0\n' '' run --fuel 1
 try 'leading zeros' 0 $'out 1\nc = 1\nend\n' '' run --size 007
-for words in '--fuel 0' '--fuel 1000000001' '--size 10000001' '--size' '--size=' '--size=+4' '--fuel -1' '--fue 1' '--fuel 1 --fuel=1' '--workers 1' \
+for words in '--fuel 0' '--fuel 1000000001' '--size 10000001' '--size' '--size=' '--size=+4' '--fuel -1' '--fue 1' '--fuel 1 --fuel=1' '--workers 0' '--workers 65' '--workers 4 --workers=4' '--aborts 0' '--strands 1000001' '--moves 5' '--seed 1' \
   '7' '-5' '-' '+5' '5a' '9223372036854775808' '-- --' '-- 7 --' '-- -' '-- --size=4' '-- -9223372036854775809' '--size -- 4'; do
   # the words stand apart by blanks
   # shellcheck disable=SC2086
@@ -186,9 +186,9 @@ try 'fuel along the longest way' 0 $'out 1\nout 2\nout 3\nend\n' '' run --fuel 4
 try 'fuel behind a join' 6 $'fault Fuel in 0\n' '' run --fuel 3
 try 'fuel of a left strand' 6 $'fault Fuel in 0.1l\n' '' run --fuel 2
 printf 'cell c; fn main() { spawn { c = 1; c = 2; } c = 3; }' > source
-try 'the sizes of two strands' 0 $'c = 3\nend\n' '' run --size 4
+try 'the sizes of two strands' 0 $'c = 3\nend\n' '' run --workers 1 --size 4
 try 'their sum over the limit' 6 $'fault Size in 0\n' '' run --size 3
-try 'the size of a left strand' 6 $'fault Size in 0.1l\n' '' run --size 1
+try 'the size of a left strand' 6 $'fault Size in 0.1l\n' '' run --workers 1 --size 1
 
 printf 'fn main() { while 1 {} }' > source
 try 'a loop without an end' 6 $'fault Fuel in 0\n' '' run --fuel 100
@@ -224,6 +224,25 @@ try '10,000 functions and blocks in each other' 6 $'fault Depth in 0\n' '' run
 printf 'fn f() { spawn { f(); } } fn main() { f(); }' > source
 try 'a strand of 333,333 forks' 6 "fault Fuel in 0$(printf '.1l%.0s' $(seq 333333))"$'\n' '' run
 
+# ## Threads
+
+printf 'cell c; fn main() { atomic { spawn { atomic { c = c + 1; } } atomic { c = c + 1; } } }' > source
+for workers in 1 2 3 4 5 6 7 8; do
+  try "two blocks in one, $workers workers" 0 $'c = 2\nend\n' '' run --workers "$workers"
+done
+printf 'cell c; fn main() { let i = 0; while i < 1000 { spawn { atomic { c = c + 1; } } i = i + 1; } }' > source
+for workers in 2 4 007 64; do
+  try "1,000 spawned increments, $workers workers" 0 $'c = 1000\nend\n' '' run --workers "$workers"
+done
+printf 'cell c; fn main() { spawn { atomic { c = c + 1; } } spawn { atomic { c = c + 1; } } spawn { atomic { c = c + 1; } } }' > source
+for strands in 1 2 3; do
+  try "threads where $strands strands have columns" 0 $'c = 3\nend\n' '' run --strands "$strands"
+done
+printf 'cell c; fn main() { spawn { atomic { c = c + 1; out 1 / 0; } } atomic { c = c + 1; } }' > source
+try 'a fault in a pending block' 6 $'fault Zero in 0.1l\n' '' run --workers 4
+printf 'cell c; fn main() { c = c + 1; out c; }' > source
+try 'threads that have nothing to do' 0 $'out 1\nc = 1\nend\n' '' run --workers 64
+
 # ## Simulations
 
 printf 'cell c; fn main() { atomic { spawn { c = c + 1; } c = c + 1; } }' > source
@@ -256,7 +275,7 @@ try 'one move too few' 9 $'moves spent\n' '' sim --workers 1 --moves 4
 try 'as many moves as it needs' 0 $'out 1\nc = 1\nend\n' '' sim --workers 1 --moves 5
 printf 'fn f() { spawn { f(); } f(); } fn main() { f(); }' > source
 try 'forks without an end' 9 $'moves spent\n' '' sim --moves 10
-try 'the same depth first' 6 "fault Fuel in 0$(printf '.1l%.0s' $(seq 333333))"$'\n' '' run
+try 'the same depth first' 6 "fault Fuel in 0$(printf '.1l%.0s' $(seq 333333))"$'\n' '' run --workers 1
 printf 'cell c; fn main() { spawn { atomic { c = c + 1; } } spawn { atomic { c = c + 1; } } spawn { atomic { c = c + 1; } } }' > source
 for strands in 1 2 3; do
   try "$strands strands have columns" 0 $'c = 3\nend\n' '' sim --strands "$strands"
@@ -314,7 +333,8 @@ printf 'cell c; fn main() { c = c + 1; out c; }' > source
 try 'moves spent' 9 $'moves spent\n'"$(report 1 '0 0')"$'\n' '' sim --workers 1 --moves 2 --report 1
 try 'a fault' 6 $'fault Size in 0\n'"$(report 1 '0 0')"$'\n' '' run --size 3 --report 1
 printf 'cell c; fn main() { spawn { atomic { c = c + 1; } } spawn { atomic { c = c + 1; } } spawn { atomic { c = c + 1; } } }' > source
-try 'one worker' 0 $'c = 3\nend\n'"$(report 7 '3 0')"$'\n' '' run --report 1
+try 'one worker' 0 $'c = 3\nend\n'"$(report 7 '3 0')"$'\n' '' run --workers 1 --report 1
+try 'threads that may not be parted' 0 $'c = 3\nend\n'"$(report 7 '3 0')"$'\n' '' run --strands 2 --report 1
 for words in '--report 2' '--report 0' '--report -1' '--report' '--report= ' '--report 1 --report=1' '--reports 1'; do
   # shellcheck disable=SC2086
   try "run $words" 2 '' "$usage" run $words
@@ -397,13 +417,13 @@ printf 'cell c; fn main() { c = c + 1; out c; }' > source
   exec "$program" sim --strands 1000000 < source > text 2> note
 )
 judge 'too little memory' $? 1 '' $'cwstm: want of memory\n'
-within 1 150 'a run with the greatest limits' 0 $'out 1\nc = 1\nend\n' '' run --fuel 1000000000 --size 10000000
+within 1 150 'a run with the greatest limits' 0 $'out 1\nc = 1\nend\n' '' run --workers 1 --fuel 1000000000 --size 10000000
 within 1 150 'a simulation with the greatest limits' 0 $'out 1\nc = 1\nend\n' '' \
   sim --workers 64 --strands 1000000 --moves 1000000000 --aborts 1000000000 --seed 18446744073709551615
 within 1 150 'as many columns as there may be' 0 $'out 1\nc = 1\nend\n' '' sim --strands 1000000
 
 printf 'fn main() { let i = 0; while i < 200000 { out 1000000000; i = i + 1; } }' > source
-within 5 200 '200,000 outputs' 0 "$(yes 'out 1000000000' | head -n 200000; echo end)"$'\n' '' run
+within 5 200 '200,000 outputs' 0 "$(yes 'out 1000000000' | head -n 200000; echo end)"$'\n' '' run --workers 1
 
 {
   printf 'fn main(p1'
@@ -421,14 +441,14 @@ try '70 words' 0 "$(seq -f 'out %g' 101 170; echo end)"$'\n' '' run $(seq 101 17
   for _ in $(seq 30000); do echo 'c = c + 1;'; done
   echo '} fn main() { out f(); }'
 } > source
-within 1 200 '30,000 statements behind a return' 0 $'out 1\nc = 0\nend\n' '' run
+within 1 200 '30,000 statements behind a return' 0 $'out 1\nc = 0\nend\n' '' run --workers 1
 
 {
   echo 'cell c; fn main() {'
   for i in $(seq 20000); do echo "let a$i = 1; spawn { c = 1; }"; done
   echo '}'
 } > source
-within 5 300 '20,000 strands that have ended beside 20,000 locals' 0 $'c = 1\nend\n' '' run
+within 5 300 '20,000 strands that have ended beside 20,000 locals' 0 $'c = 1\nend\n' '' run --workers 1
 within 5 300 'the same, simulated' 0 $'c = 1\nend\n' '' sim
 
 printf 'cell c; cell d; fn main() { let i = 0; while i < 25000 { spawn { d = c + 1; } i = i + 1; } }' > source

@@ -7,3 +7,5 @@ mod CommandRuns
 mod OverSource
 pub mod Pieces
 pub mod Statuses
+mod Checks
+mod Told

@@ -4,7 +4,7 @@ use Rattle.std.proofs.Common.{◌≤◌, ◌-◌, length-append, subst}
 use Rattle.cw_io.specs.Outside.{Rose, Takes, TakesNothing}
 use Rattle.cw_top.specs.declared.reasons.Stop.{Stop}
 use Rattle.cw_top.specs.declared.reasons.Stop.TheVariants as stop
-use Rattle.cw_top.specs.Outcome.{GivesOn, TakesAtMost}
+use Rattle.cw_top.specs.Taken.{GivesOn, TakesAtMost}
 use Rattle.cw_top.specs.Reasons.{WhyStopped}
 
 -- a count that rose from a later one on

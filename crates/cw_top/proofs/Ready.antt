@@ -1,4 +1,4 @@
--- A command has numbers within their bounds: a simulation has workers, lists none but them, and has a column for its first strand.
+-- A command has numbers within their bounds: it has workers, lists none but them, and has a column for its first strand.
 use Rattle.std.proofs.Common.{◌≡◌, ◌≤◌, ◌<◌, ◌-◌, ◌^◌, ◌∷◌, ◌&&◌, [], ℕ, zero, suc, Bool, true, false, List, length, Option, Some, None, IfSome, arith, refl, rules}
 use Rattle.std.specs.Prelude.{All, codes, if◌then◌else◌, nat_le, option_and_then, option_map}
 use Rattle.std.specs.Str.{all_ascii_digits, bytes_eq}
@@ -8,7 +8,7 @@ use Rattle.cw_io.specs.declared.schedule.Schedule.TheVariants.{List as Listed, S
 use Rattle.cw_sim.specs.Turns.{ListsWorkers}
 use Rattle.cw_words.specs.Options.{Given, GivenOption, NumberOption, are_known, given, integers_of, list_below, number_in, number_given, number_within, numbers_below, parts_of, option_value}
 use Rattle.cw_words.specs.Words.{aborts_option, command_of, fuel_option, limits_given, moves_option, report_given, run_given, run_options, schedule_given, schedule_in, sim_given, sim_options, size_option, strands_option, workers_option, most_listed}
-use Rattle.cw_top.specs.Outcome.{IsReady}
+use Rattle.cw_top.specs.Runs.{IsReady}
 
 -- ## Values that may be missing
 
@@ -92,7 +92,11 @@ column os =
     then_some (λ m. 1 ≤ m) P _ (number_given strands_option os) (at_least strands_option os (omega arith)) (λ m l. map_some P _ (number_given moves_option os) (λ c. omega arith)))))
 
 run_ready : (g : Given) → IfSome (run_given g) IsReady
-run_ready g = where_true IsReady (are_known run_options g.options) _ (each_some IsReady _ (limits_given g.options) (λ ls. each_some IsReady _ (report_given g.options) (λ p. map_some IsReady _ (integers_of g.words) (λ ns. tt))))
+run_ready g = where_true IsReady (are_known run_options g.options) _
+    (then_some (λ (ls : Limits). 0 < ls.strands) IsReady _ (limits_given g.options) (column g.options) (λ ls l.
+    each_some IsReady _ (report_given g.options) (λ p.
+    then_some (λ w. 1 ≤ w) IsReady _ (number_given workers_option g.options) (at_least workers_option g.options (omega arith)) (λ w m.
+    map_some IsReady _ (integers_of g.words) (λ ns. (omega arith, l))))))
 
 sim_ready : (g : Given) → IfSome (sim_given g) IsReady
 sim_ready g = where_true IsReady (are_known sim_options g.options) _

@@ -1,15 +1,17 @@
 -- Status 9: the moves of a simulation were made without an end, and the text was written.
-use Rattle.std.proofs.Common.{◌≡◌, ◌∙◌, ℕ, Option, Some, None, IfSome, IsSomeAnd, ap, refl, sym, subst}
+use Rattle.std.proofs.Common.{◌≡◌, ◌∙◌, ℕ, Option, Some, None, IfSome, IsSomeAnd, ap, inl, inr, refl, sym, subst}
 use Rattle.std.specs.Prelude.{◌↔◌}
 use Rattle.cw_record.specs.declared.record.Record.{Record}
 use Rattle.cw_record.specs.declared.record_end.RecordEnd.{RecordEnd}
 use Rattle.cw_record.specs.declared.record_end.RecordEnd.TheVariants.{Finished, Fault, Budget, Moves}
-use Rattle.cw_record.specs.Records.{HasEnded, job_of_record}
+use Rattle.cw_record.specs.Records.{job_of_record}
 use Rattle.cw_words.specs.declared.command.Command.{Command}
 use Rattle.cw_words.specs.declared.command.Command.TheVariants.{Run, Sim}
 use Rattle.cw_top.specs.declared.outcome.Note.{Note}
 use Rattle.cw_top.specs.declared.outcome.Note.TheVariants as note
-use Rattle.cw_top.specs.Outcome.{HasSpentMoves, IsDoneAs, IsDoneBy, IsStatus, status_of_end}
+use Rattle.cw_top.specs.Outcome.{IsStatus, IsStatusOf, status_of_end}
+use Rattle.cw_top.specs.Runs.{IsDoneAs, IsDoneBy}
+use Rattle.cw_top.specs.Spent.{HasSpentMoves}
 use Rattle.cw_sim.proofs.Runs.Unstopped.{left_told}
 
 by_end : (e : RecordEnd) → 9 ≡ status_of_end e → e ≡ Moves
@@ -19,17 +21,27 @@ by_end (Budget x) is = cc
 by_end Moves is = refl
 
 spent : (c : Command) (r : Record) → IsDoneBy c r → r.end ≡ Moves → HasSpentMoves (Some c) r
-spent (Run ws ls p) r done e = subst HasEnded e done.ended
+spent (Run ws ls w p) r done e = done.moves e
 spent (Sim ws ls w s p) r done e = (left_told (job_of_record r) w s r done.moves).0 e
 
 told : (c : Command) (r : Record) → IsDoneBy c r → HasSpentMoves (Some c) r → r.end ≡ Moves
-told (Run ws ls p) r done e = absurd e
+told (Run ws ls w p) r done e = absurd e
 told (Sim ws ls w s p) r done e = (left_told (job_of_record r) w s r done.moves).1 e
+
+-- the moves of a simulation replay, whatever their end is
+of_moves : (c : Command) (r : Record) (status : ℕ) → IsDoneBy c r → IsStatusOf r status → HasSpentMoves (Some c) r → status ≡ 9
+of_moves c r status done (inl (same, is)) h = is ∙ ap status_of_end (told c r done h)
+of_moves (Run ws ls w p) r status done (inr (other, is)) h = absurd h
+of_moves (Sim ws ls w s p) r status done (inr (other, is)) h = absurd (other done.replays)
+
+to_moves : (c : Command) (r : Record) (status : ℕ) → IsDoneBy c r → IsStatusOf r status → status ≡ 9 → HasSpentMoves (Some c) r
+to_moves c r status done (inl (same, is)) nine = spent c r done (by_end r.end (sym nine ∙ is))
+to_moves c r status done (inr (other, is)) nine = cc
 
 pub moves : (command : Option Command) (kept : Option Record) (status : ℕ) (n : Note) → IsStatus kept status n → IfSome kept (IsDoneAs command) → status ≡ 9 ↔ ((n ≡ note.Nothing) × IsSomeAnd kept (HasSpentMoves command))
 moves command None status note.Nothing is done = absurd is
 moves None (Some r) status note.Nothing is done = absurd done
-moves (Some c) (Some r) status note.Nothing is done = (λ nine. (refl, spent c r done (by_end r.end (sym nine ∙ is))), λ h. is ∙ ap status_of_end (told c r done h.1))
+moves (Some c) (Some r) status note.Nothing is done = (λ nine. (refl, to_moves c r status done is nine), λ h. of_moves c r status done is h.1)
 moves command kept status note.Usage (none, is) done = (λ nine. cc, λ h. cc)
 moves command kept status note.Memory (none, is) done = (λ nine. cc, λ h. cc)
 moves command kept status note.Read (none, is) done = (λ nine. cc, λ h. cc)

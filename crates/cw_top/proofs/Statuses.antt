@@ -7,7 +7,7 @@ use Rattle.cw_io.specs.Outside.{Appends}
 use Rattle.cw_code.specs.declared.CellInfo.{CellInfo}
 use Rattle.cw_tree.specs.declared.node.Node.{Node}
 use Rattle.cw_tree.specs.declared.picks.Picks.{Picks}
-use Rattle.cw_tree.specs.Shape.{IsTree}
+use Rattle.cw_tree.specs.Walks.{IsNumbered}
 use Rattle.cw_serial.specs.declared.ends.SerialEnd.{SerialEnd}
 use Rattle.cw_serial.specs.declared.ends.SerialEnd.TheVariants as last
 use Rattle.cw_job.specs.Jobs.{TakesWords}
@@ -22,9 +22,13 @@ use Rattle.cw_words.specs.declared.command.Command.TheVariants.{Run, Sim}
 use Rattle.cw_top.specs.declared.outcome.Note.{Note}
 use Rattle.cw_top.specs.declared.outcome.Note.TheVariants as note
 use Rattle.cw_top.specs.Refusals.{AsksFor, IsMisfit, refusal}
+use Rattle.cw_top.proofs.Budgets.{by_end}
 use Rattle.cw_top.proofs.Parameters.{fits, spelled_accepted}
 use Rattle.cw_report.specs.Results.{end_text, finished_text}
-use Rattle.cw_top.specs.Outcome.{Accepts, MayBeMisusedWith, MayEndWith, HasCause, HasSeveralWorkers, IsDoneAs, IsDoneBy, IsMisused, IsOfMoves, IsRefusedFor, IsRefusedWith, IsRunBy, IsRunOf, IsStatus, IsSurelyMisused, IsSurelyRefused, Writes, WritesEndOfOneMemory, end_of_one_memory, report_if, status_of_end, IsReady}
+use Rattle.cw_top.specs.Outcome.{HasCause, IsMisused, IsRefusedWith, IsStatus, IsStatusOf, IsSurelyMisused, IsSurelyRefused, MayBeMisusedWith, MayEndWith, status_of_end}
+use Rattle.cw_top.specs.Runs.{HasSeveralThreads, HasSeveralWorkers, IsDoneAs, IsDoneBy, IsOfMoves, IsOfThreads, IsReady, IsRunBy, IsRunOf}
+use Rattle.cw_top.specs.Taken.{Accepts, IsRefusedFor}
+use Rattle.cw_top.specs.Written.{Writes, WritesEndOfOneMemory, end_of_one_memory, report_if, text_of, text_owed}
 use Rattle.cw_words.specs.Words.{asks_report, words_of}
 
 -- words that are no command come to status 2
@@ -40,7 +44,8 @@ no_end Moves status is = (λ h. cc, λ h. cc, λ h. cc, λ h. cc)
 -- a status with which nothing is amiss
 no_fault : (kept : Option Record) (status : ℕ) → IsStatus kept status note.Nothing → (status ≢ 2) × (status ≢ 3) × (status ≢ 4) × (status ≢ 5)
 no_fault None status h = absurd h
-no_fault (Some r) status h = no_end r.end status h
+no_fault (Some r) status (inl (same, is)) = no_end r.end status is
+no_fault (Some r) status (inr (other, is)) = (λ h. cc, λ h. cc, λ h. cc, λ h. cc)
 
 pub usage : (command : Option Command) (kept : Option Record) (status : ℕ) (n : Note) (left : Option (List ℕ)) (r w : Type 0) → IsStatus kept status n → HasCause command n left r w → status ≡ 2 → IsMisused command left
 usage None kept status n left r w is cause h = tt
@@ -82,12 +87,29 @@ refused (Some co) kept status note.Write left r w (some, is) cause h = cc
 refused (Some co) kept status (note.Text f) left r w is cause h = cause
 refused (Some co) kept status (note.Name f) left r w is cause h = cause
 
--- a run of one worker has ended: it finished or met a fault; one of several comes to any end
-ended : (e : RecordEnd) (status : ℕ) → HasEnded e → status ≡ status_of_end e → (status ≡ 0) ⊎ (status ≡ 6) ⊎ (status ≡ 1)
-ended (Finished m o) status h is = inl is
-ended (Fault x k) status h is = inr (inl is)
-ended (Budget x) status h is = absurd h
-ended Moves status h is = absurd h
+-- ## Which statuses come
+
+more_than_one : (workers : ℕ) → 0 < workers → (workers ≡ 1 → ⊥) → 1 < workers
+more_than_one workers some other = elim (cases_lt 1 workers) [ inl less ↦ less | inr le ↦ absurd (other (omega (arith, some, le))) ]
+
+-- a budget is spent only where there is more than one worker
+thread_spends : (workers : ℕ) (r : Record) → 0 < workers → IsOfThreads workers r → (x : ℕ) → r.end ≡ Budget x → 1 < workers
+thread_spends workers r some done x e = more_than_one workers some (λ one. subst HasEnded e (done.one one).ended)
+
+move_spends : (workers : ℕ) (s : Schedule) (r : Record) → 0 < workers → IsOfMoves workers s r → (x : ℕ) → r.end ≡ Budget x → 1 < workers
+move_spends workers s r some done x e = more_than_one workers some (λ one. (done.one_worker one).unspent x e)
+
+-- and what one thread does replays
+pub thread_differs : (workers : ℕ) (r : Record) → 0 < workers → IsOfThreads workers r → (IsReplayed r → ⊥) → 1 < workers
+thread_differs workers r some done other = more_than_one workers some (λ one. other (done.one one).replays)
+
+-- the statuses of runs on threads, and of simulations
+on_threads : (e : RecordEnd) (status workers : ℕ) → e ≢ Moves → ((x : ℕ) → e ≡ Budget x → 1 < workers) → status ≡ status_of_end e
+    → (status ≡ 0) ⊎ (status ≡ 6) ⊎ ((status ≡ 7) × (1 < workers)) ⊎ ((status ≡ 8) × (1 < workers)) ⊎ (status ≡ 1)
+on_threads (Finished m o) status workers moves more is = inl is
+on_threads (Fault x k) status workers moves more is = inr (inl is)
+on_threads (Budget x) status workers moves more is = inr (inr (inl (is, more x refl)))
+on_threads Moves status workers moves more is = absurd (moves refl)
 
 came : (e : RecordEnd) (status workers : ℕ) → ((x : ℕ) → e ≡ Budget x → 1 < workers) → status ≡ status_of_end e → (status ≡ 0) ⊎ (status ≡ 6) ⊎ ((status ≡ 7) × (1 < workers)) ⊎ (status ≡ 9) ⊎ (status ≡ 1)
 came (Finished m o) status workers more is = inl is
@@ -95,28 +117,21 @@ came (Fault x k) status workers more is = inr (inl is)
 came (Budget x) status workers more is = inr (inr (inl (is, more x refl)))
 came Moves status workers more is = inr (inr (inr (inl is)))
 
--- a budget is spent only where there is more than one worker
-more_than_one : (workers : ℕ) (s : Schedule) (r : Record) → 0 < workers → IsOfMoves workers s r → (x : ℕ) → r.end ≡ Budget x → 1 < workers
-more_than_one workers s r some done x e = elim (cases_lt 1 workers) [ inl less ↦ less | inr le ↦ absurd ((done.one_worker (omega arith)).unspent x e) ]
-
-may_end : (co : Command) (x : Record) (status : ℕ) → IsReady co → IsDoneBy co x → status ≡ status_of_end x.end → MayEndWith (Some co) status
-may_end (Run ws ls p) x status ready done is = ended x.end status done.ended is
-may_end (Sim ws ls w s p) x status ready done is = came x.end status w (more_than_one w s x ready.0 done) is
-
-by_seven : (e : RecordEnd) → 7 ≡ status_of_end e → (x : ℕ) × (e ≡ Budget x)
-by_seven (Finished m o) is = cc
-by_seven (Fault x k) is = cc
-by_seven (Budget x) is = (x, refl)
-by_seven Moves is = cc
+may_end : (co : Command) (x : Record) (status : ℕ) → IsReady co → IsDoneBy co x → IsStatusOf x status → MayEndWith (Some co) status
+may_end (Run ws ls w p) x status ready done (inl (same, is)) = on_threads x.end status w done.moves (thread_spends w x ready.0 done) is
+may_end (Run ws ls w p) x status ready done (inr (other, is)) = inr (inr (inr (inl (is, thread_differs w x ready.0 done other))))
+may_end (Sim ws ls w s p) x status ready done (inl (same, is)) = came x.end status w (move_spends w s x ready.0 done) is
+may_end (Sim ws ls w s p) x status ready done (inr (other, is)) = absurd (other done.replays)
 
 several_of : (co : Command) (r : Record) → IsReady co → IsDoneBy co r → (x : ℕ) → r.end ≡ Budget x → HasSeveralWorkers (Some co)
-several_of (Run ws ls p) r ready done x e = subst HasEnded e done.ended
-several_of (Sim ws ls w s p) r ready done x e = more_than_one w s r ready.0 done x e
+several_of (Run ws ls w p) r ready done x e = thread_spends w r ready.0 done x e
+several_of (Sim ws ls w s p) r ready done x e = move_spends w s r ready.0 done x e
 
 pub several : (command : Option Command) (kept : Option Record) (status : ℕ) (n : Note) → IsStatus kept status n → IfSome command IsReady → IfSome kept (IsDoneAs command) → status ≡ 7 → HasSeveralWorkers command
 several command None status note.Nothing is ready done seven = absurd is
 several None (Some r) status note.Nothing is ready done seven = absurd done
-several (Some co) (Some r) status note.Nothing is ready done seven = let (x, e) = by_seven r.end (sym seven ∙ is) in several_of co r ready done x e
+several (Some co) (Some r) status note.Nothing (inl (same, is)) ready done seven = let (x, e) = by_end r.end (sym seven ∙ is) in several_of co r ready done x e
+several (Some co) (Some r) status note.Nothing (inr (other, is)) ready done seven = absurd (cc (seven, is))
 several command kept status note.Usage (none, is) ready done seven = absurd (cc (seven, is))
 several command kept status note.Memory (none, is) ready done seven = absurd (cc (seven, is))
 several command kept status note.Read (none, is) ready done seven = absurd (cc (seven, is))
@@ -125,7 +140,7 @@ several command kept status (note.Text f) (none, is) ready done seven = absurd (
 several command kept status (note.Name f) (none, is) ready done seven = absurd (cc (seven, is))
 
 may_want : (co : Command) (status : ℕ) → status ≡ 1 → MayEndWith (Some co) status
-may_want (Run ws ls p) status is = inr (inr is)
+may_want (Run ws ls w p) status is = inr (inr (inr (inr is)))
 may_want (Sim ws ls w s p) status is = inr (inr (inr (inr is)))
 
 -- bytes that are not refused are refused for no reason
@@ -140,7 +155,7 @@ fitting (Some bytes) words h misfit = misfit.1 h.1
 
 -- where there is a run the words fit
 run_fits : (co : Command) (left : Option (List ℕ)) (x : Record) → IsRunBy co left x → IsSomeAnd left (IsMisfit (words_of co)) → ⊥
-run_fits co left x run = fits left (words_of co) x.program run.spelled (subst (λ (vs : List ℤ). TakesWords x.program (length vs)) run.words run.coherent.words)
+run_fits co left x run = fits left (words_of co) x.program run.spelled (subst (λ (vs : List ℤ). TakesWords x.program (length vs)) run.words run.takes)
 
 pub misused : (command : Option Command) (kept : Option Record) (status : ℕ) (n : Note) (left : Option (List ℕ)) (r w : Type 0) → IsStatus kept status n → HasCause command n left r w → IfSome kept (IsRunOf command left) → IsSurelyMisused command left → (r → ⊥) → MayBeMisusedWith command status
 misused None kept status n left r w is cause run misfit no_r = of_none kept status n cause is
@@ -149,7 +164,7 @@ misused (Some co) (Some x) status note.Nothing left r w is cause run misfit no_r
 misused (Some co) kept status note.Usage left r w (none, is) cause run misfit no_r = inl is
 misused (Some co) kept status note.Memory left r w (none, is) cause run misfit no_r = inr is
 misused (Some co) kept status note.Read left r w is cause run misfit no_r = absurd (no_r cause)
-misused (Some co) None status note.Write left r w (some, is) cause run misfit no_r = cc
+misused (Some co) None status note.Write left r w (some, is) cause run misfit no_r = absurd some
 misused (Some co) (Some x) status note.Write left r w is cause run misfit no_r = absurd (run_fits co left x run misfit)
 misused (Some co) kept status (note.Text f) left r w is cause run misfit no_r = absurd (not_refused left (λ bytes. AsksFor bytes (length (words_of co)) → ⊥) (note.Text f) misfit cause)
 misused (Some co) kept status (note.Name f) left r w is cause run misfit no_r = absurd (not_refused left (λ bytes. AsksFor bytes (length (words_of co)) → ⊥) (note.Name f) misfit cause)
@@ -174,7 +189,7 @@ refuses (Some co) (Some x) status note.Nothing left r w is cause run fault why n
 refuses (Some co) kept status note.Usage left r w is cause run fault why no_r = absurd (no_misfit left (words_of co) fault why cause)
 refuses (Some co) kept status note.Memory left r w (none, is) cause run fault why no_r = inr is
 refuses (Some co) kept status note.Read left r w is cause run fault why no_r = absurd (no_r cause)
-refuses (Some co) None status note.Write left r w (some, is) cause run fault why no_r = cc
+refuses (Some co) None status note.Write left r w (some, is) cause run fault why no_r = absurd some
 refuses (Some co) (Some x) status note.Write left r w is cause run fault why no_r = absurd (run_accepted co left x fault run why)
 refuses (Some co) kept status (note.Text f) left r w (none, is) cause run fault why no_r = inl (is, same_fault left (note.Text f) fault why cause)
 refuses (Some co) kept status (note.Name f) left r w (none, is) cause run fault why no_r = inl (is, same_fault left (note.Name f) fault why cause)
@@ -197,15 +212,17 @@ at_zero cells t (Fault x k) picks s more old new is same written = cc
 at_zero cells t (Budget x) picks s more old new is same written = cc
 at_zero cells t Moves picks s more old new is same written = cc
 
-of_replay : (co : Command) (r : Record) (old new : Option (List ℕ)) → 0 ≡ status_of_end r.end → IsTree r.tree → IsReplayed r → Writes (Some co) (Some r) note.Nothing old new → WritesEndOfOneMemory (Some co) r old new
+of_replay : (co : Command) (r : Record) (old new : Option (List ℕ)) → 0 ≡ status_of_end r.end → IsNumbered r.tree → IsReplayed r → Writes (Some (text_of (Some co) r)) note.Nothing old new → WritesEndOfOneMemory (Some co) r old new
 of_replay co r old new is tree replays written =
     let (memory, outputs, finishes, told) = at_zero r.program.cells r.tree r.end r.order (end_of_one_memory r) (report_if (asks_report co) r) old new is (same_end r tree.rooted tree.root replays) written in
     record { memory = memory; outputs = outputs; finishes = finishes; written = told }
 
-pub finished : (command : Option Command) (kept : Option Record) (status : ℕ) (n : Note) (left old new : Option (List ℕ)) → IsStatus kept status n → IfSome kept (IsRunOf command left) → Writes command kept n old new → status ≡ 0 → IsSomeAnd kept (λ r. WritesEndOfOneMemory command r old new)
+pub finished : (command : Option Command) (kept : Option Record) (status : ℕ) (n : Note) (left old new : Option (List ℕ)) → IsStatus kept status n → IfSome kept (IsRunOf command left) → Writes (text_owed (text_of command) kept status) n old new → status ≡ 0 → IsSomeAnd kept (λ r. WritesEndOfOneMemory command r old new)
 finished command None status note.Nothing left old new is run written zero = absurd is
 finished None (Some r) status note.Nothing left old new is run written zero = absurd run
-finished (Some co) (Some r) status note.Nothing left old new is run written zero = of_replay co r old new (sym zero ∙ is) run.coherent.coherent.history.tree run.replays written
+finished (Some co) (Some r) status note.Nothing left old new (inl (same, is)) run written zero =
+    of_replay co r old new (sym zero ∙ is) run.tree same (subst (λ s. Writes (text_owed (text_of (Some co)) (Some r) s) note.Nothing old new) zero written)
+finished (Some co) (Some r) status note.Nothing left old new (inr (other, is)) run written zero = cc
 finished command kept status note.Usage left old new (none, is) run written zero = cc
 finished command kept status note.Memory left old new (none, is) run written zero = cc
 finished command kept status note.Read left old new (none, is) run written zero = cc

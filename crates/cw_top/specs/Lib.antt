@@ -1,5 +1,9 @@
 pub mod Refusals
 pub mod Reasons
 pub mod Texts
-pub mod Outcome
+pub mod Taken
+pub mod Runs
 pub mod OverSource
+pub mod Written
+pub mod Spent
+pub mod Outcome

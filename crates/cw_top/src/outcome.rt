@@ -32,6 +32,7 @@ pub enum Note {
 /// | 5 | the source was refused; nothing was written |
 /// | 6 | the run ended at a fault, and its text was written |
 /// | 7 | a strand spent its budget: the last attempt that a block or an access may have was refused, and the text was written |
+/// | 8 | several threads did what one memory, in the order that is kept, does not; nothing was written |
 /// | 9 | all moves of a simulation were made without an end, and the text was written |
 #[derive(Drop)]
 pub struct Reply {

@@ -1,7 +1,7 @@
 ghost use Rattle.std.specs.Prelude.{◌≡◌, ◌-◌, ◌<◌, ◌≤◌, length, Ok, IfOk, IfErr, IfSome, OnOk};
 ghost use Rattle.cw_io.specs.Outside.{IsDry, Rose, RunsDry, Takes};
 ghost use Rattle.cw_strand.specs.Programs.{IsCompiled};
-ghost use Rattle.cw_top.specs.Outcome.{GivesOn, RisesAtMost, TakesAtMost, most_bytes};
+ghost use Rattle.cw_top.specs.Taken.{GivesOn, RisesAtMost, TakesAtMost, most_bytes};
 ghost use Rattle.cw_top.specs.Reasons.{WhyNoRun, WhyRefused, WhyStopped};
 ghost use Rattle.cw_top.specs.Refusals.{Spells};
 

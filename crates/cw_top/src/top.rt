@@ -1,145 +1,35 @@
-ghost use Rattle.std.specs.Prelude.{◌≡◌, ◌≤◌, ◌↔◌, ℕ, None, Some, length, IfOk, IfErr, IfSome, IsErrOf, IsSomeAnd, IsTrue, OnOk, OnSome, []};
-ghost use Rattle.cw_io.specs.Outside.{Appends, AppendsFront, KeepsTelling, TakesNothing, Rose, RunsDry, TellsOn};
-ghost use Rattle.cw_tree.specs.Nodes.{is_strand};
-ghost use Rattle.cw_strand.specs.Programs.{IsCompiled};
-ghost use Rattle.cw_job.specs.Jobs.{TakesWords};
-ghost use Rattle.cw_record.specs.Order.{ending_strand};
-ghost use Rattle.cw_record.specs.Records.{HasItsOutputs, IsCoherentRun, IsNumberedDepthFirst, IsReplayed};
+ghost use Rattle.std.specs.Prelude.{◌≡◌, ◌≢◌, ◌≤◌, ◌↔◌, Some, IfSome, IsSomeAnd, OnSome, []};
+ghost use Rattle.cw_io.specs.Outside.{Appends, TakesNothing, Rose, RunsDry};
+ghost use Rattle.cw_record.specs.Records.{IsReplayed};
 ghost use Rattle.cw_top.specs.declared.outcome.Note.{Note};
 ghost use Rattle.cw_top.specs.declared.outcome.Note.TheVariants.{Nothing};
-ghost use Rattle.cw_top.specs.declared.reasons.NoRun.TheVariants.{Misfit};
-ghost use Rattle.cw_top.specs.declared.reasons.NotWritten.TheVariants.{OutOfMemory, WriteFault};
-ghost use Rattle.cw_top.specs.Outcome.{Accepts, HasCause, HasSeveralWorkers, HasSpentMoves, IsDoneAs, IsDoneBy, IsMisused, IsRefusedFor, IsRefusedWith, IsRunOf, IsSurelyMisused, IsSurelyRefused, IsStatus, MayBeMisusedWith, MayEndWith, ReadsWhole, RisesAtMost, SpentItsBudget, StillTells, TakesAtMost, Writes, WritesEndOfOneMemory, most_bytes, most_ends, most_read, status_of_end, text_by, IsReady};
-ghost use Rattle.cw_top.specs.OverSource.{IsRunOfSource, Spawns};
-ghost use Rattle.cw_top.specs.Reasons.{WhyNoRun, note_of};
-ghost use Rattle.cw_top.specs.Refusals.{IsMisfit};
-ghost use Rattle.cw_words.specs.Words.{command_in, limits_of, words_of};
+ghost use Rattle.cw_top.specs.Outcome.{HasCause, IsMisused, IsRefusedWith, IsStatus, IsSurelyMisused, IsSurelyRefused, MayBeMisusedWith, MayEndWith};
+ghost use Rattle.cw_top.specs.OverSource.{IsRunOfSource};
+ghost use Rattle.cw_top.specs.Runs.{HasSeveralThreads, HasSeveralWorkers, IsDoneAs, IsDoneBy, IsReady, IsRunOf};
+ghost use Rattle.cw_top.specs.Spent.{HasSpentMoves, IsSpentBy, IsSpentOn};
+ghost use Rattle.cw_top.specs.Taken.{Accepts, IsRefusedFor, ReadsWhole, RisesAtMost, TakesAtMost, most_bytes, most_ends, most_read};
+ghost use Rattle.cw_top.specs.Written.{StillTells, Writes, WritesEndOfOneMemory, text_of, text_owed};
+ghost use Rattle.cw_words.specs.Words.{command_in};
 
-use crate::reading::program_from;
-use crate::reasons::{NoRun, NotWritten, Refusal, Stop};
+use crate::reasons::NoRun;
+use crate::running::{has_several_threads, run_of};
+use crate::telling::{told, without_run};
 use crate::{Note, Reply};
-use cw_code::Program;
-use cw_io::{Gate, Sink, Source, write_all};
-use cw_job::takes_words;
-use cw_record::{Record, RecordEnd, depth_first};
-use cw_report::{report_text, result_text};
-use cw_sim::simulate;
+use cw_io::{Gate, Sink, Source};
 use cw_words::{Command, command_of};
 use std::alloc::Global;
 use std::sync::Wait;
 use std::thread::Threads;
 
-fn status_of_end(end: &RecordEnd) -> u8
-    ensures { result ≡ status_of_end end.now }
-{
-    match end {
-        RecordEnd::Finished { .. } => 0,
-        RecordEnd::Fault { .. } => 6,
-        RecordEnd::Budget { .. } => 7,
-        RecordEnd::Moves => 9,
-    }
-}
-
-// Runs a program as a command says: depth first, or by the moves of several virtual workers.
-fn done(alloc: Global, command: Command, program: Program) -> Result<Record, cw_base::OutOfMemory>
-    requires compiled { IsCompiled program }
-    requires takes { TakesWords program (length (words_of command)) }
-    requires ready { IsReady command }
-    ensures program { IfOk result (λ r. r.program ≡ program) }
-    ensures words { IfOk result (λ r. r.words ≡ words_of command) }
-    ensures limits { IfOk result (λ r. r.limits ≡ limits_of command) }
-    ensures coherent { IfOk result (λ r. IsCoherentRun r) }
-    ensures outputs { IfOk result (λ r. HasItsOutputs r) }
-    ensures replays { IfOk result (λ r. IsReplayed r) }
-    ensures numbered { IfOk result (λ r. IsNumberedDepthFirst r.tree) }
-    ensures done { IfOk result (IsDoneBy command) }
-{
-    match command {
-        Command::Run { words, limits, .. } => depth_first(alloc, program, words, limits),
-        Command::Sim {
-            words,
-            limits,
-            workers,
-            schedule,
-            ..
-        } => simulate(alloc, program, words, workers, &schedule, limits),
-    }
-}
-
-// Reads a program from the source and runs it.
-fn run_of<S: Source>(alloc: Global, command: Command, source: &mut S) -> Result<Record, NoRun>
-    requires { IsReady command }
-    ensures later { S.faults source.old ≤ S.faults source.new }
-    ensures why { IfErr result (λ n. WhyNoRun n (Rose (S.faults source.old) (S.faults source.new)) (IfSome (S.left source.old) (IsMisfit (words_of command))) (S.left source.old)) }
-    ensures taken { TakesAtMost most_bytes (S.left source.old) (S.left source.new) }
-    ensures whole { OnOk result (RunsDry (S.left source.old) (S.left source.new)) }
-    ensures misfit { IsErrOf result Misfit → RunsDry (S.left source.old) (S.left source.new) }
-    ensures once { RisesAtMost 1 (S.ends source.old) (S.ends source.new) }
-    ensures run { IfOk result (IsRunOf (Some command) (S.left source.old)) }
-    ensures done { IfOk result (IsDoneBy command) }
-{
-    let program = program_from(alloc, source)?;
-    if !takes_words(&program, command.words().len()) {
-        return Err(NoRun::Misfit);
-    }
-    Ok(done(alloc, command, program)?)
-}
-
-// The text of a run: its result, and behind it the report where it is asked for.
-fn text_by(alloc: Global, run: &Record, report: bool) -> Result<Vec<u8>, cw_base::OutOfMemory>
-    requires { IsTrue (is_strand run.now.tree (ending_strand run.now.end)) }
-    ensures { IfOk result (λ text. text.items ≡ text_by report run.now) }
-{
-    let mut text = result_text(alloc, run)?;
-    if report {
-        text.extend_from_slice(report_text(alloc, run)?.as_slice())?;
-    }
-    Ok(text)
-}
-
-// Writes the text of a run, once it is made whole.
-fn write_run<K: Sink>(
-    alloc: Global,
-    run: &Record,
-    report: bool,
-    sink: &mut K,
-) -> Result<(), NotWritten>
-    requires { IsTrue (is_strand run.now.tree (ending_strand run.now.end)) }
-    ensures later { K.faults sink.old ≤ K.faults sink.new }
-    ensures written { OnOk result (Appends (K.written sink.old) (K.written sink.new) (text_by report run.now)) }
-    ensures nothing { IsErrOf result OutOfMemory → Appends (K.written sink.old) (K.written sink.new) [] }
-    ensures tells { OnOk result (KeepsTelling (K.tells_for sink.old) (K.tells_for sink.new) (K.written sink.old) (K.written sink.new) (length (text_by report run.now))) }
-    ensures untouched { IsErrOf result OutOfMemory
-        → TellsOn (K.written sink.old) (K.written sink.new) × ((n : ℕ) → K.tells_for sink.old n → K.tells_for sink.new n) }
-    ensures front { IsErrOf result WriteFault → AppendsFront (K.written sink.old) (K.written sink.new) (text_by report run.now) }
-    ensures cause { IsErrOf result WriteFault → Rose (K.faults sink.old) (K.faults sink.new) }
-{
-    let text = text_by(alloc, run, report)?;
-    Ok(write_all(sink, text.as_slice())?)
-}
-
-fn without_run(why: NoRun) -> Reply
-    ensures status { IsStatus result.kept result.status result.note }
-    ensures note { result.note ≡ note_of why }
-    ensures misfit { result.status ≡ 2 → why ≡ Misfit }
-    ensures none { result.kept ≡ None }
-{
-    let (status, note) = match why {
-        NoRun::Stopped(Stop::ReadFault) => (3, Note::Read),
-        NoRun::Refused(Refusal::Text(fault)) => (5, Note::Text(fault)),
-        NoRun::Refused(Refusal::Name(fault)) => (5, Note::Name(fault)),
-        NoRun::Misfit => (2, Note::Usage),
-        _ => (1, Note::Memory),
-    };
-    Reply {
-        status,
-        note,
-        kept: None,
-    }
-}
-
 // What comes of a command.
-fn ran<S: Source, K: Sink>(alloc: Global, command: Command, source: &mut S, sink: &mut K) -> Reply
+fn ran<R: Threads + Wait + Sync, S: Source, K: Sink, G: Gate>(
+    rt: &R,
+    alloc: Global,
+    command: Command,
+    source: &mut S,
+    sink: &mut K,
+    gate: &G,
+) -> Reply
     requires { IsReady command }
     ensures read_later { S.faults source.old ≤ S.faults source.new }
     ensures write_later { K.faults sink.old ≤ K.faults sink.new }
@@ -151,35 +41,25 @@ fn ran<S: Source, K: Sink>(alloc: Global, command: Command, source: &mut S, sink
     ensures once { RisesAtMost 1 (S.ends source.old) (S.ends source.new) }
     ensures run { IfSome result.kept (IsRunOf (Some command) (S.left source.old)) }
     ensures done { IfSome result.kept (IsDoneBy command) }
-    ensures written { Writes (Some command) result.kept result.note (K.written sink.old) (K.written sink.new) }
-    ensures tells { (result.status ≡ 4 → ⊥) → StillTells (Some command) result.kept (K.tells_for sink.old) (K.tells_for sink.new) (K.written sink.old) (K.written sink.new) }
+    ensures written { Writes (text_owed (text_of (Some command)) result.kept result.status) result.note (K.written sink.old) (K.written sink.new) }
+    ensures tells { (result.status ≡ 4 → ⊥) → StillTells (text_owed (text_of (Some command)) result.kept result.status) (K.tells_for sink.old) (K.tells_for sink.new) (K.written sink.old) (K.written sink.new) }
 {
     let report = command.asks_report();
-    let run = match run_of(alloc, command, source) {
-        Ok(run) => run,
-        Err(why) => return without_run(why),
-    };
-    match write_run(alloc, &run, report, sink) {
-        Ok(()) => Reply {
-            status: status_of_end(&run.end),
-            note: Note::Nothing,
-            kept: Some(run),
-        },
-        Err(NotWritten::WriteFault) => Reply {
-            status: 4,
-            note: Note::Write,
-            kept: Some(run),
-        },
-        Err(NotWritten::OutOfMemory) => without_run(NoRun::OutOfMemory),
+    let is_unsure = has_several_threads(&command);
+    match run_of(rt, alloc, command, source, gate) {
+        Ok(run) => told(alloc, run, is_unsure, report, sink),
+        Err(why) => without_run(why),
     }
 }
 
-// All that the top call does, which never waits.
-fn answer<S: Source, K: Sink>(
+// All that the top call does, once the words are read.
+fn answer<R: Threads + Wait + Sync, S: Source, K: Sink, G: Gate>(
+    rt: &R,
     alloc: Global,
     command: Option<Command>,
     source: &mut S,
     sink: &mut K,
+    gate: &G,
 ) -> Reply
     requires { IfSome command IsReady }
     ensures read_later { S.faults source.old ≤ S.faults source.new }
@@ -192,8 +72,8 @@ fn answer<S: Source, K: Sink>(
     ensures once { RisesAtMost (most_ends command) (S.ends source.old) (S.ends source.new) }
     ensures run { IfSome result.kept (IsRunOf command (S.left source.old)) }
     ensures done { IfSome result.kept (IsDoneAs command) }
-    ensures written { Writes command result.kept result.note (K.written sink.old) (K.written sink.new) }
-    ensures tells { (result.status ≡ 4 → ⊥) → StillTells command result.kept (K.tells_for sink.old) (K.tells_for sink.new) (K.written sink.old) (K.written sink.new) }
+    ensures written { Writes (text_owed (text_of command) result.kept result.status) result.note (K.written sink.old) (K.written sink.new) }
+    ensures tells { (result.status ≡ 4 → ⊥) → StillTells (text_owed (text_of command) result.kept result.status) (K.tells_for sink.old) (K.tells_for sink.new) (K.written sink.old) (K.written sink.new) }
 {
     match command {
         None => Reply {
@@ -201,19 +81,22 @@ fn answer<S: Source, K: Sink>(
             note: Note::Usage,
             kept: None,
         },
-        Some(command) => ran(alloc, command, source, sink),
+        Some(command) => ran(rt, alloc, command, source, sink, gate),
     }
 }
 
 /// Does all that the program does. `words` are the command's words without the program's name. Each command reads a program from
 /// the source, runs it with the words of main, and writes its result (`result_text`) to the sink, with `--report 1` followed by the
-/// report on it (`report_text`): `run` depth first, with the options `--fuel` and `--size`; `sim` by the moves of several virtual
-/// workers, with these and `--workers`, `--aborts`, `--strands`, `--moves`, and `--schedule` or `--seed`.
+/// report on it (`report_text`): `run` on as many threads as `--workers` says, four where it does not, and one goes depth first; `sim` by the
+/// moves of so many virtual workers. Both have the options `--fuel`, `--size`, `--aborts` and `--strands`; `sim` has `--moves`, and `--schedule`
+/// or `--seed`, too.
+///
+/// A run of several threads is written only once one memory has done the same in its order; status 8 says that it did not. The gate is called
+/// by each of these threads before a look at the tasks of another, and before each try of a begin, an access or a commit.
 ///
 /// The statuses are those of `Reply`. At most 1,048,577 bytes are read, one more than a text may have, and never more are asked
 /// for. Refusals are looked for in this order: words, read, text, names, number of words, run, write; want of memory may stand at
 /// any place behind the words.
-/// The gate is not called yet.
 pub fn cwstm<R: Threads + Wait + Sync, S: Source, K: Sink, G: Gate>(
     rt: &R,
     alloc: Global,
@@ -245,25 +128,31 @@ pub fn cwstm<R: Threads + Wait + Sync, S: Source, K: Sink, G: Gate>(
         → (Rose (S.faults source.old) (S.faults source.new) → ⊥) → (Rose (K.faults sink.old) (K.faults sink.new) → ⊥)
         → MayEndWith (command_in words.now) result.status }
 
-    // What is kept is a run of the command: it is coherent, and one memory does the same. Of `run` it is the depth-first one, in which
-    // nothing is refused; of `sim` it is the record of the moves of the command's workers, in the turns of its schedule: if there is one, nothing
-    // is refused either, and it is the depth-first one too, unless the moves were spent.
+    // What is kept is a run of the command. Of one thread it is the depth-first one, in which nothing is refused; of several it is that of their
+    // board. Of `sim` it is the record of the moves of the command's workers, in the turns of its schedule: if there is one, nothing is refused
+    // either, and it is the depth-first one too, unless the moves were spent. One thread and every simulation are coherent.
     ensures run { IfSome result.kept (IsRunOf (command_in words.now) (S.left source.old)) }
     ensures done { IfSome result.kept (IsDoneAs (command_in words.now)) }
     ensures whole { OnSome result.kept (ReadsWhole (command_in words.now) (S.left source.old) (S.left source.new)) }
 
-    // One memory does the same over the syntax tree that the source spells.
-    ensures source { IfSome result.kept (IsRunOfSource (command_in words.now) (S.left source.old)) }
+    // One memory does the same, over the program's code and over the syntax tree that the source spells, but with status 8.
+    ensures replays { result.status ≢ 8 → IfSome result.kept IsReplayed }
+    ensures source { result.status ≢ 8 → IfSome result.kept (IsRunOfSource (command_in words.now) (S.left source.old)) }
+
+    // With status 8 it does not, and nothing was written or noted. It comes only of several threads.
+    ensures disagrees { result.status ≡ 8 → IsSomeAnd result.kept (λ r. IsReplayed r → ⊥) }
+    ensures silent { result.status ≡ 8 → (result.note ≡ Nothing) × Appends (K.written sink.old) (K.written sink.new) [] }
+    ensures threads { result.status ≡ 8 → HasSeveralThreads (command_in words.now) }
 
     // With status 0 the text of what one memory comes to was written.
     ensures finished { result.status ≡ 0 → IsSomeAnd result.kept (λ r. WritesEndOfOneMemory (command_in words.now) r (K.written sink.old) (K.written sink.new)) }
 
-    // With status 7 a strand spent its budget, on attempts that are kept one by one.
-    ensures spent { result.status ≡ 7 → IsSomeAnd result.kept SpentItsBudget }
+    // With status 7 a strand spent its budget, and one memory comes to where it stands. In a simulation each of its attempts is kept.
+    ensures spent { result.status ≡ 7 → IsSomeAnd result.kept (IsSpentBy (command_in words.now)) }
 
-    // It comes only of several workers, and of a source with a `spawn`.
+    // It comes only of several workers, and in a simulation of a source with a `spawn`.
     ensures several { result.status ≡ 7 → HasSeveralWorkers (command_in words.now) }
-    ensures spawns { result.status ≡ 7 → IfSome (S.left source.old) Spawns }
+    ensures spawns { result.status ≡ 7 → IsSpentOn (command_in words.now) (S.left source.old) }
 
     // Status 9 comes exactly where all moves of a simulation were made without an end, and the text was written.
     ensures moves { result.status ≡ 9 ↔ ((result.note ≡ Nothing) × IsSomeAnd result.kept (HasSpentMoves (command_in words.now))) }
@@ -274,10 +163,10 @@ pub fn cwstm<R: Threads + Wait + Sync, S: Source, K: Sink, G: Gate>(
     // Reading ends with the first read that gives no byte: at the end of the source, at a failure, or into an empty buffer.
     // So the source is asked at most once at its end, and not again after it failed. Words that are no command ask for nothing.
     ensures once { RisesAtMost (most_ends (command_in words.now)) (S.ends source.old) (S.ends source.new) }
-    ensures written { Writes (command_in words.now) result.kept result.note (K.written sink.old) (K.written sink.new) }
+    ensures written { Writes (text_owed (text_of (command_in words.now)) result.kept result.status) result.note (K.written sink.old) (K.written sink.new) }
 
     // Unless a write failed, a sink that goes on telling for as many bytes as the text has, and some more, still tells, and goes on for the rest.
-    ensures tells { (result.status ≡ 4 → ⊥) → StillTells (command_in words.now) result.kept (K.tells_for sink.old) (K.tells_for sink.new) (K.written sink.old) (K.written sink.new) }
+    ensures tells { (result.status ≡ 4 → ⊥) → StillTells (text_owed (text_of (command_in words.now)) result.kept result.status) (K.tells_for sink.old) (K.tells_for sink.new) (K.written sink.old) (K.written sink.new) }
 
     // Counts of faults never fall.
     ensures read_later { S.faults source.old ≤ S.faults source.new }
@@ -286,5 +175,5 @@ pub fn cwstm<R: Threads + Wait + Sync, S: Source, K: Sink, G: Gate>(
     let Ok(command) = command_of(alloc, words) else {
         return without_run(NoRun::OutOfMemory);
     };
-    answer(alloc, command, source, sink)
+    answer(rt, alloc, command, source, sink, gate)
 }

@@ -10,9 +10,9 @@ use Rattle.cw_words.specs.declared.command.Command.{Command}
 use Rattle.cw_words.specs.declared.command.Command.TheVariants.{Run}
 use Rattle.cw_io.specs.declared.schedule.Schedule.TheVariants.{List as Listed}
 use Rattle.cw_words.specs.Options.{Given, list_below}
-use Rattle.cw_words.specs.Reading.{integers_in, known_in, limits_in, report_asked, schedule_asked, text_in, value_in}
+use Rattle.cw_words.specs.Reading.{integers_in, known_in, limits_in, number_asked, report_asked, schedule_asked, text_in, value_in}
 use Rattle.cw_words.specs.Words as words
-use Rattle.cw_words.specs.Words.{run_given, run_options}
+use Rattle.cw_words.specs.Words.{run_given, run_options, workers_option}
 
 abbrev pub schedule_by : (workers : ℕ) → (list seed : Option (Option (List ℕ))) → Option Schedule
 schedule_by workers list seed = option_and_then (λ l. option_and_then (λ s. words.schedule_in workers l s) seed) list
@@ -21,10 +21,10 @@ pub schedule_is : (workers : ℕ) (g : Option Given) → schedule_asked workers 
 schedule_is workers None = refl
 schedule_is workers (Some h) = refl
 
-abbrev pub run_by : (known : Bool) → Option Limits → (report : Option Bool) → Option (List ℤ) → Option Command
-run_by known limits report integers = if known then option_and_then (λ ls. option_and_then (λ p. option_map (λ ns. Run ns ls p) integers) report) limits else None
+abbrev pub run_by : (known : Bool) → Option Limits → (report : Option Bool) → (workers : Option ℕ) → Option (List ℤ) → Option Command
+run_by known limits report workers integers = if known then option_and_then (λ ls. option_and_then (λ p. option_and_then (λ w. option_map (λ ns. Run ns ls w p) integers) workers) report) limits else None
 
-pub run_is : (g : Option Given) → option_and_then run_given g ≡ run_by (known_in run_options g) (limits_in g) (report_asked g) (integers_in g)
+pub run_is : (g : Option Given) → option_and_then run_given g ≡ run_by (known_in run_options g) (limits_in g) (report_asked g) (number_asked workers_option g) (integers_in g)
 run_is None = refl
 run_is (Some h) = refl
 
@@ -78,18 +78,20 @@ module _ (workers : ℕ) (g : Option Given) (list seed : Option (Bor (List ℕ))
         go (Some ns) (Err e) h (Ok x) is = absurd is
 
 -- the run is found, and has the words that were kept
-pub run_found : (g : Option Given) (ls : Limits) (report : Bool) (kept : Result (List ℤ) OutOfMemory) → known_in run_options g ≡ true → Some ls ≡ limits_in g → Some report ≡ report_asked g → Reads (integers_in g) (Some kept)
-    → IsSomeAnd (option_and_then run_given g) (λ c. IfOk kept (λ ns. c ≡ Run ns ls report))
-run_found g ls report kept known limits asked h =
-    subst (λ (o : Option Command). IsSomeAnd o (λ c. IfOk kept (λ ns. c ≡ Run ns ls report)))
-    (sym (run_is g ∙ ap (λ b. run_by b (limits_in g) (report_asked g) (integers_in g)) known ∙ ap (λ o. run_by true o (report_asked g) (integers_in g)) (sym limits) ∙ ap (λ o. run_by true (Some ls) o (integers_in g)) (sym asked)))
-    (go (integers_in g) h)
+pub run_found : (g : Option Given) (ls : Limits) (report : Bool) (workers : ℕ) (kept : Result (List ℤ) OutOfMemory) → known_in run_options g ≡ true → Some ls ≡ limits_in g → Some report ≡ report_asked g → Some workers ≡ number_asked workers_option g → Reads (integers_in g) (Some kept)
+    → IsSomeAnd (option_and_then run_given g) (λ c. IfOk kept (λ ns. c ≡ Run ns ls workers report))
+run_found g ls report workers kept known limits asked many h =
+    let by = run_is g ∙ ap (λ b. run_by b (limits_in g) (report_asked g) (number_asked workers_option g) (integers_in g)) known
+    ∙ ap (λ o. run_by true o (report_asked g) (number_asked workers_option g) (integers_in g)) (sym limits)
+    ∙ ap (λ o. run_by true (Some ls) o (number_asked workers_option g) (integers_in g)) (sym asked)
+    ∙ ap (λ o. run_by true (Some ls) (Some report) o (integers_in g)) (sym many) in
+    subst (λ (o : Option Command). IsSomeAnd o (λ c. IfOk kept (λ ns. c ≡ Run ns ls workers report))) (sym by) (go (integers_in g) h)
   where
-    same : (k : Result (List ℤ) OutOfMemory) (x : List ℤ) → IfOk k (λ y. y ≡ x) → IfOk k (λ ns. Run x ls report ≡ Run ns ls report)
-    same (Ok y) x e = ap (λ z. Run z ls report) (sym e)
+    same : (k : Result (List ℤ) OutOfMemory) (x : List ℤ) → IfOk k (λ y. y ≡ x) → IfOk k (λ ns. Run x ls workers report ≡ Run ns ls workers report)
+    same (Ok y) x e = ap (λ z. Run z ls workers report) (sym e)
     same (Err e) x h = tt
 
-    go : (o : Option (List ℤ)) → Reads o (Some kept) → IsSomeAnd (option_map (λ ns. Run ns ls report) o) (λ c. IfOk kept (λ ns. c ≡ Run ns ls report))
+    go : (o : Option (List ℤ)) → Reads o (Some kept) → IsSomeAnd (option_map (λ ns. Run ns ls workers report) o) (λ c. IfOk kept (λ ns. c ≡ Run ns ls workers report))
     go None h = h
     go (Some x) h = same kept x h
 

@@ -1,4 +1,4 @@
--- Which words are a command, and what they say. There are two: `run` has three options, `sim` has nine, and both have the words of main.
+-- Which words are a command, and what they say. There are two: `run` has six options, `sim` has nine, and both have the words of main.
 use Rattle.std.specs.Prelude.{◌-◌, ◌^◌, Bool, true, false, List, [], ◌∷◌, ℕ, ℤ, Option, Some, None, codes, if◌then◌else◌, map, option_and_then, option_map, string_bytes, String}
 use Rattle.std.specs.declared.alloc.Global.{Global}
 use Rattle.std.specs.Str.{bytes_eq}
@@ -33,7 +33,7 @@ workers_option = record { name = codes "workers"; least = 1; most = 64; default 
 
 -- the names of the options of each command
 abbrev pub run_options : List (List ℕ)
-run_options = codes "fuel" ∷ codes "size" ∷ codes "report" ∷ []
+run_options = codes "fuel" ∷ codes "size" ∷ codes "aborts" ∷ codes "strands" ∷ codes "workers" ∷ codes "report" ∷ []
 
 abbrev pub sim_options : List (List ℕ)
 sim_options = codes "fuel" ∷ codes "size" ∷ codes "aborts" ∷ codes "strands" ∷ codes "moves" ∷ codes "workers" ∷ codes "schedule" ∷ codes "seed" ∷ codes "report" ∷ []
@@ -76,8 +76,9 @@ schedule_given workers os =
 -- the run that options and words ask for
 abbrev pub run_given : Given → Option Command
 run_given g =
-    if are_known run_options g.options then option_and_then (λ limits. option_and_then (λ report. option_map (λ ns. Run ns limits report)
-    (integers_of g.words)) (report_given g.options)) (limits_given g.options)
+    if are_known run_options g.options then
+    option_and_then (λ limits. option_and_then (λ report. option_and_then (λ workers. option_map (λ ns. Run ns limits workers report)
+    (integers_of g.words)) (number_given workers_option g.options)) (report_given g.options)) (limits_given g.options)
     else None
 
 -- the simulation that options and words ask for
@@ -97,16 +98,16 @@ command_of (name ∷ words) =
     else None
 
 abbrev pub words_of : Command → List ℤ
-words_of (Run words limits report) = words
+words_of (Run words limits workers report) = words
 words_of (Sim words limits workers schedule report) = words
 
 abbrev pub limits_of : Command → Limits
-limits_of (Run words limits report) = limits
+limits_of (Run words limits workers report) = limits
 limits_of (Sim words limits workers schedule report) = limits
 
 -- whether a report is asked for
 abbrev pub asks_report : Command → Bool
-asks_report (Run words limits report) = report
+asks_report (Run words limits workers report) = report
 asks_report (Sim words limits workers schedule report) = report
 
 -- the command that these words are, which come behind the program's name, if they are one

@@ -15,11 +15,15 @@ default_limits = record { fuel = 1000000; size = 1000000; aborts = 100000; stran
 
 -- a run of these limits; the others are those that no option has changed
 abbrev pub run_of : (fuel size : ℕ) → Option Command
-run_of fuel size = Some (Run [] (record default_limits { fuel = fuel; size = size }) false)
+run_of fuel size = Some (Run [] (record default_limits { fuel = fuel; size = size }) 4 false)
 
 -- a run of these words
 abbrev pub run_on : List ℤ → Option Command
-run_on words = Some (Run words default_limits false)
+run_on words = Some (Run words default_limits 4 false)
+
+-- a run of these limits, without words, by so many workers
+abbrev pub run_by : Limits → (workers : ℕ) → Option Command
+run_by limits workers = Some (Run [] limits workers false)
 
 -- a simulation of these limits, without words, by so many workers in the turns of a schedule
 abbrev pub sim_of : Limits → (workers : ℕ) → Schedule → Option Command
@@ -30,7 +34,7 @@ abbrev pub zeros : ℕ → List ℕ
 zeros n = codes "0" ++ flat_map {X = ℕ} (λ x. codes ",0") (replicate n 0)
 
 pub record Commands : Type 0 where
-  pub plain : command_of (codes "run" ∷ []) ≡ Some (Run [] default_limits false)
+  pub plain : command_of (codes "run" ∷ []) ≡ Some (Run [] default_limits 4 false)
   pub none : command_of [] ≡ None
   pub capital : command_of (codes "Run" ∷ []) ≡ None
   pub empty : command_of ([] ∷ []) ≡ None
@@ -61,20 +65,20 @@ pub record Commands : Type 0 where
   -- an option that is given twice, one that there is not, and one before the command
   pub twice : command_of (codes "run" ∷ codes "--fuel" ∷ codes "1" ∷ codes "--fuel=1" ∷ []) ≡ None
   pub short : command_of (codes "run" ∷ codes "--fue" ∷ codes "1" ∷ []) ≡ None
-  pub unknown : command_of (codes "run" ∷ codes "--workers" ∷ codes "1" ∷ []) ≡ None
+  pub unknown : command_of (codes "run" ∷ codes "--worker" ∷ codes "1" ∷ []) ≡ None
   pub nameless : command_of (codes "run" ∷ codes "--=1" ∷ []) ≡ None
   pub one_hyphen : command_of (codes "run" ∷ codes "-fuel" ∷ codes "1" ∷ []) ≡ None
   pub before : command_of (codes "--fuel" ∷ codes "1" ∷ codes "run" ∷ []) ≡ None
   -- words of main, in their order, before, between and behind options
   pub word : command_of (codes "run" ∷ codes "7" ∷ []) ≡ run_on (pos 7 ∷ [])
-  pub words : command_of (codes "run" ∷ codes "7" ∷ codes "--fuel" ∷ codes "2" ∷ codes "5" ∷ codes "--size=4" ∷ []) ≡ Some (Run (pos 7 ∷ pos 5 ∷ []) (record default_limits { fuel = 2; size = 4 }) false)
+  pub words : command_of (codes "run" ∷ codes "7" ∷ codes "--fuel" ∷ codes "2" ∷ codes "5" ∷ codes "--size=4" ∷ []) ≡ Some (Run (pos 7 ∷ pos 5 ∷ []) (record default_limits { fuel = 2; size = 4 }) 4 false)
   pub word_zeros : command_of (codes "run" ∷ codes "007" ∷ []) ≡ run_on (pos 7 ∷ [])
   pub greatest : command_of (codes "run" ∷ codes "9223372036854775807" ∷ []) ≡ run_on (pos 9223372036854775807 ∷ [])
   -- behind `--` there are only words
   pub only_words : command_of (codes "run" ∷ codes "--" ∷ codes "7" ∷ codes "-5" ∷ []) ≡ run_on (pos 7 ∷ neg_ℤ (pos 5) ∷ [])
   pub only_behind : command_of (codes "run" ∷ codes "7" ∷ codes "--" ∷ codes "-5" ∷ []) ≡ run_on (pos 7 ∷ neg_ℤ (pos 5) ∷ [])
   pub no_more : command_of (codes "run" ∷ codes "--" ∷ []) ≡ run_on []
-  pub option_before : command_of (codes "run" ∷ codes "--size=4" ∷ codes "--" ∷ codes "1" ∷ []) ≡ Some (Run (pos 1 ∷ []) (record default_limits { size = 4 }) false)
+  pub option_before : command_of (codes "run" ∷ codes "--size=4" ∷ codes "--" ∷ codes "1" ∷ []) ≡ Some (Run (pos 1 ∷ []) (record default_limits { size = 4 }) 4 false)
   pub signed_zeros : command_of (codes "run" ∷ codes "--" ∷ codes "-0" ∷ codes "-007" ∷ []) ≡ run_on (pos 0 ∷ neg_ℤ (pos 7) ∷ [])
   pub lowest : command_of (codes "run" ∷ codes "--" ∷ codes "-9223372036854775808" ∷ codes "0" ∷ []) ≡ run_on (neg_ℤ (pos 9223372036854775808) ∷ pos 0 ∷ [])
   -- what is no word of main
@@ -138,13 +142,20 @@ pub record Simulations : Type 0 where
   pub both_other : command_of (codes "sim" ∷ codes "--schedule" ∷ codes "0" ∷ codes "--seed" ∷ codes "1" ∷ []) ≡ None
   -- a report: its one value is 1
   pub report : command_of (codes "sim" ∷ codes "--report" ∷ codes "1" ∷ []) ≡ Some (Sim [] default_limits 4 (Listed []) true)
-  pub run_report : command_of (codes "run" ∷ codes "--report=01" ∷ []) ≡ Some (Run [] default_limits true)
+  pub run_report : command_of (codes "run" ∷ codes "--report=01" ∷ []) ≡ Some (Run [] default_limits 4 true)
   pub other_report : command_of (codes "run" ∷ codes "--report" ∷ codes "2" ∷ []) ≡ None
   pub no_report : command_of (codes "sim" ∷ codes "--report=0" ∷ []) ≡ None
+  -- those of a run, too
+  pub run_workers : command_of (codes "run" ∷ codes "--workers" ∷ codes "1" ∷ []) ≡ run_by default_limits 1
+  pub run_zeros : command_of (codes "run" ∷ codes "--workers=007" ∷ []) ≡ run_by default_limits 7
+  pub run_most : command_of (codes "run" ∷ codes "--workers=64" ∷ codes "--aborts=1000000000" ∷ codes "--strands=1000000" ∷ [])
+      ≡ run_by (record default_limits { aborts = 1000000000; strands = 1000000 }) 64
+  pub run_least : command_of (codes "run" ∷ codes "--strands=1" ∷ codes "--aborts" ∷ codes "1" ∷ []) ≡ run_by (record default_limits { aborts = 1; strands = 1 }) 4
+  pub run_no_workers : command_of (codes "run" ∷ codes "--workers=0" ∷ []) ≡ None
+  pub run_many_workers : command_of (codes "run" ∷ codes "--workers=65" ∷ []) ≡ None
+  pub run_many_strands : command_of (codes "run" ∷ codes "--strands=1000001" ∷ []) ≡ None
+  pub run_workers_twice : command_of (codes "run" ∷ codes "--workers" ∷ codes "4" ∷ codes "--workers=4" ∷ []) ≡ None
   -- those of a simulation alone
-  pub run_workers : command_of (codes "run" ∷ codes "--workers=1" ∷ []) ≡ None
-  pub run_aborts : command_of (codes "run" ∷ codes "--aborts=1" ∷ []) ≡ None
-  pub run_strands : command_of (codes "run" ∷ codes "--strands=1" ∷ []) ≡ None
   pub run_moves : command_of (codes "run" ∷ codes "--moves=1" ∷ []) ≡ None
   pub run_schedule : command_of (codes "run" ∷ codes "--schedule=0" ∷ []) ≡ None
   pub run_seed : command_of (codes "run" ∷ codes "--seed=1" ∷ []) ≡ None

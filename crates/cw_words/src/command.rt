@@ -11,10 +11,12 @@ use std::alloc::Global;
 /// What the words of a command ask for, and what they say of it.
 #[derive(Drop)]
 pub enum Command {
-    /// Reads a program from the source, runs it with these words and limits, and writes its result, and the report where it is asked for.
+    /// Reads a program from the source, runs it with these words and limits by so many workers, and writes its result, and the report
+    /// where it is asked for.
     Run {
         words: Seq<i64>,
         limits: Limits,
+        workers: u32,
         report: bool,
     },
     /// The same by so many virtual workers, who move in the turns of this schedule.
@@ -54,7 +56,8 @@ fn run_with(alloc: Global, words: &[String]) -> Result<Option<Command>, OutOfMem
     ensures exact { IfOk result (λ c. c ≡ option_and_then run_given (given (map string_bytes words.now))) }
     ensures memory { OnErr result (IsSome (option_and_then run_given (given (map string_bytes words.now)))) }
 {
-    if !are_known(words, &["fuel", "size", "report"]) {
+    let names = ["fuel", "size", "aborts", "strands", "workers", "report"];
+    if !are_known(words, &names) {
         return Ok(None);
     }
     let Some(limits) = limits_of(words) else {
@@ -63,12 +66,16 @@ fn run_with(alloc: Global, words: &[String]) -> Result<Option<Command>, OutOfMem
     let Some(report) = report_of(words) else {
         return Ok(None);
     };
+    let Some(workers) = workers_of(words) else {
+        return Ok(None);
+    };
     let Some(kept) = integers_of(alloc, words) else {
         return Ok(None);
     };
     Ok(Some(Command::Run {
         words: kept?,
         limits,
+        workers,
         report,
     }))
 }

@@ -1,4 +1,4 @@
-//! A table of worked sources: each source of standard input, with `#` between them, is run by the top call in memory, and what
+//! A table of worked sources: each source of standard input, with `#` between them, is run depth first by the top call in memory, and what
 //! it answers is printed: the status, the note and the text.
 //! Stands on `cw_top` and `cw_io`; its tests, of what the worked sources cannot show, on `cw_record` and what is below it too.
 #![tactic(auto)]
@@ -32,7 +32,10 @@ fn ask<R: AllocGlobal + Threads + Wait + Sync>(
 }
 
 fn show<R: AllocGlobal + Print + Threads + Wait + Sync>(rt: &R, text: &[u8]) -> io::Result<()> {
-    let words = vec![in rt.alloc(); String::from_str(rt.alloc(), "run")?]?;
+    let mut words = Vec::new(rt.alloc());
+    for word in ["run", "--workers", "1"] {
+        words.push(String::from_str(rt.alloc(), word)?)?;
+    }
     let mut source = SureSource::new(text.to_vec(rt.alloc())?, 4096);
     let Ok(mut sink) = SureSink::with_room(rt.alloc(), 4096) else {
         return println!(rt; "want of memory");

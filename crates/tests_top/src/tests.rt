@@ -10,6 +10,7 @@ use std::thread::Threads;
 mod checking;
 mod outside;
 mod simulating;
+mod threads;
 
 const COUNTS: &[u8] = b"cell c; fn main() { c = c + 1; out c; }";
 
@@ -103,11 +104,13 @@ fn a_source_may_have_so_many_bytes(rt: HostRuntime) -> Result<(), Fail> {
 
 #[test]
 fn the_words_are_read_first(rt: HostRuntime) -> Result<(), Fail> {
-    let table: [&[&str]; 6] = [
+    let table: [&[&str]; 8] = [
         &[],
         &["go"],
         &["run", "run"],
         &["run", "--workers"],
+        &["run", "--workers=65"],
+        &["run", "--moves=5"],
         &["run", "-5"],
         &[""],
     ];

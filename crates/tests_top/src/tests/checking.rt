@@ -20,7 +20,7 @@ fn record<R: AllocGlobal + Threads + Wait + Sync>(rt: &R, text: &[u8]) -> Result
 {
     let mut source = SureSource::new(text.to_vec(rt.alloc())?, 100);
     let mut sink = SureSink::with_room(rt.alloc(), 100)?;
-    let reply = answer(rt, &["run"], &mut source, &mut sink)?;
+    let reply = answer(rt, &["run", "--workers=1"], &mut source, &mut sink)?;
     let kept = reply.kept.ok_or("no run is kept")?;
     if takes_words(&kept.program, kept.words.len()) {
         Ok(kept)

@@ -40,13 +40,13 @@ impl Gate for Counter {
 #[test]
 fn no_worker_comes_to_the_gate(rt: HostRuntime) -> Result<(), Fail> {
     let spawning = b"cell c; fn main() { spawn { atomic { c = 1; } } atomic { c = 2; } }";
-    for command in ["run", "sim"] {
+    for (command, option) in [("run", "--workers=1"), ("sim", "--workers=4")] {
         let gate = Counter {
             calls: AtomicU64::new(0),
         };
         let mut source = SureSource::new(spawning.to_vec(rt.alloc())?, 9);
         let mut sink = SureSink::with_room(rt.alloc(), 100)?;
-        let reply = answer_at(&rt, &[command], &mut source, &mut sink, &gate)?;
+        let reply = answer_at(&rt, &[command, option], &mut source, &mut sink, &gate)?;
         assert_eq!(rt; reply.status, 0, "{command}");
         assert_eq!(rt; gate.calls.load(Ordering::SeqCst), 0, "{command}");
     }

@@ -1,4 +1,4 @@
-use Rattle.cw_top.specs.Outcome.{most_bytes}
+use Rattle.cw_top.specs.Taken.{most_bytes}
 use Rattle.cw_top.proofs.Pieces.{Takes-gives, TakesAtMost-append, WhyStopped-later}
 use Rattle.std.proofs.Common.{rules}
 use Rattle.cw_top.proofs.reading.read_all.Goals as goal

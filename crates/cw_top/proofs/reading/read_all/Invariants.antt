@@ -1,6 +1,6 @@
 use Rattle.std.proofs.Common.{◌-◌, ◌≡◌, ◌≤◌, length}
 use Rattle.cw_io.specs.Outside.{Takes}
-use Rattle.cw_top.specs.Outcome.{most_bytes}
+use Rattle.cw_top.specs.Taken.{most_bytes}
 use Rattle.cw_top.proofs.reading.read_all.Given as goal
 
 abbrev pub invariant-pieces : goal.invariant-pieces

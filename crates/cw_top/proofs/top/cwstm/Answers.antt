@@ -1,7 +1,8 @@
-use Rattle.cw_top.specs.Outcome.{IsReady}
+use Rattle.cw_top.specs.Runs.{IsReady}
 use Rattle.std.proofs.Common.{map, string_bytes, subst, sym}
 use Rattle.std.specs.Prelude.{IfSome}
 use Rattle.cw_top.proofs.Budgets.{spends}
+use Rattle.cw_top.proofs.Checks as checks
 use Rattle.cw_top.proofs.OverSource.{of_source}
 use Rattle.cw_top.proofs.Pieces as pieces
 use Rattle.cw_top.proofs.Ready.{ready}
@@ -43,10 +44,24 @@ returns-clause-complete g c =
     let done = rw c.in-Ok.ensures.exact at c.answer.ensures.done in
     statuses.complete _ _ _ _ _ _ _ c.answer.ensures.status cause (ready (map string_bytes c.args.words.now)) done
 
+pub returns-clause-replays : goal.returns-clause-replays
+returns-clause-replays g c = checks.replays _ _ _ c.answer.ensures.status
+
 pub returns-clause-source : goal.returns-clause-source
 returns-clause-source g c =
     let run = rw c.in-Ok.ensures.exact at c.answer.ensures.run in
-    of_source _ _ _ run
+    λ other. of_source _ _ _ run (checks.replays _ _ _ c.answer.ensures.status other)
+
+pub returns-clause-disagrees : goal.returns-clause-disagrees
+returns-clause-disagrees g c = checks.disagrees _ _ _ c.answer.ensures.status
+
+pub returns-clause-silent : goal.returns-clause-silent
+returns-clause-silent g c = checks.silent _ _ _ _ _ _ c.answer.ensures.status c.answer.ensures.written
+
+pub returns-clause-threads : goal.returns-clause-threads
+returns-clause-threads g c =
+    let done = rw c.in-Ok.ensures.exact at c.answer.ensures.done in
+    checks.threads _ _ _ _ c.answer.ensures.status (ready (map string_bytes c.args.words.now)) done
 
 pub returns-clause-finished : goal.returns-clause-finished
 returns-clause-finished g c =
@@ -55,7 +70,10 @@ returns-clause-finished g c =
     statuses.finished _ _ _ _ _ _ _ c.answer.ensures.status run written
 
 pub returns-clause-spent : goal.returns-clause-spent
-returns-clause-spent g c = spends _ _ _ _ _ c.answer.ensures.status c.answer.ensures.run
+returns-clause-spent g c =
+    let run = rw c.in-Ok.ensures.exact at c.answer.ensures.run in
+    let done = rw c.in-Ok.ensures.exact at c.answer.ensures.done in
+    spends _ _ _ _ _ c.answer.ensures.status run done
 
 pub returns-clause-several : goal.returns-clause-several
 returns-clause-several g c =
@@ -63,7 +81,10 @@ returns-clause-several g c =
     statuses.several _ _ _ _ c.answer.ensures.status (ready (map string_bytes c.args.words.now)) done
 
 pub returns-clause-spawns : goal.returns-clause-spawns
-returns-clause-spawns g c = spawned _ _ _ _ _ c.answer.ensures.status c.answer.ensures.run
+returns-clause-spawns g c =
+    let run = rw c.in-Ok.ensures.exact at c.answer.ensures.run in
+    let done = rw c.in-Ok.ensures.exact at c.answer.ensures.done in
+    spawned _ _ _ _ _ c.answer.ensures.status run done
 
 pub returns-clause-moves : goal.returns-clause-moves
 returns-clause-moves g c =

@@ -3,7 +3,7 @@ use Rattle.cw_job.specs.Jobs.{TakesWords}
 use Rattle.cw_words.specs.Words.{words_of}
 use Rattle.cw_top.proofs.Parameters.{misfits}
 use Rattle.cw_top.proofs.CommandRuns.{is_run}
-use Rattle.cw_top.proofs.top.run_of.Goals as goal
+use Rattle.cw_top.proofs.running.run_of.Goals as goal
 
 both : (b : Bool) → b ≡ true → b ≡ false → ⊥
 both b e h = cc
@@ -20,4 +20,4 @@ returns-clause-run g c =
     let takes = subst (λ n. TakesWords c.in_ok-program.program n) (c.len.ensures ∙ ap length c.words.ensures) (c.takes_words.ensures.0 is_true) in
     let done = c.in_ok-done.ensures in
     is_run c.args.command _ c.in_ok-program.program c.in_ok-program.ensures.spelled c.in_ok-program.ensures.compiled takes c.in_ok-done.field-0
-    done.program done.words done.limits done.coherent done.outputs done.replays done.numbered
+    done.program done.words done.limits done.outputs done.tree done.numbered

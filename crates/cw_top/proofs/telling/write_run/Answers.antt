@@ -1,6 +1,6 @@
 use Rattle.std.proofs.Common.{◌≡◌, ◌+◌, length, rules, subst, ap, sym}
-use Rattle.cw_top.specs.Outcome.{text_by}
-use Rattle.cw_top.proofs.top.write_run.Goals as goal
+use Rattle.cw_top.specs.Written.{text_by}
+use Rattle.cw_top.proofs.telling.write_run.Goals as goal
 
 pub returns-clause-tells : goal.returns-clause-tells
 returns-clause-tells g c = λ rest goes_on.

@@ -1,0 +1,80 @@
+-- The run that a command keeps: of which program, with which words and limits, and who did it. What depends on the command is a function of
+-- it, with a case for words that are none; so a further command adds its cases and changes no clause.
+use Rattle.std.specs.Prelude.{◌≡◌, ◌≢◌, ◌<◌, ℕ, List, length, Option, Some, IfSome, IsSomeAnd}
+use Rattle.cw_io.specs.declared.schedule.Schedule.{Schedule}
+use Rattle.cw_strand.specs.Programs.{IsCompiled}
+use Rattle.cw_tree.specs.Walks.{IsNumbered}
+use Rattle.cw_job.specs.Jobs.{TakesWords}
+use Rattle.cw_record.specs.declared.record.Record.{Record}
+use Rattle.cw_record.specs.declared.record_end.RecordEnd.TheVariants.{Moves}
+use Rattle.cw_record.specs.Records.{job_of_record, HasEnded, HasItsOutputs, IsCoherentRun, IsDepthFirst, IsNumberedDepthFirst, IsReplayed}
+use Rattle.cw_sim.specs.Runs.{IsRecordOf, simulation_of}
+use Rattle.cw_sim.specs.Turns.{ListsWorkers}
+use Rattle.cw_sim.specs.OneWorker.{IsUnrefused}
+use Rattle.cw_pool.specs.Recorded.{IsOfBoard, IsOfOneWorker}
+use Rattle.cw_words.specs.declared.command.Command.{Command}
+use Rattle.cw_words.specs.declared.command.Command.TheVariants.{Run, Sim}
+use Rattle.cw_words.specs.Words.{limits_of, words_of}
+use Rattle.cw_top.specs.Refusals.{Spells}
+
+-- ## The command
+
+-- There are workers, and a column for the first strand; and each worker that is listed is one of them.
+abbrev pub IsReady : Command → Type 0
+IsReady (Run words limits workers report) = (0 < workers) × (0 < limits.strands)
+IsReady (Sim words limits workers schedule report) = (0 < workers) × ListsWorkers schedule workers × (0 < limits.strands)
+
+-- a command has more than one worker
+abbrev pub HasSeveralWorkers : Option Command → Type 0
+HasSeveralWorkers (Some (Run words limits workers report)) = 1 < workers
+HasSeveralWorkers (Some (Sim words limits workers schedule report)) = 1 < workers
+HasSeveralWorkers command = ⊥
+
+-- a command has more than one worker, and they are threads
+abbrev pub HasSeveralThreads : Option Command → Type 0
+HasSeveralThreads (Some (Run words limits workers report)) = 1 < workers
+HasSeveralThreads command = ⊥
+
+-- ## What is kept
+
+-- A run of this command: of the program that the whole source spells, which takes its words, with the command's words and limits. What is
+-- kept of it has its outputs, and is numbered depth first.
+pub record IsRunBy (c : Command) (left : Option (List ℕ)) (r : Record) : Type 0 where
+  pub spelled : IfSome left (λ bytes. Spells bytes r.program)
+  pub compiled : IsCompiled r.program
+  pub takes : TakesWords r.program (length r.words)
+  pub words : r.words ≡ words_of c
+  pub limits : r.limits ≡ limits_of c
+  pub outputs : HasItsOutputs r
+  pub tree : IsNumbered r.tree
+  pub numbered : IsNumberedDepthFirst r.tree
+
+-- Only a command leaves a run, and it is its own.
+abbrev pub IsRunOf : Option Command → (left : Option (List ℕ)) → Record → Type 0
+IsRunOf command left r = IsSomeAnd command (λ c. IsRunBy c left r)
+
+-- ## Who did it
+
+-- So many workers on threads did it. One alone was refused nothing and went depth first, to the end or to the first fault, and what is kept is
+-- coherent and replays; of several it is what their board gave. There are no moves that could be spent.
+pub record IsOfThreads (workers : ℕ) (r : Record) : Type 0 where
+  pub one : workers ≡ 1 → IsOfOneWorker r
+  pub several : workers ≢ 1 → IsOfBoard r
+  pub moves : r.end ≢ Moves
+
+-- The moves of so many workers did it, in the turns of a schedule, and it is their record, which is coherent and replays. If there is one
+-- worker, nothing was refused, and unless its moves were spent the strands went depth first, to the end or to the first fault.
+pub record IsOfMoves (workers : ℕ) (schedule : Schedule) (r : Record) : Type 0 where
+  pub moves : IsRecordOf (simulation_of (job_of_record r) workers schedule) r
+  pub coherent : IsCoherentRun r
+  pub replays : IsReplayed r
+  pub one_worker : workers ≡ 1 → IsUnrefused r
+  pub depth_first : workers ≡ 1 → HasEnded r.end → IsDepthFirst r
+
+-- How a command's run is done: by so many threads, or by the moves of so many.
+abbrev pub IsDoneBy : Command → Record → Type 0
+IsDoneBy (Run words limits workers report) r = IsOfThreads workers r
+IsDoneBy (Sim words limits workers schedule report) r = IsOfMoves workers schedule r
+
+abbrev pub IsDoneAs : Option Command → Record → Type 0
+IsDoneAs command r = IsSomeAnd command (λ c. IsDoneBy c r)

@@ -1,0 +1,61 @@
+-- What was written: the text that a command owes for its run, which is none where the run disagrees with its replay.
+use Rattle.std.specs.Prelude.{◌≡◌, ◌==◌, ℕ, ℤ, List, [], ◌++◌, Bool, true, false, length, Option, Some, None, if◌then◌else◌}
+use Rattle.cw_io.specs.Outside.{Appends, AppendsFront, KeepsTelling, TellsOn}
+use Rattle.cw_serial.specs.declared.ends.SerialEnd.{SerialEnd}
+use Rattle.cw_serial.specs.declared.ends.SerialEnd.TheVariants as last
+use Rattle.cw_serial.specs.MachineOf.{end_under}
+use Rattle.cw_record.specs.declared.record.Record.{Record}
+use Rattle.cw_record.specs.Records.{job_of_record}
+use Rattle.cw_report.specs.Results.{finished_text, run_text}
+use Rattle.cw_report.specs.Report.{report_text}
+use Rattle.cw_words.specs.declared.command.Command.{Command}
+use Rattle.cw_words.specs.Words.{asks_report}
+use Rattle.cw_top.specs.declared.outcome.Note.{Note}
+use Rattle.cw_top.specs.declared.outcome.Note.TheVariants as note
+
+-- the report on a run, where it is asked for
+abbrev pub report_if : Bool → Record → List ℕ
+report_if true r = report_text r
+report_if false r = []
+
+-- the text of a run: its result, and behind it the report
+abbrev pub text_by : (report : Bool) → Record → List ℕ
+text_by report r = run_text r ++ report_if report r
+
+-- the text that a command writes for its run
+abbrev pub text_of : Option Command → Record → List ℕ
+text_of None r = []
+text_of (Some c) r = text_by (asks_report c) r
+
+-- the same of a run that finished, with the result from what one memory comes to
+abbrev pub text_of_end : Option Command → Record → (memory outputs : List ℤ) → List ℕ
+text_of_end None r memory outputs = []
+text_of_end (Some c) r memory outputs = finished_text r.program.cells memory outputs ++ report_if (asks_report c) r
+
+-- The text that is owed for what is kept: there is none without a run, and none with status 8.
+abbrev pub text_owed : (text : Record → List ℕ) → Option Record → (status : ℕ) → Option (List ℕ)
+text_owed text None status = None
+text_owed text (Some r) status = if status == 8 then None else Some (text r)
+
+-- The text that is owed was written, or a front of it where the write failed; where none is, nothing was.
+abbrev pub Writes : (owed : Option (List ℕ)) → Note → (old new : Option (List ℕ)) → Type 0
+Writes None n old new = Appends old new []
+Writes (Some text) note.Write old new = AppendsFront old new text
+Writes (Some text) n old new = Appends old new text
+
+-- A sink that says for how many more bytes it goes on telling took the text: where it goes on for so many and some more, what it told it
+-- tells still, and it goes on for the rest. Where no text is owed, all is as before.
+abbrev pub StillTells : (owed : Option (List ℕ)) → (before after : ℕ → Type 0) → (old new : Option (List ℕ)) → Type 0
+StillTells None before after old new = TellsOn old new × ((n : ℕ) → before n → after n)
+StillTells (Some text) before after old new = KeepsTelling before after old new (length text)
+
+-- how one memory ends in the order that is kept
+abbrev pub end_of_one_memory : Record → SerialEnd
+end_of_one_memory r = end_under (job_of_record r) r.order
+
+-- One memory, in the order that is kept, finishes, and what was written is the command's text of its outputs and of itself.
+pub record WritesEndOfOneMemory (command : Option Command) (r : Record) (old new : Option (List ℕ)) : Type 0 where
+  pub memory : List ℤ
+  pub outputs : List ℤ
+  pub finishes : end_of_one_memory r ≡ last.Finished memory outputs
+  pub written : Appends old new (text_of_end command r memory outputs)

@@ -1,0 +1,127 @@
+ghost use Rattle.std.specs.Prelude.{◌≡◌, ◌≢◌, ◌≤◌, ◌<◌, ◌↔◌, None, Some, length, IfOk, IfErr, IfSome, IsErrOf, IsTrue, OnOk};
+ghost use Rattle.cw_io.specs.Outside.{Rose, RunsDry};
+ghost use Rattle.cw_strand.specs.Programs.{IsCompiled};
+ghost use Rattle.cw_tree.specs.Walks.{IsNumbered};
+ghost use Rattle.cw_job.specs.Jobs.{TakesWords};
+ghost use Rattle.cw_record.specs.Records.{HasItsOutputs, IsNumberedDepthFirst};
+ghost use Rattle.cw_top.specs.declared.reasons.NoRun.TheVariants.{Misfit};
+ghost use Rattle.cw_top.specs.Reasons.{WhyNoRun};
+ghost use Rattle.cw_top.specs.Refusals.{IsMisfit};
+ghost use Rattle.cw_top.specs.Runs.{HasSeveralThreads, IsDoneBy, IsOfThreads, IsReady, IsRunOf};
+ghost use Rattle.cw_top.specs.Taken.{RisesAtMost, TakesAtMost, most_bytes};
+ghost use Rattle.cw_words.specs.Words.{limits_of, words_of};
+
+use crate::reading::program_from;
+use crate::reasons::NoRun;
+use cw_base::{OutOfMemory, Seq};
+use cw_code::{Limits, Program};
+use cw_io::{Gate, Source};
+use cw_job::takes_words;
+use cw_pool::run;
+use cw_record::{Record, RecordEnd};
+use cw_sim::simulate;
+use cw_words::Command;
+use std::alloc::Global;
+use std::sync::Wait;
+use std::thread::Threads;
+
+/// Whether a command has more than one worker, and they are threads.
+pub fn has_several_threads(command: &Command) -> bool
+    ensures { IsTrue result ↔ HasSeveralThreads (Some command.now) }
+{
+    match command {
+        Command::Run { workers, .. } => 1 < *workers,
+        Command::Sim { .. } => false,
+    }
+}
+
+// Runs a program on so many threads. There are no moves to be spent: a board that was stopped so wanted memory.
+fn run_on_threads<R: Threads + Wait + Sync, G: Gate>(
+    rt: &R,
+    alloc: Global,
+    program: Program,
+    words: Seq<i64>,
+    workers: u32,
+    limits: Limits,
+    gate: &G,
+) -> Result<Record, OutOfMemory>
+    requires compiled { IsCompiled program }
+    requires takes { TakesWords program (length words) }
+    requires strands { 0 < limits.strands }
+    ensures program { IfOk result (λ r. r.program ≡ program) }
+    ensures words { IfOk result (λ r. r.words ≡ words) }
+    ensures limits { IfOk result (λ r. r.limits ≡ limits) }
+    ensures outputs { IfOk result (λ r. HasItsOutputs r) }
+    ensures numbered { IfOk result (λ r. IsNumberedDepthFirst r.tree) }
+    ensures done { IfOk result (IsOfThreads workers) }
+{
+    let kept = run(rt, alloc, program, words, workers, limits, gate)?;
+    match kept.end {
+        RecordEnd::Moves => Err(OutOfMemory),
+        _ => Ok(kept),
+    }
+}
+
+// Runs a program as a command says: on threads, or by the moves of several virtual workers.
+fn done<R: Threads + Wait + Sync, G: Gate>(
+    rt: &R,
+    alloc: Global,
+    command: Command,
+    program: Program,
+    gate: &G,
+) -> Result<Record, OutOfMemory>
+    requires compiled { IsCompiled program }
+    requires takes { TakesWords program (length (words_of command)) }
+    requires ready { IsReady command }
+    ensures program { IfOk result (λ r. r.program ≡ program) }
+    ensures words { IfOk result (λ r. r.words ≡ words_of command) }
+    ensures limits { IfOk result (λ r. r.limits ≡ limits_of command) }
+    ensures outputs { IfOk result (λ r. HasItsOutputs r) }
+    ensures tree { IfOk result (λ r. IsNumbered r.tree) }
+    ensures numbered { IfOk result (λ r. IsNumberedDepthFirst r.tree) }
+    ensures done { IfOk result (IsDoneBy command) }
+{
+    let kept = match command {
+        Command::Run {
+            words,
+            limits,
+            workers,
+            ..
+        } => run_on_threads(rt, alloc, program, words, workers, limits, gate)?,
+        Command::Sim {
+            words,
+            limits,
+            workers,
+            schedule,
+            ..
+        } => simulate(alloc, program, words, workers, &schedule, limits)?,
+    };
+    // a hint to the prover: the root is a strand, and each other node has a smaller parent
+    let _ = kept.tree.nodes();
+    Ok(kept)
+}
+
+/// Reads a program from the source and runs it.
+pub fn run_of<R: Threads + Wait + Sync, S: Source, G: Gate>(
+    rt: &R,
+    alloc: Global,
+    command: Command,
+    source: &mut S,
+    gate: &G,
+) -> Result<Record, NoRun>
+    requires { IsReady command }
+    ensures later { S.faults source.old ≤ S.faults source.new }
+    ensures why { IfErr result (λ n. WhyNoRun n (Rose (S.faults source.old) (S.faults source.new)) (IfSome (S.left source.old) (IsMisfit (words_of command))) (S.left source.old)) }
+    ensures taken { TakesAtMost most_bytes (S.left source.old) (S.left source.new) }
+    ensures whole { OnOk result (RunsDry (S.left source.old) (S.left source.new)) }
+    ensures misfit { IsErrOf result Misfit → RunsDry (S.left source.old) (S.left source.new) }
+    ensures once { RisesAtMost 1 (S.ends source.old) (S.ends source.new) }
+    ensures run { IfOk result (IsRunOf (Some command) (S.left source.old)) }
+    ensures done { IfOk result (IsDoneBy command) }
+{
+    let program = program_from(alloc, source)?;
+    if !takes_words(&program, command.words().len()) {
+        return Err(NoRun::Misfit);
+    }
+    Ok(done(rt, alloc, command, program, gate)?)
+}
