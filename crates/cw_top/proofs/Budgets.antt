@@ -58,6 +58,7 @@ module _ (r : Record) (tree : IsNumbered r.tree) (same : IsReplayed r) (x : ℕ)
         by_telling (Some k) e = conflict_has_fork r.tree (first_memory r.program.cells) r.journals r.conflicts coherent.history k (find_contains (tells r.tree r.limits.aborts x) r.conflicts k e).0
 
     pub budget : SpentItsBudget r
+    unfolding stands
     budget = record {
       stands = stands;
       attempts = records_attempts r.tree (first_memory r.program.cells) r.journals r.conflicts coherent.history (all_come r.tree tree.rooted) r.limits.aborts x spent;

@@ -33,15 +33,15 @@ replays (Some r) status (note.Name f) (none, is) other = cc
 
 -- a run that is kept and does not replay, with nothing noted
 eight : (kept : Option Record) (status : ℕ) (n : Note) → IsStatus kept status n → status ≡ 8 → (n ≡ note.Nothing) × IsSomeAnd kept (λ r. IsReplayed r → ⊥)
-eight None status note.Nothing is eight = absurd is
-eight (Some r) status note.Nothing (inl (same, is)) eight = absurd (no_eight r.end status is eight)
-eight (Some r) status note.Nothing (inr (differs, is)) eight = (refl, differs)
-eight kept status note.Usage (none, is) eight = cc
-eight kept status note.Memory (none, is) eight = cc
-eight kept status note.Read (none, is) eight = cc
-eight kept status note.Write (same, is) eight = cc
-eight kept status (note.Text f) (none, is) eight = cc
-eight kept status (note.Name f) (none, is) eight = cc
+eight None status note.Nothing is e = absurd is
+eight (Some r) status note.Nothing (inl (same, is)) e = absurd (no_eight r.end status is e)
+eight (Some r) status note.Nothing (inr (differs, is)) e = (refl, differs)
+eight kept status note.Usage (none, is) e = cc
+eight kept status note.Memory (none, is) e = cc
+eight kept status note.Read (none, is) e = cc
+eight kept status note.Write (same, is) e = cc
+eight kept status (note.Text f) (none, is) e = cc
+eight kept status (note.Name f) (none, is) e = cc
 
 pub disagrees : (kept : Option Record) (status : ℕ) (n : Note) → IsStatus kept status n → status ≡ 8 → IsSomeAnd kept (λ r. IsReplayed r → ⊥)
 disagrees kept status n is e = (eight kept status n is e).1

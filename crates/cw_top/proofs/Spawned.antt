@@ -17,7 +17,7 @@ of_source co None r run coherent spent = tt
 of_source co (Some bytes) r run coherent spent =
     let (source, (spelled, is)) = run.spelled in
     let (f, fork) = spent.forks in
-    (source, spelled, forks_need_spawns source r is (record { program = run.compiled; words = run.takes; coherent = coherent }) f fork)
+    (source, spelled, forks_need_spawns source r is coherent f fork)
 
 by_kept : (command : Option Command) (left : Option (List ℕ)) (kept : Option Record) → IfSome kept (IsRunOf command left) → IfSome kept (IsDoneAs command) → IsSomeAnd kept (IsSpentBy command) → IsSpentOn command left
 by_kept command left None run done spent = absurd spent

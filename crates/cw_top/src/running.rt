@@ -62,6 +62,41 @@ fn run_on_threads<R: Threads + Wait + Sync, G: Gate>(
     }
 }
 
+// Does what a command says of how its program is run.
+fn done_by<R: Threads + Wait + Sync, G: Gate>(
+    rt: &R,
+    alloc: Global,
+    command: Command,
+    program: Program,
+    gate: &G,
+) -> Result<Record, OutOfMemory>
+    requires compiled { IsCompiled program }
+    requires takes { TakesWords program (length (words_of command)) }
+    requires ready { IsReady command }
+    ensures program { IfOk result (λ r. r.program ≡ program) }
+    ensures words { IfOk result (λ r. r.words ≡ words_of command) }
+    ensures limits { IfOk result (λ r. r.limits ≡ limits_of command) }
+    ensures outputs { IfOk result (λ r. HasItsOutputs r) }
+    ensures numbered { IfOk result (λ r. IsNumberedDepthFirst r.tree) }
+    ensures done { IfOk result (IsDoneBy command) }
+{
+    match command {
+        Command::Run {
+            words,
+            limits,
+            workers,
+            ..
+        } => run_on_threads(rt, alloc, program, words, workers, limits, gate),
+        Command::Sim {
+            words,
+            limits,
+            workers,
+            schedule,
+            ..
+        } => simulate(alloc, program, words, workers, &schedule, limits),
+    }
+}
+
 // Runs a program as a command says: on threads, or by the moves of several virtual workers.
 fn done<R: Threads + Wait + Sync, G: Gate>(
     rt: &R,
@@ -81,21 +116,7 @@ fn done<R: Threads + Wait + Sync, G: Gate>(
     ensures numbered { IfOk result (λ r. IsNumberedDepthFirst r.tree) }
     ensures done { IfOk result (IsDoneBy command) }
 {
-    let kept = match command {
-        Command::Run {
-            words,
-            limits,
-            workers,
-            ..
-        } => run_on_threads(rt, alloc, program, words, workers, limits, gate)?,
-        Command::Sim {
-            words,
-            limits,
-            workers,
-            schedule,
-            ..
-        } => simulate(alloc, program, words, workers, &schedule, limits)?,
-    };
+    let kept = done_by(rt, alloc, command, program, gate)?;
     // a hint to the prover: the root is a strand, and each other node has a smaller parent
     let _ = kept.tree.nodes();
     Ok(kept)

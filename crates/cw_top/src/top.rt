@@ -30,7 +30,7 @@ fn ran<R: Threads + Wait + Sync, S: Source, K: Sink, G: Gate>(
     sink: &mut K,
     gate: &G,
 ) -> Reply
-    requires { IsReady command }
+    requires ready { IsReady command }
     ensures read_later { S.faults source.old ≤ S.faults source.new }
     ensures write_later { K.faults sink.old ≤ K.faults sink.new }
     ensures status { IsStatus result.kept result.status result.note }
@@ -61,7 +61,7 @@ fn answer<R: Threads + Wait + Sync, S: Source, K: Sink, G: Gate>(
     sink: &mut K,
     gate: &G,
 ) -> Reply
-    requires { IfSome command IsReady }
+    requires ready { IfSome command IsReady }
     ensures read_later { S.faults source.old ≤ S.faults source.new }
     ensures write_later { K.faults sink.old ≤ K.faults sink.new }
     ensures status { IsStatus result.kept result.status result.note }

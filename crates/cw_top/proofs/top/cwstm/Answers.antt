@@ -11,8 +11,8 @@ use Rattle.cw_top.proofs.SpentMoves.{moves}
 use Rattle.cw_top.proofs.Statuses as statuses
 use Rattle.cw_top.proofs.top.cwstm.Goals as goal
 
-pub answer-requires : goal.answer-requires
-answer-requires g c = subst (λ command. IfSome command IsReady) (sym c.in-Ok.ensures.exact) (ready (map string_bytes c.args.words.now))
+pub answer-requires-clause-ready : goal.answer-requires-clause-ready
+answer-requires-clause-ready g c = subst (λ command. IfSome command IsReady) (sym c.in-Ok.ensures.exact) (ready (map string_bytes c.args.words.now))
 
 pub returns-clause-usage : goal.returns-clause-usage
 returns-clause-usage g c = let cause = rw c.in-Ok.ensures.exact at c.answer.ensures.cause in statuses.usage _ _ _ _ _ _ _ c.answer.ensures.status cause
