@@ -22,9 +22,10 @@ use Rattle.cw_board.specs.Boards.{cells_in, columns_of, IsOf}
 use Rattle.cw_board.specs.declared.board.Board.{Board}
 use Rattle.cw_board.specs.Sound.{IsSound}
 use Rattle.cw_board.specs.Turns.{at_rest, HasTier, HasTierOver, HasWaited, HasTaken, IsHolding, IsOfTier}
-use Rattle.cw_board.specs.Asked.{HasLooked}
+use Rattle.cw_steps.specs.Leaving.{HasReturned}
 use Rattle.cw_board.proofs.Sound.{sound_brought, sound_later}
 use Rattle.cw_board.proofs.Boards.{is_now}
+use Rattle.cw_board.proofs.Returning.{returned_from}
 
 pub waits_not : (t : StrandToken) → HasWaited t t
 waits_not t = record { notes = (view_of t).notes; me = refl; track = refl; stop = refl; token = refl }
@@ -234,14 +235,5 @@ pub gives_over : (b : Board) (y : Slot) (t u : StrandToken) → HasTierOver b y 
 gives_over b y t u h tier = (y, holding_over b y t u h, record { cell = λ less. absurd (omega (arith, less)); tier = λ e. tier.whole })
 
 -- the tier was only looked at
-pub gives_back : (b : Board) (y : Slot) (t u u' : StrandToken) → HasTierOver b y t u → IsTokenOf b.shared u' → view_of u' ≡ gave_view home.Plain (view_of u) → held_by u' ≡ rest (held_by u)
-    → u'.track ≡ u.track → token_of u' ≡ token_of u → HasLooked b t u'
-gives_back b y t u u' h table view slots track token = record {
-  table = table;
-  turns = ap (λ (v : View). v.turns) view ∙ h.older;
-  slots = slots ∙ ap (λ ys. rest ys) h.slots;
-  later = subst (λ (v : View). (view_of t).seen ≤ v.seen) (sym view) h.later;
-  rest = ap at_rest view ∙ h.rest;
-  track = track ∙ h.track;
-  token = token ∙ h.token;
-}
+pub gives_back : (b : Board) (y : Slot) (t u u' : StrandToken) → HasTierOver b y t u → view_of u' ≡ gave_view home.Plain (view_of u) → held_by u' ≡ rest (held_by u) → HasReturned t.seat.me u'.seat.me
+gives_back b y t u u' h view slots = returned_from t u' (ap at_rest view ∙ h.rest) (ap (λ (v : View). v.turns) view ∙ h.older) (slots ∙ ap (λ ys. rest ys) h.slots) (subst (λ (v : View). (view_of t).seen ≤ v.seen) (sym view) h.later)

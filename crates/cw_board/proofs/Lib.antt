@@ -1,9 +1,10 @@
 pub mod Sound
 pub mod Boards
+pub mod Returning
 pub mod Holding
 pub mod Forking
 pub mod Accessing
 pub mod Reading
 pub mod Refusing
 pub mod Rolls
-pub mod Closes
+pub mod Led

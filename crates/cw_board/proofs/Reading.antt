@@ -1,4 +1,4 @@
--- Serves `HasRead`, `ToldBy` and `HasLooked`: a token that reads words while it has a turn.
+-- Serves `HasRead` and `ToldBy`: a token that reads words while it has a turn.
 use Rattle.std.proofs.Common.{◌≡◌, ◌∙◌, ℕ, ◌+◌, ◌-◌, ◌<◌, ◌≤◌, List, [], ◌∷◌, ◌++◌, length, length-append, take, ap, refl, sym, subst, arith, append_assoc}
 use Rattle.std.specs.Prelude.{All, Bool, Option, Some, None}
 use Rattle.std.specs.Borrow.{MutBor}
@@ -26,7 +26,7 @@ use Rattle.cw_board.specs.declared.board.Board.{Board}
 use Rattle.cw_board.specs.Boards.{cells_in, columns_of, IsOf}
 use Rattle.cw_board.specs.Sound.{IsSound}
 use Rattle.cw_board.specs.Turns.{at_rest, HasTier, HasTierOver, IsHolding}
-use Rattle.cw_board.specs.Asked.{noted_since, HasLooked, HasRead, IsAnswered, IsReading, Question, ReadsFor, ToldBy, ToldFor}
+use Rattle.cw_board.specs.Asked.{noted_since, HasRead, IsAnswered, IsReading, Question, ReadsFor, ToldBy, ToldFor}
 use Rattle.cw_board.proofs.Boards.{is_now}
 use Rattle.cw_board.proofs.Sound.{sound_later}
 
@@ -153,34 +153,6 @@ module _ (b : Board) (lent lent' : MutBor StrandToken) (c : ColumnTable) (gap n 
   word_stays (Some q) h = one_stays q b lent lent' c gap n h l
 
 -- ## With a turn
-
-module _ (b : Board) (t u : StrandToken) (h : HasLooked b t u) where
-  -- a token of the board is still one
-  pub looked_is : IsOf b t → IsOf b u
-  looked_is of = is_now b u (view_of u) (token_of t) h.table refl h.token (h.slots ∙ of.slots) (subst HasRoom (sym h.track) of.room) (ap (λ (v : View). v.here) h.rest ∙ of.here) (h.turns ∙ of.turns)
-      (subst (λ (n : ℕ). n < columns_of b) (sym (ap (λ (v : View). v.gap) h.rest)) of.gap)
-      (subst (All (λ (o : Whereabouts). o.gap < columns_of b)) (sym (ap (λ (v : View). v.outer) h.rest)) of.gaps)
-      (subst (λ (k : ℕ). length (token_of t).joined + 1 ≤ k) (sym (ap (λ (v : View). v.owns) h.rest)) of.lists)
-      (subst (λ (r : ℕ). IsSound (token_of t) r (view_of u).seen) (sym (ap (λ (v : View). v.room) h.rest)) (sound_later (token_of t) (view_of t).room (view_of t).seen (view_of u).seen h.later of.sound))
-
-  -- and it still has the turn that it had
-  pub looked_holds : (n : ℕ) (y : Slot) (s : StrandToken) → IsHolding b n y s t → IsHolding b n y s u
-  looked_holds n y s g = record {
-    was = g.was;
-    table = h.table;
-    turn = ap newest_slot h.turns ∙ g.turn;
-    alone = ap older h.turns ∙ g.alone;
-    slots = h.slots ∙ g.slots;
-    later = omega (arith, g.later, h.later);
-    rest = h.rest ∙ g.rest;
-    track = h.track ∙ g.track;
-    token = h.token ∙ g.token;
-  }
-
-  pub looked_low : (y : Slot) → IsLowCell (view_of t).seen y → IsLowCell (view_of u).seen y
-  looked_low (slot.Cell x) low = All-weaker (λ (e : Entry). e.mark.stamp ≤ (view_of t).seen) (λ (e : Entry). e.mark.stamp ≤ (view_of u).seen) (λ e l. omega (arith, l, h.later)) x.entries low
-  looked_low (slot.Tier x) low = absurd low
-  looked_low slot.Empty low = absurd low
 
 -- words are read while the tier's turn is held
 pub over_read : (b : Board) (y : Slot) (t u u' : StrandToken) → HasTierOver b y t u → HasRead u u' → HasTierOver b y t u'

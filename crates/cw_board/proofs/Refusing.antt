@@ -44,15 +44,15 @@ cons_cases b bs a h = pick (Contains-append_cases (b ∷ []) bs a h) where
   pick (inl g) = first (Contains-push_cases [] b a g)
   pick (inr g) = inr g
 
+pub begins_cons : (b : Above) (bs : List Above) → begins (reverse (b ∷ bs)) ≡ begins (reverse bs) ++ b.begin ∷ []
+begins_cons b bs = ap begins (reverse-append (b ∷ []) bs) ∙ map-append (λ (x : Above). x.begin) (reverse bs) (b ∷ [])
+
 pub begins_back : (bs : List Above) (a : Above) → Contains bs a → Contains (begins (reverse bs)) a.begin
 begins_back [] a h = absurd (omega (arith, h.1))
 begins_back (b ∷ bs) a h = pick (λ g. begins_back bs a g) (cons_cases b bs a h) where
-  back : begins (reverse (b ∷ bs)) ≡ begins (reverse bs) ++ b.begin ∷ []
-  back = ap begins (reverse-append (b ∷ []) bs) ∙ map-append (λ (x : Above). x.begin) (reverse bs) (b ∷ [])
-
   pick : (Contains bs a → Contains (begins (reverse bs)) a.begin) → (b ≡ a) ⊎ Contains bs a → Contains (begins (reverse (b ∷ bs))) a.begin
-  pick f (inl e) = subst (λ (ns : List ℕ). Contains ns a.begin) (sym back) (subst (λ (n : ℕ). Contains (begins (reverse bs) ++ n ∷ []) a.begin) (sym (ap (λ (x : Above). x.begin) e)) (Contains-push (begins (reverse bs)) a.begin))
-  pick f (inr g) = subst (λ (ns : List ℕ). Contains ns a.begin) (sym back) (Contains-append_left (begins (reverse bs)) (b.begin ∷ []) a.begin (f g))
+  pick f (inl e) = subst (λ (ns : List ℕ). Contains ns a.begin) (sym (begins_cons b bs)) (subst (λ (n : ℕ). Contains (begins (reverse bs) ++ n ∷ []) a.begin) (sym (ap (λ (x : Above). x.begin) e)) (Contains-push (begins (reverse bs)) a.begin))
+  pick f (inr g) = subst (λ (ns : List ℕ). Contains ns a.begin) (sym (begins_cons b bs)) (Contains-append_left (begins (reverse bs)) (b.begin ∷ []) a.begin (f g))
 
 -- what has to fall is one of them, or nothing
 pub falls_around : (x x' : Token) (o : Option Above) → x' ≡ x → IfSome o (λ (a : Above). Contains x'.around a.begin) → IsAround x (begin_of o)

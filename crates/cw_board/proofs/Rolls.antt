@@ -1,4 +1,4 @@
--- Serves `HasGiven`: a token that takes turns and gives them back.
+-- Serves `roll`: a token that takes accesses out of cells, while its joined logs are lent.
 use Rattle.std.proofs.Common.{◌≡◌, ℕ, Bool, ◌≤◌, ◌+◌, ◌∙◌, ◌∷◌, ◌++◌, [], List, length, ap, refl, sym, subst, arith}
 use Rattle.std.specs.Prelude.{All, IsTrue, is_some, filter}
 use Rattle.std.proofs.lemmas.List.Elements.{All-nil, All-cons, All-head, All-tail, All-filter}
@@ -12,30 +12,19 @@ use Rattle.cw_steps.specs.declared.draw.Home.TheVariants as home
 use Rattle.cw_steps.specs.declared.table.StrandToken.{StrandToken}
 use Rattle.cw_steps.specs.declared.view.Slot.{Slot}
 use Rattle.cw_steps.specs.declared.view.View.{View}
+use Rattle.cw_steps.specs.Leaving.{HasReturned}
 use Rattle.cw_steps.specs.Stands.{token_of}
 use Rattle.cw_steps.specs.Views.{gave_view, view_of, IsLowCell}
 use Rattle.cw_board.specs.declared.board.Board.{Board}
 use Rattle.cw_board.specs.Boards.{IsOf}
-use Rattle.cw_board.specs.Rolls.{HasGiven}
 use Rattle.cw_board.specs.Sound.{IsSound}
 use Rattle.cw_board.specs.Turns.{at_rest, IsHolding}
 use Rattle.cw_board.proofs.Boards.{is_now}
-use Rattle.cw_board.proofs.Sound.{sound_later}
-
-pub gives_none : (b : Board) (t : StrandToken) → IsOf b t → HasGiven b t t
-gives_none b t of = record { of = of; later = omega arith; rest = refl; token = refl }
-
-pub gives_more : (b : Board) (t u v : StrandToken) → HasGiven b t u → HasGiven b u v → HasGiven b t v
-gives_more b t u v h g = record { of = g.of; later = omega (arith, h.later, g.later); rest = g.rest ∙ h.rest; token = g.token ∙ h.token }
+use Rattle.cw_board.proofs.Returning.{returned_from, returned_with}
 
 -- a turn that was held is given back
-pub gives_back : (b : Board) (n : ℕ) (y : Slot) (t u v : StrandToken) → IsHolding b n y t u → IsOf b v → view_of v ≡ gave_view home.Plain (view_of u) → token_of v ≡ token_of u → HasGiven b t v
-gives_back b n y t u v h of view token = record {
-  of = of;
-  later = subst (λ (w : View). (view_of t).seen ≤ w.seen) (sym view) h.later;
-  rest = ap at_rest view ∙ h.rest;
-  token = token ∙ h.token;
-}
+pub gives_back : (b : Board) (n : ℕ) (y : Slot) (t u v : StrandToken) → IsHolding b n y t u → IsOf b v → view_of v ≡ gave_view home.Plain (view_of u) → HasReturned t.seat.me v.seat.me
+gives_back b n y t u v h of view = returned_from t v (ap at_rest view ∙ h.rest) (of.turns ∙ sym h.was.turns) (of.slots ∙ sym h.was.slots) (subst (λ (w : View). (view_of t).seen ≤ w.seen) (sym view) h.later)
 
 -- ## Logs that are lent
 
@@ -62,25 +51,17 @@ lent_is b t t' h seat room token =
     is_now b t' (view_of t) (record (token_of t) { joined = [] }) (ap (λ s. s.table_id) seat ∙ h.table) (ap (λ s. s.me.0) seat) token (ap (λ s. s.me.1) seat ∙ h.slots)
     (subst (λ r. IsTrue (is_some r)) (sym room) h.room) h.here h.turns h.gap h.gaps (omega (arith, h.lists)) (sound_lent (token_of t) (view_of t).room (view_of t).seen h.sound)
 
--- u is t without its joined logs, v what was given since, and t' has them again
-pub kept_is : (b : Board) (t u v t' : StrandToken) → IsOf b t → u.seat ≡ t.seat → token_of u ≡ record (token_of t) { joined = [] } → HasGiven b u v → t'.seat ≡ v.seat → t'.track.room ≡ v.track.room
-    → token_of t' ≡ record (token_of v) { joined = (token_of t).joined } → HasGiven b t t'
-kept_is b t u v t' h lent left g seat room kept = record { of = is; later = later; rest = rest; token = token } where
-  rest : at_rest (view_of t') ≡ at_rest (view_of t)
-  rest = ap (λ s. at_rest s.me.0) seat ∙ g.rest ∙ ap (λ s. at_rest s.me.0) lent
+-- u is t without its joined logs, v what was given back since, and t' has them again
+module _ (b : Board) (t u v t' : StrandToken) (lent : u.seat ≡ t.seat) (g : HasReturned u.seat.me v.seat.me) (seat : t'.seat ≡ v.seat) where
+  pub kept_returned : HasReturned t.seat.me t'.seat.me
+  kept_returned = subst (λ s. HasReturned s.me t'.seat.me) lent (subst (λ s. HasReturned u.seat.me s.me) (sym seat) g)
 
-  later : (view_of t).seen ≤ (view_of t').seen
-  later = subst (λ s. (view_of t).seen ≤ s.me.0.seen) (sym seat) (subst (λ s. s.me.0.seen ≤ (view_of v).seen) lent g.later)
+  module _ (left : token_of u ≡ record (token_of t) { joined = [] }) (given : token_of v ≡ token_of u) (kept : token_of t' ≡ record (token_of v) { joined = (token_of t).joined }) where
+    pub kept_token : token_of t' ≡ token_of t
+    kept_token = kept ∙ ap (λ (x : Token). record x { joined = (token_of t).joined }) (given ∙ left)
 
-  token : token_of t' ≡ token_of t
-  token = kept ∙ ap (λ (x : Token). record x { joined = (token_of t).joined }) (g.token ∙ left)
-
-  is : IsOf b t'
-  is = is_now b t' (view_of v) (token_of t) (ap (λ s. s.table_id) seat ∙ g.of.table) (ap (λ s. s.me.0) seat) token (ap (λ s. s.me.1) seat ∙ g.of.slots)
-      (subst (λ r. IsTrue (is_some r)) (sym room) g.of.room) g.of.here g.of.turns g.of.gap g.of.gaps
-      (subst (λ (k : ℕ). length (token_of t).joined + 1 ≤ k) (sym (ap (λ (w : View). w.owns) (g.rest ∙ ap (λ s. at_rest s.me.0) lent))) h.lists)
-      (subst (λ (k : ℕ). IsSound (token_of t) k (view_of v).seen) (sym (ap (λ (w : View). w.room) (g.rest ∙ ap (λ s. at_rest s.me.0) lent)))
-      (sound_later (token_of t) (view_of t).room (view_of t).seen (view_of v).seen (subst (λ s. s.me.0.seen ≤ (view_of v).seen) lent g.later) h.sound))
+    pub kept_is : IsOf b t → IsOf b v → t'.track.room ≡ v.track.room → IsOf b t'
+    kept_is h of room = returned_with b t t' h (ap (λ s. s.table_id) seat ∙ of.table) kept_returned (subst (λ r. IsTrue (is_some r)) (sym room) of.room) kept_token
 
 -- ## Entries that are taken out
 

@@ -17,7 +17,6 @@ use Rattle.cw_steps.specs.Stands.{token_of}
 use Rattle.cw_steps.specs.Views.{held_by, view_of, IsTokenOf}
 use Rattle.cw_board.specs.declared.board.Board.{Board}
 use Rattle.cw_board.specs.Boards.{cells_in, columns_of}
-use Rattle.cw_board.specs.Turns.{at_rest}
 
 -- the notes that it made since it was t, newest first
 abbrev pub noted_since : (t u : StrandToken) → List Note
@@ -71,17 +70,7 @@ abbrev pub ReadsFor : Option Question → Board → MutBor StrandToken → Colum
 ReadsFor None b lent c = ⊥
 ReadsFor (Some q) b lent c = IsReading q b lent c
 
--- ## With the tier's turn taken and given back
-
--- it looked at the tier and at words, and so knows a number that may be greater
-pub record HasLooked (b : Board) (t u : StrandToken) : Type 0 where
-  pub table : IsTokenOf b.shared u
-  pub turns : (view_of u).turns ≡ (view_of t).turns
-  pub slots : held_by u ≡ held_by t
-  pub later : (view_of t).seen ≤ (view_of u).seen
-  pub rest : at_rest (view_of u) ≡ at_rest (view_of t)
-  pub track : u.track ≡ t.track
-  pub token : token_of u ≡ token_of t
+-- ## What it answers
 
 -- the verdict on the access made last and one of this asker, by the columns of a tier and by words that the token noted in one row
 pub record IsAnswered (cells : ℕ) (last : Mark) (asker : ℕ) (u : StrandToken) (v : Verdict) : Type 0 where

@@ -2,8 +2,8 @@
 //! Stands on `atomic_table`, `cw_base`, `cw_code`, `cw_order`, `cw_tree`, `cw_trace`, `cw_xconf`, `cw_stack`, `cw_log`, `cw_steps`, and the
 //! definitions of `cw_course`.
 //! Contracts cite `cw_log`: `specs/Tokens.antt` (what each call makes of what a token stands for, and what calls ask), and here
-//! `specs/Boards.antt` (what a token of a board is), `specs/Sound.antt` (what is true of it between two calls), `specs/Turns.antt` (what it
-//! knows while it has a turn) and `specs/Rolls.antt` (what a rollback leaves of it before it draws the end).
+//! `specs/Boards.antt` (what a token of a board is), `specs/Sound.antt` (what is true of it between two calls)) and `specs/Turns.antt` (what it
+//! knows while it has a turn).
 #![tactic(auto)]
 
 mod access;

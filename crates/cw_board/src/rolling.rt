@@ -5,11 +5,12 @@ ghost use Rattle.std.specs.Prelude.{◌≡◌, ◌<◌, ℕ, filter, nat_lt, dro
 ghost use Rattle.cw_tree.specs.declared.node.BlockState.TheVariants.{Aborted};
 ghost use Rattle.cw_tree.specs.AccessStacks.{stamps};
 ghost use Rattle.cw_log.specs.Tokens.{ended, GoesBack, HasBlock};
+ghost use Rattle.cw_steps.specs.Leaving.{HasReturned};
 ghost use Rattle.cw_steps.specs.Stands.{token_of};
+ghost use Rattle.cw_steps.specs.Tracks.{track_of};
 ghost use Rattle.cw_steps.specs.declared.view.Slot.TheVariants as slot;
 ghost use Rattle.cw_steps.specs.Views.{IsLowCell};
-ghost use Rattle.cw_board.specs.Boards.{budget_of, cells_in, IsOf};
-ghost use Rattle.cw_board.specs.Rolls.{HasGiven};
+ghost use Rattle.cw_board.specs.Boards.{budget_of, cells_in, IsHidden, IsOf};
 
 use crate::Board;
 use cw_log::{Log, Logs};
@@ -45,6 +46,7 @@ impl Board {
         requires back { GoesBack (budget_of self.now) (token_of token.old) }
         ensures of { IsOf self.now token.new }
         ensures token { (stamp : ℕ) × (token_of token.new ≡ ended (token_of token.old) Aborted stamp) }
+        ensures word { IsHidden (track_of token.old.track) (track_of token.new.track) }
     {
         let outermost = token.word() == token.begun();
         self.undo(rt, token);
@@ -57,7 +59,10 @@ impl Board {
     /// Undoes all accesses beneath the block in the token's place.
     fn undo<R: Wait>(&self, rt: &R, token: &mut StrandToken)
         requires { IsOf self.now token.old }
-        ensures { HasGiven self.now token.old token.new }
+        ensures of { IsOf self.now token.new }
+        ensures returned { HasReturned token.old.seat.me token.new.seat.me }
+        ensures token { token_of token.new ≡ token_of token.old }
+        ensures word { (track_of token.new.track).word ≡ (track_of token.old.track).word }
     {
         self.undo_own(rt, token);
         self.undo_joined(rt, token);
@@ -66,7 +71,9 @@ impl Board {
     /// Undoes those of the token's own log.
     fn undo_own<R: Wait>(&self, rt: &R, token: &mut StrandToken)
         requires { IsOf self.now token.old }
-        ensures { HasGiven self.now token.old token.new }
+        ensures of { IsOf self.now token.new }
+        ensures returned { HasReturned token.old.seat.me token.new.seat.me }
+        ensures token { token_of token.new ≡ token_of token.old }
     {
         let block = token.place() as usize;
         let count = token.nodes().len();
@@ -79,7 +86,9 @@ impl Board {
     /// Undoes those of the logs that were joined since the block was begun.
     fn undo_joined<R: Wait>(&self, rt: &R, token: &mut StrandToken)
         requires { IsOf self.now token.old }
-        ensures { HasGiven self.now token.old token.new }
+        ensures of { IsOf self.now token.new }
+        ensures returned { HasReturned token.old.seat.me token.new.seat.me }
+        ensures token { token_of token.new ≡ token_of token.old }
     {
         let column = token.log_column();
         let block = token.place();
@@ -97,7 +106,9 @@ impl Board {
         block: u32,
     )
         requires { IsOf self.now token.old }
-        ensures { HasGiven self.now token.old token.new }
+        ensures of { IsOf self.now token.new }
+        ensures returned { HasReturned token.old.seat.me token.new.seat.me }
+        ensures token { token_of token.new ≡ token_of token.old }
     {
         let mut beneath = false;
         for log in logs.iter() {
@@ -110,7 +121,9 @@ impl Board {
 
     fn undo_log<R: Wait>(&self, rt: &R, token: &mut StrandToken, log: &Log)
         requires { IsOf self.now token.old }
-        ensures { HasGiven self.now token.old token.new }
+        ensures of { IsOf self.now token.new }
+        ensures returned { HasReturned token.old.seat.me token.new.seat.me }
+        ensures token { token_of token.new ≡ token_of token.old }
     {
         for node in log.nodes.as_slice() {
             self.undo_access(rt, token, touched(node));
@@ -121,7 +134,9 @@ impl Board {
     /// yet that the cells of a log are there.
     fn undo_access<R: Wait>(&self, rt: &R, token: &mut StrandToken, access: Option<(u32, u64)>)
         requires { IsOf self.now token.old }
-        ensures { HasGiven self.now token.old token.new }
+        ensures of { IsOf self.now token.new }
+        ensures returned { HasReturned token.old.seat.me token.new.seat.me }
+        ensures token { token_of token.new ≡ token_of token.old }
     {
         let Some((cell, stamp)) = access else {
             return;
@@ -134,7 +149,9 @@ impl Board {
     fn undo_there<R: Wait>(&self, rt: &R, token: &mut StrandToken, cell: u32, stamp: u64)
         requires of { IsOf self.now token.old }
         requires cell { cell < cells_in self.now }
-        ensures { HasGiven self.now token.old token.new }
+        ensures of { IsOf self.now token.new }
+        ensures returned { HasReturned token.old.seat.me token.new.seat.me }
+        ensures token { token_of token.new ≡ token_of token.old }
     {
         let mut held = self.hold_cell(rt, token, cell, Aim::Undo);
         cut(&mut held, stamp);

@@ -3,10 +3,11 @@ ghost use Rattle.std.specs.Prelude.{◌≡◌, ◌≤◌};
 ghost use Rattle.cw_steps.specs.declared.table.StrandToken.{StrandToken};
 ghost use Rattle.cw_steps.specs.declared.view.Slot.{Slot};
 ghost use Rattle.cw_steps.specs.declared.view.Slot.TheVariants as slot;
+ghost use Rattle.cw_steps.specs.Leaving.{HasReturned};
+ghost use Rattle.cw_steps.specs.Stands.{token_of};
 ghost use Rattle.cw_steps.specs.Views.{view_of, IsTokenOf};
 ghost use Rattle.cw_board.specs.Boards.{cells_in};
 ghost use Rattle.cw_board.specs.Turns.{HasTaken, HasTier, HasTierOver};
-ghost use Rattle.cw_board.specs.Asked.{HasLooked};
 
 use crate::Board;
 use cw_steps::{Aim, Home, StrandToken};
@@ -61,7 +62,10 @@ impl Board {
     pub(crate) fn tier_back(&self, token: &mut StrandToken, tier: Tier)
         requires held { (t : StrandToken) × (y : Slot) × HasTierOver self.now y t token.old }
         requires tier { HasTier self.now (slot.Tier tier) token.old }
-        ensures looked { (t : StrandToken) (y : Slot) → HasTierOver self.now y t token.old → HasLooked self.now t token.new }
+        ensures table { IsTokenOf self.now.shared token.new }
+        ensures returned { (t : StrandToken) (y : Slot) → HasTierOver self.now y t token.old → HasReturned t.seat.me token.new.seat.me }
+        ensures track { token.new.track ≡ token.old.track }
+        ensures token { token_of token.new ≡ token_of token.old }
         ensures notes { (view_of token.new).notes ≡ (view_of token.old).notes }
     {
         let place = self.shared.cells();

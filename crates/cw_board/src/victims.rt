@@ -1,12 +1,13 @@
 //! What stands in the way of an access, and what has to fall for it.
 ghost use Rattle.std.specs.Prelude.{◌≡◌, ◌+◌, ◌<◌, ◌≤◌, Contains, IfSome};
 ghost use Rattle.cw_trace.specs.Columns as columns;
+ghost use Rattle.cw_steps.specs.Leaving.{HasReturned};
 ghost use Rattle.cw_steps.specs.Stands.{token_of};
 ghost use Rattle.cw_steps.specs.Tracks.{track_of};
 ghost use Rattle.cw_steps.specs.Views.{IsTokenOf};
 ghost use Rattle.cw_board.specs.Boards.{cells_in, columns_of, IsOf};
 ghost use Rattle.cw_xconf.specs.Costs.{looks_for};
-ghost use Rattle.cw_board.specs.Asked.{HasLooked, HasRead, IsAnswered};
+ghost use Rattle.cw_board.specs.Asked.{HasRead, IsAnswered};
 ghost use Rattle.cw_board.specs.Victims.{IsBarrier};
 
 use crate::Board;
@@ -102,7 +103,10 @@ impl Board {
         requires looks { (blanks.0.name ≡ K.name) × (blanks.0.parts ≡ K.parts) × (0 < K.parts) }
         requires compares { (blanks.1.name ≡ L.name) × (blanks.1.parts ≡ L.parts) × (0 < L.parts) }
         requires table { IsTokenOf self.now.shared token.old }
-        ensures looked { HasLooked self.now token.old token.new }
+        ensures table { IsTokenOf self.now.shared token.new }
+        ensures returned { HasReturned token.old.seat.me token.new.seat.me }
+        ensures track { token.new.track ≡ token.old.track }
+        ensures token { token_of token.new ≡ token_of token.old }
         ensures found { IfSome result (IsBarrier (cells_in self.now) last token.old token.new) }
     {
         let mut looks = Steps::<K>::new(blanks.0);
@@ -121,7 +125,10 @@ impl Board {
         last: Mark,
     ) -> Option<Barrier>
         requires table { IsTokenOf self.now.shared token.old }
-        ensures looked { HasLooked self.now token.old token.new }
+        ensures table { IsTokenOf self.now.shared token.new }
+        ensures returned { HasReturned token.old.seat.me token.new.seat.me }
+        ensures track { token.new.track ≡ token.old.track }
+        ensures token { token_of token.new ≡ token_of token.old }
         ensures found { IfSome result (IsBarrier (cells_in self.now) last token.old token.new) }
     {
         let blanks = (Blank::new(1), Blank::new(1));

@@ -1,2 +1,4 @@
 mod Tasks
 mod Starts
+mod Crossing
+mod Recorded

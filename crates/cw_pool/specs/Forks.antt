@@ -1,7 +1,6 @@
 -- A strand between the fork of its body and that on the board.
 use Rattle.std.specs.Prelude.{◌≡◌, ℕ, List}
 use Rattle.cw_strand.specs.declared.want.Want.TheVariants as want
-use Rattle.cw_strand.specs.Strands.{Strands}
 use Rattle.cw_job.specs.Jobs.{Job}
 use Rattle.cw_job.specs.Room.Strands.{strands_of_job}
 use Rattle.cw_log.specs.declared.token.Token.{Token}

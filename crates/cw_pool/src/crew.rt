@@ -1,16 +1,21 @@
 //! The workers of a run.
-use crate::boxes::{Boxes, TaskBox};
-use crate::worker::Worker;
+ghost use Rattle.std.specs.Thread.{IsSend, IsSync};
+
+use crate::boxes::{Boxes, Task, TaskBox};
+use crate::worker::{Common, Worker};
 use crate::{Memo, Naming};
 use crossbeam_utils::CachePadded;
 use cw_base::OutOfMemory;
 use cw_deck::Thief;
+use cw_io::Gate;
 use cw_log::SharedBoard;
 use cw_pair::{Pairs, Source};
 use std::alloc::Global;
-use std::mem;
+use std::sync::Wait;
+use std::thread::Threads;
+use std::{mem, thread};
 
-type Crew<B, J> = Vec<Worker<B, J>>;
+pub(crate) type Crew<B, J> = Vec<Worker<B, J>>;
 
 /// So many workers, each with numbers of its own for its forks. None knows another yet.
 fn strangers<B: SharedBoard, J: Naming>(
@@ -64,4 +69,33 @@ pub(crate) fn crew_of<B: SharedBoard, J: Naming>(
     let mut crew = strangers(alloc, workers, pairs, source)?;
     acquaints(&mut crew)?;
     Ok(crew)
+}
+
+/// All work till the run is over, the first one on the caller's thread. One that could not be started is missing.
+pub(crate) fn all_work<B: SharedBoard, J: Naming, G: Gate, R: Threads + Wait + Sync>(
+    rt: &R,
+    common: &Common<'_, B, J, G>,
+    crew: Crew<B, J>,
+    first: Task<B, J>,
+) {
+    thread::scope(
+        thread::scope_env(),
+        rt,
+        move |scope| -> ()
+            requires { IsSync R.row × IsSync B.row × IsSync G.row × IsSync J.row × IsSend J.row × IsSend B.Token.row }
+        {
+            let mut mine = None;
+            for worker in crew {
+                if mine.is_none() {
+                    mine = Some(worker);
+                } else {
+                    let mut worker = worker;
+                    let _ = scope.spawn(move || worker.works(rt, common, None));
+                }
+            }
+            if let Some(mut worker) = mine {
+                worker.works(rt, common, Some(first));
+            }
+        },
+    );
 }

@@ -1,19 +1,116 @@
-//! A STUB, never to be merged: the contract of `run`.
+//! The record of a run.
 ghost use Rattle.std.specs.Prelude.{◌≡◌, ◌<◌, IfOk, IsTrue, length};
 ghost use Rattle.cw_tree.specs.Nodes.{is_strand};
+ghost use Rattle.cw_strand.specs.Names.{first_memory};
 ghost use Rattle.cw_strand.specs.Programs.{IsCompiled};
 ghost use Rattle.cw_job.specs.Jobs.{TakesWords};
+ghost use Rattle.cw_log.specs.declared.token.Token.{Token};
+ghost use Rattle.cw_log.specs.Tokens.{logs, root_token};
+ghost use Rattle.cw_record.specs.Built.{HasRecord};
 ghost use Rattle.cw_record.specs.Order.{ending_strand};
 ghost use Rattle.cw_record.specs.Records.{HasItsOutputs, IsNumberedDepthFirst};
+ghost use Rattle.cw_course.specs.Closings.{IsPutTogether};
+ghost use Rattle.cw_steps.specs.Stands.{token_of};
+ghost use Rattle.cw_board.specs.Boards.{budget_of, cells_in, columns_of, table_of, IsOf};
+ghost use Rattle.cw_pool.specs.Ends.{IsWorked};
 ghost use Rattle.cw_pool.specs.Recorded.{IsOfBoard, IsOfOneWorker};
 
+use crate::works::work;
 use cw_base::{OutOfMemory, Seq};
+use cw_board::{Board, Naming};
 use cw_code::{Limits, Program};
 use cw_io::Gate;
-use cw_record::Record;
+use cw_job::first_memory;
+use cw_record::{Record, build, depth_first};
+use cw_steps::StrandToken;
+use cw_tree::{Closed, Halt};
 use std::alloc::Global;
+use std::marker::Brand;
 use std::sync::Wait;
 use std::thread::Threads;
+
+/// Whether what a board gave has a record: memory was not wanting, and a strand at which the run stopped is one of the tree, which no rule of
+/// a board says yet.
+fn has_record(closed: &Closed) -> bool
+    ensures { IsTrue result → HasRecord closed.now.tree closed.now.halt }
+{
+    match closed.halt {
+        None => true,
+        Some(Halt::Fault { strand, .. }) | Some(Halt::Budget { strand }) => {
+            (strand as usize) < closed.tree.nodes().len() && closed.tree.is_strand(strand)
+        }
+        Some(Halt::Memory) => false,
+    }
+}
+
+/// The record of what a board gave that was closed with the root's token.
+fn recorded(
+    alloc: Global,
+    program: Program,
+    words: Seq<i64>,
+    limits: Limits,
+    closed: Closed,
+) -> Result<Record, OutOfMemory>
+    ensures program { IfOk result (λ r. r.program ≡ program) }
+    ensures words { IfOk result (λ r. r.words ≡ words) }
+    ensures limits { IfOk result (λ r. r.limits ≡ limits) }
+    ensures strand { IfOk result (λ r. IsTrue (is_strand r.tree (ending_strand r.end))) }
+    ensures outputs { IfOk result (λ r. HasItsOutputs r) }
+    ensures board { IfOk result (λ r. (x : Token) → IsWorked (record { program = program; words = words; limits = limits }) x
+        → IsPutTogether (logs x) x.stop closed → IsOfBoard r × IsNumberedDepthFirst r.tree) }
+{
+    if !has_record(&closed) {
+        return Err(OutOfMemory);
+    }
+    // a hint to the prover: the root is a strand
+    let _ = closed.tree.nodes();
+    build(alloc, program, words, limits, closed, false)
+}
+
+/// The run on a board, once that has a name.
+fn run_named<N: Naming, G: Gate, R: Threads + Wait + Sync>(
+    rt: &R,
+    alloc: Global,
+    board: Board,
+    root: StrandToken,
+    program: Program,
+    words: Seq<i64>,
+    workers: u32,
+    limits: Limits,
+    gate: &G,
+) -> Result<Record, OutOfMemory>
+    requires compiled { IsCompiled program }
+    requires words { TakesWords program (length words) }
+    requires of { IsOf board root }
+    requires root { token_of root ≡ root_token }
+    requires name { (table_of board ≡ N.table) × (columns_of board ≡ N.columns) }
+    requires budget { budget_of board ≡ limits.aborts }
+    requires cells { cells_in board ≡ length (first_memory program.cells) }
+    ensures program { IfOk result (λ r. r.program ≡ program) }
+    ensures words { IfOk result (λ r. r.words ≡ words) }
+    ensures limits { IfOk result (λ r. r.limits ≡ limits) }
+    ensures strand { IfOk result (λ r. IsTrue (is_strand r.tree (ending_strand r.end))) }
+    ensures outputs { IfOk result (λ r. HasItsOutputs r) }
+    ensures numbered { IfOk result (λ r. IsNumberedDepthFirst r.tree) }
+    ensures board { IfOk result (λ r. IsOfBoard r) }
+{
+    let (board, root) = board.named::<N>(root);
+    let token = work(
+        rt,
+        alloc,
+        &board,
+        root,
+        &program,
+        words.as_slice(),
+        workers,
+        limits,
+        gate,
+    );
+    match board.close(token) {
+        Ok(closed) => recorded(alloc, program, words, limits, closed),
+        Err((_, _, error)) => Err(error),
+    }
+}
 
 /// Runs a program by so many workers, each on a thread of its own, the first one on the caller's; one worker goes depth first, with neither
 /// board nor deque. The record has the program, words and limits that are handed in.
@@ -41,7 +138,12 @@ pub fn run<G: Gate, R: Threads + Wait + Sync>(
     ensures one { workers ≡ 1 → IfOk result (λ r. IsOfOneWorker r) }
     ensures several { (workers ≡ 1 → ⊥) → IfOk result (λ r. IsOfBoard r) }
 {
-    let _ = (rt, program, words, workers, limits, gate);
-    let _ = alloc;
-    Err(OutOfMemory)
+    if workers == 1 {
+        return depth_first(alloc, program, words, limits);
+    }
+    let init = first_memory(alloc, program.cells.as_slice())?;
+    let (board, root) = Board::new(alloc, init.as_slice(), limits)?;
+    run_named::<Brand, G, R>(
+        rt, alloc, board, root, program, words, workers, limits, gate,
+    )
 }

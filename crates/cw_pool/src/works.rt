@@ -1,5 +1,6 @@
-//! How a run begins and ends.
-ghost use Rattle.std.specs.Prelude.{◌≡◌};
+//! How a run begins and ends, and all that is between.
+ghost use Rattle.std.specs.Prelude.{◌≡◌, length};
+ghost use Rattle.cw_strand.specs.Names.{first_memory};
 ghost use Rattle.cw_job.specs.Jobs.{Job};
 ghost use Rattle.cw_job.specs.Room.Strands.{strands_of_job};
 ghost use Rattle.cw_log.specs.Tokens.{root_token};
@@ -7,23 +8,28 @@ ghost use Rattle.cw_body.specs.Bodies.{goes_from};
 ghost use Rattle.cw_pool.specs.Ends.{IsWorked};
 ghost use Rattle.cw_pool.specs.Tasks.{IsRun};
 
-use crate::boxes::{TaskBox, empty_box};
-use crate::crew::crew_of;
+use crate::boxes::{Task, TaskBox, empty_box};
+use crate::crew::{Crew, all_work, crew_of};
 use crate::frames::Frames;
-use crate::worker::Worker;
-use crate::{Base, Ended, Memo, Mode, Naming, Running};
+use crate::worker::{Common, never};
+use crate::{Base, Ended, Memo, Mode, Naming, Running, Scene};
 use cw_base::OutOfMemory;
 use cw_body::Body;
+use cw_code::{Limits, Program};
+use cw_io::Gate;
 use cw_log::SharedBoard;
-use cw_pair::{Pairs, Source};
+use cw_pair::{Opened, Pairs, Source};
 use cw_tree::Halt;
 use std::alloc::Global;
-use std::marker::PhantomData;
+use std::marker::{Brand, PhantomData};
+use std::sync::atomic::AtomicU64;
+use std::sync::{Mutex, Wait};
+use std::thread::Threads;
 
 /// What a run needs before its first thread is started.
 #[derive(Drop)]
 struct Ready<B: SharedBoard, J: Naming> {
-    crew: Vec<Worker<B, J>>,
+    crew: Crew<B, J>,
     /// Those of each worker's forks.
     frames: Vec<Frames<B, J>>,
     /// For the task of main.
@@ -94,4 +100,105 @@ fn last_look<B: SharedBoard, J: Naming>(board: &B, ended: Ended<B, J>) -> B::Tok
     let Ended { mut token, .. } = ended;
     board.halted(&mut token);
     token
+}
+
+/// The run once its pairs have a name.
+fn work_in<'x, B: SharedBoard, J: Naming, G: Gate, R: Threads + Wait + Sync>(
+    rt: &R,
+    scene: Scene<'x, B, J>,
+    source: Source<Memo<B::Token>, J>,
+    root: B::Token,
+    body: Body,
+    workers: u32,
+    strands: u32,
+    gate: &'x G,
+) -> B::Token
+    requires run { IsRun J.job }
+    requires root { B.of root ≡ root_token }
+    requires start { body ≡ goes_from J.job.program (strands_of_job J.job).start }
+    ensures { IsWorked J.job (B.of result) }
+{
+    let Ok(ready) = make_ready::<B, J>(scene.alloc, workers, strands, scene.pairs, source) else {
+        return never_begins(scene.board, root);
+    };
+    let Ready { crew, frames, home } = ready;
+    let now = main_strand::<B, J>(scene.alloc, root, body);
+    let board = scene.board;
+    let common = Common {
+        scene,
+        gate,
+        frames,
+        end: Mutex::new(None),
+        over: AtomicU64::new(0),
+    };
+    all_work(rt, &common, crew, Task { home, now });
+    let Common { end, .. } = common;
+    match end.into_inner() {
+        Some(ended) => last_look(board, ended),
+        None => never(rt),
+    }
+}
+
+/// The run under a name of its own.
+fn work_named<'x, B: SharedBoard, J: Naming, G: Gate, R: Threads + Wait + Sync>(
+    rt: &R,
+    alloc: Global,
+    board: &'x B,
+    root: B::Token,
+    program: &'x Program,
+    words: &[i64],
+    workers: u32,
+    limits: Limits,
+    gate: &'x G,
+    opened: Opened<Memo<B::Token>>,
+) -> B::Token
+    requires table { opened ≡ J.table }
+    requires job { J.job ≡ record { program = program.now; words = words.now; limits = limits } }
+    requires run { IsRun J.job }
+    requires root { B.of root ≡ root_token }
+    requires budget { B.budget board.now ≡ limits.aborts }
+    requires cells { B.cells board.now ≡ length (first_memory program.now.cells) }
+    ensures { IsWorked J.job (B.of result) }
+{
+    let (pairs, source) = opened.named::<J>();
+    let Ok(body) = Body::start(alloc, program, words, limits) else {
+        return never_begins(board, root);
+    };
+    let scene = Scene {
+        alloc,
+        board,
+        program,
+        attempts: limits.aborts,
+        pairs: &pairs,
+        of: PhantomData,
+    };
+    work_in(rt, scene, source, root, body, workers, limits.strands, gate)
+}
+
+/// Runs a program on the board that it is lent, by so many workers, one at least: the root's token, with all others joined. Where memory is
+/// wanting, the token tells it by its halt.
+pub fn work<'x, B: SharedBoard, G: Gate, R: Threads + Wait + Sync>(
+    rt: &R,
+    alloc: Global,
+    board: &'x B,
+    root: B::Token,
+    program: &'x Program,
+    words: &[i64],
+    workers: u32,
+    limits: Limits,
+    gate: &'x G,
+) -> B::Token
+    requires run { IsRun (record { program = program.now; words = words.now; limits = limits }) }
+    requires root { B.of root ≡ root_token }
+    requires budget { B.budget board.now ≡ limits.aborts }
+    requires cells { B.cells board.now ≡ length (first_memory program.now.cells) }
+    ensures { let job : Job = record { program = program.entry.now; words = words.entry.now; limits = limits } in IsWorked job (B.of result) }
+{
+    let Ok(opened) = Opened::new(alloc) else {
+        return never_begins(board, root);
+    };
+    let workers = workers.max(1);
+    work_named::<B, Brand, G, R>(
+        rt, alloc, board, root, program, words, workers, limits, gate, opened,
+    )
 }

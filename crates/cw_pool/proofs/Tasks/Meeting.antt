@@ -21,7 +21,7 @@ use Rattle.cw_pool.specs.declared.task.Below.TheVariants as below
 use Rattle.cw_pool.specs.declared.task.Base.{Base}
 use Rattle.cw_pool.specs.declared.task.Base.TheVariants as base
 use Rattle.cw_pool.specs.Ends.{IsBehind, IsMerged, IsToMerge, MayEnd, both}
-use Rattle.cw_pool.specs.Tasks.{Start, IsRun, IsBase, IsRunning, beside, opened, stamps_in}
+use Rattle.cw_pool.specs.Tasks.{Start, IsRun, IsBase, IsRunning, opened, stamps_in}
 use Rattle.cw_pool.proofs.Tasks.Finishing.{Finished, Leaves, at_bottom, finished, not_waiting}
 use Rattle.cw_pool.proofs.Tasks.Behind.{behind_whole}
 use Rattle.cw_pool.proofs.Tasks.Backing.{Unstarted, left_of, one_start, right_begins, unstarted}

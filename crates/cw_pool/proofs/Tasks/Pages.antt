@@ -5,7 +5,7 @@ use Rattle.cw_tree.specs.declared.node.Node.{Node}
 use Rattle.cw_tree.specs.declared.node.Kind.TheVariants.{Strand, Fork, Block}
 use Rattle.cw_tree.specs.Nodes.{fresh_node}
 use Rattle.cw_tree.proofs.NextNodes.Growing.{get_next}
-use Rattle.cw_course.specs.Courses.{Course, nothing, block, size}
+use Rattle.cw_course.specs.Courses.{Course, size}
 use Rattle.cw_course.specs.Trails.{Trail, opens, in_block, in_left, in_right, page, place_of, nodes_of, strand_in, strands_with, forked}
 use Rattle.cw_course.proofs.Trails.Steps.{behind_many}
 use Rattle.cw_pool.specs.Blocks.{begin_at}

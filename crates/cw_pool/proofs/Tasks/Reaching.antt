@@ -4,7 +4,6 @@ use Rattle.std.specs.Prelude.{IsTrue, length}
 use Rattle.cw_strand.specs.declared.want.Want.{Want}
 use Rattle.cw_strand.specs.declared.want.Want.TheVariants as want
 use Rattle.cw_strand.specs.declared.want.Given.TheVariants.{Nothing}
-use Rattle.cw_tree.specs.declared.node.Kind.TheVariants.{Fork}
 use Rattle.cw_strand.specs.Strands.{Strands, IsAnswer, MayWant, own_after, is_over, GoesTo, stays, answered, Reached, of_main, of_left, of_right}
 use Rattle.cw_job.specs.Jobs.{Job}
 use Rattle.cw_job.specs.Room.Strands.{StrandState, strands_of_job}

@@ -9,19 +9,22 @@ use Rattle.cw_steps.specs.Views.{view_of}
 use Rattle.cw_board.specs.Asked.{IsRefusedAfter}
 use Rattle.cw_board.specs.Boards.{cells_in}
 use Rattle.cw_board.specs.Victims.{IsBarrier, Refuses}
-use Rattle.cw_board.proofs.Reading.{answered_later, looked_holds}
+use Rattle.cw_board.proofs.Reading.{answered_later}
+use Rattle.cw_board.proofs.Returning.{returned_holds}
 use Rattle.cw_board.proofs.Refusing.{ok_both, refuses_after}
 use Rattle.cw_board.proofs.board.Board.access_held.Goals as goal
 
 pub refuse-requires-clause-held : goal.refuse-requires-clause-held
 refuse-requires-clause-held g c =
     let h = c.requires.held in
-    (h.0, h.1, looked_holds c.args.self.now c.args.token.now c.judge.new.token c.judge.ensures.looked c.args.cell h.1 h.0 h.2)
+    let e = c.judge.ensures in
+    (h.0, h.1, returned_holds c.args.self.now c.args.cell h.1 h.0 c.args.token.now c.judge.new.token h.2 e.table e.returned e.track e.token)
 
 pub make_access-requires-in-None-clause-held : goal.make_access-requires-in-None-clause-held
 make_access-requires-in-None-clause-held g c =
     let h = c.requires.held in
-    (h.0, h.1, looked_holds c.args.self.now c.args.token.now c.judge.new.token c.judge.ensures.looked c.args.cell h.1 h.0 h.2)
+    let e = c.judge.ensures in
+    (h.0, h.1, returned_holds c.args.self.now c.args.cell h.1 h.0 c.args.token.now c.judge.new.token h.2 e.table e.returned e.track e.token)
 
 pub returns-in-Some-judge-clause-against : goal.returns-in-Some-judge-clause-against
 returns-in-Some-judge-clause-against g c =

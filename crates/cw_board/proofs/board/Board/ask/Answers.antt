@@ -1,8 +1,9 @@
-use Rattle.std.proofs.Common.{ℕ, [], subst}
+use Rattle.std.proofs.Common.{ℕ, [], ◌∙◌, ap, subst}
 use Rattle.cw_steps.specs.declared.view.Slot.TheVariants as slot
 use Rattle.cw_board.specs.Asked.{IsAnswered}
 use Rattle.cw_board.specs.Boards.{cells_in}
-use Rattle.cw_board.proofs.Reading.{answered_later, answered_now, looked_is, over_read}
+use Rattle.cw_board.proofs.Reading.{answered_later, answered_now, over_read}
+use Rattle.cw_board.proofs.Returning.{returned_is}
 use Rattle.cw_board.proofs.board.Board.ask.Goals as goal
 
 pub tier_back-requires-clause-held : goal.tier_back-requires-clause-held
@@ -11,12 +12,11 @@ tier_back-requires-clause-held g c = (c.args.token.now, slot.Empty, over_read c.
 pub returns-clause-of : goal.returns-clause-of
 returns-clause-of g c =
     let over = over_read c.args.self.now slot.Empty c.args.token.now c.tier_over-tier.new.token c.ask_tier-verdict.new.token c.tier_over-tier.ensures.held c.ask_tier-verdict.ensures.read in
-    looked_is c.args.self.now c.args.token.now c.tier_back.new.token (c.tier_back.ensures.looked c.args.token.now slot.Empty over) c.requires.of
+    let e = c.tier_back.ensures in
+    returned_is c.args.self.now c.args.token.now c.tier_back.new.token c.requires.of e.table (e.returned c.args.token.now slot.Empty over) (ap (λ k. k.room) (e.track ∙ over.track)) (e.token ∙ over.token)
 
 pub returns-clause-token : goal.returns-clause-token
-returns-clause-token g c =
-    let over = over_read c.args.self.now slot.Empty c.args.token.now c.tier_over-tier.new.token c.ask_tier-verdict.new.token c.tier_over-tier.ensures.held c.ask_tier-verdict.ensures.read in
-    (c.tier_back.ensures.looked c.args.token.now slot.Empty over).token
+returns-clause-token g c = c.tier_back.ensures.token ∙ c.ask_tier-verdict.ensures.read.token ∙ c.tier_over-tier.ensures.held.token
 
 pub returns-clause-answered : goal.returns-clause-answered
 returns-clause-answered g c =

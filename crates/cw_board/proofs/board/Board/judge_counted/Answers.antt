@@ -1,3 +1,4 @@
+use Rattle.std.proofs.Common.{◌∙◌}
 use Rattle.cw_steps.specs.declared.view.Slot.TheVariants as slot
 use Rattle.cw_board.specs.Boards.{cells_in}
 use Rattle.cw_board.specs.Victims.{IsBarrier}
@@ -8,9 +9,15 @@ use Rattle.cw_board.proofs.board.Board.judge_counted.Goals as goal
 pub tier_back-requires-clause-held : goal.tier_back-requires-clause-held
 tier_back-requires-clause-held g c = (c.args.token.now, slot.Empty, over_read c.args.self.now slot.Empty c.args.token.now c.tier_over-tier.new.token c.barrier-found.new.token c.tier_over-tier.ensures.held c.barrier-found.ensures.read)
 
-pub returns-clause-looked : goal.returns-clause-looked
-returns-clause-looked g c = c.tier_back.ensures.looked c.args.token.now slot.Empty
+pub returns-clause-returned : goal.returns-clause-returned
+returns-clause-returned g c = c.tier_back.ensures.returned c.args.token.now slot.Empty
     (over_read c.args.self.now slot.Empty c.args.token.now c.tier_over-tier.new.token c.barrier-found.new.token c.tier_over-tier.ensures.held c.barrier-found.ensures.read)
+
+pub returns-clause-track : goal.returns-clause-track
+returns-clause-track g c = c.tier_back.ensures.track ∙ c.barrier-found.ensures.read.track ∙ c.tier_over-tier.ensures.held.track
+
+pub returns-clause-token : goal.returns-clause-token
+returns-clause-token g c = c.tier_back.ensures.token ∙ c.barrier-found.ensures.read.token ∙ c.tier_over-tier.ensures.held.token
 
 pub returns-clause-found : goal.returns-clause-found
 returns-clause-found g c =

@@ -16,11 +16,11 @@ give-requires-clause-held c =
     subst (λ (n : ℕ). (z : Slot) × Holding v n z × IsWhole (key_of b.shared) (view_of v).seen (newest_used (view_of v).turns) n z) (sym c.cells-place.ensures)
     (gives_over b (slot.Tier c.args.tier) h.0 v now (has_tier_too b (slot.Tier c.args.tier) (slot.Tier c.args.tier) u v refl o.view c.requires.tier))
 
-pub returns-clause-looked : goal.returns-clause-looked
-returns-clause-looked c = λ t y h.
+pub returns-clause-returned : goal.returns-clause-returned
+returns-clause-returned c = λ t y h.
     let b = c.args.self.now in
     let u = c.args.token.now in
     let v = c.tier_in.new.token in
     let o = c.tier_in.ensures in
     let e = c.give.ensures in
-    gives_back b (slot.Tier c.args.tier) t v c.give.new.token (over_other b y (slot.Tier c.args.tier) t u v h o.table o.view o.slots o.track o.token) e.table e.view e.slots (e.plain refl) e.token
+    gives_back b (slot.Tier c.args.tier) t v c.give.new.token (over_other b y (slot.Tier c.args.tier) t u v h o.table o.view o.slots o.track o.token) e.view e.slots

@@ -1,0 +1,101 @@
+-- Serves `IsLed`: a strand that a test leads from call to call.
+use Rattle.std.proofs.Common.{◌≡◌, ◌∙◌, ℕ, ◌<◌, List, [], ◌∷◌, ◌++◌, length, map, ap, refl, sym, subst, arith, inl, inr, zero, suc}
+use Rattle.std.specs.Prelude.{◌⊎◌, ℤ, All, Bool, true, false, Contains, Option, None, reverse, ◌||◌, if◌then◌else◌}
+use Rattle.std.proofs.lemmas.List.Elements.{All-append, All-head, All-tail, Contains-push_cases}
+use Rattle.atomic_table.specs.Seated.{TableId}
+use Rattle.cw_tree.specs.declared.conflict.Conflict.{Conflict}
+use Rattle.cw_log.specs.declared.board.Access.{Access}
+use Rattle.cw_log.specs.declared.board.Access.TheVariants as access
+use Rattle.cw_log.specs.declared.log.Above.{Above}
+use Rattle.cw_log.specs.declared.log.Log.{Log}
+use Rattle.cw_log.specs.declared.token.Open.{Open}
+use Rattle.cw_log.specs.declared.token.Phase.{Phase}
+use Rattle.cw_log.specs.declared.token.Phase.TheVariants.{Going, Parted}
+use Rattle.cw_log.specs.declared.token.Side.TheVariants.{Beside}
+use Rattle.cw_log.specs.declared.token.Stop.{Stop}
+use Rattle.cw_log.specs.declared.token.Token.{Token}
+use Rattle.cw_log.specs.Answers.{Meets}
+use Rattle.cw_log.specs.Tokens.{conflicts_in, kept_stop, left_behind, taken_in, AreOfOneFork}
+use Rattle.cw_steps.specs.declared.table.StrandToken.{StrandToken}
+use Rattle.cw_steps.specs.Tracks.{begins}
+use Rattle.cw_board.specs.declared.board.Board.{Board}
+use Rattle.cw_board.specs.Boards.{columns_of, table_of, IsAt, IsOf}
+use Rattle.cw_board.specs.Led.{IsLed}
+use Rattle.cw_board.proofs.Refusing.{begins_cons}
+
+-- ## Under the name of a table
+
+pub here : (b : Board) (id : TableId) (columns : ℕ) (t : StrandToken) → table_of b ≡ id → columns_of b ≡ columns → IsAt id columns t → IsOf b t
+here b id columns t e f h = subst (λ i. IsAt i (columns_of b) t) (sym e) (subst (λ n. IsAt id n t) (sym f) h)
+
+pub there : (b : Board) (id : TableId) (columns : ℕ) (t : StrandToken) → table_of b ≡ id → columns_of b ≡ columns → IsOf b t → IsAt id columns t
+there b id columns t e f h = subst (λ n. IsAt id n t) f (subst (λ i. IsAt i (columns_of b) t) e h)
+
+-- ## What calls ask
+
+pub all_in : (P : Conflict → Type 0) (ls : List Log) → All (λ l. All P l.conflicts) ls → All P (conflicts_in ls)
+all_in P [] all = λ k d r. absurd (omega arith)
+all_in P (l ∷ ls) all = All-append P l.conflicts (conflicts_in ls) (all 0 l (omega arith)) (all_in P ls (λ k d r. all (suc k) d (omega arith)))
+
+pub none_begins : (blocks : List Above) (n : ℕ) → All (λ (a : Above). a.begin ≡ n → ⊥) blocks → Contains (begins (reverse blocks)) n → ⊥
+none_begins [] n all h = absurd (omega (arith, h.1))
+none_begins (b ∷ blocks) n all h =
+    pick (λ g. none_begins blocks n (All-tail (λ (a : Above). a.begin ≡ n → ⊥) b blocks all) g)
+    (Contains-push_cases (begins (reverse blocks)) b.begin n (subst (λ (ns : List ℕ). Contains ns n) (begins_cons b blocks) h)) where
+      pick : (Contains (begins (reverse blocks)) n → ⊥) → Contains (begins (reverse blocks)) n ⊎ (b.begin ≡ n) → ⊥
+      pick f (inl g) = f g
+      pick f (inr e) = All-head (λ (a : Above). a.begin ≡ n → ⊥) b blocks all e
+
+-- ## What calls make of it
+
+pub led_is : (x y : Token) (strand fork : ℕ) (split : Bool) (phase : Phase) (forks strands : List ℕ) → y ≡ x → IsLed x strand fork split phase forks strands → IsLed y strand fork split phase forks strands
+led_is x y strand fork split phase forks strands e h = subst (λ z. IsLed z strand fork split phase forks strands) (sym e) h
+
+pub led_after : (x y : Token) (strand fork : ℕ) (split : Bool) (phase : Phase) (forks strands : List ℕ) (c : ℕ) (w : Option ℤ) (a : Access) → Meets x y c w a
+    → IsLed x strand fork split phase forks strands → IsLed y strand fork split phase forks strands
+led_after x y strand fork split phase forks strands c w (access.Value v) (written, told) h = subst (λ z. IsLed z strand fork split phase forks strands) (sym told.1) h
+led_after x y strand fork split phase forks strands c w (access.Conflict k) (cell, asker, around, e) h = subst (λ z. IsLed z strand fork split phase forks strands) (sym e) h
+
+-- ## Behind a fork
+
+none_open : (os : List Open) → map (λ (o : Open). o.side) os ≡ [] → os ≡ []
+none_open [] e = refl
+none_open (o ∷ os) e = absurd (cc e)
+
+-- in whose left strand x stands, and with whose right one y began
+module _ (x y : Token) (strand fork number outer begun : ℕ) (split late : Bool) (phase ended : Phase) (forks strands more : List ℕ)
+    (hx : IsLed x strand fork split phase (number ∷ forks) (outer ∷ strands)) (hy : IsLed y begun number late ended [] more) where
+  pub of_one_fork : AreOfOneFork x y
+  of_one_fork =
+      let (strand_is, fork_is, split_is, phase_is, stop_is, told_is, sides, waiting) = hx in
+      let (begun_is, number_is, late_is, ended_is, none, untold, closed, waits) = hy in
+      by x.forks refl sides number_is (none_open y.forks closed)
+    where
+      by : (os : List Open) → x.forks ≡ os → map (λ (o : Open). o.side) os ≡ Beside number ∷ map Beside forks → y.fork ≡ number → y.forks ≡ [] → AreOfOneFork x y
+      by [] q e n right = absurd (cc e)
+      by (o ∷ os) q e n right = let side : o.side ≡ Beside number = cc e in record { inner = o; outer = os; left = q; fork = side ∙ ap Beside (sym n); right = right }
+
+  -- from where its strand stands behind these forks
+  abbrev behind : List Open → Token
+  behind os = record (left_behind x os) {
+    joined = x.joined ++ y.own ∷ y.joined;
+    phase = (if y.split then Parted y.fork else Going);
+    stop = kept_stop x.stop y.stop;
+    told = x.told || y.told;
+  }
+
+  led_out : (os : List Open) → map (λ (o : Open). o.side) os ≡ Beside number ∷ map Beside forks → map (λ (o : Open). o.strand) os ≡ outer ∷ strands → x.fork ≡ fork → x.split ≡ split
+      → (if y.split then Parted y.fork else Going) ≡ (if late then Parted number else Going) → kept_stop x.stop y.stop ≡ None → (x.told || y.told) ≡ false
+      → IsLed (behind os) outer fork split (if late then Parted number else Going) forks strands
+  led_out [] e w f s p k t = absurd (cc e)
+  led_out (o ∷ os) e w f s p k t = (cc w, f, s, p, k, t, cc e, cc w)
+
+  -- it goes on where the strand stands that forked
+  pub led_behind : IsLed (taken_in x y) outer fork split (if late then Parted number else Going) forks strands
+  led_behind =
+      let (strand_is, fork_is, split_is, phase_is, stop_is, told_is, sides, waiting) = hx in
+      let (begun_is, number_is, late_is, ended_is, none, untold, closed, waits) = hy in
+      led_out x.forks sides waiting fork_is split_is
+      (λ i. if late_is i then Parted (number_is i) else Going)
+      (ap (λ s. kept_stop s y.stop) stop_is ∙ none)
+      (ap (λ b. b || y.told) told_is ∙ untold)

@@ -1,0 +1,10 @@
+use Rattle.std.proofs.Common.{rules}
+use Rattle.cw_record.specs.Built.{HasRecord}
+use Rattle.cw_pool.proofs.Recorded.{built_is}
+use Rattle.cw_pool.proofs.recording.recorded.Goals as goal
+
+pub returns-clause-board : goal.returns-clause-board
+returns-clause-board c =
+    let e = c.build.ensures in
+    let has : HasRecord c.args.closed.tree c.args.closed.halt = search rules in
+    built_is c.args.program c.args.words c.args.limits c.args.closed c.build.result has e.program e.words e.limits e.tree e.journals e.conflicts e.order e.end e.numbered
