@@ -9,7 +9,7 @@ use Rattle.cw_words.specs.declared.command.Command.{Command}
 use Rattle.cw_words.specs.declared.command.Command.TheVariants.{Run, Sim}
 use Rattle.cw_top.specs.declared.outcome.Note.{Note}
 use Rattle.cw_top.specs.declared.outcome.Note.TheVariants as note
-use Rattle.cw_top.specs.Outcome.{IsStatus, IsStatusOf, status_of_end}
+use Rattle.cw_top.specs.Outcome.{IsStatus, status_of_end}
 use Rattle.cw_top.specs.Runs.{HasSeveralThreads, IsDoneAs, IsDoneBy, IsReady}
 use Rattle.cw_top.specs.Written.{Writes, text_of, text_owed}
 use Rattle.cw_top.proofs.Statuses.{thread_differs}

@@ -1,5 +1,5 @@
 -- Status 9: the moves of a simulation were made without an end, and the text was written.
-use Rattle.std.proofs.Common.{◌≡◌, ◌∙◌, ℕ, Option, Some, None, IfSome, IsSomeAnd, ap, inl, inr, refl, sym, subst}
+use Rattle.std.proofs.Common.{◌≡◌, ◌∙◌, ℕ, Option, Some, None, IfSome, IsSomeAnd, ap, inl, inr, refl, sym}
 use Rattle.std.specs.Prelude.{◌↔◌}
 use Rattle.cw_record.specs.declared.record.Record.{Record}
 use Rattle.cw_record.specs.declared.record_end.RecordEnd.{RecordEnd}

@@ -26,7 +26,7 @@ use Rattle.cw_top.proofs.Budgets.{by_end}
 use Rattle.cw_top.proofs.Parameters.{fits, spelled_accepted}
 use Rattle.cw_report.specs.Results.{end_text, finished_text}
 use Rattle.cw_top.specs.Outcome.{HasCause, IsMisused, IsRefusedWith, IsStatus, IsStatusOf, IsSurelyMisused, IsSurelyRefused, MayBeMisusedWith, MayEndWith, status_of_end}
-use Rattle.cw_top.specs.Runs.{HasSeveralThreads, HasSeveralWorkers, IsDoneAs, IsDoneBy, IsOfMoves, IsOfThreads, IsReady, IsRunBy, IsRunOf}
+use Rattle.cw_top.specs.Runs.{HasSeveralWorkers, IsDoneAs, IsDoneBy, IsOfMoves, IsOfThreads, IsReady, IsRunBy, IsRunOf}
 use Rattle.cw_top.specs.Taken.{Accepts, IsRefusedFor}
 use Rattle.cw_top.specs.Written.{Writes, WritesEndOfOneMemory, end_of_one_memory, report_if, text_of, text_owed}
 use Rattle.cw_words.specs.Words.{asks_report, words_of}

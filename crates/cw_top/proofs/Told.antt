@@ -1,5 +1,5 @@
 -- What is not done by several threads is proved to replay.
-use Rattle.std.proofs.Common.{◌<◌, Option, Some, arith, inl, inr}
+use Rattle.std.proofs.Common.{Some, arith, inl, inr}
 use Rattle.std.proofs.lemmas.Bool.{cases_lt}
 use Rattle.cw_record.specs.declared.record.Record.{Record}
 use Rattle.cw_record.specs.Records.{IsReplayed}

@@ -1,5 +1,5 @@
 use Rattle.cw_top.specs.Runs.{IsReady}
-use Rattle.std.proofs.Common.{map, string_bytes, subst, sym}
+use Rattle.std.proofs.Common.{map, rules, string_bytes, subst, sym}
 use Rattle.std.specs.Prelude.{IfSome}
 use Rattle.cw_top.proofs.Budgets.{spends}
 use Rattle.cw_top.proofs.Checks as checks
@@ -12,7 +12,9 @@ use Rattle.cw_top.proofs.Statuses as statuses
 use Rattle.cw_top.proofs.top.cwstm.Goals as goal
 
 pub answer-requires-clause-ready : goal.answer-requires-clause-ready
-answer-requires-clause-ready g c = subst (λ command. IfSome command IsReady) (sym c.in-Ok.ensures.exact) (ready (map string_bytes c.args.words.now))
+answer-requires-clause-ready g c =
+    let is_ready : IfSome c.in-Ok.command IsReady = subst (λ command. IfSome command IsReady) (sym c.in-Ok.ensures.exact) (ready (map string_bytes c.args.words.now)) in
+    search (rules, is_ready)
 
 pub returns-clause-usage : goal.returns-clause-usage
 returns-clause-usage g c = let cause = rw c.in-Ok.ensures.exact at c.answer.ensures.cause in statuses.usage _ _ _ _ _ _ _ c.answer.ensures.status cause
