@@ -99,3 +99,23 @@ module _ (x y : Token) (strand fork number outer begun : ℕ) (split late : Bool
       (λ i. if late_is i then Parted (number_is i) else Going)
       (ap (λ s. kept_stop s y.stop) stop_is ∙ none)
       (ap (λ b. b || y.told) told_is ∙ untold)
+
+-- as `behind` tells where that strand stands
+module _ (x y : Token) (strand fork number outer begun : ℕ) (split late : Bool) (phase ended : Phase) (forks strands all ones more others : List ℕ)
+    (hx : IsLed x strand fork split phase all ones) (hy : IsLed y begun number late ended more others) (none : more ≡ []) (first : all ≡ number ∷ forks) (one : ones ≡ outer ∷ strands) where
+  left_led : IsLed x strand fork split phase (number ∷ forks) (outer ∷ strands)
+  left_led = subst (λ (ns : List ℕ). IsLed x strand fork split phase (number ∷ forks) ns) one (subst (λ (ns : List ℕ). IsLed x strand fork split phase ns ones) first hx)
+
+  right_led : IsLed y begun number late ended [] others
+  right_led = subst (λ (ns : List ℕ). IsLed y begun number late ended ns others) none hy
+
+  pub joins_fork : AreOfOneFork x y
+  joins_fork = of_one_fork x y strand fork number outer begun split late phase ended forks strands others left_led right_led
+
+  pub joins_led : (z : Token) (fork' : ℕ) (split' : Bool) (phase' : Phase) → z ≡ taken_in x y → fork' ≡ fork → split' ≡ split → phase' ≡ (if late then Parted number else Going) → IsLed z outer fork' split' phase' forks strands
+  joins_led z fork' split' phase' is f s p =
+      let h = led_behind x y strand fork number outer begun split late phase ended forks strands others left_led right_led in
+      subst (λ w. IsLed w outer fork' split' phase' forks strands) (sym is)
+      (subst (λ (n : ℕ). IsLed (taken_in x y) outer n split' phase' forks strands) (sym f)
+      (subst (λ (b : Bool). IsLed (taken_in x y) outer fork b phase' forks strands) (sym s)
+      (subst (λ (q : Phase). IsLed (taken_in x y) outer fork split q forks strands) (sym p) h)))
