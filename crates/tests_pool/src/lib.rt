@@ -7,6 +7,3 @@ mod walk;
 mod walker;
 
 pub use walk::{Told, Why, Wrong, walked};
-
-#[cfg(test)]
-mod tests;

@@ -65,6 +65,14 @@ impl<'a> Legs<'a> {
         }
     }
 
+    /// Whether it goes on, and has come to its end.
+    fn is_over(&self) -> bool {
+        match self {
+            Legs::Goes(walker) => walker.is_over(),
+            Legs::Fell(_) => false,
+        }
+    }
+
     fn fallen(self) -> Fallen<'a> {
         match self {
             Legs::Goes(walker) => walker.falls(),
@@ -73,11 +81,29 @@ impl<'a> Legs<'a> {
     }
 }
 
+/// The strand that forked: it goes on where both its strands have come to their ends.
+fn joined<'a>(left: Legs<'a>, right: Legs<'a>) -> Result<Legs<'a>, Why> {
+    let are_over = left.is_over() && right.is_over();
+    match (left, right) {
+        (Legs::Goes(left), Legs::Goes(right)) => {
+            if are_over {
+                Ok(Legs::Goes(right.joins(left)?))
+            } else {
+                Ok(Legs::Fell(right.falls()))
+            }
+        }
+        (Legs::Goes(_left), Legs::Fell(right)) => Ok(Legs::Fell(right)),
+        (Legs::Fell(_left), right) => Ok(Legs::Fell(right.fallen())),
+    }
+}
+
 /// What is open around the strand that is walked.
 #[derive(Drop)]
 enum Open<'a> {
     /// A block, which was begun in this place.
-    Block { outer: u32 },
+    Block {
+        outer: u32,
+    },
     /// The left strand of a fork that was made in this place. The right one comes next, in the same log where that has its number.
     Left {
         fork: usize,
@@ -93,22 +119,34 @@ enum Open<'a> {
     },
 }
 
-/// Whether each conflict is of a refused access of the log.
+/// The cell of a refused access.
+fn tried(node: &Node) -> Option<u32> {
+    match node.kind {
+        Kind::Tried { cell } => Some(cell),
+        _ => None,
+    }
+}
+
+/// Whether each conflict is of a refused access of the log, and each of these has one.
 fn are_asked(nodes: &[Node], conflicts: &[Conflict]) -> bool {
-    let tried = nodes
-        .iter()
-        .filter(|node| matches!(node.kind, Kind::Tried { .. }))
-        .count();
-    tried == conflicts.len()
-        && conflicts
-            .iter()
-            .all(|conflict| match nodes.get(conflict.asker as usize) {
-                Some(Node {
-                    kind: Kind::Tried { cell },
-                    ..
-                }) => *cell == conflict.cell,
-                _ => false,
-            })
+    let mut askers = 0usize;
+    for node in nodes {
+        if tried(node).is_some() {
+            askers = askers.saturating_add(1);
+        }
+    }
+    if askers != conflicts.len() {
+        return false;
+    }
+    for conflict in conflicts {
+        let Some(node) = nodes.get(conflict.asker as usize) else {
+            return false;
+        };
+        if tried(node) != Some(conflict.cell) {
+            return false;
+        }
+    }
+    true
 }
 
 /// Whether a strand stands where this stops one.
@@ -158,10 +196,12 @@ impl<'a> Walk<'a> {
                 self.place = self.next as u32;
                 walker
             }
-            Kind::Tried { cell } => match walker.want() {
-                Want::Load(wanted) | Want::Store(wanted, _) if wanted == cell => walker,
-                _ => return Err(Why::Want),
-            },
+            Kind::Tried { cell } => {
+                if !walker.is_at(cell) {
+                    return Err(Why::Want);
+                }
+                walker
+            }
             _ => walker.acts(&node.kind)?,
         };
         self.next += 1;
@@ -203,20 +243,24 @@ impl<'a> Walk<'a> {
         match self.open.pop() {
             None => self.ends(legs),
             Some(Open::Block { outer }) => self.leaves_block(legs, outer),
-            Some(Open::Left {
-                fork,
-                outer,
-                right,
-                inline,
-            }) => {
+            Some(
+                Open::Left {
+                    fork,
+                    outer,
+                    right,
+                    inline,
+                },
+            ) => {
                 self.looks(&legs);
                 self.turns(legs, fork, outer, right, inline)
             }
-            Some(Open::Right {
-                outer,
-                left,
-                before,
-            }) => {
+            Some(
+                Open::Right {
+                    outer,
+                    left,
+                    before,
+                },
+            ) => {
                 self.looks(&legs);
                 self.joins(legs, outer, left, before)
             }
@@ -242,7 +286,7 @@ impl<'a> Walk<'a> {
             (BlockState::Committed, Legs::Goes(walker)) => Ok(Legs::Goes(walker.ends()?)),
             (BlockState::Committed, Legs::Fell(_)) => Err(Why::Off),
             (BlockState::Aborted, legs) => Ok(Legs::Goes(legs.fallen().back()?)),
-            (BlockState::Pending, legs) => Ok(Legs::Fell(legs.fallen())),
+            (BlockState::Pending, legs) => Ok(Legs::Fell(legs.fallen().leaves()?)),
         }
     }
 
@@ -295,7 +339,7 @@ impl<'a> Walk<'a> {
         Ok(())
     }
 
-    /// Both strands of a fork have ended: the strand that forked goes on, unless one of them broke off.
+    /// Both strands of a fork have nothing more.
     fn joins(
         &mut self,
         right: Legs<'a>,
@@ -303,6 +347,7 @@ impl<'a> Walk<'a> {
         left: Legs<'a>,
         before: Option<(Page<'a>, usize)>,
     ) -> Result<Legs<'a>, Why> {
+        let legs = joined(left, right)?;
         if let Some((page, next)) = before {
             if self.next != self.page.nodes.len() {
                 return Err(Why::More);
@@ -311,12 +356,7 @@ impl<'a> Walk<'a> {
             self.next = next;
         }
         self.place = outer;
-        match (left, right) {
-            (Legs::Goes(left), Legs::Goes(right)) if left.is_over() && right.is_over() => {
-                Ok(Legs::Goes(right.joins(left)?))
-            }
-            (_, right) => Ok(Legs::Fell(right.fallen())),
-        }
+        Ok(legs)
     }
 
     /// The strand of main has nothing more.
@@ -325,14 +365,10 @@ impl<'a> Walk<'a> {
         if self.next != self.page.nodes.len() || self.logs.next().is_some() {
             return Err(Why::More);
         }
-        let is_over = match &legs {
-            Legs::Goes(walker) => walker.is_over(),
-            Legs::Fell(_) => false,
-        };
         let ended = if self.stop.is_some() {
             self.met
         } else {
-            is_over
+            legs.is_over()
         };
         if !ended {
             return Err(Why::End);

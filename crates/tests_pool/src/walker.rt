@@ -1,8 +1,10 @@
 //! A strand that is walked: it goes where a log tells.
-ghost use Rattle.std.specs.Prelude.{◌≡◌, ◌<◌, ◌≤◌, All, IfOk, IsTrue, length};
+ghost use Rattle.std.specs.Prelude.{◌≡◌, IfOk, IfSome, IsTrue, length, true};
 ghost use Rattle.cw_body.specs.declared.stage.Stage.TheVariants.{Goes, GaveUp};
+ghost use Rattle.cw_body.specs.Bodies.{AnswersAct, want_of};
+ghost use Rattle.cw_strand.specs.Strands.{is_over};
 ghost use Rattle.cw_job.specs.Jobs.{TakesWords};
-ghost use Rattle.tests_pool.specs.Levels.{AreLevels};
+ghost use Rattle.tests_pool.specs.Levels.{AreBelow, levels_at};
 
 use crate::walk::Why;
 use cw_base::Stack;
@@ -22,7 +24,7 @@ pub(crate) struct Walker<'a> {
     levels: Stack<u64>,
     ghost goes: { body.stage ≡ Goes },
     ghost of: { body.program ≡ program.now },
-    ghost blocks: { AreLevels level levels body.begins },
+    ghost around: { levels ≡ levels_at level body.begins },
 }
 
 /// One that goes no further from where it stands, but may go back.
@@ -34,12 +36,12 @@ pub(crate) struct Fallen<'a> {
     levels: Stack<u64>,
     ghost gave_up: { body.stage ≡ GaveUp },
     ghost of: { body.program ≡ program.now },
-    ghost blocks: { AreLevels level levels body.begins },
+    ghost around: { levels ≡ levels_at level body.begins },
 }
 
 /// Whether all are below this.
 fn are_below(levels: &Stack<u64>, level: u64) -> Result<bool, Why>
-    ensures { IfOk result (λ b. IsTrue b → All (λ l. l < level) levels.now) }
+    ensures { IfOk result (λ b. IsTrue b → AreBelow level levels.now) }
 {
     let mut left = levels.copy()?;
     for _ in 0..u64::MAX {
@@ -55,36 +57,51 @@ fn are_below(levels: &Stack<u64>, level: u64) -> Result<bool, Why>
     Err(Why::Memory)
 }
 
-/// Whether none is above this.
-fn are_up_to(levels: &Stack<u64>, level: u64) -> Result<bool, Why>
-    ensures { IfOk result (λ b. IsTrue b → All (λ l. l ≤ level) levels.now) }
-{
-    let mut left = levels.copy()?;
-    for _ in 0..u64::MAX {
-        match left.pop() {
-            None => return Ok(true),
-            Some(one) => {
-                if one > level {
-                    return Ok(false);
-                }
-            }
-        }
+/// The value that was read of this cell.
+fn read_of(kind: &Kind, wanted: u32) -> Option<i64> {
+    match kind {
+        Kind::Read { cell, value } => { if *cell == wanted { Some(*value) } else { None } }
+        _ => None,
     }
-    Err(Why::Memory)
+}
+
+fn is_write(kind: &Kind, wanted: u32, new: i64) -> bool {
+    match kind {
+        Kind::Write { cell, value } => *cell == wanted && *value == new,
+        _ => false,
+    }
+}
+
+fn is_out(kind: &Kind, wanted: i64) -> bool {
+    match kind {
+        Kind::Out { value } => *value == wanted,
+        _ => false,
+    }
 }
 
 /// What a node that an act made answers, where the strand wants that act.
-fn given(want: Want, kind: &Kind) -> Option<Given> {
-    match (want, kind) {
-        (Want::Load(wanted), Kind::Read { cell, value }) if wanted == *cell => {
-            Some(Given::Value(*value))
+fn given(want: Want, kind: &Kind) -> Option<Given>
+    ensures { IfSome result (λ given. AnswersAct want given) }
+{
+    match want {
+        Want::Load(cell) => {
+            let value = read_of(kind, cell)?;
+            Some(Given::Value(value))
         }
-        (Want::Store(wanted, new), Kind::Write { cell, value })
-            if wanted == *cell && new == *value =>
-        {
-            Some(Given::Nothing)
+        Want::Store(cell, value) => {
+            if is_write(kind, cell, value) {
+                Some(Given::Nothing)
+            } else {
+                None
+            }
         }
-        (Want::Out(wanted), Kind::Out { value }) if wanted == *value => Some(Given::Nothing),
+        Want::Out(value) => {
+            if is_out(kind, value) {
+                Some(Given::Nothing)
+            } else {
+                None
+            }
+        }
         _ => None,
     }
 }
@@ -111,7 +128,19 @@ impl<'a> Walker<'a> {
         self.body.want()
     }
 
-    pub(crate) fn is_over(&self) -> bool {
+    /// Whether it wants to read or write this cell.
+    pub(crate) fn is_at(&self, cell: u32) -> bool {
+        match self.body.want() {
+            Want::Load(wanted) => wanted == cell,
+            Want::Store(wanted, _) => wanted == cell,
+            _ => false,
+        }
+    }
+
+    /// Whether it has come to its end.
+    pub(crate) fn is_over(&self) -> bool
+        ensures { IsTrue result → is_over (want_of self.now.body) ≡ true }
+    {
         matches!(self.body.want(), Want::Sync | Want::Done)
     }
 
@@ -121,7 +150,8 @@ impl<'a> Walker<'a> {
         let Some(given) = given(walker.body.want(), kind) else {
             return Err(Why::Want);
         };
-        walker.body.answer(given, walker.program)?;
+        let program = walker.program;
+        walker.body.answer(given, program)?;
         Ok(walker)
     }
 
@@ -132,22 +162,34 @@ impl<'a> Walker<'a> {
             return Err(Why::Want);
         };
         let saved = walker.body.save()?;
-        walker.body.begins(saved, walker.program)?;
-        walker.levels.push(walker.level)?;
+        let program = walker.program;
+        walker.body.begins(saved, program)?;
+        let level = walker.level;
+        walker.levels.push(level)?;
         Ok(walker)
     }
 
     /// Goes on behind the block.
     pub(crate) fn ends(self) -> Result<Walker<'a>, Why> {
-        let mut walker = self;
-        let Want::End = walker.body.want() else {
+        let Walker {
+            program,
+            mut body,
+            level,
+            mut levels,
+        } = self;
+        let Want::End = body.want() else {
             return Err(Why::Want);
         };
-        let Some(_) = walker.levels.pop() else {
+        let Some(_) = levels.pop() else {
             return Err(Why::Want);
         };
-        walker.body.ends(walker.program)?;
-        Ok(walker)
+        body.ends(program)?;
+        Ok(Walker {
+            program,
+            body,
+            level,
+            levels,
+        })
     }
 
     /// The left and the right strand of a fork.
@@ -159,13 +201,15 @@ impl<'a> Walker<'a> {
         let Some(level) = right.level.checked_add(1) else {
             return Err(Why::Memory);
         };
+        let program = right.program;
+        let body = right.body.fork(alloc, program)?;
+        right.level = level;
         let left = Walker {
-            program: right.program,
-            body: right.body.fork(alloc, right.program)?,
+            program,
+            body,
             level: 0,
             levels: Stack::new(alloc),
         };
-        right.level = level;
         Ok((left, right))
     }
 
@@ -173,10 +217,14 @@ impl<'a> Walker<'a> {
     pub(crate) fn joins(self, left: Walker<'a>) -> Result<Walker<'a>, Why> {
         let mut right = self;
         let Walker { body, .. } = left;
-        if !right.is_over() || !are_below(&right.levels, right.level)? {
+        if !right.is_over() {
             return Err(Why::Want);
         }
-        right.body.join(body, right.program)?;
+        if !are_below(&right.levels, right.level)? {
+            return Err(Why::Want);
+        }
+        let program = right.program;
+        right.body.join(body, program)?;
         right.level = right.level.saturating_sub(1);
         Ok(right)
     }
@@ -204,6 +252,26 @@ impl<'a> Fallen<'a> {
         self.body.want()
     }
 
+    /// The innermost block around it is left pending.
+    pub(crate) fn leaves(self) -> Result<Fallen<'a>, Why> {
+        let Fallen {
+            program,
+            mut body,
+            level,
+            mut levels,
+        } = self;
+        let Some(_) = levels.pop() else {
+            return Err(Why::Want);
+        };
+        body.forget();
+        Ok(Fallen {
+            program,
+            body,
+            level,
+            levels,
+        })
+    }
+
     /// Goes on from the begin of the innermost block around it, which was rolled back.
     pub(crate) fn back(self) -> Result<Walker<'a>, Why> {
         let Fallen {
@@ -215,7 +283,10 @@ impl<'a> Fallen<'a> {
         let Some(level) = levels.pop() else {
             return Err(Why::Want);
         };
-        if matches!(body.want(), Want::End) || !are_up_to(&levels, level)? {
+        let Some(above) = level.checked_add(1) else {
+            return Err(Why::Memory);
+        };
+        if matches!(body.want(), Want::End) || !are_below(&levels, above)? {
             return Err(Why::Want);
         }
         body.back();
