@@ -71,7 +71,7 @@ often() {
 # ## Examples
 
 # of these the schedule cannot show: what they give does not depend on which of two strands comes first
-same='array count counter divisor fault.none halves loop semicolon spawned fault.words'
+same='array count counter divisor fault fault.none halves loop semicolon spawned fault.words'
 
 for file in "$root"/examples/*.args; do
   run=$(basename "$file" .args)
@@ -110,7 +110,7 @@ row any 'joined before a block' <<< 'cell c; cell d; fn main() { spawn { d = 5; 
 row any 'joined inside a block' <<< 'cell c; cell d; fn main() { spawn { atomic { spawn { d = 5; } c = 1; sync; d = 1; } } c = 2; }'
 row any 'an abort after an inner commit' <<< 'cell a = 7; cell b = 8; cell c; fn main() { spawn { atomic { c = 1; } } atomic { atomic { a = a + 1; } b = b + 1; c = 2; } }'
 row same 'a fault in a block' <<< 'cell c; cell d; fn main() { atomic { c = 1; d = 1 / d; } }'
-row any 'a fault beside a block' <<< 'cell c; cell d; fn main() { spawn { atomic { c = 1; c = 2; } } atomic { spawn { c = 3; } d = 1 / d; } }'
+row same 'a fault beside a block' <<< 'cell c; cell d; fn main() { spawn { atomic { c = 1; c = 2; } } atomic { spawn { c = 3; } d = 1 / d; } }'
 row any 'one attempt each' --aborts 1 <<< 'cell c; fn main() { let i = 0; while i < 20 { spawn { atomic { c = c + 1; } } i = i + 1; } }'
 
 for _ in $(seq "$((times / 10 + 1))"); do
