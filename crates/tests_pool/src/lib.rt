@@ -7,3 +7,6 @@ mod walk;
 mod walker;
 
 pub use walk::{Told, Why, Wrong, walked};
+
+#[cfg(test)]
+mod tests;

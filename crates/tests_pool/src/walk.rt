@@ -41,7 +41,7 @@ impl From<OutOfMemory> for Why {
 pub struct Wrong {
     pub why: Why,
     pub column: u32,
-    pub node: usize,
+    pub node: u32,
 }
 
 /// A log that is walked through.
@@ -106,7 +106,7 @@ enum Open<'a> {
     },
     /// The left strand of a fork that was made in this place. The right one comes next, in the same log where that has its number.
     Left {
-        fork: usize,
+        fork: u32,
         outer: u32,
         right: Walker<'a>,
         inline: Option<u32>,
@@ -115,7 +115,7 @@ enum Open<'a> {
     Right {
         outer: u32,
         left: Legs<'a>,
-        before: Option<(Page<'a>, usize)>,
+        before: Option<(Page<'a>, u32)>,
     },
 }
 
@@ -149,6 +149,14 @@ fn are_asked(nodes: &[Node], conflicts: &[Conflict]) -> bool {
     true
 }
 
+/// So many numbers further.
+fn after(number: u32, more: u32) -> Result<u32, Why> {
+    match number.checked_add(more) {
+        Some(next) => Ok(next),
+        None => Err(Why::Memory),
+    }
+}
+
 /// Whether a strand stands where this stops one.
 fn stops(halt: Halt, want: Want) -> bool {
     match (halt, want) {
@@ -164,7 +172,7 @@ struct Walk<'a> {
     alloc: Global,
     logs: LogsIter<'a>,
     page: Page<'a>,
-    next: usize,
+    next: u32,
     place: u32,
     open: Stack<Open<'a>>,
     stop: Option<Stop>,
@@ -177,7 +185,7 @@ impl<'a> Walk<'a> {
     /// A step of the strand, or of what is open around it.
     fn step(&mut self, legs: Legs<'a>) -> Result<Legs<'a>, Why> {
         let nodes = self.page.nodes;
-        match nodes.get(self.next) {
+        match nodes.get(self.next as usize) {
             Some(node) if node.parent == self.place => match legs {
                 Legs::Goes(walker) => self.enters(walker, node),
                 Legs::Fell(_) => Err(Why::Off),
@@ -193,7 +201,7 @@ impl<'a> Walk<'a> {
             Kind::Block => {
                 let walker = walker.begins()?;
                 self.open.push(Open::Block { outer: self.place })?;
-                self.place = self.next as u32;
+                self.place = self.next;
                 walker
             }
             Kind::Tried { cell } => {
@@ -204,14 +212,14 @@ impl<'a> Walk<'a> {
             }
             _ => walker.acts(&node.kind)?,
         };
-        self.next += 1;
+        self.next = after(self.next, 1)?;
         Ok(Legs::Goes(walker))
     }
 
     /// Whether a strand of this fork has this number.
-    fn is_branch(&self, number: usize, fork: usize) -> bool {
-        match self.page.nodes.get(number) {
-            Some(node) => matches!(node.kind, Kind::Strand) && node.parent as usize == fork,
+    fn is_branch(&self, number: u32, fork: u32) -> bool {
+        match self.page.nodes.get(number as usize) {
+            Some(node) => matches!(node.kind, Kind::Strand) && node.parent == fork,
             None => false,
         }
     }
@@ -219,22 +227,25 @@ impl<'a> Walk<'a> {
     fn forks(&mut self, walker: Walker<'a>) -> Result<Legs<'a>, Why> {
         let (left, right) = walker.forks(self.alloc)?;
         let fork = self.next;
-        if !self.is_branch(fork + 1, fork) {
+        let first = after(fork, 1)?;
+        let second = after(fork, 2)?;
+        if !self.is_branch(first, fork) {
             return Err(Why::Fork);
         }
-        let inline = if self.is_branch(fork + 2, fork) {
-            Some((fork + 2) as u32)
-        } else {
-            None
-        };
+        let mut inline = None;
+        self.next = second;
+        if self.is_branch(second, fork) {
+            inline = Some(second);
+            self.next = after(fork, 3)?;
+        }
+        let outer = self.place;
         self.open.push(Open::Left {
             fork,
-            outer: self.place,
+            outer,
             right,
             inline,
         })?;
-        self.place = (fork + 1) as u32;
-        self.next = if inline.is_some() { fork + 3 } else { fork + 2 };
+        self.place = first;
         Ok(Legs::Goes(left))
     }
 
@@ -294,7 +305,7 @@ impl<'a> Walk<'a> {
     fn turns(
         &mut self,
         left: Legs<'a>,
-        fork: usize,
+        fork: u32,
         outer: u32,
         right: Walker<'a>,
         inline: Option<u32>,
@@ -322,8 +333,8 @@ impl<'a> Walk<'a> {
     }
 
     /// Goes on at the begin of the log of a fork's right strand.
-    fn opens(&mut self, log: &'a Log, fork: usize) -> Result<(), Why> {
-        if log.from != self.page.column || log.fork as usize != fork {
+    fn opens(&mut self, log: &'a Log, fork: u32) -> Result<(), Why> {
+        if log.from != self.page.column || log.fork != fork {
             return Err(Why::Log);
         }
         let nodes = log.nodes.as_slice();
@@ -345,11 +356,11 @@ impl<'a> Walk<'a> {
         right: Legs<'a>,
         outer: u32,
         left: Legs<'a>,
-        before: Option<(Page<'a>, usize)>,
+        before: Option<(Page<'a>, u32)>,
     ) -> Result<Legs<'a>, Why> {
         let legs = joined(left, right)?;
         if let Some((page, next)) = before {
-            if self.next != self.page.nodes.len() {
+            if self.next as usize != self.page.nodes.len() {
                 return Err(Why::More);
             }
             self.page = page;
@@ -362,7 +373,7 @@ impl<'a> Walk<'a> {
     /// The strand of main has nothing more.
     fn ends(&mut self, legs: Legs<'a>) -> Result<Legs<'a>, Why> {
         self.looks(&legs);
-        if self.next != self.page.nodes.len() || self.logs.next().is_some() {
+        if self.next as usize != self.page.nodes.len() || self.logs.next().is_some() {
             return Err(Why::More);
         }
         let ended = if self.stop.is_some() {
