@@ -1,0 +1,199 @@
+#!/usr/bin/env bash
+# What a run on several workers costs: 1,000, 5,000 and 20,000 spawned transfers between 64 cells, 16 in a function, by 1, 2 and 4 workers.
+# Prints nanoseconds a transfer of `run` of `cw_pool` alone, and of the check of its record beside it: by the differences of two sizes, so
+# that what a run costs however short it is has no part in it; and that too, by a run of an empty main, with room for 1,000 and for
+# 262,144 strands. A transfer of 20,000 with room for 1,000 strands is shown beside. Reading and compiling are not timed. Each time is the
+# least of so many runs.
+# The program is written into a copy of the crates, proved there and run; the crates beneath it are proved first, where no check kept them.
+# Usage: bench/pool.sh [ROUNDS]
+set -eu
+top=$(cd "$(dirname "$0")/.." && pwd)
+rounds=${1:-9}
+copy=$(mktemp -d)
+trap 'rm -rf "$copy"' EXIT
+mkdir "$copy/crates"
+cp "$top/HANDLES" "$top/crates.txt" "$copy"
+for crate in "$top"/crates/*; do
+  name=$(basename "$crate")
+  case $name in tests_*) continue ;; esac
+  mkdir "$copy/crates/$name"
+  (cd "$crate" && tar cf - --exclude=out .) | tar xf - -C "$copy/crates/$name"
+done
+cd "$copy"
+sed -i '/^tests_/d' crates.txt
+rt new crates/pool_times start_io > new.log
+rm -rf crates/pool_times/specs crates/pool_times/proofs crates/pool_times/src
+echo 'pool_times: anyhow cw_base cw_io cw_code cw_text cw_strand cw_compile cw_job cw_record cw_pool' >> crates.txt
+cd crates/pool_times
+: > stdin
+: > stdout
+mkdir src
+cat > src/main.rt <<'PROGRAM'
+//! Times runs of the program on standard input. The words: workers, strands, and how many runs. Prints the least nanoseconds of a run and of
+//! the check of its record.
+#![tactic(auto)]
+
+ghost use Rattle.std.specs.Prelude.{IfSome};
+ghost use Rattle.cw_job.specs.Jobs.{TakesWords};
+ghost use Rattle.cw_strand.specs.Programs.{IsCompiled};
+
+use cw_base::Seq;
+use cw_code::{Limits, Program};
+use cw_compile::compile;
+use cw_io::OpenGate;
+use cw_job::takes_words;
+use cw_pool::run;
+use cw_record::{Checked, check};
+use cw_text::{Ast, read_program};
+use std::alloc::Global;
+use std::env;
+use std::io::Read;
+use std::rt::Clock;
+use std::sync::Wait;
+use std::thread::Threads;
+use std::time::Instant;
+
+#[derive(Clone, Copy, Drop)]
+struct Times {
+    run: u128,
+    check: u128,
+}
+
+fn limits(strands: u32) -> Limits {
+    Limits {
+        fuel: 1_000_000,
+        size: 10_000_000,
+        aborts: 1_000_000,
+        strands,
+        moves: 1,
+    }
+}
+
+fn program(alloc: Global, ast: &Ast) -> Option<Program>
+    ensures compiled { IfSome result (λ p. IsCompiled p) }
+    ensures words { IfSome result (λ p. TakesWords p 0) }
+{
+    let Ok(program) = compile(alloc, ast) else {
+        return None;
+    };
+    if takes_words(&program, 0) {
+        Some(program)
+    } else {
+        None
+    }
+}
+
+/// One run and its check.
+fn once<R: Threads + Wait + Sync + Clock>(
+    rt: &R,
+    alloc: Global,
+    ast: &Ast,
+    workers: u32,
+    strands: u32,
+) -> anyhow::Result<Option<Times>> {
+    let Some(program) = program(alloc, ast) else {
+        return Ok(None);
+    };
+    if strands == 0 {
+        return Ok(None);
+    }
+    let start = Instant::now(rt)?;
+    let Ok(record) = run(rt, alloc, program, Seq::new(alloc), workers, limits(strands), &OpenGate) else {
+        return Ok(None);
+    };
+    let run = start.elapsed(rt)?.as_nanos();
+    let start = Instant::now(rt)?;
+    let checked = check(alloc, &record);
+    let check = start.elapsed(rt)?.as_nanos();
+    match checked {
+        Ok(Checked::Agrees) => Ok(Some(Times { run, check })),
+        _ => Ok(None),
+    }
+}
+
+fn main(rt: HostRuntime) -> anyhow::Result<()> {
+    let alloc = rt.alloc();
+    let mut numbers = [1u32, 1000, 1];
+    for (at, word) in env::args(&rt)?.enumerate() {
+        if let Ok(number) = word.as_str().parse::<u32>() {
+            if 0 < at && at <= 3 {
+                numbers[at - 1] = number;
+            }
+        }
+    }
+    let mut text = Vec::new(alloc);
+    rt.stdin().read_to_end(&mut text)?;
+    let Ok(ast) = read_program(alloc, text.as_slice()) else {
+        println!(rt; "no program")?;
+        return Ok(());
+    };
+    let mut least = Times {
+        run: u128::MAX,
+        check: u128::MAX,
+    };
+    for _ in 0..numbers[2] {
+        let Some(times) = once(&rt, alloc, &ast, numbers[0], numbers[1])? else {
+            println!(rt; "no record that replays")?;
+            return Ok(());
+        };
+        least.run = least.run.min(times.run);
+        least.check = least.check.min(times.check);
+    }
+    println!(rt; "{} {}", least.run, least.check)?;
+    Ok(())
+}
+PROGRAM
+
+# source TRANSFERS: cells and amounts by a linear congruential generator
+source_of() {
+  awk -v n="$1" 'BEGIN {
+    print "cell a[64] = 1000;"
+    print "fn t(i, j, x) { atomic { a[i] = a[i] - x; a[j] = a[j] + x; } }"
+    s = 1
+    for (k = 0; k < n; k++) {
+      if (k % 16 == 0) printf "%sfn g%d() {", (k ? " }\n" : ""), k / 16
+      s = (s * 1103515245 + 12345) % 2147483648; i = int(s / 65536) % 64
+      s = (s * 1103515245 + 12345) % 2147483648; j = int(s / 65536) % 64
+      printf " spawn { t(%d, %d, %d); }", i, j, k % 100
+    }
+    if (n) print " }"
+    printf "fn main() {"
+    for (k = 0; k < n; k += 16) printf " spawn { g%d(); }", k / 16
+    print " sync; }"
+  }'
+}
+
+source_of 0 > "$copy/0.cw"
+rt run -- 1 1000 1 < "$copy/0.cw" > "$copy/build.log" 2>&1 || { tail -40 "$copy/build.log"; exit 1; }
+for transfers in 1000 5000 20000; do source_of "$transfers" > "$copy/$transfers.cw"; done
+
+# times TRANSFERS WORKERS STRANDS: the nanoseconds of a run and of its check
+times() {
+  local said
+  said=$(./out/pool_times "$2" "$3" "$rounds" < "$copy/$1.cw")
+  case $said in
+    *[!0-9\ ]*) echo "$1 transfers, $2 workers, $3 strands: $said" >&2; exit 1 ;;
+  esac
+  echo "$said"
+}
+
+for workers in 1 2 4; do
+  for strands in 1000 262144; do
+    read -r run check < <(times 0 "$workers" "$strands")
+    echo "$workers workers, room for $strands strands, an empty main: run $((run / 1000)) us, check $((check / 1000)) us"
+  done
+  before=0
+  for transfers in 1000 5000 20000; do
+    read -r run check < <(times "$transfers" "$workers" 262144)
+    if [ "$before" != 0 ]; then
+      more=$((transfers - before))
+      echo "$workers workers, from $before to $transfers transfers: run $(((run - run_before) / more)) ns a transfer, check $(((check - check_before) / more)) ns"
+    fi
+    before=$transfers
+    run_before=$run
+    check_before=$check
+  done
+  read -r run check < <(times 20000 "$workers" 1000)
+  echo "$workers workers, 20000 transfers, room for 1000 strands: run $((run / 20000)) ns a transfer, check $((check / 20000)) ns"
+done
+sed -n 's/^model name[^:]*: //p' /proc/cpuinfo | head -1

@@ -1,0 +1,180 @@
+ghost use Rattle.cw_job.specs.Jobs.{TakesWords};
+ghost use Rattle.cw_strand.specs.Programs.{IsCompiled};
+
+use super::{
+    ALONE, BEFORE, COUNTS, FAULTY, INSIDE, LEFTWARDS, LOST, NESTED, OUTER, RIGHTWARDS, TREES,
+    UNDONE, WIDE, columns, program, up_to,
+};
+use crate::{Told, walked};
+use cw_code::{Limits, Program};
+use cw_io::OpenGate;
+use cw_job::first_memory;
+use cw_pool::work;
+use cw_tree::Halt;
+use std::alloc::Global;
+use std::sync::Wait;
+use std::test::Fail;
+use std::thread::Threads;
+use tests_log::{Fickle, Odds, StrandToken};
+
+const ODDS: Odds = Odds {
+    refused: 20,
+    inline: 20,
+    early: 25,
+};
+
+// So many seeds for one worker, and for several.
+const ONE: u64 = 1000;
+
+const SEVERAL: u64 = 200;
+
+const SELDOM: Odds = Odds { refused: 1, ..ODDS };
+
+// How a run ended.
+#[derive(Clone, Copy, Drop, PartialEq, Eq, Debug)]
+enum Ending {
+    Whole,
+    Fault,
+    Budget,
+    Memory,
+}
+
+// A program that is run so often by each number of workers, and how its runs may end.
+#[derive(Clone, Copy, Drop)]
+struct Trial<'a> {
+    text: &'a str,
+    limits: Limits,
+    odds: Odds,
+    ends: [Ending; 2],
+}
+
+const fn row<'a>(text: &'a str, limits: Limits, odds: Odds, ends: [Ending; 2]) -> Trial<'a> {
+    Trial {
+        text,
+        limits,
+        odds,
+        ends,
+    }
+}
+
+fn end_of(token: &StrandToken) -> Ending {
+    match token.stop {
+        None => Ending::Whole,
+        Some(stop) => match stop.halt {
+            Halt::Fault { .. } => Ending::Fault,
+            Halt::Budget { .. } => Ending::Budget,
+            Halt::Memory => Ending::Memory,
+        },
+    }
+}
+
+// The root's token once all have worked.
+fn worked<R: Threads + Wait + Sync>(
+    rt: &R,
+    alloc: Global,
+    program: &Program,
+    trial: Trial,
+    workers: u32,
+    seed: u64,
+) -> Result<StrandToken, Fail>
+    requires compiled { IsCompiled program.now }
+    requires words { TakesWords program.now 0 }
+{
+    let memory = first_memory(alloc, program.cells.as_slice())?;
+    let cells = u32::try_from(memory.len())?;
+    let limits = trial.limits;
+    let (board, root) = Fickle::new(alloc, cells, limits.aborts, trial.odds, seed)?;
+    Ok(work(
+        rt,
+        alloc,
+        &board,
+        root,
+        program,
+        &[],
+        workers,
+        limits,
+        &OpenGate,
+    ))
+}
+
+// How the run ended whose logs are those that strands of its program make.
+fn ended<R: Threads + Wait + Sync>(
+    rt: &R,
+    alloc: Global,
+    program: &Program,
+    trial: Trial,
+    workers: u32,
+    seed: u64,
+) -> Result<Ending, Fail>
+    requires compiled { IsCompiled program.now }
+    requires words { TakesWords program.now 0 }
+{
+    let token = worked(rt, alloc, program, trial, workers, seed)?;
+    let told = Told {
+        nodes: token.nodes.as_slice(),
+        conflicts: token.conflicts.as_slice(),
+        joined: &token.joined,
+        stop: token.stop,
+    };
+    walked(alloc, program, &[], trial.limits, told)?;
+    if token.told && token.stop.is_none() {
+        return Err("told of a halt that no log has".into());
+    }
+    Ok(end_of(&token))
+}
+
+fn runs<R: Threads + Wait + Sync>(
+    rt: &R,
+    alloc: Global,
+    trial: Trial,
+    workers: u32,
+    seeds: u64,
+) -> Result<(), Fail> {
+    let program = program(alloc, trial.text)?;
+    for seed in 0..seeds {
+        let end = ended(rt, alloc, &program, trial, workers, seed)?;
+        if end != trial.ends[0] && end != trial.ends[1] {
+            return Err((trial.text, workers, seed, end).into());
+        }
+    }
+    Ok(())
+}
+
+const WHOLE: [Ending; 2] = [Ending::Whole, Ending::Whole];
+
+#[test]
+fn logs_of_worked_programs_are_walked(rt: HostRuntime) -> Result<(), Fail> {
+    let table = [
+        row(LOST, WIDE, ODDS, WHOLE),
+        row(OUTER, WIDE, ODDS, WHOLE),
+        row(OUTER, up_to(1), ODDS, [Ending::Whole, Ending::Budget]),
+        row(ALONE, WIDE, ODDS, WHOLE),
+        row(BEFORE, WIDE, ODDS, WHOLE),
+        row(INSIDE, WIDE, ODDS, WHOLE),
+        row(UNDONE, WIDE, ODDS, WHOLE),
+        row(FAULTY, WIDE, ODDS, [Ending::Fault, Ending::Fault]),
+        row(COUNTS, WIDE, ODDS, WHOLE),
+        row(TREES, WIDE, ODDS, WHOLE),
+    ];
+    for trial in table {
+        for (workers, seeds) in [(1, ONE), (2, SEVERAL), (4, SEVERAL), (64, 2)] {
+            runs(&rt, rt.alloc(), trial, workers, seeds)?;
+        }
+    }
+    Ok(())
+}
+
+#[test]
+fn logs_of_deep_programs_are_walked(rt: HostRuntime) -> Result<(), Fail> {
+    let table = [
+        row(LEFTWARDS, columns(20_000), ODDS, WHOLE),
+        row(RIGHTWARDS, columns(20_000), ODDS, WHOLE),
+        row(NESTED, WIDE, SELDOM, WHOLE),
+    ];
+    for trial in table {
+        for workers in [1, 2, 4] {
+            runs(&rt, rt.alloc(), trial, workers, 1)?;
+        }
+    }
+    Ok(())
+}

@@ -1,0 +1,453 @@
+//! A walk through the logs of the root's token, from main on: each want is met by its node, and each log is used once.
+ghost use Rattle.std.specs.Prelude.{length};
+ghost use Rattle.cw_job.specs.Jobs.{TakesWords};
+
+use crate::walker::{Fallen, Walker};
+use cw_base::{OutOfMemory, Stack};
+use cw_code::{Limits, Program};
+use cw_log::{Log, Logs, LogsIter, Stop};
+use cw_strand::Want;
+use cw_tree::{BlockState, Conflict, Halt, Kind, Node};
+use std::alloc::Global;
+
+/// What is wrong with a log.
+#[derive(Clone, Copy, Drop, PartialEq, Eq, Debug)]
+pub enum Why {
+    Memory,
+    /// The strand wants something else, or nothing more.
+    Want,
+    /// It had broken off before.
+    Off,
+    /// A fork has no left strand behind it.
+    Fork,
+    /// A fork has no log for its right strand, or a log hangs from elsewhere.
+    Log,
+    /// A conflict has no refused access.
+    Conflict,
+    /// More nodes or logs than strands made.
+    More,
+    /// The run did not end as its halt tells.
+    End,
+}
+
+impl From<OutOfMemory> for Why {
+    fn from(_: OutOfMemory) -> Why {
+        Why::Memory
+    }
+}
+
+/// Where a walk found something wrong: at a node of the log with this column.
+#[derive(Clone, Copy, Drop, PartialEq, Eq, Debug)]
+pub struct Wrong {
+    pub why: Why,
+    pub column: u32,
+    pub node: u32,
+}
+
+/// A log that is walked through.
+#[derive(Clone, Copy, Drop)]
+struct Page<'a> {
+    column: u32,
+    nodes: &'a [Node],
+}
+
+#[derive(Drop)]
+enum Legs<'a> {
+    Goes(Walker<'a>),
+    Fell(Fallen<'a>),
+}
+
+impl<'a> Legs<'a> {
+    fn want(&self) -> Want {
+        match self {
+            Legs::Goes(walker) => walker.want(),
+            Legs::Fell(fallen) => fallen.want(),
+        }
+    }
+
+    /// Whether it goes on, and has come to its end.
+    fn is_over(&self) -> bool {
+        match self {
+            Legs::Goes(walker) => walker.is_over(),
+            Legs::Fell(_) => false,
+        }
+    }
+
+    fn fallen(self) -> Fallen<'a> {
+        match self {
+            Legs::Goes(walker) => walker.falls(),
+            Legs::Fell(fallen) => fallen,
+        }
+    }
+}
+
+/// The strand that forked: it goes on where both its strands have come to their ends.
+fn joined<'a>(left: Legs<'a>, right: Legs<'a>) -> Result<Legs<'a>, Why> {
+    let are_over = left.is_over() && right.is_over();
+    match (left, right) {
+        (Legs::Goes(left), Legs::Goes(right)) => {
+            if are_over {
+                Ok(Legs::Goes(right.joins(left)?))
+            } else {
+                Ok(Legs::Fell(right.falls()))
+            }
+        }
+        (Legs::Goes(_left), Legs::Fell(right)) => Ok(Legs::Fell(right)),
+        (Legs::Fell(_left), right) => Ok(Legs::Fell(right.fallen())),
+    }
+}
+
+/// What is open around the strand that is walked.
+#[derive(Drop)]
+enum Open<'a> {
+    /// A block, which was begun in this place.
+    Block {
+        outer: u32,
+    },
+    /// The left strand of a fork that was made in this place. The right one comes next, in the same log where that has its number.
+    Left {
+        fork: u32,
+        outer: u32,
+        right: Walker<'a>,
+        inline: Option<u32>,
+    },
+    /// The right strand. Where it has a log of its own, the walk goes back to this node of this log.
+    Right {
+        outer: u32,
+        left: Legs<'a>,
+        before: Option<(Page<'a>, u32)>,
+    },
+}
+
+/// The cell of a refused access.
+fn tried(node: &Node) -> Option<u32> {
+    match node.kind {
+        Kind::Tried { cell } => Some(cell),
+        _ => None,
+    }
+}
+
+/// Whether each conflict is of a refused access of the log, and each of these has one.
+fn are_asked(nodes: &[Node], conflicts: &[Conflict]) -> bool {
+    let mut askers = 0usize;
+    for node in nodes {
+        if tried(node).is_some() {
+            askers = askers.saturating_add(1);
+        }
+    }
+    if askers != conflicts.len() {
+        return false;
+    }
+    for conflict in conflicts {
+        let Some(node) = nodes.get(conflict.asker as usize) else {
+            return false;
+        };
+        if tried(node) != Some(conflict.cell) {
+            return false;
+        }
+    }
+    true
+}
+
+/// So many numbers further.
+fn after(number: u32, more: u32) -> Result<u32, Why> {
+    match number.checked_add(more) {
+        Some(next) => Ok(next),
+        None => Err(Why::Memory),
+    }
+}
+
+/// Whether a strand stands where this stops one.
+fn stops(halt: Halt, want: Want) -> bool {
+    match (halt, want) {
+        (Halt::Fault { kind, .. }, Want::Fault(wanted)) => kind == wanted,
+        (Halt::Budget { .. }, Want::Load(_) | Want::Store(_, _)) => true,
+        (Halt::Memory, _) => true,
+        _ => false,
+    }
+}
+
+#[derive(Drop)]
+struct Walk<'a> {
+    alloc: Global,
+    logs: LogsIter<'a>,
+    page: Page<'a>,
+    next: u32,
+    place: u32,
+    open: Stack<Open<'a>>,
+    stop: Option<Stop>,
+    /// The strand that stopped was met.
+    met: bool,
+    is_over: bool,
+}
+
+impl<'a> Walk<'a> {
+    /// A step of the strand, or of what is open around it.
+    fn step(&mut self, legs: Legs<'a>) -> Result<Legs<'a>, Why> {
+        let nodes = self.page.nodes;
+        match nodes.get(self.next as usize) {
+            Some(node) if node.parent == self.place => match legs {
+                Legs::Goes(walker) => self.enters(walker, node),
+                Legs::Fell(_) => Err(Why::Off),
+            },
+            _ => self.leaves(legs),
+        }
+    }
+
+    fn enters(&mut self, walker: Walker<'a>, node: &'a Node) -> Result<Legs<'a>, Why> {
+        let walker = match node.kind {
+            Kind::Strand => return Err(Why::Fork),
+            Kind::Fork => return self.forks(walker),
+            Kind::Block => {
+                let walker = walker.begins()?;
+                self.open.push(Open::Block { outer: self.place })?;
+                self.place = self.next;
+                walker
+            }
+            Kind::Tried { cell } => {
+                if !walker.is_at(cell) {
+                    return Err(Why::Want);
+                }
+                walker
+            }
+            _ => walker.acts(&node.kind)?,
+        };
+        self.next = after(self.next, 1)?;
+        Ok(Legs::Goes(walker))
+    }
+
+    /// Whether a strand of this fork has this number.
+    fn is_branch(&self, number: u32, fork: u32) -> bool {
+        match self.page.nodes.get(number as usize) {
+            Some(node) => matches!(node.kind, Kind::Strand) && node.parent == fork,
+            None => false,
+        }
+    }
+
+    fn forks(&mut self, walker: Walker<'a>) -> Result<Legs<'a>, Why> {
+        let (left, right) = walker.forks(self.alloc)?;
+        let fork = self.next;
+        let first = after(fork, 1)?;
+        let second = after(fork, 2)?;
+        if !self.is_branch(first, fork) {
+            return Err(Why::Fork);
+        }
+        let mut inline = None;
+        self.next = second;
+        if self.is_branch(second, fork) {
+            inline = Some(second);
+            self.next = after(fork, 3)?;
+        }
+        let outer = self.place;
+        self.open.push(Open::Left {
+            fork,
+            outer,
+            right,
+            inline,
+        })?;
+        self.place = first;
+        Ok(Legs::Goes(left))
+    }
+
+    /// The strand has nothing more in its place.
+    fn leaves(&mut self, legs: Legs<'a>) -> Result<Legs<'a>, Why> {
+        match self.open.pop() {
+            None => self.ends(legs),
+            Some(Open::Block { outer }) => self.leaves_block(legs, outer),
+            Some(
+                Open::Left {
+                    fork,
+                    outer,
+                    right,
+                    inline,
+                },
+            ) => {
+                self.looks(&legs);
+                self.turns(legs, fork, outer, right, inline)
+            }
+            Some(
+                Open::Right {
+                    outer,
+                    left,
+                    before,
+                },
+            ) => {
+                self.looks(&legs);
+                self.joins(legs, outer, left, before)
+            }
+        }
+    }
+
+    /// Whether the strand that ends here is the one that stopped.
+    fn looks(&mut self, legs: &Legs<'a>) {
+        if let Some(stop) = self.stop {
+            if stop.column == self.page.column && stop.strand == self.place {
+                self.met = stops(stop.halt, legs.want());
+            }
+        }
+    }
+
+    fn leaves_block(&mut self, legs: Legs<'a>, outer: u32) -> Result<Legs<'a>, Why> {
+        let Some(node) = self.page.nodes.get(self.place as usize) else {
+            return Err(Why::Want);
+        };
+        let state = node.state;
+        self.place = outer;
+        match (state, legs) {
+            (BlockState::Committed, Legs::Goes(walker)) => Ok(Legs::Goes(walker.ends()?)),
+            (BlockState::Committed, Legs::Fell(_)) => Err(Why::Off),
+            (BlockState::Aborted, legs) => Ok(Legs::Goes(legs.fallen().back()?)),
+            (BlockState::Pending, legs) => Ok(Legs::Fell(legs.fallen().leaves()?)),
+        }
+    }
+
+    /// From the left strand of a fork to the right one.
+    fn turns(
+        &mut self,
+        left: Legs<'a>,
+        fork: u32,
+        outer: u32,
+        right: Walker<'a>,
+        inline: Option<u32>,
+    ) -> Result<Legs<'a>, Why> {
+        let before = match inline {
+            Some(strand) => {
+                self.place = strand;
+                None
+            }
+            None => {
+                let Some(log) = self.logs.next() else {
+                    return Err(Why::Log);
+                };
+                let before = (self.page, self.next);
+                self.opens(log, fork)?;
+                Some(before)
+            }
+        };
+        self.open.push(Open::Right {
+            outer,
+            left,
+            before,
+        })?;
+        Ok(Legs::Goes(right))
+    }
+
+    /// Goes on at the begin of the log of a fork's right strand.
+    fn opens(&mut self, log: &'a Log, fork: u32) -> Result<(), Why> {
+        if log.from != self.page.column || log.fork != fork {
+            return Err(Why::Log);
+        }
+        let nodes = log.nodes.as_slice();
+        if !are_asked(nodes, log.conflicts.as_slice()) {
+            return Err(Why::Conflict);
+        }
+        self.page = Page {
+            column: log.column,
+            nodes,
+        };
+        self.next = 1;
+        self.place = 0;
+        Ok(())
+    }
+
+    /// Both strands of a fork have nothing more.
+    fn joins(
+        &mut self,
+        right: Legs<'a>,
+        outer: u32,
+        left: Legs<'a>,
+        before: Option<(Page<'a>, u32)>,
+    ) -> Result<Legs<'a>, Why> {
+        let legs = joined(left, right)?;
+        if let Some((page, next)) = before {
+            if self.next as usize != self.page.nodes.len() {
+                return Err(Why::More);
+            }
+            self.page = page;
+            self.next = next;
+        }
+        self.place = outer;
+        Ok(legs)
+    }
+
+    /// The strand of main has nothing more.
+    fn ends(&mut self, legs: Legs<'a>) -> Result<Legs<'a>, Why> {
+        self.looks(&legs);
+        if self.next as usize != self.page.nodes.len() || self.logs.next().is_some() {
+            return Err(Why::More);
+        }
+        let ended = if self.stop.is_some() {
+            self.met
+        } else {
+            legs.is_over()
+        };
+        if !ended {
+            return Err(Why::End);
+        }
+        self.is_over = true;
+        Ok(legs)
+    }
+
+    fn all(&mut self, legs: Legs<'a>) -> Result<(), Why> {
+        let mut legs = legs;
+        for _ in 0..u64::MAX {
+            legs = self.step(legs)?;
+            if self.is_over {
+                return Ok(());
+            }
+        }
+        Err(Why::Memory)
+    }
+}
+
+/// The logs of the root's token, and how that was stopped.
+#[derive(Clone, Copy, Drop)]
+pub struct Told<'a> {
+    pub nodes: &'a [Node],
+    pub conflicts: &'a [Conflict],
+    pub joined: &'a Logs,
+    pub stop: Option<Stop>,
+}
+
+/// Walks through the logs of a run.
+pub fn walked(
+    alloc: Global,
+    program: &Program,
+    words: &[i64],
+    limits: Limits,
+    told: Told,
+) -> Result<(), Wrong>
+    requires { TakesWords program.now (length words.now) }
+{
+    let mut walk = Walk {
+        alloc,
+        logs: told.joined.iter(),
+        page: Page {
+            column: 0,
+            nodes: told.nodes,
+        },
+        next: 1,
+        place: 0,
+        open: Stack::new(alloc),
+        stop: told.stop,
+        met: false,
+        is_over: false,
+    };
+    let begun = if are_asked(told.nodes, told.conflicts) {
+        Walker::main(alloc, program, words, limits)
+    } else {
+        Err(Why::Conflict)
+    };
+    let done = match begun {
+        Ok(walker) => walk.all(Legs::Goes(walker)),
+        Err(why) => Err(why),
+    };
+    match done {
+        Ok(()) => Ok(()),
+        Err(why) => Err(Wrong {
+            why,
+            column: walk.page.column,
+            node: walk.next,
+        }),
+    }
+}

@@ -1,0 +1,300 @@
+//! A strand that is walked: it goes where a log tells.
+ghost use Rattle.std.specs.Prelude.{◌≡◌, IfOk, IfSome, IsTrue, length, true};
+ghost use Rattle.cw_body.specs.declared.stage.Stage.TheVariants.{Goes, GaveUp};
+ghost use Rattle.cw_body.specs.Bodies.{AnswersAct, want_of};
+ghost use Rattle.cw_strand.specs.Strands.{is_over};
+ghost use Rattle.cw_job.specs.Jobs.{TakesWords};
+ghost use Rattle.tests_pool.specs.Levels.{AreBelow, levels_at};
+
+use crate::walk::Why;
+use cw_base::Stack;
+use cw_body::Body;
+use cw_code::{Limits, Program};
+use cw_strand::{Given, Want};
+use cw_tree::Kind;
+use std::alloc::Global;
+
+/// One that goes on: its body, of how many forks it is the right strand, and of how many it was at the begin of each pending block around it, the
+/// innermost first.
+#[derive(Drop)]
+pub(crate) struct Walker<'a> {
+    program: &'a Program,
+    body: Body,
+    level: u64,
+    levels: Stack<u64>,
+    ghost goes: { body.stage ≡ Goes },
+    ghost of: { body.program ≡ program.now },
+    ghost around: { levels ≡ levels_at level body.begins },
+}
+
+/// One that goes no further from where it stands, but may go back.
+#[derive(Drop)]
+pub(crate) struct Fallen<'a> {
+    program: &'a Program,
+    body: Body,
+    level: u64,
+    levels: Stack<u64>,
+    ghost gave_up: { body.stage ≡ GaveUp },
+    ghost of: { body.program ≡ program.now },
+    ghost around: { levels ≡ levels_at level body.begins },
+}
+
+/// Whether all are below this.
+fn are_below(levels: &Stack<u64>, level: u64) -> Result<bool, Why>
+    ensures { IfOk result (λ b. IsTrue b → AreBelow level levels.now) }
+{
+    let mut left = levels.copy()?;
+    for _ in 0..u64::MAX {
+        match left.pop() {
+            None => return Ok(true),
+            Some(one) => {
+                if one >= level {
+                    return Ok(false);
+                }
+            }
+        }
+    }
+    Err(Why::Memory)
+}
+
+/// The value that was read of this cell.
+fn read_of(kind: &Kind, wanted: u32) -> Option<i64> {
+    match kind {
+        Kind::Read { cell, value } => { if *cell == wanted { Some(*value) } else { None } }
+        _ => None,
+    }
+}
+
+fn is_write(kind: &Kind, wanted: u32, new: i64) -> bool {
+    match kind {
+        Kind::Write { cell, value } => *cell == wanted && *value == new,
+        _ => false,
+    }
+}
+
+fn is_out(kind: &Kind, wanted: i64) -> bool {
+    match kind {
+        Kind::Out { value } => *value == wanted,
+        _ => false,
+    }
+}
+
+/// What a node that an act made answers, where the strand wants that act.
+fn given(want: Want, kind: &Kind) -> Option<Given>
+    ensures { IfSome result (λ given. AnswersAct want given) }
+{
+    match want {
+        Want::Load(cell) => {
+            let value = read_of(kind, cell)?;
+            Some(Given::Value(value))
+        }
+        Want::Store(cell, value) => {
+            if is_write(kind, cell, value) {
+                Some(Given::Nothing)
+            } else {
+                None
+            }
+        }
+        Want::Out(value) => {
+            if is_out(kind, value) {
+                Some(Given::Nothing)
+            } else {
+                None
+            }
+        }
+        _ => None,
+    }
+}
+
+impl<'a> Walker<'a> {
+    /// The strand of main.
+    pub(crate) fn main(
+        alloc: Global,
+        program: &'a Program,
+        words: &[i64],
+        limits: Limits,
+    ) -> Result<Walker<'a>, Why>
+        requires { TakesWords program.now (length words.now) }
+    {
+        Ok(Walker {
+            program,
+            body: Body::start(alloc, program, words, limits)?,
+            level: 0,
+            levels: Stack::new(alloc),
+        })
+    }
+
+    pub(crate) fn want(&self) -> Want {
+        self.body.want()
+    }
+
+    /// Whether it wants to read or write this cell.
+    pub(crate) fn is_at(&self, cell: u32) -> bool {
+        match self.body.want() {
+            Want::Load(wanted) => wanted == cell,
+            Want::Store(wanted, _) => wanted == cell,
+            _ => false,
+        }
+    }
+
+    /// Whether it has come to its end.
+    pub(crate) fn is_over(&self) -> bool
+        ensures { IsTrue result → is_over (want_of self.now.body) ≡ true }
+    {
+        matches!(self.body.want(), Want::Sync | Want::Done)
+    }
+
+    /// Goes on behind an access or an output.
+    pub(crate) fn acts(self, kind: &Kind) -> Result<Walker<'a>, Why> {
+        let mut walker = self;
+        let Some(given) = given(walker.body.want(), kind) else {
+            return Err(Why::Want);
+        };
+        let program = walker.program;
+        walker.body.answer(given, program)?;
+        Ok(walker)
+    }
+
+    /// Goes on in a block.
+    pub(crate) fn begins(self) -> Result<Walker<'a>, Why> {
+        let mut walker = self;
+        let Want::Begin = walker.body.want() else {
+            return Err(Why::Want);
+        };
+        let saved = walker.body.save()?;
+        let program = walker.program;
+        walker.body.begins(saved, program)?;
+        let level = walker.level;
+        walker.levels.push(level)?;
+        Ok(walker)
+    }
+
+    /// Goes on behind the block.
+    pub(crate) fn ends(self) -> Result<Walker<'a>, Why> {
+        let Walker {
+            program,
+            mut body,
+            level,
+            mut levels,
+        } = self;
+        let Want::End = body.want() else {
+            return Err(Why::Want);
+        };
+        let Some(_) = levels.pop() else {
+            return Err(Why::Want);
+        };
+        body.ends(program)?;
+        Ok(Walker {
+            program,
+            body,
+            level,
+            levels,
+        })
+    }
+
+    /// The left and the right strand of a fork.
+    pub(crate) fn forks(self, alloc: Global) -> Result<(Walker<'a>, Walker<'a>), Why> {
+        let mut right = self;
+        let Want::Fork = right.body.want() else {
+            return Err(Why::Want);
+        };
+        let Some(level) = right.level.checked_add(1) else {
+            return Err(Why::Memory);
+        };
+        let program = right.program;
+        let body = right.body.fork(alloc, program)?;
+        right.level = level;
+        let left = Walker {
+            program,
+            body,
+            level: 0,
+            levels: Stack::new(alloc),
+        };
+        Ok((left, right))
+    }
+
+    /// As the right strand of a fork, becomes the strand that forked.
+    pub(crate) fn joins(self, left: Walker<'a>) -> Result<Walker<'a>, Why> {
+        let mut right = self;
+        let Walker { body, .. } = left;
+        if !right.is_over() {
+            return Err(Why::Want);
+        }
+        if !are_below(&right.levels, right.level)? {
+            return Err(Why::Want);
+        }
+        let program = right.program;
+        right.body.join(body, program)?;
+        right.level = right.level.saturating_sub(1);
+        Ok(right)
+    }
+
+    /// Goes no further.
+    pub(crate) fn falls(self) -> Fallen<'a> {
+        let Walker {
+            program,
+            mut body,
+            level,
+            levels,
+        } = self;
+        body.gives_up();
+        Fallen {
+            program,
+            body,
+            level,
+            levels,
+        }
+    }
+}
+
+impl<'a> Fallen<'a> {
+    pub(crate) fn want(&self) -> Want {
+        self.body.want()
+    }
+
+    /// The innermost block around it is left pending.
+    pub(crate) fn leaves(self) -> Result<Fallen<'a>, Why> {
+        let Fallen {
+            program,
+            mut body,
+            level,
+            mut levels,
+        } = self;
+        let Some(_) = levels.pop() else {
+            return Err(Why::Want);
+        };
+        body.forget();
+        Ok(Fallen {
+            program,
+            body,
+            level,
+            levels,
+        })
+    }
+
+    /// Goes on from the begin of the innermost block around it, which was rolled back.
+    pub(crate) fn back(self) -> Result<Walker<'a>, Why> {
+        let Fallen {
+            program,
+            mut body,
+            level: _,
+            mut levels,
+        } = self;
+        let Some(level) = levels.pop() else {
+            return Err(Why::Want);
+        };
+        let Some(above) = level.checked_add(1) else {
+            return Err(Why::Memory);
+        };
+        if matches!(body.want(), Want::End) || !are_below(&levels, above)? {
+            return Err(Why::Want);
+        }
+        body.back();
+        Ok(Walker {
+            program,
+            body,
+            level,
+            levels,
+        })
+    }
+}
