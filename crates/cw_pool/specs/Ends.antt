@@ -1,11 +1,12 @@
 -- When what follows a strand may begin, and how the strand that forked stands behind both its strands.
-use Rattle.std.specs.Prelude.{◌≡◌, ℕ, min, true, false, List, None}
+use Rattle.std.specs.Prelude.{◌≡◌, ℕ, min, true, false, List, map, None}
 use Rattle.cw_strand.specs.Strands.{is_over}
 use Rattle.cw_job.specs.Jobs.{Job}
 use Rattle.cw_job.specs.Room.Strands.{strands_of_job}
 use Rattle.cw_log.specs.declared.token.Token.{Token}
 use Rattle.cw_log.specs.Tokens.{IsOn, MayMerge, logs, merged}
-use Rattle.cw_course.specs.Closings.{AreWorked}
+use Rattle.cw_course.specs.Courses.{Course, Stops, logs_of}
+use Rattle.cw_course.specs.Closings.{Ends, bare}
 use Rattle.cw_body.specs.declared.stage.Stage.TheVariants as stage
 use Rattle.cw_body.specs.Bodies.{InBlocks, HasNoBlock, gave_up, joined, want_of}
 use Rattle.cw_pool.specs.declared.task.Mode.{Mode}
@@ -63,6 +64,10 @@ IsBehind job of mode.Waits x right left bs b = ⊥
 
 -- ## The end of a run
 
--- Where the root's token was told of a halt its logs have one: then they are what the strands of what is run did, from main on.
-abbrev pub IsWorked : Job → Token → Type 0
-IsWorked job x = (x.stop ≡ None → x.told ≡ false) → AreWorked (strands_of_job job) (logs x) x.stop
+-- The logs of the root's token are what the strands of what is run did, from main on, each once and no others. They went to its end, or stopped
+-- as its halt tells, unless it was told of a halt that none of its logs has.
+pub record IsWorked (job : Job) (x : Token) : Type 0 where
+  pub course : Course
+  pub written : map bare (logs x) ≡ logs_of course 0 0 0
+  pub did : Stops (strands_of_job job) (strands_of_job job).start course
+  pub ends : (x.stop ≡ None → x.told ≡ false) → Ends (strands_of_job job) x.stop course

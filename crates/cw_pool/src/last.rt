@@ -1,8 +1,9 @@
 //! How a run ends.
-ghost use Rattle.std.specs.Prelude.{◌≡◌, []};
+ghost use Rattle.std.specs.Prelude.{◌≡◌, IsTrue, []};
 ghost use Rattle.cw_pool.specs.Ends.{MayEnd};
 ghost use Rattle.cw_pool.specs.Tasks.{IsRunning};
 ghost use Rattle.cw_pool.specs.declared.task.Base.TheVariants as bottom;
+ghost use Rattle.cw_pool.specs.declared.task.Mode.TheVariants as how;
 
 use crate::{Base, Below, Mode, Naming};
 use cw_body::Body;
@@ -13,18 +14,29 @@ use std::marker::{Model, PhantomData};
 #[derive(Drop)]
 pub struct Ended<B: SharedBoard, J: Naming> {
     pub(crate) token: B::Token,
+    /// Main came to its end.
+    pub(crate) is_whole: bool,
     pub(crate) of: PhantomData<J>,
 }
 
 impl<B: SharedBoard, J: Naming> Model for Ended<B, J> {
-    ghost use Rattle.std.specs.Prelude.{ℕ};
+    ghost use Rattle.std.specs.Prelude.{◌≡◌, ℕ, IsTrue, false};
     ghost use Rattle.cw_pool.specs.Ends.{IsWorked};
 
     ghost Value = { ℕ };
 
     ghost view = { λ e. 0 };
 
-    ghost invariant = { λ e. IsWorked J.job (B.of e.token) };
+    ghost invariant = { λ e. IsWorked J.job (B.of e.token) × (IsTrue e.is_whole → (B.of e.token).told ≡ false) };
+}
+
+fn goes(mode: Mode) -> bool
+    ensures { IsTrue result → mode ≡ how.Goes }
+{
+    match mode {
+        Mode::Goes => true,
+        _ => false,
+    }
 }
 
 /// After the strand of main.
@@ -40,12 +52,13 @@ pub(crate) fn ends_run<B: SharedBoard, J: Naming>(
     requires alone { below.items ≡ [] }
     requires root { base ≡ bottom.Root }
 {
-    let _ = mode;
+    let is_whole = goes(mode);
     drop(body);
     drop(below);
     drop(base);
     let last = Ended {
         token,
+        is_whole,
         of: PhantomData,
     };
     last

@@ -1,5 +1,5 @@
 //! The record of a run.
-ghost use Rattle.std.specs.Prelude.{◌≡◌, ◌<◌, IfOk, IsTrue, length};
+ghost use Rattle.std.specs.Prelude.{◌≡◌, ◌<◌, IfOk, IsTrue, None, false, length};
 ghost use Rattle.cw_tree.specs.Nodes.{is_strand};
 ghost use Rattle.cw_strand.specs.Names.{first_memory};
 ghost use Rattle.cw_strand.specs.Programs.{IsCompiled};
@@ -15,7 +15,7 @@ ghost use Rattle.cw_board.specs.Boards.{budget_of, cells_in, columns_of, table_o
 ghost use Rattle.cw_pool.specs.Ends.{IsWorked};
 ghost use Rattle.cw_pool.specs.Recorded.{IsOfBoard, IsOfOneWorker};
 
-use crate::works::work;
+use crate::works::work_whole;
 use cw_base::{OutOfMemory, Seq};
 use cw_board::{Board, Naming};
 use cw_code::{Limits, Program};
@@ -29,13 +29,14 @@ use std::marker::Brand;
 use std::sync::Wait;
 use std::thread::Threads;
 
-/// Whether what a board gave has a record: memory was not wanting, and a strand at which the run stopped is one of the tree, which no rule of
-/// a board says yet.
-fn has_record(closed: &Closed) -> bool
-    ensures { IsTrue result → HasRecord closed.now.tree closed.now.halt }
+/// Whether what a board gave has a record: memory was not wanting; a strand at which the run stopped is one of the tree; and where no log has a
+/// halt, main came to its end and no strand had stopped. No rule of a board says the last two yet.
+fn has_record(closed: &Closed, is_whole: bool) -> bool
+    ensures record { IsTrue result → HasRecord closed.now.tree closed.now.halt }
+    ensures whole { IsTrue result → closed.now.halt ≡ None → IsTrue is_whole }
 {
     match closed.halt {
-        None => true,
+        None => is_whole,
         Some(Halt::Fault { strand, .. }) | Some(Halt::Budget { strand }) => {
             (strand as usize) < closed.tree.nodes().len() && closed.tree.is_strand(strand)
         }
@@ -50,16 +51,17 @@ fn recorded(
     words: Seq<i64>,
     limits: Limits,
     closed: Closed,
+    is_whole: bool,
 ) -> Result<Record, OutOfMemory>
     ensures program { IfOk result (λ r. r.program ≡ program) }
     ensures words { IfOk result (λ r. r.words ≡ words) }
     ensures limits { IfOk result (λ r. r.limits ≡ limits) }
     ensures strand { IfOk result (λ r. IsTrue (is_strand r.tree (ending_strand r.end))) }
     ensures outputs { IfOk result (λ r. HasItsOutputs r) }
-    ensures board { IfOk result (λ r. (x : Token) → IsWorked (record { program = program; words = words; limits = limits }) x
+    ensures board { IfOk result (λ r. (x : Token) → IsWorked (record { program = program; words = words; limits = limits }) x → (IsTrue is_whole → x.told ≡ false)
         → IsPutTogether (logs x) x.stop closed → IsOfBoard r × IsNumberedDepthFirst r.tree) }
 {
-    if !has_record(&closed) {
+    if !has_record(&closed, is_whole) {
         return Err(OutOfMemory);
     }
     // a hint to the prover: the root is a strand
@@ -95,7 +97,7 @@ fn run_named<N: Naming, G: Gate, R: Threads + Wait + Sync>(
     ensures board { IfOk result (λ r. IsOfBoard r) }
 {
     let (board, root) = board.named::<N>(root);
-    let token = work(
+    let (token, is_whole) = work_whole(
         rt,
         alloc,
         &board,
@@ -107,7 +109,7 @@ fn run_named<N: Naming, G: Gate, R: Threads + Wait + Sync>(
         gate,
     );
     match board.close(token) {
-        Ok(closed) => recorded(alloc, program, words, limits, closed),
+        Ok(closed) => recorded(alloc, program, words, limits, closed, is_whole),
         Err((_, _, error)) => Err(error),
     }
 }

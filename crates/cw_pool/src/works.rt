@@ -1,5 +1,5 @@
 //! How a run begins and ends, and all that is between.
-ghost use Rattle.std.specs.Prelude.{◌≡◌, length};
+ghost use Rattle.std.specs.Prelude.{◌≡◌, IsTrue, false, length};
 ghost use Rattle.cw_strand.specs.Names.{first_memory};
 ghost use Rattle.cw_job.specs.Jobs.{Job};
 ghost use Rattle.cw_job.specs.Room.Strands.{strands_of_job};
@@ -82,24 +82,35 @@ fn main_strand<B: SharedBoard, J: Naming>(
     }
 }
 
+/// The root's token of a run that has ended, and whether main came to its end and no strand had stopped.
+type Whole<B> = (<B as SharedBoard>::Token, bool);
+
 /// Memory was wanting before any strand began.
-fn never_begins<B: SharedBoard>(board: &B, root: B::Token) -> B::Token
+#[tactic(auto, using(crate::proofs::Tasks::Worked::none_worked))]
+fn never_begins<B: SharedBoard>(board: &B, root: B::Token) -> Whole<B>
     requires { B.of root ≡ root_token }
-    ensures { (job : Job) → IsWorked job (B.of result) }
+    ensures worked { (job : Job) → IsWorked job (B.of result.0) }
+    ensures whole { IsTrue result.1 → (B.of result.0).told ≡ false }
 {
     let mut token = root;
     board.halt(&mut token, Halt::Memory);
     board.halted(&mut token);
-    token
+    (token, false)
 }
 
-/// The token of a run that has ended, which is asked at last whether some strand has stopped.
-fn last_look<B: SharedBoard, J: Naming>(board: &B, ended: Ended<B, J>) -> B::Token
-    ensures { IsWorked J.job (B.of result) }
+/// It is asked at last whether some strand has stopped.
+#[tactic(auto, using(crate::proofs::Tasks::Worked::still_worked, crate::proofs::Tasks::Worked::still_untold))]
+fn last_look<B: SharedBoard, J: Naming>(board: &B, ended: Ended<B, J>) -> Whole<B>
+    ensures worked { IsWorked J.job (B.of result.0) }
+    ensures whole { IsTrue result.1 → (B.of result.0).told ≡ false }
 {
-    let Ended { mut token, .. } = ended;
-    board.halted(&mut token);
-    token
+    let Ended {
+        mut token,
+        is_whole,
+        ..
+    } = ended;
+    let has_stopped = board.halted(&mut token);
+    (token, is_whole && !has_stopped)
 }
 
 /// The run once its pairs have a name.
@@ -112,11 +123,12 @@ fn work_in<'x, B: SharedBoard, J: Naming, G: Gate, R: Threads + Wait + Sync>(
     workers: u32,
     strands: u32,
     gate: &'x G,
-) -> B::Token
+) -> Whole<B>
     requires run { IsRun J.job }
     requires root { B.of root ≡ root_token }
     requires start { body ≡ goes_from J.job.program (strands_of_job J.job).start }
-    ensures { IsWorked J.job (B.of result) }
+    ensures worked { IsWorked J.job (B.of result.0) }
+    ensures whole { IsTrue result.1 → (B.of result.0).told ≡ false }
 {
     let Ok(ready) = make_ready::<B, J>(scene.alloc, workers, strands, scene.pairs, source) else {
         return never_begins(scene.board, root);
@@ -151,14 +163,15 @@ fn work_named<'x, B: SharedBoard, J: Naming, G: Gate, R: Threads + Wait + Sync>(
     limits: Limits,
     gate: &'x G,
     opened: Opened<Memo<B::Token>>,
-) -> B::Token
+) -> Whole<B>
     requires table { opened ≡ J.table }
     requires job { J.job ≡ record { program = program.now; words = words.now; limits = limits } }
     requires run { IsRun J.job }
     requires root { B.of root ≡ root_token }
     requires budget { B.budget board.now ≡ limits.aborts }
     requires cells { B.cells board.now ≡ length (first_memory program.now.cells) }
-    ensures { IsWorked J.job (B.of result) }
+    ensures worked { IsWorked J.job (B.of result.0) }
+    ensures whole { IsTrue result.1 → (B.of result.0).told ≡ false }
 {
     let (pairs, source) = opened.named::<J>();
     let Ok(body) = Body::start(alloc, program, words, limits) else {
@@ -173,6 +186,34 @@ fn work_named<'x, B: SharedBoard, J: Naming, G: Gate, R: Threads + Wait + Sync>(
         of: PhantomData,
     };
     work_in(rt, scene, source, root, body, workers, limits.strands, gate)
+}
+
+/// The same, with whether main came to its end and no strand had stopped.
+pub(crate) fn work_whole<'x, B: SharedBoard, G: Gate, R: Threads + Wait + Sync>(
+    rt: &R,
+    alloc: Global,
+    board: &'x B,
+    root: B::Token,
+    program: &'x Program,
+    words: &[i64],
+    workers: u32,
+    limits: Limits,
+    gate: &'x G,
+) -> Whole<B>
+    requires run { IsRun (record { program = program.now; words = words.now; limits = limits }) }
+    requires root { B.of root ≡ root_token }
+    requires budget { B.budget board.now ≡ limits.aborts }
+    requires cells { B.cells board.now ≡ length (first_memory program.now.cells) }
+    ensures worked { let job : Job = record { program = program.entry.now; words = words.entry.now; limits = limits } in IsWorked job (B.of result.0) }
+    ensures whole { IsTrue result.1 → (B.of result.0).told ≡ false }
+{
+    let Ok(opened) = Opened::new(alloc) else {
+        return never_begins(board, root);
+    };
+    let workers = workers.max(1);
+    work_named::<B, Brand, G, R>(
+        rt, alloc, board, root, program, words, workers, limits, gate, opened,
+    )
 }
 
 /// Runs a program on the board that it is lent, by so many workers, one at least: the root's token, with all others joined. Where memory is
@@ -194,11 +235,8 @@ pub fn work<'x, B: SharedBoard, G: Gate, R: Threads + Wait + Sync>(
     requires cells { B.cells board.now ≡ length (first_memory program.now.cells) }
     ensures { let job : Job = record { program = program.entry.now; words = words.entry.now; limits = limits } in IsWorked job (B.of result) }
 {
-    let Ok(opened) = Opened::new(alloc) else {
-        return never_begins(board, root);
-    };
-    let workers = workers.max(1);
-    work_named::<B, Brand, G, R>(
-        rt, alloc, board, root, program, words, workers, limits, gate, opened,
-    )
+    let (token, _) = work_whole(
+        rt, alloc, board, root, program, words, workers, limits, gate,
+    );
+    token
 }

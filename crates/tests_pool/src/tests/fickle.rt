@@ -28,7 +28,8 @@ const ONE: u64 = 1000;
 
 const SEVERAL: u64 = 200;
 
-const SELDOM: Odds = Odds { refused: 1, ..ODDS };
+// So many blocks in each other would be rolled back before the innermost is reached.
+const NEVER: Odds = Odds { refused: 0, ..ODDS };
 
 // How a run ended.
 #[derive(Clone, Copy, Drop, PartialEq, Eq, Debug)]
@@ -45,10 +46,10 @@ struct Trial<'a> {
     text: &'a str,
     limits: Limits,
     odds: Odds,
-    ends: [Ending; 2],
+    ends: (Ending, Ending),
 }
 
-const fn row<'a>(text: &'a str, limits: Limits, odds: Odds, ends: [Ending; 2]) -> Trial<'a> {
+const fn row<'a>(text: &'a str, limits: Limits, odds: Odds, ends: (Ending, Ending)) -> Trial<'a> {
     Trial {
         text,
         limits,
@@ -131,28 +132,29 @@ fn runs<R: Threads + Wait + Sync>(
     seeds: u64,
 ) -> Result<(), Fail> {
     let program = program(alloc, trial.text)?;
+    let (one, other) = trial.ends;
     for seed in 0..seeds {
         let end = ended(rt, alloc, &program, trial, workers, seed)?;
-        if end != trial.ends[0] && end != trial.ends[1] {
+        if end != one && end != other {
             return Err((trial.text, workers, seed, end).into());
         }
     }
     Ok(())
 }
 
-const WHOLE: [Ending; 2] = [Ending::Whole, Ending::Whole];
+const WHOLE: (Ending, Ending) = (Ending::Whole, Ending::Whole);
 
 #[test]
 fn logs_of_worked_programs_are_walked(rt: HostRuntime) -> Result<(), Fail> {
     let table = [
         row(LOST, WIDE, ODDS, WHOLE),
         row(OUTER, WIDE, ODDS, WHOLE),
-        row(OUTER, up_to(1), ODDS, [Ending::Whole, Ending::Budget]),
+        row(OUTER, up_to(1), ODDS, (Ending::Whole, Ending::Budget)),
         row(ALONE, WIDE, ODDS, WHOLE),
         row(BEFORE, WIDE, ODDS, WHOLE),
         row(INSIDE, WIDE, ODDS, WHOLE),
         row(UNDONE, WIDE, ODDS, WHOLE),
-        row(FAULTY, WIDE, ODDS, [Ending::Fault, Ending::Fault]),
+        row(FAULTY, WIDE, ODDS, (Ending::Fault, Ending::Fault)),
         row(COUNTS, WIDE, ODDS, WHOLE),
         row(TREES, WIDE, ODDS, WHOLE),
     ];
@@ -169,7 +171,7 @@ fn logs_of_deep_programs_are_walked(rt: HostRuntime) -> Result<(), Fail> {
     let table = [
         row(LEFTWARDS, columns(20_000), ODDS, WHOLE),
         row(RIGHTWARDS, columns(20_000), ODDS, WHOLE),
-        row(NESTED, WIDE, SELDOM, WHOLE),
+        row(NESTED, WIDE, NEVER, WHOLE),
     ];
     for trial in table {
         for workers in [1, 2, 4] {

@@ -1,4 +1,4 @@
-use Rattle.std.proofs.Common.{rules}
+use Rattle.std.proofs.Common.{rules, ◌≡◌, IsTrue, None}
 use Rattle.cw_record.specs.Built.{HasRecord}
 use Rattle.cw_pool.proofs.Recorded.{built_is}
 use Rattle.cw_pool.proofs.recording.recorded.Goals as goal
@@ -7,4 +7,5 @@ pub returns-clause-board : goal.returns-clause-board
 returns-clause-board c =
     let e = c.build.ensures in
     let has : HasRecord c.args.closed.tree c.args.closed.halt = search rules in
-    built_is c.args.program c.args.words c.args.limits c.args.closed c.build.result has e.program e.words e.limits e.tree e.journals e.conflicts e.order e.end e.numbered
+    let whole : c.args.closed.halt ≡ None → IsTrue c.args.is_whole = search rules in
+    built_is c.args.program c.args.words c.args.limits c.args.closed c.args.is_whole c.build.result has whole e.program e.words e.limits e.tree e.journals e.conflicts e.order e.end e.numbered

@@ -3,10 +3,12 @@ use Rattle.cw_pool.proofs.recording.run_named.Goals as goal
 
 pub returns-in-Ok-clause-numbered : goal.returns-in-Ok-clause-numbered
 returns-in-Ok-clause-numbered g c =
-    gives_numbers c.args.program c.args.words c.as_slice.result.now c.args.limits c.in-Ok.closed c.work-token.result c.as_slice.ensures c.work-token.ensures c.in-Ok.ensures.together
-    c.recorded.result c.recorded.ensures.board
+    let e = c.work_whole-token.ensures in
+    gives_numbers c.args.program c.args.words c.as_slice.result.now c.args.limits c.in-Ok.closed c.work_whole-token.result.0 c.as_slice.ensures e.worked c.work_whole-token.result.1 e.whole
+    c.in-Ok.ensures.together c.recorded.result c.recorded.ensures.board
 
 pub returns-in-Ok-clause-board : goal.returns-in-Ok-clause-board
 returns-in-Ok-clause-board g c =
-    gives_board c.args.program c.args.words c.as_slice.result.now c.args.limits c.in-Ok.closed c.work-token.result c.as_slice.ensures c.work-token.ensures c.in-Ok.ensures.together
-    c.recorded.result c.recorded.ensures.board
+    let e = c.work_whole-token.ensures in
+    gives_board c.args.program c.args.words c.as_slice.result.now c.args.limits c.in-Ok.closed c.work_whole-token.result.0 c.as_slice.ensures e.worked c.work_whole-token.result.1 e.whole
+    c.in-Ok.ensures.together c.recorded.result c.recorded.ensures.board

@@ -1,4 +1,4 @@
-use Rattle.cw_pool.proofs.works.work.Given as goal
+use Rattle.cw_pool.proofs.works.work_whole.Given as goal
 
 abbrev pub ghosts-work_named-J-Naming-1 : goal.ghosts-work_named-J-Naming-1
 ghosts-work_named-J-Naming-1 g a = record { job = record { program = a.program.now; words = a.words.now; limits = a.limits } }
