@@ -10,7 +10,8 @@ use std::thread::Threads;
 const TWO: &[u8] =
     b"cell c; fn main() { atomic { spawn { atomic { c = c + 1; } } atomic { c = c + 1; } } }";
 
-const THOUSAND: &[u8] = b"cell c; fn main() { let i = 0; while i < 1000 { spawn { atomic { c = c + 1; } } i = i + 1; } }";
+const THOUSAND: &[u8] =
+    b"cell c; fn main() { let i = 0; while i < 1000 { spawn { atomic { c = c + 1; } } i = i + 1; } }";
 
 const THREE: &[u8] =
     b"cell c; fn main() { spawn { atomic { c = c + 1; } } spawn { atomic { c = c + 1; } } spawn { atomic { c = c + 1; } } }";
@@ -35,7 +36,11 @@ fn the_number_of_workers_does_not_show(rt: HostRuntime) -> Result<(), Fail> {
     for workers in ["1", "2", "3", "4", "5", "6", "7", "8"] {
         let (status, text) = ran(&rt, &["run", "--workers", workers], TWO)?;
         assert_eq!(rt; status, 0, "{workers} workers");
-        assert_eq!(rt; text.as_slice(), b"c = 2\nend\n".as_slice(), "{workers} workers");
+        assert_eq!(rt;
+            text.as_slice(),
+            b"c = 2\nend\n".as_slice(),
+            "{workers} workers"
+        );
     }
     Ok(())
 }
@@ -48,7 +53,12 @@ fn threads_come_to_what_one_memory_does(rt: HostRuntime) -> Result<(), Fail> {
         (&["run", "--workers=64"], THOUSAND, 0, b"c = 1000\nend\n"),
         (&["run", "--strands", "2"], THREE, 0, b"c = 3\nend\n"),
         (&["run", "--strands=1"], THREE, 0, b"c = 3\nend\n"),
-        (&["run", "--workers", "4"], FAULT, 6, b"fault Zero in 0.1l\n"),
+        (
+            &["run", "--workers", "4"],
+            FAULT,
+            6,
+            b"fault Zero in 0.1l\n",
+        ),
     ];
     for (words, text, status, wanted) in table {
         let (said, told) = ran(&rt, words, text)?;
@@ -82,7 +92,11 @@ impl Holding {
 
     // How often a worker came to an access.
     fn accesses(&self, worker: u32) -> &AtomicU64 {
-        if worker == 0 { &self.first } else { &self.second }
+        if worker == 0 {
+            &self.first
+        } else {
+            &self.second
+        }
     }
 
     fn hold(&self, worker: u32) {
@@ -113,24 +127,31 @@ impl Gate for Holding {
     }
 }
 
+// The status of a run of two workers at this gate, and whether something was refused.
+fn held<R: AllocGlobal + Threads + Wait + Sync>(
+    rt: &R,
+    gate: &Holding,
+) -> Result<(u8, bool), Fail> {
+    let text = b"cell c; fn main() { spawn { atomic { c = 1; } } atomic { atomic { c = 2; } } }";
+    let mut source = SureSource::new(text.to_vec(rt.alloc())?, 100);
+    let mut sink = SureSink::with_room(rt.alloc(), 100)?;
+    let words = ["run", "--workers", "2"];
+    let reply = answer_at(rt, &words, &mut source, &mut sink, gate)?;
+    let was_refused = match &reply.kept {
+        Some(kept) => !kept.conflicts.as_slice().is_empty(),
+        None => false,
+    };
+    Ok((reply.status, was_refused))
+}
+
 // So two threads are at work at the same time, and one meets what the other has not committed.
 #[test]
 fn a_worker_that_is_held_is_met_by_the_other(rt: HostRuntime) -> Result<(), Fail> {
-    let text = b"cell c; fn main() { spawn { atomic { c = 1; } } atomic { atomic { c = 2; } } }";
     let gate = Holding::new();
-    let mut source = SureSource::new(text.to_vec(rt.alloc())?, 100);
-    let mut sink = SureSink::with_room(rt.alloc(), 100)?;
-    let reply = answer_at(
-        &rt,
-        &["run", "--workers", "2"],
-        &mut source,
-        &mut sink,
-        &gate,
-    )?;
-    assert_eq!(rt; reply.status, 0);
+    let (status, was_refused) = held(&rt, &gate)?;
+    assert_eq!(rt; status, 0);
     assert!(rt; gate.held.load(Ordering::SeqCst) != 0);
     assert_eq!(rt; gate.gave_up.load(Ordering::SeqCst), 0);
-    let kept = reply.kept.ok_or("no run is kept")?;
-    assert!(rt; !kept.conflicts.as_slice().is_empty());
+    assert!(rt; was_refused);
     Ok(())
 }
