@@ -23,10 +23,8 @@ const ODDS: Odds = Odds {
     early: 25,
 };
 
-// So many seeds for one worker, and for several.
-const ONE: u64 = 1000;
-
-const SEVERAL: u64 = 200;
+// So many seeds for each number of workers.
+const SEEDS: u64 = 1000;
 
 // So many blocks in each other would be rolled back before the innermost is reached.
 const NEVER: Odds = Odds { refused: 0, ..ODDS };
@@ -159,7 +157,7 @@ fn logs_of_worked_programs_are_walked(rt: HostRuntime) -> Result<(), Fail> {
         row(TREES, WIDE, ODDS, WHOLE),
     ];
     for trial in table {
-        for (workers, seeds) in [(1, ONE), (2, SEVERAL), (4, SEVERAL), (64, 2)] {
+        for (workers, seeds) in [(1, SEEDS), (2, SEEDS), (4, SEEDS), (64, 2)] {
             runs(&rt, rt.alloc(), trial, workers, seeds)?;
         }
     }
