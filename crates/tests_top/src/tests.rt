@@ -10,6 +10,7 @@ use std::thread::Threads;
 mod checking;
 mod outside;
 mod simulating;
+mod threads;
 
 const COUNTS: &[u8] = b"cell c; fn main() { c = c + 1; out c; }";
 
