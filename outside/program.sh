@@ -243,6 +243,25 @@ try 'a fault in a pending block' 6 $'fault Zero in 0.1l\n' '' run --workers 4
 printf 'cell c; fn main() { c = c + 1; out c; }' > source
 try 'threads that have nothing to do' 0 $'out 1\nc = 1\nend\n' '' run --workers 64
 
+# ## Loads
+
+printf '@' > source
+for count in 1 17 10000; do
+  try "a load of $count" 0 "transfers $count"$'\nsum 64000\nend\n' '' load "$count"
+done
+try 'a load of one worker' 0 $'transfers 20000\nsum 64000\nend\n' '' load --workers 1 20000
+try 'a load behind the end of the options' 0 $'transfers 5\nsum 64000\nend\n' '' load -- 5
+"$program" load 5 <&- > text 2> note
+judge 'a load where nothing can be read' $? 0 $'transfers 5\nsum 64000\nend\n' ''
+: > text
+"$program" load 5 > /dev/full 2> note
+judge 'a load to a full device' $? 4 '' $'cwstm: write fault\n'
+for words in '' '0' '20001' '5 6' '--fuel 1 5' '-5' '+5' '5 --workers 65' '5 --report 1'; do
+  # the words stand apart by blanks
+  # shellcheck disable=SC2086
+  try "load $words" 2 '' "$usage" load $words
+done
+
 # ## Simulations
 
 printf 'cell c; fn main() { atomic { spawn { c = c + 1; } c = c + 1; } }' > source

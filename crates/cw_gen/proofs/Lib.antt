@@ -2,3 +2,4 @@ pub mod Blocks
 pub mod Draws
 pub mod Faults
 pub mod Names
+pub mod Mains

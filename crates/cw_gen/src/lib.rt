@@ -4,6 +4,7 @@
 #![tactic(auto)]
 
 ghost use Rattle.std.specs.Prelude.{◌≡◌, ◌≤◌, ℕ, None};
+ghost use Rattle.cw_strand.specs.Meaning.{MainTakes};
 ghost use Rattle.cw_strand.specs.Names.{naming_fault};
 ghost use Rattle.cw_gen.specs.Load.{load_tree};
 ghost use Rattle.cw_gen.specs.Worked.{Loads};
@@ -23,4 +24,9 @@ pub fn worked_loads()
 /// No load has a naming fault.
 pub fn loads_have_no_fault()
     ensures { (n : ℕ) → n ≤ 20000 → naming_fault (load_tree n) ≡ None }
+{}
+
+/// Main of a load has no parameters.
+pub fn main_of_loads()
+    ensures { (n : ℕ) → MainTakes (load_tree n) 0 }
 {}

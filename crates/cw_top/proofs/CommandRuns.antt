@@ -1,6 +1,5 @@
 -- All is true of the run of a command that is said of one.
 use Rattle.std.proofs.Common.{◌≡◌, ℕ, ℤ, List, length, Option, subst, sym}
-use Rattle.std.specs.Prelude.{IfSome}
 use Rattle.cw_code.specs.declared.program.Program.{Program}
 use Rattle.cw_strand.specs.Programs.{IsCompiled}
 use Rattle.cw_tree.specs.Walks.{IsNumbered}
@@ -8,16 +7,15 @@ use Rattle.cw_job.specs.Jobs.{TakesWords}
 use Rattle.cw_record.specs.declared.record.Record.{Record}
 use Rattle.cw_record.specs.Records.{HasItsOutputs, IsNumberedDepthFirst}
 use Rattle.cw_words.specs.declared.command.Command.{Command}
-use Rattle.cw_top.specs.Refusals.{Spells}
-use Rattle.cw_top.specs.Runs.{IsRunBy}
+use Rattle.cw_top.specs.Runs.{IsItsProgram, IsRunBy}
 use Rattle.cw_words.specs.Words.{limits_of, words_of}
 
-module _ (co : Command) (left : Option (List ℕ)) (p : Program) (spelled : IfSome left (λ bytes. Spells bytes p)) (compiled : IsCompiled p) (takes : TakesWords p (length (words_of co))) where
+module _ (co : Command) (left : Option (List ℕ)) (p : Program) (its : IsItsProgram co left p) (compiled : IsCompiled p) (takes : TakesWords p (length (words_of co))) where
   pub is_run : (r : Record) → r.program ≡ p → r.words ≡ words_of co → r.limits ≡ limits_of co → HasItsOutputs r → IsNumbered r.tree → IsNumberedDepthFirst r.tree → IsRunBy co left r
   is_run r program words limits outputs tree numbered =
       let same : TakesWords p (length r.words) = subst (λ (ws : List ℤ). TakesWords p (length ws)) (sym words) takes in
       record {
-        spelled = subst (λ (q : Program). IfSome left (λ bytes. Spells bytes q)) (sym program) spelled;
+        program = subst (IsItsProgram co left) (sym program) its;
         compiled = subst IsCompiled (sym program) compiled;
         takes = subst (λ (q : Program). TakesWords q (length r.words)) (sym program) same;
         words = words;

@@ -9,28 +9,36 @@ use Rattle.cw_record.specs.declared.record.Record.{Record}
 use Rattle.cw_record.specs.Records.{IsReplayed}
 use Rattle.cw_record.specs.Replay.{Replays}
 use Rattle.cw_replay.proofs.OverSource.OverSource.{over_source}
+use Rattle.cw_text.specs.Syntax.{Declaration}
+use Rattle.cw_strand.specs.Programs.{IsProgramOf}
+use Rattle.cw_gen.specs.Load.{load_tree}
 use Rattle.cw_words.specs.declared.command.Command.{Command}
+use Rattle.cw_words.specs.declared.command.Command.TheVariants.{Run, Sim, Load}
 use Rattle.cw_top.specs.Runs.{IsRunBy, IsRunOf}
-use Rattle.cw_top.specs.OverSource.{IsRunOfSource, IsRunOfSyntax}
+use Rattle.cw_top.specs.OverSource.{IsRunOfSource, IsRunOfSyntax, IsRunOfTree}
+use Rattle.cw_top.specs.Refusals.{Spells}
 use Rattle.cw_words.specs.Words.{limits_of, words_of}
 
-of_syntax : (co : Command) (bytes : List ℕ) (r : Record) → IsRunBy co (Some bytes) r → IsReplayed r → IsRunOfSyntax (words_of co) (limits_of co) bytes r
-of_syntax co bytes r run same =
-    let (ds, (spelled, is)) = run.spelled in
+of_tree : (co : Command) (left : Option (List ℕ)) (ds : List Declaration) (r : Record) → IsProgramOf ds r.program → IsRunBy co left r → IsReplayed r → IsRunOfTree (words_of co) (limits_of co) ds r
+of_tree co left ds r is run same =
     let takes : MainTakes ds (length r.words) = source_takes ds r.program is (length r.words) run.takes in
     let replays = (over_source ds r is takes).0 same in
     let P : List ℤ → Limits → Type 0 = λ ws ls. Replays (strands_of_syntax ds ws ls) (first_memory (cells_of ds)) ls.aborts r.tree r.conflicts r.order r.end in
     record {
-      source = ds;
-      spelled = spelled;
       named = is.named;
       takes = subst (λ (ws : List ℤ). MainTakes ds (length ws)) run.words takes;
       cells = is.cells;
       replays = subst (P (words_of co)) run.limits (subst (λ ws. P ws r.limits) run.words replays);
     }
 
+of_syntax : (co : Command) (bytes : List ℕ) (r : Record) → Spells bytes r.program → IsRunBy co (Some bytes) r → IsReplayed r → IsRunOfSyntax (words_of co) (limits_of co) bytes r
+of_syntax co bytes r (ds, (spelled, is)) run same = (ds, spelled, of_tree co (Some bytes) ds r is run same)
+
 pub of_source : (command : Option Command) (left : Option (List ℕ)) (kept : Option Record) → IfSome kept (IsRunOf command left) → IfSome kept IsReplayed → IfSome kept (IsRunOfSource command left)
 of_source command left None run same = tt
 of_source None left (Some r) run same = run
-of_source (Some co) None (Some r) run same = tt
-of_source (Some co) (Some bytes) (Some r) run same = of_syntax co bytes r run same
+of_source (Some (Run ws ls w p)) None (Some r) run same = tt
+of_source (Some (Run ws ls w p)) (Some bytes) (Some r) run same = of_syntax (Run ws ls w p) bytes r run.program run same
+of_source (Some (Sim ws ls w s p)) None (Some r) run same = tt
+of_source (Some (Sim ws ls w s p)) (Some bytes) (Some r) run same = of_syntax (Sim ws ls w s p) bytes r run.program run same
+of_source (Some (Load tr w)) left (Some r) run same = of_tree (Load tr w) left (load_tree tr) r run.program run same

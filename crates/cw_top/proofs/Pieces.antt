@@ -1,5 +1,5 @@
 -- Bytes that come from a source one piece after another.
-use Rattle.std.proofs.Common.{◌≡◌, ℕ, inl, inr, List, [], ◌∷◌, ◌++◌, length, Option, Some, None, ap, ◌∙◌, sym, append_assoc, arith}
+use Rattle.std.proofs.Common.{◌≡◌, ℕ, inl, inr, List, [], ◌∷◌, ◌++◌, length, Option, Some, None, ap, ◌∙◌, refl, sym, append_assoc, arith}
 use Rattle.std.proofs.Common.{◌≤◌, ◌-◌, length-append, subst}
 use Rattle.cw_io.specs.Outside.{Rose, Takes, TakesNothing}
 use Rattle.cw_top.specs.declared.reasons.Stop.{Stop}
@@ -36,3 +36,8 @@ Takes-gives a b c old new count h (xs, many, is, k) = subst (λ z. Takes a c z) 
 pub TakesAtMost-none : (a b : Option (List ℕ)) (most : ℕ) → TakesAtMost most a b → most ≡ 0 → TakesNothing a b
 TakesAtMost-none a b most ([], few, h) none = h
 TakesAtMost-none a b most (x ∷ xs, few, h) none = absurd (omega arith)
+
+-- nothing was taken where all is as it was
+pub TakesNothing-same : (left : Option (List ℕ)) → TakesNothing left left
+TakesNothing-same None = tt
+TakesNothing-same (Some xs) = refl

@@ -6,8 +6,9 @@ use Rattle.std.specs.Str.Parse.{digits_value}
 use Rattle.cw_code.specs.declared.Limits.{Limits}
 use Rattle.cw_io.specs.declared.schedule.Schedule.TheVariants.{List as Listed, Seeded}
 use Rattle.cw_sim.specs.Turns.{ListsWorkers}
-use Rattle.cw_words.specs.Options.{Given, GivenOption, NumberOption, are_known, given, integers_of, list_below, number_in, number_given, number_within, numbers_below, parts_of, option_value}
-use Rattle.cw_words.specs.Words.{aborts_option, command_of, fuel_option, limits_given, moves_option, report_given, run_given, run_options, schedule_given, schedule_in, sim_given, sim_options, size_option, strands_option, workers_option, most_listed}
+use Rattle.cw_words.specs.declared.command.Command.TheVariants.{Load}
+use Rattle.cw_words.specs.Options.{Given, GivenOption, NumberOption, are_known, given, integers_of, list_below, number_in, number_given, number_within, numbers_below, only_word, parts_of, option_value}
+use Rattle.cw_words.specs.Words.{aborts_option, command_of, fuel_option, limits_given, load_given, load_options, most_transfers, transfers_given, moves_option, report_given, run_given, run_options, schedule_given, schedule_in, sim_given, sim_options, size_option, strands_option, workers_option, most_listed}
 use Rattle.cw_top.specs.Runs.{IsReady}
 
 -- ## Values that may be missing
@@ -106,11 +107,24 @@ sim_ready g = where_true IsReady (are_known sim_options g.options) _
     then_some (λ s. ListsWorkers s w) IsReady _ (schedule_given w g.options) (each_some (λ s. ListsWorkers s w) _ (option_value (codes "schedule") g.options) (λ list. each_some (λ s. ListsWorkers s w) _ (option_value (codes "seed") g.options) (λ seed. listed w list seed (omega arith)))) (λ s a.
     map_some IsReady _ (integers_of g.words) (λ ns. (omega arith, a, l)))))))
 
+counted : (g : Given) → IfSome (transfers_given g) (λ n. (1 ≤ n) × (n ≤ most_transfers))
+counted g = each_some (λ n. (1 ≤ n) × (n ≤ most_transfers)) _ (only_word g.words) (within 1 most_transfers)
+
+load_ready : (g : Given) → IfSome (load_given g) IsReady
+load_ready g = where_true IsReady (are_known load_options g.options) _
+    (then_some (λ w. 1 ≤ w) IsReady _ (number_given workers_option g.options) (at_least workers_option g.options (omega arith)) (λ w m.
+    go w m (transfers_given g) (counted g)))
+  where
+    go : (w : ℕ) → 1 ≤ w → (o : Option ℕ) → IfSome o (λ n. (1 ≤ n) × (n ≤ most_transfers)) → IfSome (option_map (λ n. Load n w) o) IsReady
+    go w m None h = tt
+    go w m (Some n) h = (omega arith, h.0, h.1)
+
 pub ready : (words : List (List ℕ)) → IfSome (command_of words) IsReady
 ready [] = tt
-ready (name ∷ words) = go (bytes_eq name (codes "run")) (bytes_eq name (codes "sim"))
+ready (name ∷ words) = go (bytes_eq name (codes "run")) (bytes_eq name (codes "sim")) (bytes_eq name (codes "load"))
   where
-    go : (a b : Bool) → IfSome (if a then option_and_then run_given (given words) else if b then option_and_then sim_given (given words) else None) IsReady
-    go true b = each_some IsReady run_given (given words) run_ready
-    go false true = each_some IsReady sim_given (given words) sim_ready
-    go false false = tt
+    go : (a b c : Bool) → IfSome (if a then option_and_then run_given (given words) else if b then option_and_then sim_given (given words) else if c then option_and_then load_given (given words) else None) IsReady
+    go true b c = each_some IsReady run_given (given words) run_ready
+    go false true c = each_some IsReady sim_given (given words) sim_ready
+    go false false true = each_some IsReady load_given (given words) load_ready
+    go false false false = tt

@@ -4,18 +4,19 @@ use Rattle.cw_record.specs.declared.record.Record.{Record}
 use Rattle.cw_record.specs.Records.{IsCoherentRun}
 use Rattle.cw_replay.proofs.Spawning.ForksSpawned.{forks_need_spawns}
 use Rattle.cw_words.specs.declared.command.Command.{Command}
-use Rattle.cw_words.specs.declared.command.Command.TheVariants.{Run, Sim}
+use Rattle.cw_words.specs.declared.command.Command.TheVariants.{Run, Sim, Load}
 use Rattle.cw_top.specs.declared.outcome.Note.{Note}
 use Rattle.cw_top.specs.Outcome.{IsStatus}
 use Rattle.cw_top.specs.OverSource.{Spawns}
-use Rattle.cw_top.specs.Runs.{IsDoneAs, IsRunBy, IsRunOf}
+use Rattle.cw_top.specs.Refusals.{Spells}
+use Rattle.cw_top.specs.Runs.{IsDoneAs, IsRunOf}
 use Rattle.cw_top.specs.Spent.{IsSpentBy, IsSpentOn, SpentItsBudget}
 use Rattle.cw_top.proofs.Budgets.{spends}
 
-of_source : (co : Command) (left : Option (List ℕ)) (r : Record) → IsRunBy co left r → IsCoherentRun r → SpentItsBudget r → IfSome left Spawns
-of_source co None r run coherent spent = tt
-of_source co (Some bytes) r run coherent spent =
-    let (source, (spelled, is)) = run.spelled in
+of_source : (left : Option (List ℕ)) (r : Record) → IfSome left (λ bytes. Spells bytes r.program) → IsCoherentRun r → SpentItsBudget r → IfSome left Spawns
+of_source None r spelled coherent spent = tt
+of_source (Some bytes) r spells coherent spent =
+    let (source, (spelled, is)) = spells in
     let (f, fork) = spent.forks in
     (source, spelled, forks_need_spawns source r is coherent f fork)
 
@@ -23,7 +24,8 @@ by_kept : (command : Option Command) (left : Option (List ℕ)) (kept : Option R
 by_kept command left None run done spent = absurd spent
 by_kept None left (Some r) run done spent = absurd run
 by_kept (Some (Run ws ls w p)) left (Some r) run done spent = tt
-by_kept (Some (Sim ws ls w s p)) left (Some r) run done spent = of_source (Sim ws ls w s p) left r run done.coherent spent
+by_kept (Some (Load tr w)) left (Some r) run done spent = tt
+by_kept (Some (Sim ws ls w s p)) left (Some r) run done spent = of_source left r run.program done.coherent spent
 
 pub spawned : (command : Option Command) (kept : Option Record) (status : ℕ) (n : Note) (left : Option (List ℕ)) → IsStatus kept status n → IfSome kept (IsRunOf command left) → IfSome kept (IsDoneAs command) → status ≡ 7 → IsSpentOn command left
 spawned command kept status n left is run done seven = by_kept command left kept run done (spends command kept status n left is run done seven)

@@ -18,18 +18,19 @@ use Rattle.cw_record.specs.Records.{HasEnded, IsReplayed}
 use Rattle.cw_record.specs.Replay.{SameEnd}
 use Rattle.cw_record.proofs.Replay.OneRun.{same_end}
 use Rattle.cw_words.specs.declared.command.Command.{Command}
-use Rattle.cw_words.specs.declared.command.Command.TheVariants.{Run, Sim}
+use Rattle.cw_words.specs.declared.command.Command.TheVariants.{Run, Sim, Load}
 use Rattle.cw_top.specs.declared.outcome.Note.{Note}
 use Rattle.cw_top.specs.declared.outcome.Note.TheVariants as note
-use Rattle.cw_top.specs.Refusals.{AsksFor, IsMisfit, refusal}
+use Rattle.cw_top.specs.Refusals.{AsksFor, IsMisfit, Spells, refusal}
 use Rattle.cw_top.proofs.Budgets.{by_end}
 use Rattle.cw_top.proofs.Parameters.{fits, spelled_accepted}
 use Rattle.cw_report.specs.Results.{end_text, finished_text}
-use Rattle.cw_top.specs.Outcome.{HasCause, IsMisused, IsRefusedWith, IsStatus, IsStatusOf, IsSurelyMisused, IsSurelyRefused, MayBeMisusedWith, MayEndWith, status_of_end}
-use Rattle.cw_top.specs.Runs.{HasSeveralWorkers, IsDoneAs, IsDoneBy, IsOfMoves, IsOfThreads, IsReady, IsRunBy, IsRunOf}
+use Rattle.cw_top.specs.declared.telling.Form.{Form}
+use Rattle.cw_top.specs.declared.telling.Form.TheVariants.{Results, Summary}
+use Rattle.cw_top.specs.Outcome.{HasCause, IsCauseOfRun, IsCauseOfTelling, IsMisused, IsRefusedWith, IsStatus, IsStatusOf, IsSurelyMisused, IsSurelyRefused, MayBeMisusedWith, MayEndWith, status_of_end}
+use Rattle.cw_top.specs.Runs.{HasSeveralWorkers, IsDoneAs, IsDoneBy, IsOfMoves, IsOfThreads, IsReady, IsRunOf}
 use Rattle.cw_top.specs.Taken.{Accepts, IsRefusedFor}
-use Rattle.cw_top.specs.Written.{Writes, WritesEndOfOneMemory, end_of_one_memory, report_if, text_of, text_owed}
-use Rattle.cw_words.specs.Words.{asks_report, words_of}
+use Rattle.cw_top.specs.Written.{Writes, WritesEndOfOneMemory, end_of_one_memory, end_text_in, form_of, load_text_of, report_if, summary_text, text_in, text_of, text_owed}
 
 -- words that are no command come to status 2
 of_none : (kept : Option Record) (status : ℕ) (n : Note) → n ≡ note.Usage → IsStatus kept status n → status ≡ 2
@@ -47,45 +48,86 @@ no_fault None status h = absurd h
 no_fault (Some r) status (inl (same, is)) = no_end r.end status is
 no_fault (Some r) status (inr (other, is)) = (λ h. cc, λ h. cc, λ h. cc, λ h. cc)
 
+-- ## Causes
+
+-- a load reads nothing, and nothing of it is refused
+load_causes : (kept : Option Record) (status : ℕ) (n : Note) (w : Type 0) → IsStatus kept status n → IsCauseOfTelling n w → (status ≢ 2) × (status ≢ 3) × (status ≢ 5)
+load_causes kept status note.Nothing w is cause = let no = no_fault kept status is in (no.0, no.1, no.3)
+load_causes kept status note.Usage w is cause = absurd cause
+load_causes kept status note.Memory w (none, is) cause = (λ h. cc, λ h. cc, λ h. cc)
+load_causes kept status note.Read w is cause = absurd cause
+load_causes kept status note.Write w (some, is) cause = (λ h. cc, λ h. cc, λ h. cc)
+load_causes kept status (note.Text f) w is cause = absurd cause
+load_causes kept status (note.Name f) w is cause = absurd cause
+
+load_writes : (kept : Option Record) (status : ℕ) (n : Note) (w : Type 0) → IsStatus kept status n → IsCauseOfTelling n w → status ≡ 4 → w
+load_writes kept status note.Nothing w is cause h = absurd ((no_fault kept status is).2 h)
+load_writes kept status note.Usage w is cause h = absurd cause
+load_writes kept status note.Memory w (none, is) cause h = cc
+load_writes kept status note.Read w is cause h = absurd cause
+load_writes kept status note.Write w is cause h = cause
+load_writes kept status (note.Text f) w is cause h = absurd cause
+load_writes kept status (note.Name f) w is cause h = absurd cause
+
+usage_of : (words : List ℤ) (kept : Option Record) (status : ℕ) (n : Note) (left : Option (List ℕ)) (r w : Type 0) → IsStatus kept status n → IsCauseOfRun words n left r w → status ≡ 2 → IfSome left (IsMisfit words)
+usage_of words kept status note.Nothing left r w is cause h = absurd ((no_fault kept status is).0 h)
+usage_of words kept status note.Usage left r w is cause h = cause
+usage_of words kept status note.Memory left r w (none, is) cause h = cc
+usage_of words kept status note.Read left r w (none, is) cause h = cc
+usage_of words kept status note.Write left r w (some, is) cause h = cc
+usage_of words kept status (note.Text f) left r w (none, is) cause h = cc
+usage_of words kept status (note.Name f) left r w (none, is) cause h = cc
+
 pub usage : (command : Option Command) (kept : Option Record) (status : ℕ) (n : Note) (left : Option (List ℕ)) (r w : Type 0) → IsStatus kept status n → HasCause command n left r w → status ≡ 2 → IsMisused command left
 usage None kept status n left r w is cause h = tt
-usage (Some co) kept status note.Nothing left r w is cause h = absurd ((no_fault kept status is).0 h)
-usage (Some co) kept status note.Usage left r w is cause h = cause
-usage (Some co) kept status note.Memory left r w (none, is) cause h = cc
-usage (Some co) kept status note.Read left r w (none, is) cause h = cc
-usage (Some co) kept status note.Write left r w (some, is) cause h = cc
-usage (Some co) kept status (note.Text f) left r w (none, is) cause h = cc
-usage (Some co) kept status (note.Name f) left r w (none, is) cause h = cc
+usage (Some (Run ws ls wk p)) kept status n left r w is cause h = usage_of ws kept status n left r w is cause h
+usage (Some (Sim ws ls wk sc p)) kept status n left r w is cause h = usage_of ws kept status n left r w is cause h
+usage (Some (Load tr wk)) kept status n left r w is cause h = (load_causes kept status n w is cause).0 h
+
+read_fault_of : (words : List ℤ) (kept : Option Record) (status : ℕ) (n : Note) (left : Option (List ℕ)) (r w : Type 0) → IsStatus kept status n → IsCauseOfRun words n left r w → status ≡ 3 → r
+read_fault_of words kept status note.Nothing left r w is cause h = absurd ((no_fault kept status is).1 h)
+read_fault_of words kept status note.Usage left r w (none, is) cause h = cc
+read_fault_of words kept status note.Memory left r w (none, is) cause h = cc
+read_fault_of words kept status note.Read left r w is cause h = cause
+read_fault_of words kept status note.Write left r w (some, is) cause h = cc
+read_fault_of words kept status (note.Text f) left r w (none, is) cause h = cc
+read_fault_of words kept status (note.Name f) left r w (none, is) cause h = cc
 
 pub read_fault : (command : Option Command) (kept : Option Record) (status : ℕ) (n : Note) (left : Option (List ℕ)) (r w : Type 0) → IsStatus kept status n → HasCause command n left r w → status ≡ 3 → r
 read_fault None kept status n left r w is cause h = let two = of_none kept status n cause is in cc
-read_fault (Some co) kept status note.Nothing left r w is cause h = absurd ((no_fault kept status is).1 h)
-read_fault (Some co) kept status note.Usage left r w (none, is) cause h = cc
-read_fault (Some co) kept status note.Memory left r w (none, is) cause h = cc
-read_fault (Some co) kept status note.Read left r w is cause h = cause
-read_fault (Some co) kept status note.Write left r w (some, is) cause h = cc
-read_fault (Some co) kept status (note.Text f) left r w (none, is) cause h = cc
-read_fault (Some co) kept status (note.Name f) left r w (none, is) cause h = cc
+read_fault (Some (Run ws ls wk p)) kept status n left r w is cause h = read_fault_of ws kept status n left r w is cause h
+read_fault (Some (Sim ws ls wk sc p)) kept status n left r w is cause h = read_fault_of ws kept status n left r w is cause h
+read_fault (Some (Load tr wk)) kept status n left r w is cause h = absurd ((load_causes kept status n w is cause).1 h)
+
+write_fault_of : (words : List ℤ) (kept : Option Record) (status : ℕ) (n : Note) (left : Option (List ℕ)) (r w : Type 0) → IsStatus kept status n → IsCauseOfRun words n left r w → status ≡ 4 → w
+write_fault_of words kept status note.Nothing left r w is cause h = absurd ((no_fault kept status is).2 h)
+write_fault_of words kept status note.Usage left r w (none, is) cause h = cc
+write_fault_of words kept status note.Memory left r w (none, is) cause h = cc
+write_fault_of words kept status note.Read left r w (none, is) cause h = cc
+write_fault_of words kept status note.Write left r w is cause h = cause
+write_fault_of words kept status (note.Text f) left r w (none, is) cause h = cc
+write_fault_of words kept status (note.Name f) left r w (none, is) cause h = cc
 
 pub write_fault : (command : Option Command) (kept : Option Record) (status : ℕ) (n : Note) (left : Option (List ℕ)) (r w : Type 0) → IsStatus kept status n → HasCause command n left r w → status ≡ 4 → w
 write_fault None kept status n left r w is cause h = let two = of_none kept status n cause is in cc
-write_fault (Some co) kept status note.Nothing left r w is cause h = absurd ((no_fault kept status is).2 h)
-write_fault (Some co) kept status note.Usage left r w (none, is) cause h = cc
-write_fault (Some co) kept status note.Memory left r w (none, is) cause h = cc
-write_fault (Some co) kept status note.Read left r w (none, is) cause h = cc
-write_fault (Some co) kept status note.Write left r w is cause h = cause
-write_fault (Some co) kept status (note.Text f) left r w (none, is) cause h = cc
-write_fault (Some co) kept status (note.Name f) left r w (none, is) cause h = cc
+write_fault (Some (Run ws ls wk p)) kept status n left r w is cause h = write_fault_of ws kept status n left r w is cause h
+write_fault (Some (Sim ws ls wk sc p)) kept status n left r w is cause h = write_fault_of ws kept status n left r w is cause h
+write_fault (Some (Load tr wk)) kept status n left r w is cause h = load_writes kept status n w is cause h
+
+refused_of : (words : List ℤ) (kept : Option Record) (status : ℕ) (n : Note) (left : Option (List ℕ)) (r w : Type 0) → IsStatus kept status n → IsCauseOfRun words n left r w → status ≡ 5 → IsRefusedFor n left
+refused_of words kept status note.Nothing left r w is cause h = absurd ((no_fault kept status is).3 h)
+refused_of words kept status note.Usage left r w (none, is) cause h = cc
+refused_of words kept status note.Memory left r w (none, is) cause h = cc
+refused_of words kept status note.Read left r w (none, is) cause h = cc
+refused_of words kept status note.Write left r w (some, is) cause h = cc
+refused_of words kept status (note.Text f) left r w is cause h = cause
+refused_of words kept status (note.Name f) left r w is cause h = cause
 
 pub refused : (command : Option Command) (kept : Option Record) (status : ℕ) (n : Note) (left : Option (List ℕ)) (r w : Type 0) → IsStatus kept status n → HasCause command n left r w → status ≡ 5 → IsRefusedFor n left
 refused None kept status n left r w is cause h = let two = of_none kept status n cause is in cc
-refused (Some co) kept status note.Nothing left r w is cause h = absurd ((no_fault kept status is).3 h)
-refused (Some co) kept status note.Usage left r w (none, is) cause h = cc
-refused (Some co) kept status note.Memory left r w (none, is) cause h = cc
-refused (Some co) kept status note.Read left r w (none, is) cause h = cc
-refused (Some co) kept status note.Write left r w (some, is) cause h = cc
-refused (Some co) kept status (note.Text f) left r w is cause h = cause
-refused (Some co) kept status (note.Name f) left r w is cause h = cause
+refused (Some (Run ws ls wk p)) kept status n left r w is cause h = refused_of ws kept status n left r w is cause h
+refused (Some (Sim ws ls wk sc p)) kept status n left r w is cause h = refused_of ws kept status n left r w is cause h
+refused (Some (Load tr wk)) kept status n left r w is cause h = absurd ((load_causes kept status n w is cause).2 h)
 
 -- ## Which statuses come
 
@@ -120,11 +162,14 @@ came Moves status workers more is = inr (inr (inr (inl is)))
 may_end : (co : Command) (x : Record) (status : ℕ) → IsReady co → IsDoneBy co x → IsStatusOf x status → MayEndWith (Some co) status
 may_end (Run ws ls w p) x status ready done (inl (same, is)) = on_threads x.end status w done.moves (thread_spends w x ready.0 done) is
 may_end (Run ws ls w p) x status ready done (inr (other, is)) = inr (inr (inr (inl (is, thread_differs w x ready.0 done other))))
+may_end (Load tr w) x status ready done (inl (same, is)) = on_threads x.end status w done.moves (thread_spends w x ready.0 done) is
+may_end (Load tr w) x status ready done (inr (other, is)) = inr (inr (inr (inl (is, thread_differs w x ready.0 done other))))
 may_end (Sim ws ls w s p) x status ready done (inl (same, is)) = came x.end status w (move_spends w s x ready.0 done) is
 may_end (Sim ws ls w s p) x status ready done (inr (other, is)) = absurd (other done.replays)
 
 several_of : (co : Command) (r : Record) → IsReady co → IsDoneBy co r → (x : ℕ) → r.end ≡ Budget x → HasSeveralWorkers (Some co)
 several_of (Run ws ls w p) r ready done x e = thread_spends w r ready.0 done x e
+several_of (Load tr w) r ready done x e = thread_spends w r ready.0 done x e
 several_of (Sim ws ls w s p) r ready done x e = move_spends w s r ready.0 done x e
 
 pub several : (command : Option Command) (kept : Option Record) (status : ℕ) (n : Note) → IsStatus kept status n → IfSome command IsReady → IfSome kept (IsDoneAs command) → status ≡ 7 → HasSeveralWorkers command
@@ -141,6 +186,7 @@ several command kept status (note.Name f) (none, is) ready done seven = absurd (
 
 may_want : (co : Command) (status : ℕ) → status ≡ 1 → MayEndWith (Some co) status
 may_want (Run ws ls w p) status is = inr (inr (inr (inr is)))
+may_want (Load tr w) status is = inr (inr (inr (inr is)))
 may_want (Sim ws ls w s p) status is = inr (inr (inr (inr is)))
 
 -- bytes that are not refused are refused for no reason
@@ -154,25 +200,36 @@ fitting None words h misfit = h
 fitting (Some bytes) words h misfit = misfit.1 h.1
 
 -- where there is a run the words fit
-run_fits : (co : Command) (left : Option (List ℕ)) (x : Record) → IsRunBy co left x → IsSomeAnd left (IsMisfit (words_of co)) → ⊥
-run_fits co left x run = fits left (words_of co) x.program run.spelled (subst (λ (vs : List ℤ). TakesWords x.program (length vs)) run.words run.takes)
+run_fits : (words : List ℤ) (left : Option (List ℕ)) (x : Record) → IfSome left (λ bytes. Spells bytes x.program) → x.words ≡ words → TakesWords x.program (length x.words) → IsSomeAnd left (IsMisfit words) → ⊥
+run_fits words left x spelled is takes = fits left words x.program spelled (subst (λ (vs : List ℤ). TakesWords x.program (length vs)) is takes)
+
+misused_of : (words : List ℤ) (kept : Option Record) (status : ℕ) (n : Note) (left : Option (List ℕ)) (r w : Type 0) → IsStatus kept status n → IsCauseOfRun words n left r w → IsSomeAnd left (IsMisfit words) → (r → ⊥)
+    → ((x : Record) → kept ≡ Some x → ⊥) → (status ≡ 2) ⊎ (status ≡ 1)
+misused_of words None status note.Nothing left r w is cause misfit no_r no_run = absurd is
+misused_of words (Some x) status note.Nothing left r w is cause misfit no_r no_run = absurd (no_run x refl)
+misused_of words kept status note.Usage left r w (none, is) cause misfit no_r no_run = inl is
+misused_of words kept status note.Memory left r w (none, is) cause misfit no_r no_run = inr is
+misused_of words kept status note.Read left r w is cause misfit no_r no_run = absurd (no_r cause)
+misused_of words None status note.Write left r w (some, is) cause misfit no_r no_run = absurd some
+misused_of words (Some x) status note.Write left r w is cause misfit no_r no_run = absurd (no_run x refl)
+misused_of words kept status (note.Text f) left r w is cause misfit no_r no_run = absurd (not_refused left (λ bytes. AsksFor bytes (length words) → ⊥) (note.Text f) misfit cause)
+misused_of words kept status (note.Name f) left r w is cause misfit no_r no_run = absurd (not_refused left (λ bytes. AsksFor bytes (length words) → ⊥) (note.Name f) misfit cause)
+
+kept_run : (command : Option Command) (kept : Option Record) (left : Option (List ℕ)) → IfSome kept (IsRunOf command left) → (x : Record) → kept ≡ Some x → IsRunOf command left x
+kept_run command kept left run x is = subst (λ (k : Option Record). IfSome k (IsRunOf command left)) is run
 
 pub misused : (command : Option Command) (kept : Option Record) (status : ℕ) (n : Note) (left : Option (List ℕ)) (r w : Type 0) → IsStatus kept status n → HasCause command n left r w → IfSome kept (IsRunOf command left) → IsSurelyMisused command left → (r → ⊥) → MayBeMisusedWith command status
 misused None kept status n left r w is cause run misfit no_r = of_none kept status n cause is
-misused (Some co) None status note.Nothing left r w is cause run misfit no_r = absurd is
-misused (Some co) (Some x) status note.Nothing left r w is cause run misfit no_r = absurd (run_fits co left x run misfit)
-misused (Some co) kept status note.Usage left r w (none, is) cause run misfit no_r = inl is
-misused (Some co) kept status note.Memory left r w (none, is) cause run misfit no_r = inr is
-misused (Some co) kept status note.Read left r w is cause run misfit no_r = absurd (no_r cause)
-misused (Some co) None status note.Write left r w (some, is) cause run misfit no_r = absurd some
-misused (Some co) (Some x) status note.Write left r w is cause run misfit no_r = absurd (run_fits co left x run misfit)
-misused (Some co) kept status (note.Text f) left r w is cause run misfit no_r = absurd (not_refused left (λ bytes. AsksFor bytes (length (words_of co)) → ⊥) (note.Text f) misfit cause)
-misused (Some co) kept status (note.Name f) left r w is cause run misfit no_r = absurd (not_refused left (λ bytes. AsksFor bytes (length (words_of co)) → ⊥) (note.Name f) misfit cause)
+misused (Some (Run ws ls wk p)) kept status n left r w is cause run misfit no_r =
+    misused_of ws kept status n left r w is cause misfit no_r (λ x e. let by = kept_run (Some (Run ws ls wk p)) kept left run x e in run_fits ws left x by.program by.words by.takes misfit)
+misused (Some (Sim ws ls wk sc p)) kept status n left r w is cause run misfit no_r =
+    misused_of ws kept status n left r w is cause misfit no_r (λ x e. let by = kept_run (Some (Sim ws ls wk sc p)) kept left run x e in run_fits ws left x by.program by.words by.takes misfit)
+misused (Some (Load tr wk)) kept status n left r w is cause run misfit no_r = absurd misfit
 
 -- a source that has a run is not refused
-run_accepted : (co : Command) (left : Option (List ℕ)) (x : Record) (fault : Note) → IsRunBy co left x → IsSomeAnd left (λ bytes. refusal bytes ≡ Some fault) → ⊥
-run_accepted co None x fault run is = is
-run_accepted co (Some bytes) x fault run is = let none = spelled_accepted bytes x.program run.spelled in cc
+run_accepted : (left : Option (List ℕ)) (x : Record) (fault : Note) → IfSome left (λ bytes. Spells bytes x.program) → IsSomeAnd left (λ bytes. refusal bytes ≡ Some fault) → ⊥
+run_accepted None x fault spelled is = is
+run_accepted (Some bytes) x fault spelled is = let none = spelled_accepted bytes x.program spelled in cc
 
 same_fault : (left : Option (List ℕ)) (n fault : Note) → IsSomeAnd left (λ bytes. refusal bytes ≡ Some fault) → IsRefusedFor n left → n ≡ fault
 same_fault None n fault is why = absurd is
@@ -182,28 +239,52 @@ no_misfit : (left : Option (List ℕ)) (words : List ℤ) (fault : Note) → IsS
 no_misfit None words fault is misfit = is
 no_misfit (Some bytes) words fault is misfit = let none = misfit.0 in cc
 
+refuses_of : (words : List ℤ) (kept : Option Record) (status : ℕ) (n : Note) (left : Option (List ℕ)) (r w : Type 0) → IsStatus kept status n → IsCauseOfRun words n left r w → (fault : Note) → IsSomeAnd left (λ bytes. refusal bytes ≡ Some fault) → (r → ⊥)
+    → ((x : Record) → kept ≡ Some x → ⊥) → IsRefusedWith fault status n
+refuses_of words None status note.Nothing left r w is cause fault why no_r no_run = absurd is
+refuses_of words (Some x) status note.Nothing left r w is cause fault why no_r no_run = absurd (no_run x refl)
+refuses_of words kept status note.Usage left r w is cause fault why no_r no_run = absurd (no_misfit left words fault why cause)
+refuses_of words kept status note.Memory left r w (none, is) cause fault why no_r no_run = inr is
+refuses_of words kept status note.Read left r w is cause fault why no_r no_run = absurd (no_r cause)
+refuses_of words None status note.Write left r w (some, is) cause fault why no_r no_run = absurd some
+refuses_of words (Some x) status note.Write left r w is cause fault why no_r no_run = absurd (no_run x refl)
+refuses_of words kept status (note.Text f) left r w (none, is) cause fault why no_r no_run = inl (is, same_fault left (note.Text f) fault why cause)
+refuses_of words kept status (note.Name f) left r w (none, is) cause fault why no_r no_run = inl (is, same_fault left (note.Name f) fault why cause)
+
 pub refuses : (command : Option Command) (kept : Option Record) (status : ℕ) (n : Note) (left : Option (List ℕ)) (r w : Type 0) → IsStatus kept status n → HasCause command n left r w → IfSome kept (IsRunOf command left) → (fault : Note) → IsSurelyRefused command left fault → (r → ⊥) → IsRefusedWith fault status n
 refuses None kept status n left r w is cause run fault why no_r = absurd why
-refuses (Some co) None status note.Nothing left r w is cause run fault why no_r = absurd is
-refuses (Some co) (Some x) status note.Nothing left r w is cause run fault why no_r = absurd (run_accepted co left x fault run why)
-refuses (Some co) kept status note.Usage left r w is cause run fault why no_r = absurd (no_misfit left (words_of co) fault why cause)
-refuses (Some co) kept status note.Memory left r w (none, is) cause run fault why no_r = inr is
-refuses (Some co) kept status note.Read left r w is cause run fault why no_r = absurd (no_r cause)
-refuses (Some co) None status note.Write left r w (some, is) cause run fault why no_r = absurd some
-refuses (Some co) (Some x) status note.Write left r w is cause run fault why no_r = absurd (run_accepted co left x fault run why)
-refuses (Some co) kept status (note.Text f) left r w (none, is) cause run fault why no_r = inl (is, same_fault left (note.Text f) fault why cause)
-refuses (Some co) kept status (note.Name f) left r w (none, is) cause run fault why no_r = inl (is, same_fault left (note.Name f) fault why cause)
+refuses (Some (Run ws ls wk p)) kept status n left r w is cause run fault why no_r =
+    refuses_of ws kept status n left r w is cause fault why no_r (λ x e. let by = kept_run (Some (Run ws ls wk p)) kept left run x e in run_accepted left x fault by.program why)
+refuses (Some (Sim ws ls wk sc p)) kept status n left r w is cause run fault why no_r =
+    refuses_of ws kept status n left r w is cause fault why no_r (λ x e. let by = kept_run (Some (Sim ws ls wk sc p)) kept left run x e in run_accepted left x fault by.program why)
+refuses (Some (Load tr wk)) kept status n left r w is cause run fault why no_r = absurd why
+
+complete_of : (co : Command) (words : List ℤ) (kept : Option Record) (status : ℕ) (n : Note) (left : Option (List ℕ)) (r w : Type 0) → IsStatus kept status n → IsCauseOfRun words n left r w → IsReady co → IfSome kept (IsDoneBy co)
+    → IsSomeAnd left (λ bytes. (refusal bytes ≡ None) × AsksFor bytes (length words)) → (r → ⊥) → (w → ⊥) → MayEndWith (Some co) status
+complete_of co words None status note.Nothing left r w is cause ready done accepted no_r no_w = absurd is
+complete_of co words (Some x) status note.Nothing left r w is cause ready done accepted no_r no_w = may_end co x status ready done is
+complete_of co words kept status note.Usage left r w is cause ready done accepted no_r no_w = absurd (fitting left words accepted cause)
+complete_of co words kept status note.Memory left r w (none, is) cause ready done accepted no_r no_w = may_want co status is
+complete_of co words kept status note.Read left r w is cause ready done accepted no_r no_w = absurd (no_r cause)
+complete_of co words kept status note.Write left r w is cause ready done accepted no_r no_w = absurd (no_w cause)
+complete_of co words kept status (note.Text f) left r w is cause ready done accepted no_r no_w = absurd (not_refused left (λ bytes. AsksFor bytes (length words)) (note.Text f) accepted cause)
+complete_of co words kept status (note.Name f) left r w is cause ready done accepted no_r no_w = absurd (not_refused left (λ bytes. AsksFor bytes (length words)) (note.Name f) accepted cause)
+
+load_complete : (co : Command) (kept : Option Record) (status : ℕ) (n : Note) (w : Type 0) → IsStatus kept status n → IsCauseOfTelling n w → IsReady co → IfSome kept (IsDoneBy co) → (w → ⊥) → MayEndWith (Some co) status
+load_complete co None status note.Nothing w is cause ready done no_w = absurd is
+load_complete co (Some x) status note.Nothing w is cause ready done no_w = may_end co x status ready done is
+load_complete co kept status note.Usage w is cause ready done no_w = absurd cause
+load_complete co kept status note.Memory w (none, is) cause ready done no_w = may_want co status is
+load_complete co kept status note.Read w is cause ready done no_w = absurd cause
+load_complete co kept status note.Write w is cause ready done no_w = absurd (no_w cause)
+load_complete co kept status (note.Text f) w is cause ready done no_w = absurd cause
+load_complete co kept status (note.Name f) w is cause ready done no_w = absurd cause
 
 pub complete : (command : Option Command) (kept : Option Record) (status : ℕ) (n : Note) (left : Option (List ℕ)) (r w : Type 0) → IsStatus kept status n → HasCause command n left r w → IfSome command IsReady → IfSome kept (IsDoneAs command) → Accepts command left → (r → ⊥) → (w → ⊥) → MayEndWith command status
 complete None kept status n left r w is cause ready done accepted no_r no_w = of_none kept status n cause is
-complete (Some co) None status note.Nothing left r w is cause ready done accepted no_r no_w = absurd is
-complete (Some co) (Some x) status note.Nothing left r w is cause ready done accepted no_r no_w = may_end co x status ready done is
-complete (Some co) kept status note.Usage left r w is cause ready done accepted no_r no_w = absurd (fitting left (words_of co) accepted cause)
-complete (Some co) kept status note.Memory left r w (none, is) cause ready done accepted no_r no_w = may_want co status is
-complete (Some co) kept status note.Read left r w is cause ready done accepted no_r no_w = absurd (no_r cause)
-complete (Some co) kept status note.Write left r w is cause ready done accepted no_r no_w = absurd (no_w cause)
-complete (Some co) kept status (note.Text f) left r w is cause ready done accepted no_r no_w = absurd (not_refused left (λ bytes. AsksFor bytes (length (words_of co))) (note.Text f) accepted cause)
-complete (Some co) kept status (note.Name f) left r w is cause ready done accepted no_r no_w = absurd (not_refused left (λ bytes. AsksFor bytes (length (words_of co))) (note.Name f) accepted cause)
+complete (Some (Run ws ls wk p)) kept status n left r w is cause ready done accepted no_r no_w = complete_of (Run ws ls wk p) ws kept status n left r w is cause ready done accepted no_r no_w
+complete (Some (Sim ws ls wk sc p)) kept status n left r w is cause ready done accepted no_r no_w = complete_of (Sim ws ls wk sc p) ws kept status n left r w is cause ready done accepted no_r no_w
+complete (Some (Load tr wk)) kept status n left r w is cause ready done accepted no_r no_w = load_complete (Load tr wk) kept status n w is cause ready done no_w
 
 -- where a run's status is 0 the machine finished, with the memory and the outputs that were written, and behind them what follows
 at_zero : (cells : List CellInfo) (t : List Node) (e : RecordEnd) (picks : Picks) (s : SerialEnd) (more : List ℕ) (old new : Option (List ℕ)) → 0 ≡ status_of_end e → SameEnd e picks s → Appends old new (end_text cells t e ++ more) → (memory outputs : List ℤ) × (s ≡ last.Finished memory outputs) × Appends old new (finished_text cells memory outputs ++ more)
@@ -212,9 +293,20 @@ at_zero cells t (Fault x k) picks s more old new is same written = cc
 at_zero cells t (Budget x) picks s more old new is same written = cc
 at_zero cells t Moves picks s more old new is same written = cc
 
-of_replay : (co : Command) (r : Record) (old new : Option (List ℕ)) → 0 ≡ status_of_end r.end → IsNumbered r.tree → IsReplayed r → Writes (Some (text_of (Some co) r)) note.Nothing old new → WritesEndOfOneMemory (Some co) r old new
+-- the same of a load
+sum_at_zero : (count : ℕ) (cells : List CellInfo) (t : List Node) (e : RecordEnd) (picks : Picks) (s : SerialEnd) (old new : Option (List ℕ)) → 0 ≡ status_of_end e → SameEnd e picks s → Appends old new (load_text_of count cells t e) → (memory outputs : List ℤ) × (s ≡ last.Finished memory outputs) × Appends old new (summary_text count memory)
+sum_at_zero count cells t (Finished m o) picks s old new is same written = (m, o, same, written)
+sum_at_zero count cells t (Fault x k) picks s old new is same written = cc
+sum_at_zero count cells t (Budget x) picks s old new is same written = cc
+sum_at_zero count cells t Moves picks s old new is same written = cc
+
+of_form : (form : Form) (r : Record) (old new : Option (List ℕ)) → 0 ≡ status_of_end r.end → IsNumbered r.tree → IsReplayed r → Appends old new (text_in form r) → (memory outputs : List ℤ) × (end_of_one_memory r ≡ last.Finished memory outputs) × Appends old new (end_text_in form r memory outputs)
+of_form (Results report) r old new is tree replays written = at_zero r.program.cells r.tree r.end r.order (end_of_one_memory r) (report_if report r) old new is (same_end r tree.rooted tree.root replays) written
+of_form (Summary count) r old new is tree replays written = sum_at_zero count r.program.cells r.tree r.end r.order (end_of_one_memory r) old new is (same_end r tree.rooted tree.root replays) written
+
+of_replay : (co : Command) (r : Record) (old new : Option (List ℕ)) → 0 ≡ status_of_end r.end → IsNumbered r.tree → IsReplayed r → Appends old new (text_in (form_of co) r) → WritesEndOfOneMemory (Some co) r old new
 of_replay co r old new is tree replays written =
-    let (memory, outputs, finishes, told) = at_zero r.program.cells r.tree r.end r.order (end_of_one_memory r) (report_if (asks_report co) r) old new is (same_end r tree.rooted tree.root replays) written in
+    let (memory, outputs, finishes, told) = of_form (form_of co) r old new is tree replays written in
     record { memory = memory; outputs = outputs; finishes = finishes; written = told }
 
 pub finished : (command : Option Command) (kept : Option Record) (status : ℕ) (n : Note) (left old new : Option (List ℕ)) → IsStatus kept status n → IfSome kept (IsRunOf command left) → Writes (text_owed (text_of command) kept status) n old new → status ≡ 0 → IsSomeAnd kept (λ r. WritesEndOfOneMemory command r old new)

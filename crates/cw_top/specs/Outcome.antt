@@ -5,7 +5,7 @@ use Rattle.cw_record.specs.declared.record_end.RecordEnd.{RecordEnd}
 use Rattle.cw_record.specs.declared.record_end.RecordEnd.TheVariants.{Finished, Fault, Budget, Moves}
 use Rattle.cw_record.specs.Records.{IsReplayed}
 use Rattle.cw_words.specs.declared.command.Command.{Command}
-use Rattle.cw_words.specs.declared.command.Command.TheVariants.{Run, Sim}
+use Rattle.cw_words.specs.declared.command.Command.TheVariants.{Run, Sim, Load}
 use Rattle.cw_words.specs.Words.{words_of}
 use Rattle.cw_top.specs.declared.outcome.Note.{Note}
 use Rattle.cw_top.specs.declared.outcome.Note.TheVariants as note
@@ -56,17 +56,20 @@ IsCauseOfTelling n write_failed = ⊥
 -- why a command comes to this note
 abbrev pub HasCause : Option Command → Note → (left : Option (List ℕ)) (read_failed write_failed : Type 0) → Type 0
 HasCause None n left read_failed write_failed = n ≡ note.Usage
+HasCause (Some (Load transfers workers)) n left read_failed write_failed = IsCauseOfTelling n write_failed
 HasCause (Some c) n left read_failed write_failed = IsCauseOfRun (words_of c) n left read_failed write_failed
 
 -- where the words are of no use: they are no command, whatever the source is, or the source is not refused and asks for another
 -- number of them
 abbrev pub IsMisused : Option Command → (left : Option (List ℕ)) → Type 0
 IsMisused None left = Unit {0}
+IsMisused (Some (Load transfers workers)) left = ⊥
 IsMisused (Some c) left = IfSome left (IsMisfit (words_of c))
 
 -- The source's bytes are told, and the command is of no use for them.
 abbrev pub IsSurelyMisused : Option Command → (left : Option (List ℕ)) → Type 0
 IsSurelyMisused None left = Unit {0}
+IsSurelyMisused (Some (Load transfers workers)) left = ⊥
 IsSurelyMisused (Some c) left = IsSomeAnd left (IsMisfit (words_of c))
 
 -- the statuses that words of no use come to, where no read fails
@@ -77,6 +80,7 @@ MayBeMisusedWith (Some c) status = (status ≡ 2) ⊎ (status ≡ 1)
 -- The source's bytes are told, and a command's source is refused for this reason.
 abbrev pub IsSurelyRefused : Option Command → (left : Option (List ℕ)) → Note → Type 0
 IsSurelyRefused None left fault = ⊥
+IsSurelyRefused (Some (Load transfers workers)) left fault = ⊥
 IsSurelyRefused (Some c) left fault = IsSomeAnd left (λ bytes. refusal bytes ≡ Some fault)
 
 -- what a source that is refused for this reason comes to, where no read fails
@@ -88,4 +92,5 @@ IsRefusedWith fault status n = ((status ≡ 5) × (n ≡ fault)) ⊎ (status ≡
 abbrev pub MayEndWith : Option Command → ℕ → Type 0
 MayEndWith None status = status ≡ 2
 MayEndWith (Some (Run words limits workers report)) status = (status ≡ 0) ⊎ (status ≡ 6) ⊎ ((status ≡ 7) × (1 < workers)) ⊎ ((status ≡ 8) × (1 < workers)) ⊎ (status ≡ 1)
+MayEndWith (Some (Load transfers workers)) status = (status ≡ 0) ⊎ (status ≡ 6) ⊎ ((status ≡ 7) × (1 < workers)) ⊎ ((status ≡ 8) × (1 < workers)) ⊎ (status ≡ 1)
 MayEndWith (Some (Sim words limits workers schedule report)) status = (status ≡ 0) ⊎ (status ≡ 6) ⊎ ((status ≡ 7) × (1 < workers)) ⊎ (status ≡ 9) ⊎ (status ≡ 1)

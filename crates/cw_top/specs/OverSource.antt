@@ -1,6 +1,6 @@
 -- The run of a source, over its syntax. What this file cites is the grammar, the names, the meaning over the syntax, the machine with one
 -- memory, and the order of a run: no instructions, no rules of code, no compilation.
-use Rattle.std.specs.Prelude.{◌≡◌, ℕ, ℤ, List, length, Option, None, Ok, IfSome, IsSomeAnd, IsTrue}
+use Rattle.std.specs.Prelude.{◌≡◌, ℕ, ℤ, List, [], length, Option, Some, None, Ok, IfSome, IsTrue}
 use Rattle.cw_text.specs.Syntax.{Declaration}
 use Rattle.cw_text.specs.Text.{program}
 use Rattle.cw_code.specs.declared.Limits.{Limits}
@@ -9,14 +9,14 @@ use Rattle.cw_strand.specs.Meaning.{MainTakes, strands_of_syntax}
 use Rattle.cw_record.specs.declared.record.Record.{Record}
 use Rattle.cw_record.specs.Replay.{Replays}
 use Rattle.cw_replay.specs.Spawning.{any_spawns}
+use Rattle.cw_gen.specs.Load.{load_tree}
 use Rattle.cw_words.specs.declared.command.Command.{Command}
-use Rattle.cw_words.specs.Words.{words_of, limits_of}
+use Rattle.cw_words.specs.declared.command.Command.TheVariants.{Load}
+use Rattle.cw_words.specs.Words.{default_limits, words_of, limits_of}
 
--- A run of the syntax tree that these bytes spell, with these words and limits: one memory that runs the strands of the tree, in the order
--- that is kept, does at each step what the run's tree has there, each atomic block without a break, and comes to the end of the run.
-pub record IsRunOfSyntax (words : List ℤ) (limits : Limits) (bytes : List ℕ) (r : Record) : Type 0 where
-  pub source : List Declaration
-  pub spelled : program bytes ≡ Ok source
+-- A run of this syntax tree, with these words and limits: one memory that runs the strands of the tree, in the order that is kept, does at
+-- each step what the run's tree has there, each atomic block without a break, and comes to the end of the run.
+pub record IsRunOfTree (words : List ℤ) (limits : Limits) (source : List Declaration) (r : Record) : Type 0 where
   -- no name in it is at fault, and its main takes these words
   pub named : naming_fault source ≡ None
   pub takes : MainTakes source (length words)
@@ -24,9 +24,15 @@ pub record IsRunOfSyntax (words : List ℤ) (limits : Limits) (bytes : List ℕ)
   pub cells : r.program.cells ≡ cells_of source
   pub replays : Replays (strands_of_syntax source words limits) (first_memory (cells_of source)) limits.aborts r.tree r.conflicts r.order r.end
 
--- Only a command leaves a run, and where the source's bytes are told it is its own over the source too.
+-- a run of the syntax tree that these bytes spell
+abbrev pub IsRunOfSyntax : (words : List ℤ) (limits : Limits) (bytes : List ℕ) → Record → Type 0
+IsRunOfSyntax words limits bytes r = (source : List Declaration) × (program bytes ≡ Ok source) × IsRunOfTree words limits source r
+
+-- Only a command leaves a run, and where the source's bytes are told it is its own over the source too; that of a load is one of its tree.
 abbrev pub IsRunOfSource : Option Command → (left : Option (List ℕ)) → Record → Type 0
-IsRunOfSource command left r = IsSomeAnd command (λ c. IfSome left (λ bytes. IsRunOfSyntax (words_of c) (limits_of c) bytes r))
+IsRunOfSource None left r = ⊥
+IsRunOfSource (Some (Load transfers workers)) left r = IsRunOfTree [] default_limits (load_tree transfers) r
+IsRunOfSource (Some c) left r = IfSome left (λ bytes. IsRunOfSyntax (words_of c) (limits_of c) bytes r)
 
 -- The tree that these bytes spell has a `spawn` somewhere in a function.
 abbrev pub Spawns : List ℕ → Type 0

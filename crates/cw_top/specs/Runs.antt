@@ -1,8 +1,9 @@
 -- The run that a command keeps: of which program, with which words and limits, and who did it. What depends on the command is a function of
 -- it, with a case for words that are none; so a further command adds its cases and changes no clause.
-use Rattle.std.specs.Prelude.{◌≡◌, ◌≢◌, ◌<◌, ℕ, List, length, Option, Some, IfSome, IsSomeAnd}
+use Rattle.std.specs.Prelude.{◌≡◌, ◌≢◌, ◌<◌, ◌≤◌, ℕ, List, length, Option, Some, IfSome, IsSomeAnd}
 use Rattle.cw_io.specs.declared.schedule.Schedule.{Schedule}
-use Rattle.cw_strand.specs.Programs.{IsCompiled}
+use Rattle.cw_code.specs.declared.program.Program.{Program}
+use Rattle.cw_strand.specs.Programs.{IsCompiled, IsProgramOf}
 use Rattle.cw_tree.specs.Walks.{IsNumbered}
 use Rattle.cw_job.specs.Jobs.{TakesWords}
 use Rattle.cw_record.specs.declared.record.Record.{Record}
@@ -13,34 +14,45 @@ use Rattle.cw_sim.specs.Turns.{ListsWorkers}
 use Rattle.cw_sim.specs.OneWorker.{IsUnrefused}
 use Rattle.cw_pool.specs.Recorded.{IsOfBoard, IsOfOneWorker}
 use Rattle.cw_words.specs.declared.command.Command.{Command}
-use Rattle.cw_words.specs.declared.command.Command.TheVariants.{Run, Sim}
-use Rattle.cw_words.specs.Words.{limits_of, words_of}
+use Rattle.cw_words.specs.declared.command.Command.TheVariants.{Run, Sim, Load}
+use Rattle.cw_gen.specs.Load.{load_tree}
+use Rattle.cw_words.specs.Words.{limits_of, most_transfers, words_of}
 use Rattle.cw_top.specs.Refusals.{Spells}
 
 -- ## The command
 
--- There are workers, and a column for the first strand; and each worker that is listed is one of them.
+-- There are workers, and a column for the first strand; each worker that is listed is one of them; and there are as many transfers as a load
+-- may have.
 abbrev pub IsReady : Command → Type 0
 IsReady (Run words limits workers report) = (0 < workers) × (0 < limits.strands)
 IsReady (Sim words limits workers schedule report) = (0 < workers) × ListsWorkers schedule workers × (0 < limits.strands)
+IsReady (Load transfers workers) = (0 < workers) × (1 ≤ transfers) × (transfers ≤ most_transfers)
 
 -- a command has more than one worker
 abbrev pub HasSeveralWorkers : Option Command → Type 0
 HasSeveralWorkers (Some (Run words limits workers report)) = 1 < workers
 HasSeveralWorkers (Some (Sim words limits workers schedule report)) = 1 < workers
+HasSeveralWorkers (Some (Load transfers workers)) = 1 < workers
 HasSeveralWorkers command = ⊥
 
 -- a command has more than one worker, and they are threads
 abbrev pub HasSeveralThreads : Option Command → Type 0
 HasSeveralThreads (Some (Run words limits workers report)) = 1 < workers
+HasSeveralThreads (Some (Load transfers workers)) = 1 < workers
 HasSeveralThreads command = ⊥
 
 -- ## What is kept
 
--- A run of this command: of the program that the whole source spells, which takes its words, with the command's words and limits. What is
--- kept of it has its outputs, and is numbered depth first.
+-- the program of a command: the one that the whole source spells, or that of a load
+abbrev pub IsItsProgram : Command → (left : Option (List ℕ)) → Program → Type 0
+IsItsProgram (Run words limits workers report) left p = IfSome left (λ bytes. Spells bytes p)
+IsItsProgram (Sim words limits workers schedule report) left p = IfSome left (λ bytes. Spells bytes p)
+IsItsProgram (Load transfers workers) left p = IsProgramOf (load_tree transfers) p
+
+-- A run of this command: of its program, which takes its words, with its words and limits. What is kept of it has its outputs, and is
+-- numbered depth first.
 pub record IsRunBy (c : Command) (left : Option (List ℕ)) (r : Record) : Type 0 where
-  pub spelled : IfSome left (λ bytes. Spells bytes r.program)
+  pub program : IsItsProgram c left r.program
   pub compiled : IsCompiled r.program
   pub takes : TakesWords r.program (length r.words)
   pub words : r.words ≡ words_of c
@@ -75,6 +87,7 @@ pub record IsOfMoves (workers : ℕ) (schedule : Schedule) (r : Record) : Type 0
 abbrev pub IsDoneBy : Command → Record → Type 0
 IsDoneBy (Run words limits workers report) r = IsOfThreads workers r
 IsDoneBy (Sim words limits workers schedule report) r = IsOfMoves workers schedule r
+IsDoneBy (Load transfers workers) r = IsOfThreads workers r
 
 abbrev pub IsDoneAs : Option Command → Record → Type 0
 IsDoneAs command r = IsSomeAnd command (λ c. IsDoneBy c r)

@@ -1,7 +1,8 @@
 -- What was read.
 use Rattle.std.specs.Prelude.{◌≡◌, ◌≤◌, ℕ, ◌+◌, List, ◌++◌, length, Option, Some, None, IfSome, IsSomeAnd}
-use Rattle.cw_io.specs.Outside.{RunsDry, Takes}
+use Rattle.cw_io.specs.Outside.{RunsDry, Takes, TakesNothing}
 use Rattle.cw_words.specs.declared.command.Command.{Command}
+use Rattle.cw_words.specs.declared.command.Command.TheVariants.{Load}
 use Rattle.cw_words.specs.Words.{words_of}
 use Rattle.cw_top.specs.declared.outcome.Note.{Note}
 use Rattle.cw_top.specs.Refusals.{AsksFor, refusal}
@@ -13,11 +14,13 @@ most_bytes = 1048577
 -- the most bytes that a command takes
 abbrev pub most_read : Option Command → ℕ
 most_read None = 0
+most_read (Some (Load transfers workers)) = 0
 most_read (Some c) = most_bytes
 
 -- so many reads of a command give no byte at most: one, after which it reads no more
 abbrev pub most_ends : Option Command → ℕ
 most_ends None = 0
+most_ends (Some (Load transfers workers)) = 0
 most_ends (Some c) = 1
 
 -- A count rose by so much at most, and did not fall.
@@ -32,16 +35,18 @@ TakesAtMost most old new = (bytes : List ℕ) × (length bytes ≤ most) × Take
 abbrev pub GivesOn : (left_old left_new : Option (List ℕ)) (old new : List ℕ) (count : ℕ) → Type 0
 GivesOn left_old left_new old new count = (bytes : List ℕ) × (length bytes ≡ count) × (new ≡ old ++ bytes) × Takes left_old left_new bytes
 
--- what a command has read where it ran: the whole source
+-- what a command has read where it ran: the whole source, or nothing for a load
 abbrev pub ReadsWhole : Option Command → (old new : Option (List ℕ)) → Type 0
 ReadsWhole None old new = ⊥
+ReadsWhole (Some (Load transfers workers)) old new = TakesNothing old new
 ReadsWhole (Some c) old new = RunsDry old new
 
 -- A source is refused for this reason, where its bytes are told.
 abbrev pub IsRefusedFor : Note → Option (List ℕ) → Type 0
 IsRefusedFor n left = IfSome left (λ bytes. refusal bytes ≡ Some n)
 
--- a source, with its bytes told, that a command accepts: it is not refused, and asks for as many words as the command has
+-- a source, with its bytes told, that a command accepts: it is not refused, and asks for as many words as the command has; a load accepts any
 abbrev pub Accepts : Option Command → Option (List ℕ) → Type 0
 Accepts None left = Unit {0}
+Accepts (Some (Load transfers workers)) left = Unit {0}
 Accepts (Some c) left = IsSomeAnd left (λ bytes. (refusal bytes ≡ None) × AsksFor bytes (length (words_of c)))

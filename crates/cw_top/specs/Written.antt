@@ -1,15 +1,22 @@
 -- What was written: the text that a command owes for its run, which is none where the run disagrees with its replay.
-use Rattle.std.specs.Prelude.{◌≡◌, ◌==◌, ℕ, ℤ, List, [], ◌++◌, Bool, true, false, length, Option, Some, None, if◌then◌else◌}
+use Rattle.std.specs.Prelude.{◌≡◌, ◌==◌, ℕ, ℤ, pos, ◌+ℤ◌, List, [], ◌∷◌, ◌++◌, Bool, true, false, codes, length, Option, Some, None, if◌then◌else◌}
+use Rattle.std.specs.Fmt.{decimal, signed_decimal}
 use Rattle.cw_io.specs.Outside.{Appends, AppendsFront, KeepsTelling, TellsOn}
+use Rattle.cw_code.specs.declared.CellInfo.{CellInfo}
+use Rattle.cw_tree.specs.declared.node.Node.{Node}
 use Rattle.cw_serial.specs.declared.ends.SerialEnd.{SerialEnd}
 use Rattle.cw_serial.specs.declared.ends.SerialEnd.TheVariants as last
 use Rattle.cw_serial.specs.MachineOf.{end_under}
 use Rattle.cw_record.specs.declared.record.Record.{Record}
+use Rattle.cw_record.specs.declared.record_end.RecordEnd.{RecordEnd}
+use Rattle.cw_record.specs.declared.record_end.RecordEnd.TheVariants.{Finished}
 use Rattle.cw_record.specs.Records.{job_of_record}
-use Rattle.cw_report.specs.Results.{finished_text, run_text}
+use Rattle.cw_report.specs.Results.{end_text, finished_text, line, run_text}
 use Rattle.cw_report.specs.Report.{report_text}
 use Rattle.cw_words.specs.declared.command.Command.{Command}
-use Rattle.cw_words.specs.Words.{asks_report}
+use Rattle.cw_words.specs.declared.command.Command.TheVariants.{Run, Sim, Load}
+use Rattle.cw_top.specs.declared.telling.Form.{Form}
+use Rattle.cw_top.specs.declared.telling.Form.TheVariants.{Results, Summary}
 use Rattle.cw_top.specs.declared.outcome.Note.{Note}
 use Rattle.cw_top.specs.declared.outcome.Note.TheVariants as note
 
@@ -22,15 +29,45 @@ report_if false r = []
 abbrev pub text_by : (report : Bool) → Record → List ℕ
 text_by report r = run_text r ++ report_if report r
 
+abbrev pub sum_of : List ℤ → ℤ
+sum_of [] = pos 0
+sum_of (v ∷ vs) = v +ℤ sum_of vs
+
+-- so many transfers were made, and this is what the cells have together
+abbrev pub summary_text : (transfers : ℕ) → (memory : List ℤ) → List ℕ
+summary_text n memory = line (codes "transfers " ++ decimal n) ++ line (codes "sum " ++ signed_decimal (sum_of memory)) ++ line (codes "end")
+
+-- what is written of a load: of one that did not finish the line that tells its end
+abbrev pub load_text_of : (transfers : ℕ) → List CellInfo → List Node → RecordEnd → List ℕ
+load_text_of n cells t (Finished memory outputs) = summary_text n memory
+load_text_of n cells t e = end_text cells t e
+
+abbrev pub load_text : (transfers : ℕ) → Record → List ℕ
+load_text n r = load_text_of n r.program.cells r.tree r.end
+
+-- what a command writes of its run
+abbrev pub form_of : Command → Form
+form_of (Run words limits workers report) = Results report
+form_of (Sim words limits workers schedule report) = Results report
+form_of (Load transfers workers) = Summary transfers
+
+abbrev pub text_in : Form → Record → List ℕ
+text_in (Results report) r = text_by report r
+text_in (Summary n) r = load_text n r
+
+-- the same of a run that finished, with the result from what one memory comes to
+abbrev pub end_text_in : Form → Record → (memory outputs : List ℤ) → List ℕ
+end_text_in (Results report) r memory outputs = finished_text r.program.cells memory outputs ++ report_if report r
+end_text_in (Summary n) r memory outputs = summary_text n memory
+
 -- the text that a command writes for its run
 abbrev pub text_of : Option Command → Record → List ℕ
 text_of None r = []
-text_of (Some c) r = text_by (asks_report c) r
+text_of (Some c) r = text_in (form_of c) r
 
--- the same of a run that finished, with the result from what one memory comes to
 abbrev pub text_of_end : Option Command → Record → (memory outputs : List ℤ) → List ℕ
 text_of_end None r memory outputs = []
-text_of_end (Some c) r memory outputs = finished_text r.program.cells memory outputs ++ report_if (asks_report c) r
+text_of_end (Some c) r memory outputs = end_text_in (form_of c) r memory outputs
 
 -- The text that is owed for what is kept: there is none without a run, and none with status 8.
 abbrev pub text_owed : (text : Record → List ℕ) → Option Record → (status : ℕ) → Option (List ℕ)

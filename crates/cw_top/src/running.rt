@@ -1,16 +1,17 @@
 ghost use Rattle.std.specs.Prelude.{◌≡◌, ◌≢◌, ◌≤◌, ◌<◌, ◌↔◌, None, Some, length, IfOk, IfErr, IfSome, IsErrOf, IsTrue, OnOk};
-ghost use Rattle.cw_io.specs.Outside.{Rose, RunsDry};
+ghost use Rattle.cw_io.specs.Outside.{Rose};
 ghost use Rattle.cw_strand.specs.Programs.{IsCompiled};
 ghost use Rattle.cw_tree.specs.Walks.{IsNumbered};
 ghost use Rattle.cw_job.specs.Jobs.{TakesWords};
 ghost use Rattle.cw_record.specs.Records.{HasItsOutputs, IsNumberedDepthFirst};
 ghost use Rattle.cw_top.specs.declared.reasons.NoRun.TheVariants.{Misfit};
-ghost use Rattle.cw_top.specs.Reasons.{WhyNoRun};
-ghost use Rattle.cw_top.specs.Refusals.{IsMisfit};
-ghost use Rattle.cw_top.specs.Runs.{HasSeveralThreads, IsDoneBy, IsOfThreads, IsReady, IsRunOf};
-ghost use Rattle.cw_top.specs.Taken.{RisesAtMost, TakesAtMost, most_bytes};
+ghost use Rattle.cw_top.specs.Outcome.{HasCause};
+ghost use Rattle.cw_top.specs.Reasons.{note_of};
+ghost use Rattle.cw_top.specs.Runs.{HasSeveralThreads, IsDoneBy, IsItsProgram, IsOfThreads, IsReady, IsRunOf};
+ghost use Rattle.cw_top.specs.Taken.{ReadsWhole, RisesAtMost, TakesAtMost, most_ends, most_read};
 ghost use Rattle.cw_words.specs.Words.{limits_of, words_of};
 
+use crate::loading::load_compiled;
 use crate::reading::program_from;
 use crate::reasons::NoRun;
 use cw_base::{OutOfMemory, Seq};
@@ -20,7 +21,7 @@ use cw_job::takes_words;
 use cw_pool::run;
 use cw_record::{Record, RecordEnd};
 use cw_sim::simulate;
-use cw_words::Command;
+use cw_words::{Command, default_limits};
 use std::alloc::Global;
 use std::sync::Wait;
 use std::thread::Threads;
@@ -30,7 +31,7 @@ pub fn has_several_threads(command: &Command) -> bool
     ensures { IsTrue result ↔ HasSeveralThreads (Some command.now) }
 {
     match command {
-        Command::Run { workers, .. } => 1 < *workers,
+        Command::Run { workers, .. } | Command::Load { workers, .. } => 1 < *workers,
         Command::Sim { .. } => false,
     }
 }
@@ -94,6 +95,10 @@ fn done_by<R: Threads + Wait + Sync, G: Gate>(
             schedule,
             ..
         } => simulate(alloc, program, words, workers, &schedule, limits),
+        Command::Load { workers, .. } => {
+            let words = Seq::new(alloc);
+            run_on_threads(rt, alloc, program, words, workers, default_limits(), gate)
+        }
     }
 }
 
@@ -122,7 +127,25 @@ fn done<R: Threads + Wait + Sync, G: Gate>(
     Ok(kept)
 }
 
-/// Reads a program from the source and runs it.
+// The program of a command: the one that the source spells, or that of a load, for which nothing is read.
+fn program_by<S: Source>(alloc: Global, command: &Command, source: &mut S) -> Result<Program, NoRun>
+    requires { IsReady command.now }
+    ensures later { S.faults source.old ≤ S.faults source.new }
+    ensures why { IfErr result (λ n. HasCause (Some command.now) (note_of n) (S.left source.old) (Rose (S.faults source.old) (S.faults source.new)) ⊥) }
+    ensures fits { IsErrOf result Misfit → ⊥ }
+    ensures taken { TakesAtMost (most_read (Some command.now)) (S.left source.old) (S.left source.new) }
+    ensures whole { OnOk result (ReadsWhole (Some command.now) (S.left source.old) (S.left source.new)) }
+    ensures once { RisesAtMost (most_ends (Some command.now)) (S.ends source.old) (S.ends source.new) }
+    ensures its { IfOk result (IsItsProgram command.now (S.left source.old)) }
+    ensures compiled { IfOk result (λ p. IsCompiled p) }
+{
+    match command {
+        Command::Load { transfers, .. } => Ok(load_compiled(alloc, *transfers)?),
+        _ => program_from(alloc, source),
+    }
+}
+
+/// Runs the program of a command.
 pub fn run_of<R: Threads + Wait + Sync, S: Source, G: Gate>(
     rt: &R,
     alloc: Global,
@@ -132,16 +155,16 @@ pub fn run_of<R: Threads + Wait + Sync, S: Source, G: Gate>(
 ) -> Result<Record, NoRun>
     requires { IsReady command }
     ensures later { S.faults source.old ≤ S.faults source.new }
-    ensures why { IfErr result (λ n. WhyNoRun n (Rose (S.faults source.old) (S.faults source.new)) (IfSome (S.left source.old) (IsMisfit (words_of command))) (S.left source.old)) }
-    ensures taken { TakesAtMost most_bytes (S.left source.old) (S.left source.new) }
-    ensures whole { OnOk result (RunsDry (S.left source.old) (S.left source.new)) }
-    ensures misfit { IsErrOf result Misfit → RunsDry (S.left source.old) (S.left source.new) }
-    ensures once { RisesAtMost 1 (S.ends source.old) (S.ends source.new) }
+    ensures why { IfErr result (λ n. HasCause (Some command) (note_of n) (S.left source.old) (Rose (S.faults source.old) (S.faults source.new)) ⊥) }
+    ensures taken { TakesAtMost (most_read (Some command)) (S.left source.old) (S.left source.new) }
+    ensures whole { OnOk result (ReadsWhole (Some command) (S.left source.old) (S.left source.new)) }
+    ensures misfit { IsErrOf result Misfit → ReadsWhole (Some command) (S.left source.old) (S.left source.new) }
+    ensures once { RisesAtMost (most_ends (Some command)) (S.ends source.old) (S.ends source.new) }
     ensures run { IfOk result (IsRunOf (Some command) (S.left source.old)) }
     ensures done { IfOk result (IsDoneBy command) }
 {
-    let program = program_from(alloc, source)?;
-    if !takes_words(&program, command.words().len()) {
+    let program = program_by(alloc, &command, source)?;
+    if !takes_words(&program, command.word_count()) {
         return Err(NoRun::Misfit);
     }
     Ok(done(rt, alloc, command, program, gate)?)

@@ -8,14 +8,24 @@ ghost use Rattle.cw_top.specs.declared.reasons.NoRun.TheVariants.{Misfit};
 ghost use Rattle.cw_top.specs.declared.reasons.NotWritten.TheVariants.{OutOfMemory, WriteFault};
 ghost use Rattle.cw_top.specs.Outcome.{IsCauseOfTelling, IsStatus, status_of_end};
 ghost use Rattle.cw_top.specs.Reasons.{note_of};
-ghost use Rattle.cw_top.specs.Written.{StillTells, Writes, text_by, text_owed};
+ghost use Rattle.cw_top.specs.Written.{StillTells, Writes, load_text, text_by, text_in, text_owed};
 
+use crate::loading::summary;
 use crate::reasons::{NoRun, NotWritten, Refusal, Stop};
 use crate::{Note, Reply};
 use cw_io::{Sink, write_all};
 use cw_record::{Checked, Record, RecordEnd, check};
 use cw_report::{report_text, result_text};
 use std::alloc::Global;
+
+/// What a command writes of its run.
+#[derive(Clone, Copy)]
+pub enum Form {
+    /// Its result, and behind it the report where it is asked for.
+    Results { report: bool },
+    /// What a load of so many transfers comes to.
+    Summary { transfers: u32 },
+}
 
 fn status_of_end(end: &RecordEnd) -> u8
     ensures { result ≡ status_of_end end.now }
@@ -40,24 +50,46 @@ fn text_by(alloc: Global, run: &Record, report: bool) -> Result<Vec<u8>, cw_base
     Ok(text)
 }
 
+// The text of a load: what its transfers come to, or how it ended before.
+fn load_text(alloc: Global, run: &Record, transfers: u32) -> Result<Vec<u8>, cw_base::OutOfMemory>
+    requires { IsTrue (is_strand run.now.tree (ending_strand run.now.end)) }
+    ensures { IfOk result (λ text. text.items ≡ load_text transfers run.now) }
+{
+    match &run.end {
+        RecordEnd::Finished { memory, .. } => summary(alloc, transfers, memory.as_slice()),
+        _ => result_text(alloc, run),
+    }
+}
+
+// The text of a run in this form.
+fn text_in(alloc: Global, run: &Record, form: Form) -> Result<Vec<u8>, cw_base::OutOfMemory>
+    requires { IsTrue (is_strand run.now.tree (ending_strand run.now.end)) }
+    ensures { IfOk result (λ text. text.items ≡ text_in form run.now) }
+{
+    match form {
+        Form::Results { report } => text_by(alloc, run, report),
+        Form::Summary { transfers } => load_text(alloc, run, transfers),
+    }
+}
+
 // Writes the text of a run, once it is made whole.
 fn write_run<K: Sink>(
     alloc: Global,
     run: &Record,
-    report: bool,
+    form: Form,
     sink: &mut K,
 ) -> Result<(), NotWritten>
     requires { IsTrue (is_strand run.now.tree (ending_strand run.now.end)) }
     ensures later { K.faults sink.old ≤ K.faults sink.new }
-    ensures written { OnOk result (Appends (K.written sink.old) (K.written sink.new) (text_by report run.now)) }
+    ensures written { OnOk result (Appends (K.written sink.old) (K.written sink.new) (text_in form run.now)) }
     ensures nothing { IsErrOf result OutOfMemory → Appends (K.written sink.old) (K.written sink.new) [] }
-    ensures tells { OnOk result (KeepsTelling (K.tells_for sink.old) (K.tells_for sink.new) (K.written sink.old) (K.written sink.new) (length (text_by report run.now))) }
+    ensures tells { OnOk result (KeepsTelling (K.tells_for sink.old) (K.tells_for sink.new) (K.written sink.old) (K.written sink.new) (length (text_in form run.now))) }
     ensures untouched { IsErrOf result OutOfMemory
         → TellsOn (K.written sink.old) (K.written sink.new) × ((n : ℕ) → K.tells_for sink.old n → K.tells_for sink.new n) }
-    ensures front { IsErrOf result WriteFault → AppendsFront (K.written sink.old) (K.written sink.new) (text_by report run.now) }
+    ensures front { IsErrOf result WriteFault → AppendsFront (K.written sink.old) (K.written sink.new) (text_in form run.now) }
     ensures cause { IsErrOf result WriteFault → Rose (K.faults sink.old) (K.faults sink.new) }
 {
-    let text = text_by(alloc, run, report)?;
+    let text = text_in(alloc, run, form)?;
     Ok(write_all(sink, text.as_slice())?)
 }
 
@@ -83,16 +115,16 @@ pub fn without_run(why: NoRun) -> Reply
 }
 
 // The reply on a run that replays, whose text is to be written.
-fn written<K: Sink>(alloc: Global, run: Record, report: bool, sink: &mut K) -> Reply
+fn written<K: Sink>(alloc: Global, run: Record, form: Form, sink: &mut K) -> Reply
     requires { IsReplayed run }
     ensures later { K.faults sink.old ≤ K.faults sink.new }
     ensures kept { IfSome result.kept (λ r. r ≡ run) }
     ensures status { IsStatus result.kept result.status result.note }
     ensures cause { IsCauseOfTelling result.note (Rose (K.faults sink.old) (K.faults sink.new)) }
-    ensures written { Writes (text_owed (text_by report) result.kept result.status) result.note (K.written sink.old) (K.written sink.new) }
-    ensures tells { (result.status ≡ 4 → ⊥) → StillTells (text_owed (text_by report) result.kept result.status) (K.tells_for sink.old) (K.tells_for sink.new) (K.written sink.old) (K.written sink.new) }
+    ensures written { Writes (text_owed (text_in form) result.kept result.status) result.note (K.written sink.old) (K.written sink.new) }
+    ensures tells { (result.status ≡ 4 → ⊥) → StillTells (text_owed (text_in form) result.kept result.status) (K.tells_for sink.old) (K.tells_for sink.new) (K.written sink.old) (K.written sink.new) }
 {
-    match write_run(alloc, &run, report, sink) {
+    match write_run(alloc, &run, form, sink) {
         Ok(()) => Reply {
             status: status_of_end(&run.end),
             note: Note::Nothing,
@@ -123,24 +155,18 @@ fn replays(alloc: Global, run: &Record, is_unsure: bool) -> Result<bool, cw_base
 }
 
 /// The reply on a run, whose text is written if one memory does the same.
-pub fn told<K: Sink>(
-    alloc: Global,
-    run: Record,
-    is_unsure: bool,
-    report: bool,
-    sink: &mut K,
-) -> Reply
+pub fn told<K: Sink>(alloc: Global, run: Record, is_unsure: bool, form: Form, sink: &mut K) -> Reply
     requires takes { TakesWords run.program (length run.words) }
     requires sure { is_unsure ≡ false → IsReplayed run }
     ensures later { K.faults sink.old ≤ K.faults sink.new }
     ensures kept { IfSome result.kept (λ r. r ≡ run) }
     ensures status { IsStatus result.kept result.status result.note }
     ensures cause { IsCauseOfTelling result.note (Rose (K.faults sink.old) (K.faults sink.new)) }
-    ensures written { Writes (text_owed (text_by report) result.kept result.status) result.note (K.written sink.old) (K.written sink.new) }
-    ensures tells { (result.status ≡ 4 → ⊥) → StillTells (text_owed (text_by report) result.kept result.status) (K.tells_for sink.old) (K.tells_for sink.new) (K.written sink.old) (K.written sink.new) }
+    ensures written { Writes (text_owed (text_in form) result.kept result.status) result.note (K.written sink.old) (K.written sink.new) }
+    ensures tells { (result.status ≡ 4 → ⊥) → StillTells (text_owed (text_in form) result.kept result.status) (K.tells_for sink.old) (K.tells_for sink.new) (K.written sink.old) (K.written sink.new) }
 {
     match replays(alloc, &run, is_unsure) {
-        Ok(true) => written(alloc, run, report, sink),
+        Ok(true) => written(alloc, run, form, sink),
         Ok(false) => Reply {
             status: 8,
             note: Note::Nothing,

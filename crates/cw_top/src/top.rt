@@ -1,5 +1,5 @@
 ghost use Rattle.std.specs.Prelude.{◌≡◌, ◌≢◌, ◌≤◌, ◌↔◌, Some, IfSome, IsSomeAnd, OnSome, []};
-ghost use Rattle.cw_io.specs.Outside.{Appends, TakesNothing, Rose, RunsDry};
+ghost use Rattle.cw_io.specs.Outside.{Appends, TakesNothing, Rose};
 ghost use Rattle.cw_record.specs.Records.{IsReplayed};
 ghost use Rattle.cw_top.specs.declared.outcome.Note.{Note};
 ghost use Rattle.cw_top.specs.declared.outcome.Note.TheVariants.{Nothing};
@@ -7,19 +7,33 @@ ghost use Rattle.cw_top.specs.Outcome.{HasCause, IsMisused, IsRefusedWith, IsSta
 ghost use Rattle.cw_top.specs.OverSource.{IsRunOfSource};
 ghost use Rattle.cw_top.specs.Runs.{HasSeveralThreads, HasSeveralWorkers, IsDoneAs, IsDoneBy, IsReady, IsRunOf};
 ghost use Rattle.cw_top.specs.Spent.{HasSpentMoves, IsSpentBy, IsSpentOn};
-ghost use Rattle.cw_top.specs.Taken.{Accepts, IsRefusedFor, ReadsWhole, RisesAtMost, TakesAtMost, most_bytes, most_ends, most_read};
-ghost use Rattle.cw_top.specs.Written.{StillTells, Writes, WritesEndOfOneMemory, text_of, text_owed};
+ghost use Rattle.cw_top.specs.Taken.{Accepts, IsRefusedFor, ReadsWhole, RisesAtMost, TakesAtMost, most_ends, most_read};
+ghost use Rattle.cw_top.specs.Written.{StillTells, Writes, WritesEndOfOneMemory, form_of, text_of, text_owed};
 ghost use Rattle.cw_words.specs.Words.{command_in};
 
 use crate::reasons::NoRun;
 use crate::running::{has_several_threads, run_of};
-use crate::telling::{told, without_run};
+use crate::telling::{Form, told, without_run};
 use crate::{Note, Reply};
 use cw_io::{Gate, Sink, Source};
 use cw_words::{Command, command_of};
 use std::alloc::Global;
 use std::sync::Wait;
 use std::thread::Threads;
+
+// What a command writes of its run.
+fn form_of(command: &Command) -> Form
+    ensures { result ≡ form_of command.now }
+{
+    match command {
+        Command::Run { report, .. } | Command::Sim { report, .. } => Form::Results {
+            report: *report,
+        },
+        Command::Load { transfers, .. } => Form::Summary {
+            transfers: *transfers,
+        },
+    }
+}
 
 // What comes of a command.
 fn ran<R: Threads + Wait + Sync, S: Source, K: Sink, G: Gate>(
@@ -35,19 +49,19 @@ fn ran<R: Threads + Wait + Sync, S: Source, K: Sink, G: Gate>(
     ensures write_later { K.faults sink.old ≤ K.faults sink.new }
     ensures status { IsStatus result.kept result.status result.note }
     ensures cause { HasCause (Some command) result.note (S.left source.old) (Rose (S.faults source.old) (S.faults source.new)) (Rose (K.faults sink.old) (K.faults sink.new)) }
-    ensures taken { TakesAtMost most_bytes (S.left source.old) (S.left source.new) }
-    ensures whole { OnSome result.kept (RunsDry (S.left source.old) (S.left source.new)) }
-    ensures judged { result.status ≡ 2 → RunsDry (S.left source.old) (S.left source.new) }
-    ensures once { RisesAtMost 1 (S.ends source.old) (S.ends source.new) }
+    ensures taken { TakesAtMost (most_read (Some command)) (S.left source.old) (S.left source.new) }
+    ensures whole { OnSome result.kept (ReadsWhole (Some command) (S.left source.old) (S.left source.new)) }
+    ensures judged { result.status ≡ 2 → ReadsWhole (Some command) (S.left source.old) (S.left source.new) }
+    ensures once { RisesAtMost (most_ends (Some command)) (S.ends source.old) (S.ends source.new) }
     ensures run { IfSome result.kept (IsRunOf (Some command) (S.left source.old)) }
     ensures done { IfSome result.kept (IsDoneBy command) }
     ensures written { Writes (text_owed (text_of (Some command)) result.kept result.status) result.note (K.written sink.old) (K.written sink.new) }
     ensures tells { (result.status ≡ 4 → ⊥) → StillTells (text_owed (text_of (Some command)) result.kept result.status) (K.tells_for sink.old) (K.tells_for sink.new) (K.written sink.old) (K.written sink.new) }
 {
-    let report = command.asks_report();
+    let form = form_of(&command);
     let is_unsure = has_several_threads(&command);
     match run_of(rt, alloc, command, source, gate) {
-        Ok(run) => told(alloc, run, is_unsure, report, sink),
+        Ok(run) => told(alloc, run, is_unsure, form, sink),
         Err(why) => without_run(why),
     }
 }
@@ -85,11 +99,12 @@ fn answer<R: Threads + Wait + Sync, S: Source, K: Sink, G: Gate>(
     }
 }
 
-/// Does all that the program does. `words` are the command's words without the program's name. Each command reads a program from
-/// the source, runs it with the words of main, and writes its result (`result_text`) to the sink, with `--report 1` followed by the
+/// Does all that the program does. `words` are the command's words without the program's name. `run` and `sim` read a program from
+/// the source, run it with the words of main, and write its result (`result_text`) to the sink, with `--report 1` followed by the
 /// report on it (`report_text`): `run` on as many threads as `--workers` says, four where it does not, and one goes depth first; `sim` by the
 /// moves of so many virtual workers. Both have the options `--fuel`, `--size`, `--aborts` and `--strands`; `sim` has `--moves`, and `--schedule`
-/// or `--seed`, too.
+/// or `--seed`, too. `load` reads nothing: it runs the program of so many transfers (`load_program`) as `run` does, and writes how many they
+/// were and what all cells have together.
 ///
 /// A run of several threads is written only once one memory has done the same in its order; status 8 says that it did not. The gate is called
 /// by each of these threads before a look at the tasks of another, and before each try of a begin, an access or a commit.
@@ -128,9 +143,10 @@ pub fn cwstm<R: Threads + Wait + Sync, S: Source, K: Sink, G: Gate>(
         → (Rose (S.faults source.old) (S.faults source.new) → ⊥) → (Rose (K.faults sink.old) (K.faults sink.new) → ⊥)
         → MayEndWith (command_in words.now) result.status }
 
-    // What is kept is a run of the command. Of one thread it is the depth-first one, in which nothing is refused; of several it is that of their
-    // board. Of `sim` it is the record of the moves of the command's workers, in the turns of its schedule: if there is one, nothing is refused
-    // either, and it is the depth-first one too, unless the moves were spent. One thread and every simulation are coherent.
+    // What is kept is a run of the command, of what the source spells or of the program of a load. Of one thread it is the depth-first one, in
+    // which nothing is refused; of several it is that of their board. Of `sim` it is the record of the moves of the command's workers, in the
+    // turns of its schedule: if there is one, nothing is refused either, and it is the depth-first one too, unless the moves were spent. One
+    // thread and every simulation are coherent.
     ensures run { IfSome result.kept (IsRunOf (command_in words.now) (S.left source.old)) }
     ensures done { IfSome result.kept (IsDoneAs (command_in words.now)) }
     ensures whole { OnSome result.kept (ReadsWhole (command_in words.now) (S.left source.old) (S.left source.new)) }

@@ -7,12 +7,12 @@ use Rattle.std.specs.Borrow.{Bor}
 use Rattle.cw_code.specs.declared.Limits.{Limits}
 use Rattle.cw_io.specs.declared.schedule.Schedule.{Schedule}
 use Rattle.cw_words.specs.declared.command.Command.{Command}
-use Rattle.cw_words.specs.declared.command.Command.TheVariants.{Run}
+use Rattle.cw_words.specs.declared.command.Command.TheVariants.{Load, Run}
 use Rattle.cw_io.specs.declared.schedule.Schedule.TheVariants.{List as Listed}
-use Rattle.cw_words.specs.Options.{Given, list_below}
-use Rattle.cw_words.specs.Reading.{integers_in, known_in, limits_in, number_asked, report_asked, schedule_asked, text_in, value_in}
+use Rattle.cw_words.specs.Options.{Given, list_below, number_within}
+use Rattle.cw_words.specs.Reading.{integers_in, known_in, limits_in, number_asked, only_in, report_asked, schedule_asked, text_in, transfers_asked, value_in}
 use Rattle.cw_words.specs.Words as words
-use Rattle.cw_words.specs.Words.{run_given, run_options, workers_option}
+use Rattle.cw_words.specs.Words.{load_given, load_options, most_transfers, run_given, run_options, workers_option}
 
 abbrev pub schedule_by : (workers : ℕ) → (list seed : Option (Option (List ℕ))) → Option Schedule
 schedule_by workers list seed = option_and_then (λ l. option_and_then (λ s. words.schedule_in workers l s) seed) list
@@ -27,6 +27,18 @@ run_by known limits report workers integers = if known then option_and_then (λ 
 pub run_is : (g : Option Given) → option_and_then run_given g ≡ run_by (known_in run_options g) (limits_in g) (report_asked g) (number_asked workers_option g) (integers_in g)
 run_is None = refl
 run_is (Some h) = refl
+
+-- a load by what its passes read
+abbrev pub load_by : (known : Bool) → (workers transfers : Option ℕ) → Option Command
+load_by known workers transfers = if known then option_and_then (λ w. option_map (λ n. Load n w) transfers) workers else None
+
+pub load_is : (g : Option Given) → option_and_then load_given g ≡ load_by (known_in load_options g) (number_asked workers_option g) (transfers_asked g)
+load_is None = refl
+load_is (Some h) = refl
+
+pub transfers_are : (g : Option Given) → transfers_asked g ≡ option_and_then (number_within 1 most_transfers) (only_in g)
+transfers_are None = refl
+transfers_are (Some h) = refl
 
 -- the schedule by the values that were read of its two options
 pub schedule_read : (workers : ℕ) (g : Option Given) (list seed : Option (Bor (List ℕ))) → text_in (Some list) ≡ value_in (codes "schedule") g → text_in (Some seed) ≡ value_in (codes "seed") g

@@ -99,6 +99,13 @@ numbers_below limit (v ∷ vs) = option_and_then (λ n. option_map (λ ns. n ∷
 abbrev pub list_below : (limit most : ℕ) → List ℕ → Option (List ℕ)
 list_below limit most v = if nat_le (length (parts_of v)) most then numbers_below limit (parts_of v) else None
 
+-- ## One word
+
+-- the word that belongs to no option, where there is one, and not more
+abbrev pub only_word : List (List ℕ) → Option (List ℕ)
+only_word (w ∷ []) = Some w
+only_word ws = None
+
 -- ## The value of an option
 
 -- the values that an option of this name is given

@@ -1,4 +1,5 @@
--- Which words are a command, and what they say. There are two: `run` has six options, `sim` has nine, and both have the words of main.
+-- Which words are a command, and what they say. There are three: `run` has six options, `sim` has nine, and both have the words of main; `load`
+-- has one, and a number.
 use Rattle.std.specs.Prelude.{◌-◌, ◌^◌, Bool, true, false, List, [], ◌∷◌, ℕ, ℤ, Option, Some, None, codes, if◌then◌else◌, map, option_and_then, option_map, string_bytes, String}
 use Rattle.std.specs.declared.alloc.Global.{Global}
 use Rattle.std.specs.Str.{bytes_eq}
@@ -6,8 +7,8 @@ use Rattle.cw_code.specs.declared.Limits.{Limits}
 use Rattle.cw_io.specs.declared.schedule.Schedule.{Schedule}
 use Rattle.cw_io.specs.declared.schedule.Schedule.TheVariants.{List as Listed, Seeded}
 use Rattle.cw_words.specs.declared.command.Command.{Command}
-use Rattle.cw_words.specs.declared.command.Command.TheVariants.{Run, Sim}
-use Rattle.cw_words.specs.Options.{Given, GivenOption, NumberOption, are_known, given, integers_of, list_below, number_given, number_within, option_value}
+use Rattle.cw_words.specs.declared.command.Command.TheVariants.{Run, Sim, Load}
+use Rattle.cw_words.specs.Options.{Given, GivenOption, NumberOption, are_known, given, integers_of, list_below, number_given, number_within, only_word, option_value}
 
 -- ## Options
 
@@ -37,6 +38,13 @@ run_options = codes "fuel" ∷ codes "size" ∷ codes "aborts" ∷ codes "strand
 
 abbrev pub sim_options : List (List ℕ)
 sim_options = codes "fuel" ∷ codes "size" ∷ codes "aborts" ∷ codes "strands" ∷ codes "moves" ∷ codes "workers" ∷ codes "schedule" ∷ codes "seed" ∷ codes "report" ∷ []
+
+abbrev pub load_options : List (List ℕ)
+load_options = codes "workers" ∷ []
+
+-- the limits of a command that gives none
+abbrev pub default_limits : Limits
+default_limits = record { fuel = fuel_option.default; size = size_option.default; aborts = aborts_option.default; strands = strands_option.default; moves = moves_option.default }
 
 -- The limits that options give. One that is not given, or that is no option of the command, has its default.
 abbrev pub limits_given : List GivenOption → Option Limits
@@ -71,6 +79,16 @@ abbrev pub schedule_given : (workers : ℕ) → List GivenOption → Option Sche
 schedule_given workers os =
     option_and_then (λ list. option_and_then (λ seed. schedule_in workers list seed) (option_value (codes "seed") os)) (option_value (codes "schedule") os)
 
+-- ## Loads
+
+-- so many transfers a load has at most
+abbrev pub most_transfers : ℕ
+most_transfers = 20000
+
+-- The one word that belongs to no option is the number of transfers.
+abbrev pub transfers_given : Given → Option ℕ
+transfers_given g = option_and_then (number_within 1 most_transfers) (only_word g.words)
+
 -- ## Commands
 
 -- the run that options and words ask for
@@ -89,26 +107,30 @@ sim_given g =
     (integers_of g.words)) (schedule_given workers g.options)) (number_given workers_option g.options)) (report_given g.options)) (limits_given g.options)
     else None
 
+-- the load that options and a word ask for
+abbrev pub load_given : Given → Option Command
+load_given g =
+    if are_known load_options g.options then option_and_then (λ workers. option_map (λ n. Load n workers) (transfers_given g)) (number_given workers_option g.options)
+    else None
+
 -- The first word says which command it is.
 abbrev pub command_of : List (List ℕ) → Option Command
 command_of [] = None
 command_of (name ∷ words) =
     if bytes_eq name (codes "run") then option_and_then run_given (given words)
     else if bytes_eq name (codes "sim") then option_and_then sim_given (given words)
+    else if bytes_eq name (codes "load") then option_and_then load_given (given words)
     else None
 
 abbrev pub words_of : Command → List ℤ
 words_of (Run words limits workers report) = words
 words_of (Sim words limits workers schedule report) = words
+words_of (Load transfers workers) = []
 
 abbrev pub limits_of : Command → Limits
 limits_of (Run words limits workers report) = limits
 limits_of (Sim words limits workers schedule report) = limits
-
--- whether a report is asked for
-abbrev pub asks_report : Command → Bool
-asks_report (Run words limits workers report) = report
-asks_report (Sim words limits workers schedule report) = report
+limits_of (Load transfers workers) = default_limits
 
 -- the command that these words are, which come behind the program's name, if they are one
 abbrev pub command_in : List (String Global) → Option Command

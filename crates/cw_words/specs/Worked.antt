@@ -5,13 +5,9 @@ use Rattle.cw_code.specs.declared.Limits.{Limits}
 use Rattle.cw_io.specs.declared.schedule.Schedule.{Schedule}
 use Rattle.cw_io.specs.declared.schedule.Schedule.TheVariants.{List as Listed, Seeded}
 use Rattle.cw_words.specs.declared.command.Command.{Command}
-use Rattle.cw_words.specs.declared.command.Command.TheVariants.{Run, Sim}
+use Rattle.cw_words.specs.declared.command.Command.TheVariants.{Run, Sim, Load}
 use Rattle.cw_words.specs.Options.{list_below}
-use Rattle.cw_words.specs.Words.{command_of}
-
--- the limits of a command that gives none
-abbrev pub default_limits : Limits
-default_limits = record { fuel = 1000000; size = 1000000; aborts = 100000; strands = 262144; moves = 10000000 }
+use Rattle.cw_words.specs.Words.{command_of, default_limits}
 
 -- a run of these limits; the others are those that no option has changed
 abbrev pub run_of : (fuel size : ℕ) → Option Command
@@ -160,3 +156,23 @@ pub record Simulations : Type 0 where
   pub run_schedule : command_of (codes "run" ∷ codes "--schedule=0" ∷ []) ≡ None
   pub run_seed : command_of (codes "run" ∷ codes "--seed=1" ∷ []) ≡ None
   pub bad_word : command_of (codes "sim" ∷ codes "--seed=1" ∷ codes "x" ∷ []) ≡ None
+
+pub record Loads : Type 0 where
+  pub limits : default_limits ≡ record { fuel = 1000000; size = 1000000; aborts = 100000; strands = 262144; moves = 10000000 }
+  pub plain : command_of (codes "load" ∷ codes "10000" ∷ []) ≡ Some (Load 10000 4)
+  pub least : command_of (codes "load" ∷ codes "--workers=1" ∷ codes "01" ∷ []) ≡ Some (Load 1 1)
+  pub most : command_of (codes "load" ∷ codes "20000" ∷ codes "--workers" ∷ codes "64" ∷ []) ≡ Some (Load 20000 64)
+  pub only_words : command_of (codes "load" ∷ codes "--" ∷ codes "5" ∷ []) ≡ Some (Load 5 4)
+  pub capital : command_of (codes "Load" ∷ codes "5" ∷ []) ≡ None
+  -- numbers out of range, none, and two
+  pub zero : command_of (codes "load" ∷ codes "0" ∷ []) ≡ None
+  pub many : command_of (codes "load" ∷ codes "20001" ∷ []) ≡ None
+  pub negative : command_of (codes "load" ∷ codes "--" ∷ codes "-5" ∷ []) ≡ None
+  pub none : command_of (codes "load" ∷ []) ≡ None
+  pub two : command_of (codes "load" ∷ codes "5" ∷ codes "6" ∷ []) ≡ None
+  pub empty : command_of (codes "load" ∷ [] ∷ []) ≡ None
+  pub plus : command_of (codes "load" ∷ codes "+5" ∷ []) ≡ None
+  -- options
+  pub many_workers : command_of (codes "load" ∷ codes "--workers=65" ∷ codes "5" ∷ []) ≡ None
+  pub fuel : command_of (codes "load" ∷ codes "--fuel" ∷ codes "1" ∷ codes "5" ∷ []) ≡ None
+  pub report : command_of (codes "load" ∷ codes "5" ∷ codes "--report=1" ∷ []) ≡ None

@@ -4,8 +4,8 @@ ghost use Rattle.std.specs.Str.{bytes_eq};
 ghost use Rattle.cw_io.specs.declared.schedule.Schedule.TheVariants.{List as Listed};
 ghost use Rattle.cw_words.specs.Given.{Reads};
 ghost use Rattle.cw_words.specs.Options.{given};
-ghost use Rattle.cw_words.specs.Reading.{integers_in, known_in, limits_in, number_asked, report_asked, schedule_asked, text_in, value_in};
-ghost use Rattle.cw_words.specs.Words.{schedule_in as schedule_by, workers_option};
+ghost use Rattle.cw_words.specs.Reading.{integers_in, known_in, limits_in, number_asked, only_in, report_asked, schedule_asked, text_in, transfers_asked, value_in};
+ghost use Rattle.cw_words.specs.Words.{default_limits, schedule_in as schedule_by, workers_option};
 
 use crate::given::{Next, next_of, words_behind};
 use crate::options::{Kept, integer_of, list_below, number_within, with_one};
@@ -16,6 +16,9 @@ use std::alloc::Global;
 
 // So many workers may be listed.
 const MOST_LISTED: usize = 20_000;
+
+// So many transfers a load has at most.
+const MOST_TRANSFERS: u64 = 20_000;
 
 // Whether a name is one of these.
 fn is_among(name: &str, names: &[&str]) -> bool
@@ -83,6 +86,19 @@ fn number_of(words: &[String], name: &str, least: u64, most: u64, default: u64) 
     match value_of(words, name)? {
         Some(value) => number_within(value, least, most),
         None => Some(default),
+    }
+}
+
+/// The limits of a command that gives none.
+pub fn default_limits() -> Limits
+    ensures { result ≡ default_limits }
+{
+    Limits {
+        fuel: 1_000_000,
+        size: 1_000_000,
+        aborts: 100_000,
+        strands: 262_144,
+        moves: 10_000_000,
     }
 }
 
@@ -179,4 +195,34 @@ pub fn integers_of(alloc: Global, words: &[String]) -> Option<Kept<i64>>
             Next::Bad => return None,
         }
     }
+}
+
+// The word that belongs to no option, where there is one, and not more.
+fn only_word<'a>(words: &'a [String]) -> Option<&'a str>
+    ensures { option_map (λ w. w.now) result ≡ only_in (given (map string_bytes words.now)) }
+{
+    let mut only = None;
+    let mut rest = words_behind(words);
+    'words: loop {
+        match next_of(rest) {
+            Next::Word(word, behind) => {
+                if only.is_some() {
+                    return None;
+                }
+                only = Some(word);
+                rest = behind;
+            }
+            Next::Setting(_, _, behind) => rest = behind,
+            Next::End => return only,
+            Next::Bad => return None,
+        }
+    }
+}
+
+/// The number of transfers that the one word says which belongs to no option.
+pub fn transfers_of(words: &[String]) -> Option<u32>
+    ensures { result ≡ transfers_asked (given (map string_bytes words.now)) }
+{
+    let word = only_word(words)?;
+    Some(number_within(word, 1, MOST_TRANSFERS)? as u32)
 }

@@ -1,8 +1,10 @@
-ghost use Rattle.std.specs.Prelude.{◌≡◌, IfOk, IsSome, OnErr, map, option_and_then, string_bytes};
+ghost use Rattle.std.specs.Prelude.{◌≡◌, IfOk, IsSome, OnErr, length, map, option_and_then, string_bytes};
 ghost use Rattle.cw_words.specs.Options.{given};
-ghost use Rattle.cw_words.specs.Words.{asks_report, command_of, run_given, sim_given, words_of};
+ghost use Rattle.cw_words.specs.Words.{command_of, load_given, run_given, sim_given, words_of};
 
-use crate::asked::{are_known, integers_of, limits_of, report_of, schedule_of, workers_of};
+use crate::asked::{
+    are_known, integers_of, limits_of, report_of, schedule_of, transfers_of, workers_of,
+};
 use cw_base::{OutOfMemory, Seq};
 use cw_code::Limits;
 use cw_io::Schedule;
@@ -27,26 +29,21 @@ pub enum Command {
         schedule: Schedule,
         report: bool,
     },
+    /// Reads nothing, runs a program of so many transfers by so many workers, and writes what they come to.
+    Load {
+        transfers: u32,
+        workers: u32,
+    },
 }
 
 impl Command {
-    /// The words of main.
-    pub fn words(&self) -> &Seq<i64>
-        ensures { result.now ≡ words_of self.now }
+    /// How many words main has.
+    pub fn word_count(&self) -> usize
+        ensures { result ≡ length (words_of self.now) }
     {
         match self {
-            Command::Run { words, .. } => words,
-            Command::Sim { words, .. } => words,
-        }
-    }
-
-    /// Whether a report is asked for.
-    pub fn asks_report(&self) -> bool
-        ensures { result ≡ asks_report self.now }
-    {
-        match self {
-            Command::Run { report, .. } => *report,
-            Command::Sim { report, .. } => *report,
+            Command::Run { words, .. } | Command::Sim { words, .. } => words.len(),
+            Command::Load { .. } => 0,
         }
     }
 }
@@ -115,6 +112,18 @@ fn sim_with(alloc: Global, words: &[String]) -> Result<Option<Command>, OutOfMem
     }))
 }
 
+// The load that the words behind `load` ask for.
+fn load_with(words: &[String]) -> Option<Command>
+    ensures { result ≡ option_and_then load_given (given (map string_bytes words.now)) }
+{
+    if !are_known(words, &["workers"]) {
+        return None;
+    }
+    let workers = workers_of(words)?;
+    let transfers = transfers_of(words)?;
+    Some(Command::Load { transfers, workers })
+}
+
 /// The command that these words are, which come behind the program's name, if they are one. Want of memory is told only of words
 /// that are one.
 pub fn command_of(alloc: Global, words: &[String]) -> Result<Option<Command>, OutOfMemory>
@@ -129,6 +138,8 @@ pub fn command_of(alloc: Global, words: &[String]) -> Result<Option<Command>, Ou
         run_with(alloc, words)
     } else if name == "sim" {
         sim_with(alloc, words)
+    } else if name == "load" {
+        Ok(load_with(words))
     } else {
         Ok(None)
     }

@@ -9,12 +9,14 @@ mod command;
 mod given;
 mod options;
 
-ghost use Rattle.cw_words.specs.Worked.{Commands, Simulations};
+ghost use Rattle.cw_words.specs.Worked.{Commands, Loads, Simulations};
 
+pub use asked::default_limits;
 pub use command::{Command, command_of};
 
 /// Worked words.
 pub fn worked_words()
     ensures runs { Commands }
     ensures simulations { Simulations }
+    ensures loads { Loads }
 {}

@@ -8,6 +8,7 @@ use std::test::Fail;
 use std::thread::Threads;
 
 mod checking;
+mod loads;
 mod outside;
 mod simulating;
 mod threads;

@@ -1,0 +1,46 @@
+ghost use Rattle.std.specs.Prelude.{◌≤◌, ◌≡◌, IfOk, string_bytes};
+ghost use Rattle.cw_strand.specs.Programs.{IsProgramOf};
+ghost use Rattle.cw_gen.specs.Load.{load_tree};
+ghost use Rattle.cw_top.specs.Written.{sum_of, summary_text};
+
+use cw_base::OutOfMemory;
+use cw_code::Program;
+use cw_compile::{NameRefusal, compile};
+use cw_gen::{load_program, loads_have_no_fault};
+use std::alloc::Global;
+
+/// The program of a load of so many transfers, compiled.
+pub fn load_compiled(alloc: Global, transfers: u32) -> Result<Program, OutOfMemory>
+    requires some { 1 ≤ transfers }
+    requires most { transfers ≤ 20000 }
+    ensures { IfOk result (IsProgramOf (load_tree transfers)) }
+{
+    let ast = load_program(alloc, transfers)?;
+    // a hint to the prover: no name is at fault
+    loads_have_no_fault();
+    match compile(alloc, &ast) {
+        Ok(program) => Ok(program),
+        Err(NameRefusal::OutOfMemory) => Err(OutOfMemory),
+        Err(NameRefusal::Name(_)) => unreachable!(),
+    }
+}
+
+// The sum of some integers: it has room for as many as there may be.
+fn sum_of(values: &[i64]) -> i128
+    ensures { result ≡ sum_of values.now }
+{
+    let mut sum = 0i128;
+    for value in values {
+        sum += i128::from(*value);
+    }
+    sum
+}
+
+/// What a load of so many transfers comes to, where the cells hold this.
+pub fn summary(alloc: Global, transfers: u32, memory: &[i64]) -> Result<Vec<u8>, OutOfMemory>
+    ensures { IfOk result (λ text. text.items ≡ summary_text transfers memory.now) }
+{
+    let sum = sum_of(memory);
+    let text = format!(in alloc; "transfers {transfers}\nsum {sum}\nend\n")?;
+    Ok(text.into_bytes())
+}

@@ -1,0 +1,51 @@
+use super::ask;
+use cw_io::{Source, SureSink, SureSource};
+use std::sync::Wait;
+use std::test::Fail;
+use std::thread::Threads;
+
+// What is looked at of a load.
+#[derive(Drop)]
+struct Loaded {
+    status: u8,
+    text: Vec<u8>,
+    is_source_whole: bool,
+}
+
+fn load_of<R: AllocGlobal + Threads + Wait + Sync>(rt: &R, words: &[&str]) -> Result<Loaded, Fail> {
+    let mut source = SureSource::new(b"x".to_vec(rt.alloc())?, 1);
+    let mut sink = SureSink::with_room(rt.alloc(), 100)?;
+    let said = ask(rt, words, &mut source, &mut sink)?;
+    Ok(Loaded {
+        status: said.status,
+        text: sink.taken().to_vec(rt.alloc())?,
+        is_source_whole: source.read(&mut [0u8; 1]) == Ok(1),
+    })
+}
+
+// Transfers keep the sum. A load has one number.
+#[test]
+fn loads_write_their_sum(rt: HostRuntime) -> Result<(), Fail> {
+    let table: [(&[&str], u8, &[u8]); 9] = [
+        (&["load", "1"], 0, b"transfers 1\nsum 64000\nend\n"),
+        (&["load", "17"], 0, b"transfers 17\nsum 64000\nend\n"),
+        (&["load", "10000"], 0, b"transfers 10000\nsum 64000\nend\n"),
+        (
+            &["load", "--workers=1", "--", "05"],
+            0,
+            b"transfers 5\nsum 64000\nend\n",
+        ),
+        (&["load"], 2, b""),
+        (&["load", "0"], 2, b""),
+        (&["load", "20001"], 2, b""),
+        (&["load", "5", "6"], 2, b""),
+        (&["load", "--fuel", "1", "5"], 2, b""),
+    ];
+    for (words, status, text) in table {
+        let load = load_of(&rt, words)?;
+        assert_eq!(rt; load.status, status);
+        assert_eq!(rt; load.text.as_slice(), text);
+        assert!(rt; load.is_source_whole);
+    }
+    Ok(())
+}
