@@ -3,7 +3,8 @@
 # Prints nanoseconds a transfer of `run` of `cw_pool` alone, and of the check of its record beside it: by the differences of two sizes, so
 # that what a run costs however short it is has no part in it; and that too, by a run of an empty main, with room for 1,000 and for
 # 262,144 strands. A transfer of 20,000 with room for 1,000 strands is shown beside. Reading and compiling are not timed. Each time is the
-# least of so many runs.
+# least of so many runs. Where valgrind is there, the instructions of 5,000 transfers by 1 and 2 workers too, with reading, compiling and
+# the check: in all, of the workers and of the run with what they call, and by function.
 # The program is written into a copy of the crates, proved there and run; the crates beneath it are proved first, where no check kept them.
 # Usage: bench/pool.sh [ROUNDS]
 set -eu
@@ -33,7 +34,7 @@ cat > src/main.rt <<'PROGRAM'
 //! the check of its record.
 #![tactic(auto)]
 
-ghost use Rattle.std.specs.Prelude.{IfSome};
+ghost use Rattle.std.specs.Prelude.{◌<◌, IfSome, length};
 ghost use Rattle.cw_job.specs.Jobs.{TakesWords};
 ghost use Rattle.cw_strand.specs.Programs.{IsCompiled};
 
@@ -43,7 +44,7 @@ use cw_compile::compile;
 use cw_io::OpenGate;
 use cw_job::takes_words;
 use cw_pool::run;
-use cw_record::{Checked, check};
+use cw_record::{Checked, Record, check};
 use cw_text::{Ast, read_program};
 use std::alloc::Global;
 use std::env;
@@ -59,15 +60,13 @@ struct Times {
     check: u128,
 }
 
-fn limits(strands: u32) -> Limits {
-    Limits {
-        fuel: 1_000_000,
-        size: 10_000_000,
-        aborts: 1_000_000,
-        strands,
-        moves: 1,
-    }
-}
+const LIMITS: Limits = Limits {
+    fuel: 1_000_000,
+    size: 10_000_000,
+    aborts: 1_000_000,
+    strands: 0,
+    moves: 1,
+};
 
 fn program(alloc: Global, ast: &Ast) -> Option<Program>
     ensures compiled { IfSome result (λ p. IsCompiled p) }
@@ -83,6 +82,67 @@ fn program(alloc: Global, ast: &Ast) -> Option<Program>
     }
 }
 
+fn recorded<R: Threads + Wait + Sync>(
+    rt: &R,
+    alloc: Global,
+    program: Program,
+    workers: u32,
+    strands: u32,
+) -> Option<Record>
+    requires compiled { IsCompiled program }
+    requires words { TakesWords program 0 }
+    requires strands { 0 < strands }
+    ensures { IfSome result (λ r. TakesWords r.program (length r.words)) }
+{
+    let limits = Limits { strands, ..LIMITS };
+    let words = Seq::new(alloc);
+    match run(rt, alloc, program, words, workers, limits, &OpenGate) {
+        Ok(record) => Some(record),
+        Err(_) => None,
+    }
+}
+
+fn now<R: Clock>(rt: &R) -> Option<Instant> {
+    Instant::now(rt).ok()
+}
+
+fn spent<R: Clock>(rt: &R, start: Instant) -> Option<u128> {
+    match start.elapsed(rt) {
+        Ok(time) => Some(time.as_nanos()),
+        Err(_) => None,
+    }
+}
+
+/// The nanoseconds of the check of a record that replays.
+fn time_check<R: Clock>(rt: &R, alloc: Global, kept: &Record) -> Option<u128>
+    requires { TakesWords kept.now.program (length kept.now.words) }
+{
+    let start = now(rt)?;
+    match check(alloc, kept) {
+        Ok(Checked::Agrees) => spent(rt, start),
+        _ => None,
+    }
+}
+
+/// The nanoseconds of a run, and those of the check of its record.
+fn time_run<R: Threads + Wait + Sync + Clock>(
+    rt: &R,
+    alloc: Global,
+    program: Program,
+    workers: u32,
+    strands: u32,
+) -> Option<Times>
+    requires compiled { IsCompiled program }
+    requires words { TakesWords program 0 }
+    requires strands { 0 < strands }
+{
+    let start = now(rt)?;
+    let record = recorded(rt, alloc, program, workers, strands)?;
+    let run = spent(rt, start)?;
+    let check = time_check(rt, alloc, &record)?;
+    Some(Times { run, check })
+}
+
 /// One run and its check.
 fn once<R: Threads + Wait + Sync + Clock>(
     rt: &R,
@@ -90,56 +150,61 @@ fn once<R: Threads + Wait + Sync + Clock>(
     ast: &Ast,
     workers: u32,
     strands: u32,
-) -> anyhow::Result<Option<Times>> {
-    let Some(program) = program(alloc, ast) else {
-        return Ok(None);
-    };
+) -> Option<Times> {
+    let program = program(alloc, ast)?;
     if strands == 0 {
-        return Ok(None);
+        return None;
     }
-    let start = Instant::now(rt)?;
-    let Ok(record) = run(rt, alloc, program, Seq::new(alloc), workers, limits(strands), &OpenGate) else {
-        return Ok(None);
-    };
-    let run = start.elapsed(rt)?.as_nanos();
-    let start = Instant::now(rt)?;
-    let checked = check(alloc, &record);
-    let check = start.elapsed(rt)?.as_nanos();
-    match checked {
-        Ok(Checked::Agrees) => Ok(Some(Times { run, check })),
-        _ => Ok(None),
-    }
+    time_run(rt, alloc, program, workers, strands)
 }
 
-fn main(rt: HostRuntime) -> anyhow::Result<()> {
-    let alloc = rt.alloc();
+/// The least times of so many runs.
+fn least_of<R: Threads + Wait + Sync + Clock>(
+    rt: &R,
+    alloc: Global,
+    ast: &Ast,
+    workers: u32,
+    strands: u32,
+    runs: u32,
+) -> Option<Times> {
+    let mut least = Times {
+        run: u128::MAX,
+        check: u128::MAX,
+    };
+    for _ in 0..runs {
+        let times = once(rt, alloc, ast, workers, strands)?;
+        least.run = least.run.min(times.run);
+        least.check = least.check.min(times.check);
+    }
+    Some(least)
+}
+
+/// The words: workers, strands, and how many runs.
+fn numbers(rt: &HostRuntime) -> anyhow::Result<[u32; 3]> {
     let mut numbers = [1u32, 1000, 1];
-    for (at, word) in env::args(&rt)?.enumerate() {
+    for (at, word) in env::args(rt)?.enumerate() {
         if let Ok(number) = word.as_str().parse::<u32>() {
             if 0 < at && at <= 3 {
                 numbers[at - 1] = number;
             }
         }
     }
+    Ok(numbers)
+}
+
+fn main(rt: HostRuntime) -> anyhow::Result<()> {
+    let alloc = rt.alloc();
+    let [workers, strands, runs] = numbers(&rt)?;
     let mut text = Vec::new(alloc);
     rt.stdin().read_to_end(&mut text)?;
     let Ok(ast) = read_program(alloc, text.as_slice()) else {
         println!(rt; "no program")?;
         return Ok(());
     };
-    let mut least = Times {
-        run: u128::MAX,
-        check: u128::MAX,
-    };
-    for _ in 0..numbers[2] {
-        let Some(times) = once(&rt, alloc, &ast, numbers[0], numbers[1])? else {
-            println!(rt; "no record that replays")?;
-            return Ok(());
-        };
-        least.run = least.run.min(times.run);
-        least.check = least.check.min(times.check);
+    match least_of(&rt, alloc, &ast, workers, strands, runs) {
+        Some(least) => println!(rt; "{} {}", least.run, least.check)?,
+        None => println!(rt; "no record that replays")?,
     }
-    println!(rt; "{} {}", least.run, least.check)?;
     Ok(())
 }
 PROGRAM
@@ -197,3 +262,13 @@ for workers in 1 2 4; do
   echo "$workers workers, 20000 transfers, room for 1000 strands: run $((run / 20000)) ns a transfer, check $((check / 20000)) ns"
 done
 sed -n 's/^model name[^:]*: //p' /proc/cpuinfo | head -1
+if command -v valgrind > valgrind.path; then
+  for workers in 1 2; do
+    valgrind --tool=callgrind --callgrind-out-file=callgrind.out ./out/pool_times "$workers" 262144 1 < "$copy/5000.cw" > one.told 2> callgrind.log
+    echo "$workers workers, 5000 transfers, instructions:"
+    {
+      callgrind_annotate --inclusive=yes callgrind.out | grep -E 'PROGRAM TOTALS|recording::run::|Worker::works|Play::pick'
+      callgrind_annotate callgrind.out | grep -E '^ *[0-9,]+ \(.*:' | head -16
+    } 2> annotate.log | sed -e 's/ \[[^]]*\]$//' -e 's/[^ ]*\/\([^/]*\)$/\1/'
+  done
+fi
