@@ -15,11 +15,11 @@ use Rattle.cw_gen.specs.Load.{load_tree}
 use Rattle.cw_words.specs.declared.command.Command.{Command}
 use Rattle.cw_words.specs.declared.command.Command.TheVariants.{Run, Sim, Load}
 use Rattle.cw_top.specs.Runs.{IsRunBy, IsRunOf}
-use Rattle.cw_top.specs.OverSource.{IsRunOfSource, IsRunOfSyntax, IsRunOfTree}
+use Rattle.cw_top.specs.OverSource.{IsRunOfSource, IsRunOfSyntax, IsRunOfDeclarations}
 use Rattle.cw_top.specs.Refusals.{Spells}
 use Rattle.cw_words.specs.Words.{limits_of, words_of}
 
-of_tree : (co : Command) (left : Option (List ℕ)) (ds : List Declaration) (r : Record) → IsProgramOf ds r.program → IsRunBy co left r → IsReplayed r → IsRunOfTree (words_of co) (limits_of co) ds r
+of_tree : (co : Command) (left : Option (List ℕ)) (ds : List Declaration) (r : Record) → IsProgramOf ds r.program → IsRunBy co left r → IsReplayed r → IsRunOfDeclarations (words_of co) (limits_of co) ds r
 of_tree co left ds r is run same =
     let takes : MainTakes ds (length r.words) = source_takes ds r.program is (length r.words) run.takes in
     let replays = (over_source ds r is takes).0 same in

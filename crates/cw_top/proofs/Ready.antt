@@ -7,7 +7,7 @@ use Rattle.cw_code.specs.declared.Limits.{Limits}
 use Rattle.cw_io.specs.declared.schedule.Schedule.TheVariants.{List as Listed, Seeded}
 use Rattle.cw_sim.specs.Turns.{ListsWorkers}
 use Rattle.cw_words.specs.declared.command.Command.TheVariants.{Load}
-use Rattle.cw_words.specs.Options.{Given, GivenOption, NumberOption, are_known, given, integers_of, list_below, number_in, number_given, number_within, numbers_below, only_word, parts_of, option_value}
+use Rattle.cw_words.specs.Options.{Given, GivenOption, NumberOption, are_known, given, integers_of, list_below, number_in, number_given, number_within, numbers_below, sole_word, parts_of, option_value}
 use Rattle.cw_words.specs.Words.{aborts_option, command_of, fuel_option, limits_given, load_given, load_options, most_transfers, transfers_given, moves_option, report_given, run_given, run_options, schedule_given, schedule_in, sim_given, sim_options, size_option, strands_option, workers_option, most_listed}
 use Rattle.cw_top.specs.Runs.{IsReady}
 
@@ -108,7 +108,7 @@ sim_ready g = where_true IsReady (are_known sim_options g.options) _
     map_some IsReady _ (integers_of g.words) (λ ns. (omega arith, a, l)))))))
 
 counted : (g : Given) → IfSome (transfers_given g) (λ n. (1 ≤ n) × (n ≤ most_transfers))
-counted g = each_some (λ n. (1 ≤ n) × (n ≤ most_transfers)) _ (only_word g.words) (within 1 most_transfers)
+counted g = each_some (λ n. (1 ≤ n) × (n ≤ most_transfers)) _ (sole_word g.words) (within 1 most_transfers)
 
 load_ready : (g : Given) → IfSome (load_given g) IsReady
 load_ready g = where_true IsReady (are_known load_options g.options) _

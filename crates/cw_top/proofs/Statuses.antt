@@ -25,12 +25,12 @@ use Rattle.cw_top.specs.Refusals.{AsksFor, IsMisfit, Spells, refusal}
 use Rattle.cw_top.proofs.Budgets.{by_end}
 use Rattle.cw_top.proofs.Parameters.{fits, spelled_accepted}
 use Rattle.cw_report.specs.Results.{end_text, finished_text}
-use Rattle.cw_top.specs.declared.telling.Form.{Form}
-use Rattle.cw_top.specs.declared.telling.Form.TheVariants.{Results, Summary}
-use Rattle.cw_top.specs.Outcome.{HasCause, IsCauseOfRun, IsCauseOfTelling, IsMisused, IsRefusedWith, IsStatus, IsStatusOf, IsSurelyMisused, IsSurelyRefused, MayBeMisusedWith, MayEndWith, status_of_end}
+use Rattle.cw_top.specs.declared.telling.Telling.{Telling}
+use Rattle.cw_top.specs.declared.telling.Telling.TheVariants.{Results, Summary}
+use Rattle.cw_top.specs.Outcome.{HasCause, IsCauseOfRun, IsCauseOfTelling, IsMisused, IsRefusedWith, IsStatus, IsStatusOf, IsSurelyMisused, IsSurelyRefused, MayBeMisusedWith, MayEndWith, status_of_end, FailsToRead}
 use Rattle.cw_top.specs.Runs.{HasSeveralWorkers, IsDoneAs, IsDoneBy, IsOfMoves, IsOfThreads, IsReady, IsRunOf}
 use Rattle.cw_top.specs.Taken.{Accepts, IsRefusedFor}
-use Rattle.cw_top.specs.Written.{Writes, WritesEndOfOneMemory, end_of_one_memory, end_text_in, form_of, load_text_of, report_if, summary_text, text_in, text_of, text_owed}
+use Rattle.cw_top.specs.Written.{Writes, WritesEndOfOneMemory, end_of_one_memory, end_text_in, telling_of, load_text_of, report_if, summary_text, text_in, text_of, text_owed}
 
 -- words that are no command come to status 2
 of_none : (kept : Option Record) (status : ℕ) (n : Note) → n ≡ note.Usage → IsStatus kept status n → status ≡ 2
@@ -280,7 +280,7 @@ load_complete co kept status note.Write w is cause ready done no_w = absurd (no_
 load_complete co kept status (note.Text f) w is cause ready done no_w = absurd cause
 load_complete co kept status (note.Name f) w is cause ready done no_w = absurd cause
 
-pub complete : (command : Option Command) (kept : Option Record) (status : ℕ) (n : Note) (left : Option (List ℕ)) (r w : Type 0) → IsStatus kept status n → HasCause command n left r w → IfSome command IsReady → IfSome kept (IsDoneAs command) → Accepts command left → (r → ⊥) → (w → ⊥) → MayEndWith command status
+pub complete : (command : Option Command) (kept : Option Record) (status : ℕ) (n : Note) (left : Option (List ℕ)) (r w : Type 0) → IsStatus kept status n → HasCause command n left r w → IfSome command IsReady → IfSome kept (IsDoneAs command) → Accepts command left → (FailsToRead command r → ⊥) → (w → ⊥) → MayEndWith command status
 complete None kept status n left r w is cause ready done accepted no_r no_w = of_none kept status n cause is
 complete (Some (Run ws ls wk p)) kept status n left r w is cause ready done accepted no_r no_w = complete_of (Run ws ls wk p) ws kept status n left r w is cause ready done accepted no_r no_w
 complete (Some (Sim ws ls wk sc p)) kept status n left r w is cause ready done accepted no_r no_w = complete_of (Sim ws ls wk sc p) ws kept status n left r w is cause ready done accepted no_r no_w
@@ -300,13 +300,13 @@ sum_at_zero count cells t (Fault x k) picks s old new is same written = cc
 sum_at_zero count cells t (Budget x) picks s old new is same written = cc
 sum_at_zero count cells t Moves picks s old new is same written = cc
 
-of_form : (form : Form) (r : Record) (old new : Option (List ℕ)) → 0 ≡ status_of_end r.end → IsNumbered r.tree → IsReplayed r → Appends old new (text_in form r) → (memory outputs : List ℤ) × (end_of_one_memory r ≡ last.Finished memory outputs) × Appends old new (end_text_in form r memory outputs)
-of_form (Results report) r old new is tree replays written = at_zero r.program.cells r.tree r.end r.order (end_of_one_memory r) (report_if report r) old new is (same_end r tree.rooted tree.root replays) written
-of_form (Summary count) r old new is tree replays written = sum_at_zero count r.program.cells r.tree r.end r.order (end_of_one_memory r) old new is (same_end r tree.rooted tree.root replays) written
+of_telling : (telling : Telling) (r : Record) (old new : Option (List ℕ)) → 0 ≡ status_of_end r.end → IsNumbered r.tree → IsReplayed r → Appends old new (text_in telling r) → (memory outputs : List ℤ) × (end_of_one_memory r ≡ last.Finished memory outputs) × Appends old new (end_text_in telling r memory outputs)
+of_telling (Results report) r old new is tree replays written = at_zero r.program.cells r.tree r.end r.order (end_of_one_memory r) (report_if report r) old new is (same_end r tree.rooted tree.root replays) written
+of_telling (Summary count) r old new is tree replays written = sum_at_zero count r.program.cells r.tree r.end r.order (end_of_one_memory r) old new is (same_end r tree.rooted tree.root replays) written
 
-of_replay : (co : Command) (r : Record) (old new : Option (List ℕ)) → 0 ≡ status_of_end r.end → IsNumbered r.tree → IsReplayed r → Appends old new (text_in (form_of co) r) → WritesEndOfOneMemory (Some co) r old new
+of_replay : (co : Command) (r : Record) (old new : Option (List ℕ)) → 0 ≡ status_of_end r.end → IsNumbered r.tree → IsReplayed r → Appends old new (text_in (telling_of co) r) → WritesEndOfOneMemory (Some co) r old new
 of_replay co r old new is tree replays written =
-    let (memory, outputs, finishes, told) = of_form (form_of co) r old new is tree replays written in
+    let (memory, outputs, finishes, told) = of_telling (telling_of co) r old new is tree replays written in
     record { memory = memory; outputs = outputs; finishes = finishes; written = told }
 
 pub finished : (command : Option Command) (kept : Option Record) (status : ℕ) (n : Note) (left old new : Option (List ℕ)) → IsStatus kept status n → IfSome kept (IsRunOf command left) → Writes (text_owed (text_of command) kept status) n old new → status ≡ 0 → IsSomeAnd kept (λ r. WritesEndOfOneMemory command r old new)

@@ -72,6 +72,12 @@ IsSurelyMisused None left = Unit {0}
 IsSurelyMisused (Some (Load transfers workers)) left = ⊥
 IsSurelyMisused (Some c) left = IsSomeAnd left (IsMisfit (words_of c))
 
+-- A read of a command failed; words that are no command, and a load, read nothing.
+abbrev pub FailsToRead : Option Command → (read_failed : Type 0) → Type 0
+FailsToRead None read_failed = ⊥
+FailsToRead (Some (Load transfers workers)) read_failed = ⊥
+FailsToRead (Some c) read_failed = read_failed
+
 -- the statuses that words of no use come to, where no read fails
 abbrev pub MayBeMisusedWith : Option Command → ℕ → Type 0
 MayBeMisusedWith None status = status ≡ 2
@@ -87,10 +93,14 @@ IsSurelyRefused (Some c) left fault = IsSomeAnd left (λ bytes. refusal bytes �
 abbrev pub IsRefusedWith : (fault : Note) → ℕ → Note → Type 0
 IsRefusedWith fault status n = ((status ≡ 5) × (n ≡ fault)) ⊎ (status ≡ 1)
 
+-- the statuses to which a run of so many threads may come
+abbrev pub MayEndOnThreads : (workers status : ℕ) → Type 0
+MayEndOnThreads workers status = (status ≡ 0) ⊎ (status ≡ 6) ⊎ ((status ≡ 7) × (1 < workers)) ⊎ ((status ≡ 8) × (1 < workers)) ⊎ (status ≡ 1)
+
 -- the statuses that a command comes to, where it accepts the source and neither a read nor a write fails: 7 needs more than one worker, 8
 -- more than one thread
 abbrev pub MayEndWith : Option Command → ℕ → Type 0
 MayEndWith None status = status ≡ 2
-MayEndWith (Some (Run words limits workers report)) status = (status ≡ 0) ⊎ (status ≡ 6) ⊎ ((status ≡ 7) × (1 < workers)) ⊎ ((status ≡ 8) × (1 < workers)) ⊎ (status ≡ 1)
-MayEndWith (Some (Load transfers workers)) status = (status ≡ 0) ⊎ (status ≡ 6) ⊎ ((status ≡ 7) × (1 < workers)) ⊎ ((status ≡ 8) × (1 < workers)) ⊎ (status ≡ 1)
+MayEndWith (Some (Run words limits workers report)) status = MayEndOnThreads workers status
+MayEndWith (Some (Load transfers workers)) status = MayEndOnThreads workers status
 MayEndWith (Some (Sim words limits workers schedule report)) status = (status ≡ 0) ⊎ (status ≡ 6) ⊎ ((status ≡ 7) × (1 < workers)) ⊎ (status ≡ 9) ⊎ (status ≡ 1)

@@ -14,9 +14,9 @@ use Rattle.cw_words.specs.declared.command.Command.{Command}
 use Rattle.cw_words.specs.declared.command.Command.TheVariants.{Load}
 use Rattle.cw_words.specs.Words.{default_limits, words_of, limits_of}
 
--- A run of this syntax tree, with these words and limits: one memory that runs the strands of the tree, in the order that is kept, does at
+-- A run of these declarations, with these words and limits: one memory that runs their strands, in the order that is kept, does at
 -- each step what the run's tree has there, each atomic block without a break, and comes to the end of the run.
-pub record IsRunOfTree (words : List ℤ) (limits : Limits) (source : List Declaration) (r : Record) : Type 0 where
+pub record IsRunOfDeclarations (words : List ℤ) (limits : Limits) (source : List Declaration) (r : Record) : Type 0 where
   -- no name in it is at fault, and its main takes these words
   pub named : naming_fault source ≡ None
   pub takes : MainTakes source (length words)
@@ -26,12 +26,13 @@ pub record IsRunOfTree (words : List ℤ) (limits : Limits) (source : List Decla
 
 -- a run of the syntax tree that these bytes spell
 abbrev pub IsRunOfSyntax : (words : List ℤ) (limits : Limits) (bytes : List ℕ) → Record → Type 0
-IsRunOfSyntax words limits bytes r = (source : List Declaration) × (program bytes ≡ Ok source) × IsRunOfTree words limits source r
+IsRunOfSyntax words limits bytes r = (source : List Declaration) × (program bytes ≡ Ok source) × IsRunOfDeclarations words limits source r
 
--- Only a command leaves a run, and where the source's bytes are told it is its own over the source too; that of a load is one of its tree.
+-- What is kept is, over the syntax: of `run` and `sim`, where the source's bytes are told, a run of what they spell; of a load one of its
+-- own tree. Words that are no command leave none.
 abbrev pub IsRunOfSource : Option Command → (left : Option (List ℕ)) → Record → Type 0
 IsRunOfSource None left r = ⊥
-IsRunOfSource (Some (Load transfers workers)) left r = IsRunOfTree [] default_limits (load_tree transfers) r
+IsRunOfSource (Some (Load transfers workers)) left r = IsRunOfDeclarations [] default_limits (load_tree transfers) r
 IsRunOfSource (Some c) left r = IfSome left (λ bytes. IsRunOfSyntax (words_of c) (limits_of c) bytes r)
 
 -- The tree that these bytes spell has a `spawn` somewhere in a function.

@@ -1,5 +1,5 @@
 -- The run that a command keeps: of which program, with which words and limits, and who did it. What depends on the command is a function of
--- it, with a case for words that are none; so a further command adds its cases and changes no clause.
+-- it, with a case for words that are none; so a further command adds its cases, where it is not like the others, and changes no clause.
 use Rattle.std.specs.Prelude.{◌≡◌, ◌≢◌, ◌<◌, ◌≤◌, ℕ, List, length, Option, Some, IfSome, IsSomeAnd}
 use Rattle.cw_io.specs.declared.schedule.Schedule.{Schedule}
 use Rattle.cw_code.specs.declared.program.Program.{Program}
@@ -21,8 +21,7 @@ use Rattle.cw_top.specs.Refusals.{Spells}
 
 -- ## The command
 
--- There are workers, and a column for the first strand; each worker that is listed is one of them; and there are as many transfers as a load
--- may have.
+-- There are workers, and a column for the first strand; each worker that is listed is one of them; and a load has from 1 to 20,000 transfers.
 abbrev pub IsReady : Command → Type 0
 IsReady (Run words limits workers report) = (0 < workers) × (0 < limits.strands)
 IsReady (Sim words limits workers schedule report) = (0 < workers) × ListsWorkers schedule workers × (0 < limits.strands)

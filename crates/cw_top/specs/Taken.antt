@@ -35,11 +35,11 @@ TakesAtMost most old new = (bytes : List ℕ) × (length bytes ≤ most) × Take
 abbrev pub GivesOn : (left_old left_new : Option (List ℕ)) (old new : List ℕ) (count : ℕ) → Type 0
 GivesOn left_old left_new old new count = (bytes : List ℕ) × (length bytes ≡ count) × (new ≡ old ++ bytes) × Takes left_old left_new bytes
 
--- what a command has read where it ran: the whole source, or nothing for a load
-abbrev pub ReadsWhole : Option Command → (old new : Option (List ℕ)) → Type 0
-ReadsWhole None old new = ⊥
-ReadsWhole (Some (Load transfers workers)) old new = TakesNothing old new
-ReadsWhole (Some c) old new = RunsDry old new
+-- what a command has read where it ran: the whole source, or of a load nothing
+abbrev pub HasRead : Option Command → (old new : Option (List ℕ)) → Type 0
+HasRead None old new = ⊥
+HasRead (Some (Load transfers workers)) old new = TakesNothing old new
+HasRead (Some c) old new = RunsDry old new
 
 -- A source is refused for this reason, where its bytes are told.
 abbrev pub IsRefusedFor : Note → Option (List ℕ) → Type 0

@@ -15,8 +15,8 @@ use Rattle.cw_report.specs.Results.{end_text, finished_text, line, run_text}
 use Rattle.cw_report.specs.Report.{report_text}
 use Rattle.cw_words.specs.declared.command.Command.{Command}
 use Rattle.cw_words.specs.declared.command.Command.TheVariants.{Run, Sim, Load}
-use Rattle.cw_top.specs.declared.telling.Form.{Form}
-use Rattle.cw_top.specs.declared.telling.Form.TheVariants.{Results, Summary}
+use Rattle.cw_top.specs.declared.telling.Telling.{Telling}
+use Rattle.cw_top.specs.declared.telling.Telling.TheVariants.{Results, Summary}
 use Rattle.cw_top.specs.declared.outcome.Note.{Note}
 use Rattle.cw_top.specs.declared.outcome.Note.TheVariants as note
 
@@ -29,6 +29,7 @@ report_if false r = []
 abbrev pub text_by : (report : Bool) → Record → List ℕ
 text_by report r = run_text r ++ report_if report r
 
+-- the sum of integers, however great
 abbrev pub sum_of : List ℤ → ℤ
 sum_of [] = pos 0
 sum_of (v ∷ vs) = v +ℤ sum_of vs
@@ -37,7 +38,7 @@ sum_of (v ∷ vs) = v +ℤ sum_of vs
 abbrev pub summary_text : (transfers : ℕ) → (memory : List ℤ) → List ℕ
 summary_text n memory = line (codes "transfers " ++ decimal n) ++ line (codes "sum " ++ signed_decimal (sum_of memory)) ++ line (codes "end")
 
--- what is written of a load: of one that did not finish the line that tells its end
+-- what is written of a load: its summary, or where it did not finish the one line of its end
 abbrev pub load_text_of : (transfers : ℕ) → List CellInfo → List Node → RecordEnd → List ℕ
 load_text_of n cells t (Finished memory outputs) = summary_text n memory
 load_text_of n cells t e = end_text cells t e
@@ -46,28 +47,29 @@ abbrev pub load_text : (transfers : ℕ) → Record → List ℕ
 load_text n r = load_text_of n r.program.cells r.tree r.end
 
 -- what a command writes of its run
-abbrev pub form_of : Command → Form
-form_of (Run words limits workers report) = Results report
-form_of (Sim words limits workers schedule report) = Results report
-form_of (Load transfers workers) = Summary transfers
+abbrev pub telling_of : Command → Telling
+telling_of (Run words limits workers report) = Results report
+telling_of (Sim words limits workers schedule report) = Results report
+telling_of (Load transfers workers) = Summary transfers
 
-abbrev pub text_in : Form → Record → List ℕ
+abbrev pub text_in : Telling → Record → List ℕ
 text_in (Results report) r = text_by report r
 text_in (Summary n) r = load_text n r
 
 -- the same of a run that finished, with the result from what one memory comes to
-abbrev pub end_text_in : Form → Record → (memory outputs : List ℤ) → List ℕ
+abbrev pub end_text_in : Telling → Record → (memory outputs : List ℤ) → List ℕ
 end_text_in (Results report) r memory outputs = finished_text r.program.cells memory outputs ++ report_if report r
 end_text_in (Summary n) r memory outputs = summary_text n memory
 
 -- the text that a command writes for its run
 abbrev pub text_of : Option Command → Record → List ℕ
 text_of None r = []
-text_of (Some c) r = text_in (form_of c) r
+text_of (Some c) r = text_in (telling_of c) r
 
+-- the same of a run that finished, from what one memory comes to
 abbrev pub text_of_end : Option Command → Record → (memory outputs : List ℤ) → List ℕ
 text_of_end None r memory outputs = []
-text_of_end (Some c) r memory outputs = end_text_in (form_of c) r memory outputs
+text_of_end (Some c) r memory outputs = end_text_in (telling_of c) r memory outputs
 
 -- The text that is owed for what is kept: there is none without a run, and none with status 8.
 abbrev pub text_owed : (text : Record → List ℕ) → Option Record → (status : ℕ) → Option (List ℕ)

@@ -1,6 +1,7 @@
 ghost use Rattle.std.specs.Prelude.{◌≤◌, ◌≡◌, IfOk, string_bytes};
 ghost use Rattle.cw_strand.specs.Programs.{IsProgramOf};
 ghost use Rattle.cw_gen.specs.Load.{load_tree};
+ghost use Rattle.cw_words.specs.Words.{most_transfers};
 ghost use Rattle.cw_top.specs.Written.{sum_of, summary_text};
 
 use cw_base::OutOfMemory;
@@ -10,9 +11,9 @@ use cw_gen::{load_program, loads_have_no_fault};
 use std::alloc::Global;
 
 /// The program of a load of so many transfers, compiled.
-pub fn load_compiled(alloc: Global, transfers: u32) -> Result<Program, OutOfMemory>
+pub fn compiled_load(alloc: Global, transfers: u32) -> Result<Program, OutOfMemory>
     requires some { 1 ≤ transfers }
-    requires most { transfers ≤ 20000 }
+    requires most { transfers ≤ most_transfers }
     ensures { IfOk result (IsProgramOf (load_tree transfers)) }
 {
     let ast = load_program(alloc, transfers)?;

@@ -8,10 +8,10 @@ ghost use Rattle.cw_top.specs.declared.reasons.NoRun.TheVariants.{Misfit};
 ghost use Rattle.cw_top.specs.Outcome.{HasCause};
 ghost use Rattle.cw_top.specs.Reasons.{note_of};
 ghost use Rattle.cw_top.specs.Runs.{HasSeveralThreads, IsDoneBy, IsItsProgram, IsOfThreads, IsReady, IsRunOf};
-ghost use Rattle.cw_top.specs.Taken.{ReadsWhole, RisesAtMost, TakesAtMost, most_ends, most_read};
+ghost use Rattle.cw_top.specs.Taken.{HasRead, RisesAtMost, TakesAtMost, most_ends, most_read};
 ghost use Rattle.cw_words.specs.Words.{limits_of, words_of};
 
-use crate::loading::load_compiled;
+use crate::loading::compiled_load;
 use crate::reading::program_from;
 use crate::reasons::NoRun;
 use cw_base::{OutOfMemory, Seq};
@@ -134,14 +134,14 @@ fn program_by<S: Source>(alloc: Global, command: &Command, source: &mut S) -> Re
     ensures why { IfErr result (λ n. HasCause (Some command.now) (note_of n) (S.left source.old) (Rose (S.faults source.old) (S.faults source.new)) ⊥) }
     ensures fits { IsErrOf result Misfit → ⊥ }
     ensures taken { TakesAtMost (most_read (Some command.now)) (S.left source.old) (S.left source.new) }
-    ensures whole { OnOk result (ReadsWhole (Some command.now) (S.left source.old) (S.left source.new)) }
+    ensures whole { OnOk result (HasRead (Some command.now) (S.left source.old) (S.left source.new)) }
     ensures once { RisesAtMost (most_ends (Some command.now)) (S.ends source.old) (S.ends source.new) }
     ensures its { IfOk result (IsItsProgram command.now (S.left source.old)) }
     ensures compiled { IfOk result (λ p. IsCompiled p) }
 {
     match command {
-        Command::Load { transfers, .. } => Ok(load_compiled(alloc, *transfers)?),
-        _ => program_from(alloc, source),
+        Command::Load { transfers, .. } => Ok(compiled_load(alloc, *transfers)?),
+        Command::Run { .. } | Command::Sim { .. } => program_from(alloc, source),
     }
 }
 
@@ -157,8 +157,8 @@ pub fn run_of<R: Threads + Wait + Sync, S: Source, G: Gate>(
     ensures later { S.faults source.old ≤ S.faults source.new }
     ensures why { IfErr result (λ n. HasCause (Some command) (note_of n) (S.left source.old) (Rose (S.faults source.old) (S.faults source.new)) ⊥) }
     ensures taken { TakesAtMost (most_read (Some command)) (S.left source.old) (S.left source.new) }
-    ensures whole { OnOk result (ReadsWhole (Some command) (S.left source.old) (S.left source.new)) }
-    ensures misfit { IsErrOf result Misfit → ReadsWhole (Some command) (S.left source.old) (S.left source.new) }
+    ensures whole { OnOk result (HasRead (Some command) (S.left source.old) (S.left source.new)) }
+    ensures misfit { IsErrOf result Misfit → HasRead (Some command) (S.left source.old) (S.left source.new) }
     ensures once { RisesAtMost (most_ends (Some command)) (S.ends source.old) (S.ends source.new) }
     ensures run { IfOk result (IsRunOf (Some command) (S.left source.old)) }
     ensures done { IfOk result (IsDoneBy command) }

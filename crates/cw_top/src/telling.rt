@@ -20,7 +20,7 @@ use std::alloc::Global;
 
 /// What a command writes of its run.
 #[derive(Clone, Copy)]
-pub enum Form {
+pub enum Telling {
     /// Its result, and behind it the report where it is asked for.
     Results { report: bool },
     /// What a load of so many transfers comes to.
@@ -61,14 +61,14 @@ fn load_text(alloc: Global, run: &Record, transfers: u32) -> Result<Vec<u8>, cw_
     }
 }
 
-// The text of a run in this form.
-fn text_in(alloc: Global, run: &Record, form: Form) -> Result<Vec<u8>, cw_base::OutOfMemory>
+// The text of a run, told so.
+fn text_in(alloc: Global, run: &Record, telling: Telling) -> Result<Vec<u8>, cw_base::OutOfMemory>
     requires { IsTrue (is_strand run.now.tree (ending_strand run.now.end)) }
-    ensures { IfOk result (λ text. text.items ≡ text_in form run.now) }
+    ensures { IfOk result (λ text. text.items ≡ text_in telling run.now) }
 {
-    match form {
-        Form::Results { report } => text_by(alloc, run, report),
-        Form::Summary { transfers } => load_text(alloc, run, transfers),
+    match telling {
+        Telling::Results { report } => text_by(alloc, run, report),
+        Telling::Summary { transfers } => load_text(alloc, run, transfers),
     }
 }
 
@@ -76,20 +76,20 @@ fn text_in(alloc: Global, run: &Record, form: Form) -> Result<Vec<u8>, cw_base::
 fn write_run<K: Sink>(
     alloc: Global,
     run: &Record,
-    form: Form,
+    telling: Telling,
     sink: &mut K,
 ) -> Result<(), NotWritten>
     requires { IsTrue (is_strand run.now.tree (ending_strand run.now.end)) }
     ensures later { K.faults sink.old ≤ K.faults sink.new }
-    ensures written { OnOk result (Appends (K.written sink.old) (K.written sink.new) (text_in form run.now)) }
+    ensures written { OnOk result (Appends (K.written sink.old) (K.written sink.new) (text_in telling run.now)) }
     ensures nothing { IsErrOf result OutOfMemory → Appends (K.written sink.old) (K.written sink.new) [] }
-    ensures tells { OnOk result (KeepsTelling (K.tells_for sink.old) (K.tells_for sink.new) (K.written sink.old) (K.written sink.new) (length (text_in form run.now))) }
+    ensures tells { OnOk result (KeepsTelling (K.tells_for sink.old) (K.tells_for sink.new) (K.written sink.old) (K.written sink.new) (length (text_in telling run.now))) }
     ensures untouched { IsErrOf result OutOfMemory
         → TellsOn (K.written sink.old) (K.written sink.new) × ((n : ℕ) → K.tells_for sink.old n → K.tells_for sink.new n) }
-    ensures front { IsErrOf result WriteFault → AppendsFront (K.written sink.old) (K.written sink.new) (text_in form run.now) }
+    ensures front { IsErrOf result WriteFault → AppendsFront (K.written sink.old) (K.written sink.new) (text_in telling run.now) }
     ensures cause { IsErrOf result WriteFault → Rose (K.faults sink.old) (K.faults sink.new) }
 {
-    let text = text_in(alloc, run, form)?;
+    let text = text_in(alloc, run, telling)?;
     Ok(write_all(sink, text.as_slice())?)
 }
 
@@ -115,16 +115,16 @@ pub fn without_run(why: NoRun) -> Reply
 }
 
 // The reply on a run that replays, whose text is to be written.
-fn written<K: Sink>(alloc: Global, run: Record, form: Form, sink: &mut K) -> Reply
+fn written<K: Sink>(alloc: Global, run: Record, telling: Telling, sink: &mut K) -> Reply
     requires { IsReplayed run }
     ensures later { K.faults sink.old ≤ K.faults sink.new }
     ensures kept { IfSome result.kept (λ r. r ≡ run) }
     ensures status { IsStatus result.kept result.status result.note }
     ensures cause { IsCauseOfTelling result.note (Rose (K.faults sink.old) (K.faults sink.new)) }
-    ensures written { Writes (text_owed (text_in form) result.kept result.status) result.note (K.written sink.old) (K.written sink.new) }
-    ensures tells { (result.status ≡ 4 → ⊥) → StillTells (text_owed (text_in form) result.kept result.status) (K.tells_for sink.old) (K.tells_for sink.new) (K.written sink.old) (K.written sink.new) }
+    ensures written { Writes (text_owed (text_in telling) result.kept result.status) result.note (K.written sink.old) (K.written sink.new) }
+    ensures tells { (result.status ≡ 4 → ⊥) → StillTells (text_owed (text_in telling) result.kept result.status) (K.tells_for sink.old) (K.tells_for sink.new) (K.written sink.old) (K.written sink.new) }
 {
-    match write_run(alloc, &run, form, sink) {
+    match write_run(alloc, &run, telling, sink) {
         Ok(()) => Reply {
             status: status_of_end(&run.end),
             note: Note::Nothing,
@@ -155,18 +155,24 @@ fn replays(alloc: Global, run: &Record, is_unsure: bool) -> Result<bool, cw_base
 }
 
 /// The reply on a run, whose text is written if one memory does the same.
-pub fn told<K: Sink>(alloc: Global, run: Record, is_unsure: bool, form: Form, sink: &mut K) -> Reply
+pub fn told<K: Sink>(
+    alloc: Global,
+    run: Record,
+    is_unsure: bool,
+    telling: Telling,
+    sink: &mut K,
+) -> Reply
     requires takes { TakesWords run.program (length run.words) }
     requires sure { is_unsure ≡ false → IsReplayed run }
     ensures later { K.faults sink.old ≤ K.faults sink.new }
     ensures kept { IfSome result.kept (λ r. r ≡ run) }
     ensures status { IsStatus result.kept result.status result.note }
     ensures cause { IsCauseOfTelling result.note (Rose (K.faults sink.old) (K.faults sink.new)) }
-    ensures written { Writes (text_owed (text_in form) result.kept result.status) result.note (K.written sink.old) (K.written sink.new) }
-    ensures tells { (result.status ≡ 4 → ⊥) → StillTells (text_owed (text_in form) result.kept result.status) (K.tells_for sink.old) (K.tells_for sink.new) (K.written sink.old) (K.written sink.new) }
+    ensures written { Writes (text_owed (text_in telling) result.kept result.status) result.note (K.written sink.old) (K.written sink.new) }
+    ensures tells { (result.status ≡ 4 → ⊥) → StillTells (text_owed (text_in telling) result.kept result.status) (K.tells_for sink.old) (K.tells_for sink.new) (K.written sink.old) (K.written sink.new) }
 {
     match replays(alloc, &run, is_unsure) {
-        Ok(true) => written(alloc, run, form, sink),
+        Ok(true) => written(alloc, run, telling, sink),
         Ok(false) => Reply {
             status: 8,
             note: Note::Nothing,

@@ -3,17 +3,17 @@ ghost use Rattle.cw_io.specs.Outside.{Appends, TakesNothing, Rose};
 ghost use Rattle.cw_record.specs.Records.{IsReplayed};
 ghost use Rattle.cw_top.specs.declared.outcome.Note.{Note};
 ghost use Rattle.cw_top.specs.declared.outcome.Note.TheVariants.{Nothing};
-ghost use Rattle.cw_top.specs.Outcome.{HasCause, IsMisused, IsRefusedWith, IsStatus, IsSurelyMisused, IsSurelyRefused, MayBeMisusedWith, MayEndWith};
+ghost use Rattle.cw_top.specs.Outcome.{FailsToRead, HasCause, IsMisused, IsRefusedWith, IsStatus, IsSurelyMisused, IsSurelyRefused, MayBeMisusedWith, MayEndWith};
 ghost use Rattle.cw_top.specs.OverSource.{IsRunOfSource};
 ghost use Rattle.cw_top.specs.Runs.{HasSeveralThreads, HasSeveralWorkers, IsDoneAs, IsDoneBy, IsReady, IsRunOf};
 ghost use Rattle.cw_top.specs.Spent.{HasSpentMoves, IsSpentBy, IsSpentOn};
-ghost use Rattle.cw_top.specs.Taken.{Accepts, IsRefusedFor, ReadsWhole, RisesAtMost, TakesAtMost, most_ends, most_read};
-ghost use Rattle.cw_top.specs.Written.{StillTells, Writes, WritesEndOfOneMemory, form_of, text_of, text_owed};
+ghost use Rattle.cw_top.specs.Taken.{Accepts, IsRefusedFor, HasRead, RisesAtMost, TakesAtMost, most_ends, most_read};
+ghost use Rattle.cw_top.specs.Written.{StillTells, Writes, WritesEndOfOneMemory, telling_of, text_of, text_owed};
 ghost use Rattle.cw_words.specs.Words.{command_in};
 
 use crate::reasons::NoRun;
 use crate::running::{has_several_threads, run_of};
-use crate::telling::{Form, told, without_run};
+use crate::telling::{Telling, told, without_run};
 use crate::{Note, Reply};
 use cw_io::{Gate, Sink, Source};
 use cw_words::{Command, command_of};
@@ -22,14 +22,14 @@ use std::sync::Wait;
 use std::thread::Threads;
 
 // What a command writes of its run.
-fn form_of(command: &Command) -> Form
-    ensures { result ≡ form_of command.now }
+fn telling_of(command: &Command) -> Telling
+    ensures { result ≡ telling_of command.now }
 {
     match command {
-        Command::Run { report, .. } | Command::Sim { report, .. } => Form::Results {
+        Command::Run { report, .. } | Command::Sim { report, .. } => Telling::Results {
             report: *report,
         },
-        Command::Load { transfers, .. } => Form::Summary {
+        Command::Load { transfers, .. } => Telling::Summary {
             transfers: *transfers,
         },
     }
@@ -50,18 +50,18 @@ fn ran<R: Threads + Wait + Sync, S: Source, K: Sink, G: Gate>(
     ensures status { IsStatus result.kept result.status result.note }
     ensures cause { HasCause (Some command) result.note (S.left source.old) (Rose (S.faults source.old) (S.faults source.new)) (Rose (K.faults sink.old) (K.faults sink.new)) }
     ensures taken { TakesAtMost (most_read (Some command)) (S.left source.old) (S.left source.new) }
-    ensures whole { OnSome result.kept (ReadsWhole (Some command) (S.left source.old) (S.left source.new)) }
-    ensures judged { result.status ≡ 2 → ReadsWhole (Some command) (S.left source.old) (S.left source.new) }
+    ensures whole { OnSome result.kept (HasRead (Some command) (S.left source.old) (S.left source.new)) }
+    ensures judged { result.status ≡ 2 → HasRead (Some command) (S.left source.old) (S.left source.new) }
     ensures once { RisesAtMost (most_ends (Some command)) (S.ends source.old) (S.ends source.new) }
     ensures run { IfSome result.kept (IsRunOf (Some command) (S.left source.old)) }
     ensures done { IfSome result.kept (IsDoneBy command) }
     ensures written { Writes (text_owed (text_of (Some command)) result.kept result.status) result.note (K.written sink.old) (K.written sink.new) }
     ensures tells { (result.status ≡ 4 → ⊥) → StillTells (text_owed (text_of (Some command)) result.kept result.status) (K.tells_for sink.old) (K.tells_for sink.new) (K.written sink.old) (K.written sink.new) }
 {
-    let form = form_of(&command);
+    let telling = telling_of(&command);
     let is_unsure = has_several_threads(&command);
     match run_of(rt, alloc, command, source, gate) {
-        Ok(run) => told(alloc, run, is_unsure, form, sink),
+        Ok(run) => told(alloc, run, is_unsure, telling, sink),
         Err(why) => without_run(why),
     }
 }
@@ -81,8 +81,8 @@ fn answer<R: Threads + Wait + Sync, S: Source, K: Sink, G: Gate>(
     ensures status { IsStatus result.kept result.status result.note }
     ensures cause { HasCause command result.note (S.left source.old) (Rose (S.faults source.old) (S.faults source.new)) (Rose (K.faults sink.old) (K.faults sink.new)) }
     ensures taken { TakesAtMost (most_read command) (S.left source.old) (S.left source.new) }
-    ensures whole { OnSome result.kept (ReadsWhole command (S.left source.old) (S.left source.new)) }
-    ensures judged { result.status ≡ 2 → OnSome command (ReadsWhole command (S.left source.old) (S.left source.new)) }
+    ensures whole { OnSome result.kept (HasRead command (S.left source.old) (S.left source.new)) }
+    ensures judged { result.status ≡ 2 → OnSome command (HasRead command (S.left source.old) (S.left source.new)) }
     ensures once { RisesAtMost (most_ends command) (S.ends source.old) (S.ends source.new) }
     ensures run { IfSome result.kept (IsRunOf command (S.left source.old)) }
     ensures done { IfSome result.kept (IsDoneAs command) }
@@ -102,9 +102,9 @@ fn answer<R: Threads + Wait + Sync, S: Source, K: Sink, G: Gate>(
 /// Does all that the program does. `words` are the command's words without the program's name. `run` and `sim` read a program from
 /// the source, run it with the words of main, and write its result (`result_text`) to the sink, with `--report 1` followed by the
 /// report on it (`report_text`): `run` on as many threads as `--workers` says, four where it does not, and one goes depth first; `sim` by the
-/// moves of so many virtual workers. Both have the options `--fuel`, `--size`, `--aborts` and `--strands`; `sim` has `--moves`, and `--schedule`
-/// or `--seed`, too. `load` reads nothing: it runs the program of so many transfers (`load_program`) as `run` does, and writes how many they
-/// were and what all cells have together.
+/// moves of so many virtual workers. These two have the options `--fuel`, `--size`, `--aborts` and `--strands`; `sim` has `--moves`, and `--schedule`
+/// or `--seed`, too. `load N` reads nothing: it runs the program of N transfers (`load_program`), from 1 to 20,000, as `run` does with the limits
+/// of a command that gives none, and writes N and what all cells have together; of the options it has `--workers`.
 ///
 /// A run of several threads is written only once one memory has done the same in its order; status 8 says that it did not. The gate is called
 /// by each of these threads before a look at the tasks of another, and before each try of a begin, an access or a commit.
@@ -130,7 +130,7 @@ pub fn cwstm<R: Threads + Wait + Sync, S: Source, K: Sink, G: Gate>(
     ensures usage { result.status ≡ 2 → IsMisused (command_in words.now) (S.left source.old) }
     ensures misused { IsSurelyMisused (command_in words.now) (S.left source.old)
         → (Rose (S.faults source.old) (S.faults source.new) → ⊥) → MayBeMisusedWith (command_in words.now) result.status }
-    ensures judged { result.status ≡ 2 → OnSome (command_in words.now) (ReadsWhole (command_in words.now) (S.left source.old) (S.left source.new)) }
+    ensures judged { result.status ≡ 2 → OnSome (command_in words.now) (HasRead (command_in words.now) (S.left source.old) (S.left source.new)) }
 
     ensures read_fault { result.status ≡ 3 → Rose (S.faults source.old) (S.faults source.new) }
     ensures write_fault { result.status ≡ 4 → Rose (K.faults sink.old) (K.faults sink.new) }
@@ -140,7 +140,7 @@ pub fn cwstm<R: Threads + Wait + Sync, S: Source, K: Sink, G: Gate>(
     ensures refuses { (fault : Note) → IsSurelyRefused (command_in words.now) (S.left source.old) fault
         → (Rose (S.faults source.old) (S.faults source.new) → ⊥) → IsRefusedWith fault result.status result.note }
     ensures complete { Accepts (command_in words.now) (S.left source.old)
-        → (Rose (S.faults source.old) (S.faults source.new) → ⊥) → (Rose (K.faults sink.old) (K.faults sink.new) → ⊥)
+        → (FailsToRead (command_in words.now) (Rose (S.faults source.old) (S.faults source.new)) → ⊥) → (Rose (K.faults sink.old) (K.faults sink.new) → ⊥)
         → MayEndWith (command_in words.now) result.status }
 
     // What is kept is a run of the command, of what the source spells or of the program of a load. Of one thread it is the depth-first one, in
@@ -149,9 +149,9 @@ pub fn cwstm<R: Threads + Wait + Sync, S: Source, K: Sink, G: Gate>(
     // thread and every simulation are coherent.
     ensures run { IfSome result.kept (IsRunOf (command_in words.now) (S.left source.old)) }
     ensures done { IfSome result.kept (IsDoneAs (command_in words.now)) }
-    ensures whole { OnSome result.kept (ReadsWhole (command_in words.now) (S.left source.old) (S.left source.new)) }
+    ensures whole { OnSome result.kept (HasRead (command_in words.now) (S.left source.old) (S.left source.new)) }
 
-    // One memory does the same, over the program's code and over the syntax tree that the source spells, but with status 8.
+    // One memory does the same, over the program's code and over its syntax tree, which the source spells or which is that of a load, but with status 8.
     ensures replays { result.status ≢ 8 → IfSome result.kept IsReplayed }
     ensures source { result.status ≢ 8 → IfSome result.kept (IsRunOfSource (command_in words.now) (S.left source.old)) }
 
@@ -177,7 +177,7 @@ pub fn cwstm<R: Threads + Wait + Sync, S: Source, K: Sink, G: Gate>(
     ensures taken { TakesAtMost (most_read (command_in words.now)) (S.left source.old) (S.left source.new) }
 
     // Reading ends with the first read that gives no byte: at the end of the source, at a failure, or into an empty buffer.
-    // So the source is asked at most once at its end, and not again after it failed. Words that are no command ask for nothing.
+    // So the source is asked at most once at its end, and not again after it failed. Words that are no command, and a load, ask for nothing.
     ensures once { RisesAtMost (most_ends (command_in words.now)) (S.ends source.old) (S.ends source.new) }
     ensures written { Writes (text_owed (text_of (command_in words.now)) result.kept result.status) result.note (K.written sink.old) (K.written sink.new) }
 

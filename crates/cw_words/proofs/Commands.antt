@@ -10,7 +10,7 @@ use Rattle.cw_words.specs.declared.command.Command.{Command}
 use Rattle.cw_words.specs.declared.command.Command.TheVariants.{Load, Run}
 use Rattle.cw_io.specs.declared.schedule.Schedule.TheVariants.{List as Listed}
 use Rattle.cw_words.specs.Options.{Given, list_below, number_within}
-use Rattle.cw_words.specs.Reading.{integers_in, known_in, limits_in, number_asked, only_in, report_asked, schedule_asked, text_in, transfers_asked, value_in}
+use Rattle.cw_words.specs.Reading.{integers_in, known_in, limits_in, number_asked, sole_in, report_asked, schedule_asked, text_in, transfers_asked, value_in}
 use Rattle.cw_words.specs.Words as words
 use Rattle.cw_words.specs.Words.{load_given, load_options, most_transfers, run_given, run_options, workers_option}
 
@@ -36,7 +36,7 @@ pub load_is : (g : Option Given) → option_and_then load_given g ≡ load_by (k
 load_is None = refl
 load_is (Some h) = refl
 
-pub transfers_are : (g : Option Given) → transfers_asked g ≡ option_and_then (number_within 1 most_transfers) (only_in g)
+pub transfers_are : (g : Option Given) → transfers_asked g ≡ option_and_then (number_within 1 most_transfers) (sole_in g)
 transfers_are None = refl
 transfers_are (Some h) = refl
 

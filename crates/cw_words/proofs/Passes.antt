@@ -5,7 +5,7 @@ use Rattle.std.specs.List.{list_any}
 use Rattle.std.specs.Str.{bytes_eq}
 use Rattle.std.specs.Borrow.{Bor}
 use Rattle.cw_base.specs.declared.memory.OutOfMemory.{OutOfMemory}
-use Rattle.cw_words.specs.Options.{Given, are_known, integer_of, one_of, only_word, values_of, with_option, with_word}
+use Rattle.cw_words.specs.Options.{Given, are_known, integer_of, one_of, sole_word, values_of, with_option, with_word}
 use Rattle.cw_words.specs.Reading.{integers_in, known_in}
 
 -- ## Whether options are known
@@ -118,28 +118,28 @@ module _ (all : Option (List ℤ)) (kept : Result (List ℤ) OutOfMemory) (g h :
 -- ## The one word
 
 -- what the one word is, behind words of which this one belonged to no option, or none
-abbrev pub only_after : (found : Option (Bor (List ℕ))) → Option Given → Option (List ℕ)
-only_after found g = option_and_then (λ h. only_word (with_found found h.words)) g
+abbrev pub sole_after : (found : Option (Bor (List ℕ))) → Option Given → Option (List ℕ)
+sole_after found g = option_and_then (λ h. sole_word (with_found found h.words)) g
 
 module _ (g h : Option Given) where
-  pub only_option : (name value : List ℕ) (found : Option (Bor (List ℕ))) → g ≡ option_map (with_option name value) h → only_after found g ≡ only_after found h
-  only_option name value found e = ap (only_after found) e ∙ go h
+  pub only_option : (name value : List ℕ) (found : Option (Bor (List ℕ))) → g ≡ option_map (with_option name value) h → sole_after found g ≡ sole_after found h
+  only_option name value found e = ap (sole_after found) e ∙ go h
     where
-      go : (o : Option Given) → only_after found (option_map (with_option name value) o) ≡ only_after found o
+      go : (o : Option Given) → sole_after found (option_map (with_option name value) o) ≡ sole_after found o
       go None = refl
       go (Some x) = refl
 
   module _ (w : List ℕ) (e : g ≡ option_map (with_word w) h) where
-    pub only_found : (v : Bor (List ℕ)) → v.now ≡ w → only_after None g ≡ only_after (Some v) h
-    only_found v is = ap (only_after None) e ∙ go h
+    pub only_found : (v : Bor (List ℕ)) → v.now ≡ w → sole_after None g ≡ sole_after (Some v) h
+    only_found v is = ap (sole_after None) e ∙ go h
       where
-        go : (o : Option Given) → only_after None (option_map (with_word w) o) ≡ only_after (Some v) o
+        go : (o : Option Given) → sole_after None (option_map (with_word w) o) ≡ sole_after (Some v) o
         go None = refl
-        go (Some x) = ap (λ u. only_word (u ∷ x.words)) (sym is)
+        go (Some x) = ap (λ u. sole_word (u ∷ x.words)) (sym is)
 
-    pub only_twice : (v : Bor (List ℕ)) → only_after (Some v) g ≡ None
-    only_twice v = ap (only_after (Some v)) e ∙ go h
+    pub only_twice : (v : Bor (List ℕ)) → sole_after (Some v) g ≡ None
+    only_twice v = ap (sole_after (Some v)) e ∙ go h
       where
-        go : (o : Option Given) → only_after (Some v) (option_map (with_word w) o) ≡ None
+        go : (o : Option Given) → sole_after (Some v) (option_map (with_word w) o) ≡ None
         go None = refl
         go (Some x) = refl

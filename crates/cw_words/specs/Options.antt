@@ -101,10 +101,10 @@ list_below limit most v = if nat_le (length (parts_of v)) most then numbers_belo
 
 -- ## One word
 
--- the word that belongs to no option, where there is one, and not more
-abbrev pub only_word : List (List ℕ) → Option (List ℕ)
-only_word (w ∷ []) = Some w
-only_word ws = None
+-- the one word that belongs to no option, where there is exactly one
+abbrev pub sole_word : List (List ℕ) → Option (List ℕ)
+sole_word (w ∷ []) = Some w
+sole_word ws = None
 
 -- ## The value of an option
 

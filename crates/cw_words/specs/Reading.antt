@@ -4,7 +4,7 @@ use Rattle.std.specs.Option.{option_map_or}
 use Rattle.std.specs.Borrow.{Bor}
 use Rattle.cw_code.specs.declared.Limits.{Limits}
 use Rattle.cw_io.specs.declared.schedule.Schedule.{Schedule}
-use Rattle.cw_words.specs.Options.{Given, NumberOption, are_known, integers_of, number_given, only_word, parts_of, option_value}
+use Rattle.cw_words.specs.Options.{Given, NumberOption, are_known, integers_of, number_given, sole_word, parts_of, option_value}
 use Rattle.cw_words.specs.Words.{limits_given, report_given, schedule_given, transfers_given}
 
 -- the parts of what stands behind a comma, if there is one
@@ -39,8 +39,8 @@ schedule_asked workers g = option_and_then (λ h. schedule_given workers h.optio
 abbrev pub integers_in : Option Given → Option (List ℤ)
 integers_in g = option_and_then (λ h. integers_of h.words) g
 
-abbrev pub only_in : Option Given → Option (List ℕ)
-only_in g = option_and_then (λ h. only_word h.words) g
+abbrev pub sole_in : Option Given → Option (List ℕ)
+sole_in g = option_and_then (λ h. sole_word h.words) g
 
 abbrev pub transfers_asked : Option Given → Option ℕ
 transfers_asked g = option_and_then transfers_given g

@@ -8,7 +8,7 @@ use Rattle.cw_io.specs.declared.schedule.Schedule.{Schedule}
 use Rattle.cw_io.specs.declared.schedule.Schedule.TheVariants.{List as Listed, Seeded}
 use Rattle.cw_words.specs.declared.command.Command.{Command}
 use Rattle.cw_words.specs.declared.command.Command.TheVariants.{Run, Sim, Load}
-use Rattle.cw_words.specs.Options.{Given, GivenOption, NumberOption, are_known, given, integers_of, list_below, number_given, number_within, only_word, option_value}
+use Rattle.cw_words.specs.Options.{Given, GivenOption, NumberOption, are_known, given, integers_of, list_below, number_given, number_within, sole_word, option_value}
 
 -- ## Options
 
@@ -87,7 +87,7 @@ most_transfers = 20000
 
 -- The one word that belongs to no option is the number of transfers.
 abbrev pub transfers_given : Given → Option ℕ
-transfers_given g = option_and_then (number_within 1 most_transfers) (only_word g.words)
+transfers_given g = option_and_then (number_within 1 most_transfers) (sole_word g.words)
 
 -- ## Commands
 

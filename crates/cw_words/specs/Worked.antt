@@ -170,9 +170,13 @@ pub record Loads : Type 0 where
   pub negative : command_of (codes "load" ∷ codes "--" ∷ codes "-5" ∷ []) ≡ None
   pub none : command_of (codes "load" ∷ []) ≡ None
   pub two : command_of (codes "load" ∷ codes "5" ∷ codes "6" ∷ []) ≡ None
+  pub two_apart : command_of (codes "load" ∷ codes "5" ∷ codes "--" ∷ codes "6" ∷ []) ≡ None
   pub empty : command_of (codes "load" ∷ [] ∷ []) ≡ None
   pub plus : command_of (codes "load" ∷ codes "+5" ∷ []) ≡ None
+  pub minus : command_of (codes "load" ∷ codes "-5" ∷ []) ≡ None
   -- options
+  pub workers_twice : command_of (codes "load" ∷ codes "--workers=4" ∷ codes "--workers" ∷ codes "4" ∷ codes "5" ∷ []) ≡ None
+  pub workers_first : command_of (codes "--workers" ∷ codes "4" ∷ codes "load" ∷ codes "5" ∷ []) ≡ None
   pub many_workers : command_of (codes "load" ∷ codes "--workers=65" ∷ codes "5" ∷ []) ≡ None
   pub fuel : command_of (codes "load" ∷ codes "--fuel" ∷ codes "1" ∷ codes "5" ∷ []) ≡ None
   pub report : command_of (codes "load" ∷ codes "5" ∷ codes "--report=1" ∷ []) ≡ None

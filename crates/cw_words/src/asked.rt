@@ -4,7 +4,7 @@ ghost use Rattle.std.specs.Str.{bytes_eq};
 ghost use Rattle.cw_io.specs.declared.schedule.Schedule.TheVariants.{List as Listed};
 ghost use Rattle.cw_words.specs.Given.{Reads};
 ghost use Rattle.cw_words.specs.Options.{given};
-ghost use Rattle.cw_words.specs.Reading.{integers_in, known_in, limits_in, number_asked, only_in, report_asked, schedule_asked, text_in, transfers_asked, value_in};
+ghost use Rattle.cw_words.specs.Reading.{integers_in, known_in, limits_in, number_asked, sole_in, report_asked, schedule_asked, text_in, transfers_asked, value_in};
 ghost use Rattle.cw_words.specs.Words.{default_limits, schedule_in as schedule_by, workers_option};
 
 use crate::given::{Next, next_of, words_behind};
@@ -197,23 +197,23 @@ pub fn integers_of(alloc: Global, words: &[String]) -> Option<Kept<i64>>
     }
 }
 
-// The word that belongs to no option, where there is one, and not more.
-fn only_word<'a>(words: &'a [String]) -> Option<&'a str>
-    ensures { option_map (λ w. w.now) result ≡ only_in (given (map string_bytes words.now)) }
+// The one word that belongs to no option, where there is exactly one.
+fn sole_word<'a>(words: &'a [String]) -> Option<&'a str>
+    ensures { option_map (λ w. w.now) result ≡ sole_in (given (map string_bytes words.now)) }
 {
-    let mut only = None;
+    let mut sole = None;
     let mut rest = words_behind(words);
     'words: loop {
         match next_of(rest) {
             Next::Word(word, behind) => {
-                if only.is_some() {
+                if sole.is_some() {
                     return None;
                 }
-                only = Some(word);
+                sole = Some(word);
                 rest = behind;
             }
             Next::Setting(_, _, behind) => rest = behind,
-            Next::End => return only,
+            Next::End => return sole,
             Next::Bad => return None,
         }
     }
@@ -223,6 +223,6 @@ fn only_word<'a>(words: &'a [String]) -> Option<&'a str>
 pub fn transfers_of(words: &[String]) -> Option<u32>
     ensures { result ≡ transfers_asked (given (map string_bytes words.now)) }
 {
-    let word = only_word(words)?;
+    let word = sole_word(words)?;
     Some(number_within(word, 1, MOST_TRANSFERS)? as u32)
 }

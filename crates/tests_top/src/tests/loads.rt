@@ -1,6 +1,8 @@
-use super::ask;
+use super::outside::Counter;
+use super::{answer_at, ask};
 use cw_io::{Source, SureSink, SureSource};
 use std::sync::Wait;
+use std::sync::atomic::{AtomicU64, Ordering};
 use std::test::Fail;
 use std::thread::Threads;
 
@@ -46,6 +48,22 @@ fn loads_write_their_sum(rt: HostRuntime) -> Result<(), Fail> {
         assert_eq!(rt; load.status, status);
         assert_eq!(rt; load.text.as_slice(), text);
         assert!(rt; load.is_source_whole);
+    }
+    Ok(())
+}
+
+// The threads of a load come to the gate, and one worker does not.
+#[test]
+fn several_workers_of_a_load_come_to_the_gate(rt: HostRuntime) -> Result<(), Fail> {
+    for (workers, is_met) in [("--workers=1", false), ("--workers=2", true)] {
+        let gate = Counter {
+            calls: AtomicU64::new(0),
+        };
+        let mut source = SureSource::new(b"x".to_vec(rt.alloc())?, 1);
+        let mut sink = SureSink::with_room(rt.alloc(), 100)?;
+        let reply = answer_at(&rt, &["load", workers, "17"], &mut source, &mut sink, &gate)?;
+        assert_eq!(rt; reply.status, 0, "{workers}");
+        assert_eq!(rt; gate.calls.load(Ordering::SeqCst) != 0, is_met, "{workers}");
     }
     Ok(())
 }

@@ -26,8 +26,8 @@ fn a_sink_without_room_takes_the_text(rt: HostRuntime) -> Result<(), Fail> {
 
 // A gate that counts who comes by.
 #[derive(Drop)]
-struct Counter {
-    calls: AtomicU64,
+pub(super) struct Counter {
+    pub(super) calls: AtomicU64,
 }
 
 impl Gate for Counter {

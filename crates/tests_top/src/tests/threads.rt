@@ -6,6 +6,9 @@ use std::sync::atomic::{AtomicU64, Ordering};
 use std::test::Fail;
 use std::thread::Threads;
 
+// However full the machine is, no block spends its attempts.
+const PATIENT: &str = "--aborts=1000000000";
+
 // Two blocks in one, on two strands.
 const TWO: &[u8] =
     b"cell c; fn main() { atomic { spawn { atomic { c = c + 1; } } atomic { c = c + 1; } } }";
@@ -34,7 +37,8 @@ fn ran<R: AllocGlobal + Threads + Wait + Sync>(
 #[test]
 fn the_number_of_workers_does_not_show(rt: HostRuntime) -> Result<(), Fail> {
     for workers in ["1", "2", "3", "4", "5", "6", "7", "8"] {
-        let (status, text) = ran(&rt, &["run", "--workers", workers], TWO)?;
+        let words = ["run", "--workers", workers, PATIENT];
+        let (status, text) = ran(&rt, &words, TWO)?;
         assert_eq!(rt; status, 0, "{workers} workers");
         assert_eq!(rt;
             text.as_slice(),
@@ -48,9 +52,14 @@ fn the_number_of_workers_does_not_show(rt: HostRuntime) -> Result<(), Fail> {
 #[test]
 fn threads_come_to_what_one_memory_does(rt: HostRuntime) -> Result<(), Fail> {
     let table: [(&[&str], &[u8], u8, &[u8]); 6] = [
-        (&["run"], COUNTS, 0, b"out 1\nc = 1\nend\n"),
-        (&["run"], THOUSAND, 0, b"c = 1000\nend\n"),
-        (&["run", "--workers=64"], THOUSAND, 0, b"c = 1000\nend\n"),
+        (&["run", PATIENT], COUNTS, 0, b"out 1\nc = 1\nend\n"),
+        (&["run", PATIENT], THOUSAND, 0, b"c = 1000\nend\n"),
+        (
+            &["run", "--workers=64", PATIENT],
+            THOUSAND,
+            0,
+            b"c = 1000\nend\n",
+        ),
         (&["run", "--strands", "2"], THREE, 0, b"c = 3\nend\n"),
         (&["run", "--strands=1"], THREE, 0, b"c = 3\nend\n"),
         (
