@@ -164,3 +164,72 @@ fn a_worker_that_is_held_is_met_by_the_other(rt: HostRuntime) -> Result<(), Fail
     assert!(rt; was_refused);
     Ok(())
 }
+
+// A gate that holds the first of three workers until the two others have come by.
+#[derive(Drop)]
+struct Meeting {
+    second: AtomicU64,
+    third: AtomicU64,
+}
+
+impl Meeting {
+    fn new() -> Meeting {
+        Meeting {
+            second: AtomicU64::new(0),
+            third: AtomicU64::new(0),
+        }
+    }
+
+    fn are_met(&self) -> bool {
+        self.second.load(Ordering::SeqCst) == 1 && self.third.load(Ordering::SeqCst) == 1
+    }
+
+    fn hold(&self) {
+        for _ in 0..MOST_TURNS {
+            if self.are_met() {
+                return;
+            }
+            hint::spin_loop();
+        }
+    }
+}
+
+impl Gate for Meeting {
+    fn at<R: Threads + Wait + Sync>(&self, _rt: &R, worker: u32, _point: Point) {
+        match worker {
+            0 => self.hold(),
+            1 => self.second.store(1, Ordering::SeqCst),
+            2 => self.third.store(1, Ordering::SeqCst),
+            _ => {}
+        }
+    }
+}
+
+// The status of these words at this gate.
+fn met<R: AllocGlobal + Threads + Wait + Sync>(
+    rt: &R,
+    words: &[&str],
+    text: &[u8],
+    gate: &Meeting,
+) -> Result<u8, Fail> {
+    let mut source = SureSource::new(text.to_vec(rt.alloc())?, 100);
+    let mut sink = SureSink::with_room(rt.alloc(), 100)?;
+    let reply = answer_at(rt, words, &mut source, &mut sink, gate)?;
+    Ok(reply.status)
+}
+
+// So three workers are three threads.
+#[test]
+fn as_many_threads_as_asked_come_to_the_gate(rt: HostRuntime) -> Result<(), Fail> {
+    let table: [(&[&str], &[u8]); 2] = [
+        (&["run", "--workers=3"], THREE),
+        (&["load", "--workers=3", "17"], b""),
+    ];
+    for (words, text) in table {
+        let gate = Meeting::new();
+        let status = met(&rt, words, text, &gate)?;
+        assert_eq!(rt; status, 0);
+        assert!(rt; gate.are_met());
+    }
+    Ok(())
+}
