@@ -4,9 +4,8 @@ use Rattle.std.specs.Prelude.{slice_get, if◌then◌else◌}
 use Rattle.cw_code.specs.declared.instruction.Instr.{Instr}
 use Rattle.cw_code.specs.declared.instruction.Func.{Func}
 use Rattle.cw_code.specs.declared.instruction.Code.{Code}
-use Rattle.cw_code.specs.declared.situation.Situation.{Situation}
 use Rattle.cw_code.specs.Table.{Effect}
-use Rattle.cw_code.specs.Rules.{effect_of, pops, operand_faults, at_start, passed, onwards, never_passed, inside, if_inside, next_of, target_of, is_border, is_torn}
+use Rattle.cw_code.specs.Rules.{Situation, effect_of, pops, operand_faults, at_start, passed, onwards, never_passed, inside, if_inside, next_of, target_of, is_border, is_torn}
 
 module _ (c : Code) (f : Func) where
   -- the one way behind a place

@@ -1,8 +1,7 @@
 -- How many places are known: where no more are known than before, the same are known.
 use Rattle.std.proofs.Common.{◌≡◌, ℕ, zero, suc, ◌≤◌, [], ◌∷◌, length, Some, None, refl, arith}
 use Rattle.std.specs.Prelude.{slice_index_or}
-use Rattle.cw_code.specs.declared.situation.Known.{Known}
-use Rattle.cw_code.specs.Rules.{Places}
+use Rattle.cw_code.specs.Rules.{Known, Places}
 
 abbrev pub IsKnown : Places → ℕ → Type 0
 IsKnown t k = (w : Known) × (slice_index_or t k None ≡ Some w)

@@ -1,4 +1,7 @@
 pub mod TableRows
+pub mod Parts
+pub mod Rows
+pub mod Seen
 pub mod Fold
 pub mod Visits
 pub mod Sound

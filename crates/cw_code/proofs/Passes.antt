@@ -9,13 +9,12 @@ use Rattle.cw_code.specs.declared.instruction.CodeFault.{CodeFault}
 use Rattle.cw_code.specs.declared.instruction.Instr.{Instr}
 use Rattle.cw_code.specs.declared.instruction.Func.{Func}
 use Rattle.cw_code.specs.declared.instruction.Code.{Code}
-use Rattle.cw_code.specs.declared.situation.Situation.{Situation}
-use Rattle.cw_code.specs.declared.situation.Known.{Known}
-use Rattle.cw_code.specs.Rules.{effect_of, pops, when, at_start, passed, onwards, never_passed, next_of, target_of, Places, offered, give, visit, pass, passes, begun, size_of, places, situation_of, known_at, is_border, same, uneven_faults, situation_faults, faults_at, place_faults}
+use Rattle.cw_code.specs.Rules.{Situation, Known, effect_of, pops, when, at_start, passed, onwards, never_passed, next_of, target_of, Places, offered, give, visit, pass, passes, begun, size_of, places, situation_of, known_at, is_border, same, same_parts, uneven_faults, situation_faults, faults_at, place_faults}
 use Rattle.cw_code.proofs.Fold.{next_inside, target_inside}
 use Rattle.cw_code.proofs.Visits.{length_begun}
 use Rattle.cw_code.proofs.KnownPlaces.{IsKnown, known_in, known_few, IsWithin, within_same}
 use Rattle.cw_code.proofs.Expected.{Fits, FitsAt, AllFit}
+use Rattle.cw_code.proofs.Parts.{same_parts_itself}
 
 -- a test that is not failed gives no fault
 pub no_fault : (b : Bool) (k : CodeKind) (p : ℕ) → b ≡ false → when b k p ≡ []
@@ -253,20 +252,21 @@ module _ (c : Code) (f : Func) (expected : ℕ → Situation) where
     even t (Some q) s h = no_fault (not (same (known_at f t q) s)) _ q (ap (λ o. not (same o s)) (h q refl) ∙ ap not (itself s))
       where
         itself : (s : Situation) → same (Some s) s ≡ true
-        itself s = rw (eq-eqb s.height s.height refl, eq-eqb s.blocks s.blocks refl, eq-eqb s.forks s.forks refl) refl
+        itself s = ap (λ b. b && same_parts s.parts s.parts) (eq-eqb s.height s.height refl) ∙ same_parts_itself s.parts
 
     at_known : (t : Places) (n : ℕ) → IsRight t → (i : Instr) → Fits c f expected (f.start + n) i (effect_of i) → Goes t n i → situation_faults c f t (f.start + n) i (effect_of i) (expected (f.start + n)) ≡ []
     at_known t n right i fits led =
         let p = f.start + n in
         let e = effect_of i in
         let s = expected p in
-        none_of_two _ _ (no_fault _ _ p (le-ltb s.height (pops c i e) fits.room))
+        none_of_two _ _
+        (none_of_two _ _ (no_fault _ _ p (le-ltb s.height (pops c i e) fits.room))
         (none_of_two _ _ (no_fault _ _ p (on_border (is_border e) fits.border))
         (none_of_two _ _ (no_fault _ _ p fits.whole)
-        (none_of_two _ _ (no_fault _ _ p (not_last (never_passed e) fits.last))
+        (no_fault _ _ p (not_last (never_passed e) fits.last)))))
         (none_of_two _ _
         (even t (next_of f p e) (onwards c i e s) (λ q w. known_there t right q (next_inside f p e q w).0 (led.0 q w) ∙ ap Some (fits.next q w)))
-        (even t (target_of f i e) (passed c i e s) (λ q w. known_there t right q (target_inside f i e q w).0 (led.1 q w) ∙ ap Some (fits.target q w)))))))
+        (even t (target_of f i e) (passed c i e s) (λ q w. known_there t right q (target_inside f i e q w).0 (led.1 q w) ∙ ap Some (fits.target q w))))
       where
         on_border : (b : Bool) → (b ≡ true → (expected (f.start + n)).height ≡ 0) → (b && not ((expected (f.start + n)).height == 0)) ≡ false
         on_border true h = ap not (eq-eqb (expected (f.start + n)).height 0 (h refl))

@@ -9,10 +9,9 @@ use Rattle.cw_code.specs.declared.instruction.CodeFault.{CodeFault}
 use Rattle.cw_code.specs.declared.instruction.Instr.{Instr}
 use Rattle.cw_code.specs.declared.instruction.Func.{Func}
 use Rattle.cw_code.specs.declared.instruction.Code.{Code}
-use Rattle.cw_code.specs.declared.situation.Situation.{Situation}
-use Rattle.cw_code.specs.declared.situation.Known.{Known}
 use Rattle.cw_code.specs.Table.{Effect}
-use Rattle.cw_code.specs.Rules.{effect_of, pops, below, inside, is_target, is_tick, when, operand_faults, at_start, passed, onwards, jumps, never_passed, next_of, target_of, Places, offered, give, visit, pass, passes, begun, size_of, places, situation_of, known_at, is_border, is_torn, same, uneven_faults, situation_faults, faults_at, place_faults, is_laid, head_faults, faults_from, faults}
+use Rattle.cw_code.proofs.Parts.{same_parts_is}
+use Rattle.cw_code.specs.Rules.{Situation, Known, effect_of, pops, below, inside, is_target, is_tick, when, operand_faults, at_start, passed, onwards, jumps, never_passed, next_of, target_of, Places, offered, give, visit, pass, passes, begun, size_of, places, situation_of, known_at, is_border, is_torn, same, uneven_faults, faults_here, situation_faults, faults_at, place_faults, is_laid, head_faults, faults_from, faults}
 
 -- ## Tests
 
@@ -233,14 +232,10 @@ module _ (c : Code) where
       no e = cc
   same_is (Some t) s e =
       let b = and_parts (t.height == s.height) _ e in
-      let d = and_parts (t.blocks == s.blocks) _ b.1 in
-      let h = eqb-true t.height s.height b.0 in
-      let k = eqb-true t.blocks s.blocks d.0 in
-      let f = eqb-true t.forks s.forks d.1 in
-      ap Some (equal t s h k f)
+      ap Some (equal t s (eqb-true t.height s.height b.0) (same_parts_is t.parts s.parts b.1))
     where
-      equal : (t s : Situation) → t.height ≡ s.height → t.blocks ≡ s.blocks → t.forks ≡ s.forks → t ≡ s
-      equal t s h k f = rw (← h, ← k, ← f) refl
+      equal : (t s : Situation) → t.height ≡ s.height → t.parts ≡ s.parts → t ≡ s
+      equal t s h k = rw (← h, ← k) refl
 
   pub leads_to : (f : Func) (t : Places) (o : Option ℕ) (q : ℕ) (s : Situation) → uneven_faults f t o s ≡ [] → o ≡ Some q → known_at f t q ≡ Some s
   leads_to f t None q s e is = cc
@@ -253,6 +248,7 @@ module _ (c : Code) where
   pub record Around (f : Func) (t : Places) (p : ℕ) (i : Instr) (e : Option Effect) (s : Situation) : Type 0 where
     pub room : pops c i e ≤ s.height
     pub border : is_border e ≡ true → s.height ≡ 0
+    pub whole : is_torn e s ≡ false
     pub last : never_passed e ≡ false → p + 1 ≢ f.end
     pub next : (q : ℕ) → next_of f p e ≡ Some q → known_at f t q ≡ Some (onwards c i e s)
     pub target : (q : ℕ) → target_of f i e ≡ Some q → known_at f t q ≡ Some (passed c i e s)
@@ -263,16 +259,18 @@ module _ (c : Code) where
       let b2 = is_border e && not (s.height == 0) in
       let b3 = is_torn e s in
       let b4 = not (never_passed e) && (p + 1 == f.end) in
-      let r1 = nil_right (when b1 _ p) _ none in
+      let here = nil_left (faults_here c f p i e s) _ none in
+      let ways = nil_right (faults_here c f p i e s) _ none in
+      let r1 = nil_right (when b1 _ p) _ here in
       let r2 = nil_right (when b2 _ p) _ r1 in
       let r3 = nil_right (when b3 _ p) _ r2 in
-      let r4 = nil_right (when b4 _ p) _ r3 in
       record {
-        room = ltb-false s.height (pops c i e) (when_not b1 _ p (nil_left (when b1 _ p) _ none));
+        room = ltb-false s.height (pops c i e) (when_not b1 _ p (nil_left (when b1 _ p) _ here));
         border = λ y. zero_height (is_border e) y (when_not b2 _ p (nil_left (when b2 _ p) _ r1));
-        last = λ y. not_last (never_passed e) y (when_not b4 _ p (nil_left (when b4 _ p) _ r3));
-        next = λ q y. leads_to f t (next_of f p e) q (onwards c i e s) (nil_left (uneven_faults f t (next_of f p e) (onwards c i e s)) _ r4) y;
-        target = λ q y. leads_to f t (target_of f i e) q (passed c i e s) (nil_right (uneven_faults f t (next_of f p e) (onwards c i e s)) _ r4) y;
+        whole = when_not b3 _ p (nil_left (when b3 _ p) _ r2);
+        last = λ y. not_last (never_passed e) y (when_not b4 _ p r3);
+        next = λ q y. leads_to f t (next_of f p e) q (onwards c i e s) (nil_left (uneven_faults f t (next_of f p e) (onwards c i e s)) _ ways) y;
+        target = λ q y. leads_to f t (target_of f i e) q (passed c i e s) (nil_right (uneven_faults f t (next_of f p e) (onwards c i e s)) _ ways) y;
       }
     where
       zero_height : (b : Bool) → b ≡ true → (b && not (s.height == 0)) ≡ false → s.height ≡ 0

@@ -1,18 +1,18 @@
 -- What is expected at the places of a function by walking over them: what an instruction leaves is expected behind it.
-use Rattle.std.proofs.Common.{◌≡◌, ℕ, zero, suc, ◌+◌, ◌-◌, ◌<◌, ◌≤◌, ⊎_elim, Bool, true, false, [], Option, Some, None, pos, refl, sym, ap, ◌∙◌, subst, arith}
+use Rattle.std.proofs.Common.{◌≡◌, ℕ, zero, suc, ◌+◌, ◌-◌, ◌<◌, ◌≤◌, ⊎_elim, Bool, true, false, List, [], Option, Some, None, pos, refl, sym, ap, ◌∙◌, subst, arith}
 use Rattle.std.specs.Prelude.{slice_get, if◌then◌else◌}
 use Rattle.std.proofs.lemmas.Bool.{cases_order, le-leb, lt-ltb}
+use Rattle.cw_code.specs.declared.situation.Part.{Part}
 use Rattle.cw_code.specs.declared.instruction.Instr.{Instr}
 use Rattle.cw_code.specs.declared.instruction.Func.{Func}
 use Rattle.cw_code.specs.declared.instruction.Code.{Code}
-use Rattle.cw_code.specs.declared.situation.Situation.{Situation}
 use Rattle.cw_code.specs.Table.{Effect}
-use Rattle.cw_code.specs.Rules.{effect_of, pops, operand_faults, at_start, passed, onwards, jumps, never_passed, natural, if_inside, target_of, inside, is_target, is_border, is_torn}
+use Rattle.cw_code.specs.Rules.{Situation, effect_of, pops, operand_faults, at_start, passed, onwards, jumps, never_passed, natural, if_inside, target_of, inside, is_target, is_border, is_torn}
 use Rattle.cw_code.proofs.Expected.{FitsAt, next_behind}
 
--- so many operands, blocks and forked parts
-abbrev pub at : ℕ → ℕ → ℕ → Situation
-at h b k = record { height = h; blocks = b; forks = k }
+-- so many operands, and these parts
+abbrev pub at : ℕ → List Part → Situation
+at h ps = record { height = h; parts = ps }
 
 module _ (c : Code) (f : Func) where
   abbrev behind : Option Instr → Situation → Situation
@@ -108,12 +108,12 @@ module _ (c : Code) (f : Func) where
   further_on p q from lt to = rw (le-leb f.start q (omega arith), lt-ltb q f.end to, lt-ltb p q lt) refl
 
   -- an instruction that neither begins nor ends anything nor leads elsewhere, and what it leaves
-  pub simply : (p : ℕ) (i : Instr) (e : Option Effect) (h b k left : ℕ) → effect_of i ≡ e → f.start ≤ p → slice_get c.instrs p ≡ Some i → expected p ≡ at h b k → onwards c i e (at h b k) ≡ at left b k → operand_faults c f p i e ≡ [] → pops c i e ≤ h → is_border e ≡ false → is_torn e (at h b k) ≡ false → jumps e ≡ false → p + 1 < f.end → Walks p (p + 1) (at left b k)
-  simply p i e h b k left does le is here leaves operands room border whole jump lt = one p i e (at h b k) (at left b k) does le is here leaves (record {
+  pub simply : (p : ℕ) (i : Instr) (e : Option Effect) (h : ℕ) (ps : List Part) (left : ℕ) → effect_of i ≡ e → f.start ≤ p → slice_get c.instrs p ≡ Some i → expected p ≡ at h ps → onwards c i e (at h ps) ≡ at left ps → operand_faults c f p i e ≡ [] → pops c i e ≤ h → is_border e ≡ false → is_torn e (at h ps) ≡ false → jumps e ≡ false → p + 1 < f.end → Walks p (p + 1) (at left ps)
+  simply p i e h ps left does le is here leaves operands room border whole jump lt = one p i e (at h ps) (at left ps) does le is here leaves (record {
     operands = operands;
     room = room;
     border = λ is. absurd (let never : false ≡ true = sym border ∙ is in cc);
     whole = whole;
     last = λ is. lt;
-    target = no_target i e p (at h b k) jump;
+    target = no_target i e p (at h ps) jump;
   })

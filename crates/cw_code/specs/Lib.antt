@@ -1,6 +1,7 @@
 pub mod Table
 pub mod Mnemonics
 pub mod Rules
+pub mod Nested
 pub mod Answers
 pub mod Printed
 pub mod Programs

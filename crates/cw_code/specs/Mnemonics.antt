@@ -67,3 +67,6 @@ done = plain 31
 
 abbrev pub tick : Instr
 tick = plain 32
+
+abbrev pub cancel : Instr
+cancel = plain 33

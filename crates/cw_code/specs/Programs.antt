@@ -1,7 +1,18 @@
 -- Programs: their code, their cells and where they begin.
-use Rattle.std.specs.Prelude.{◌≡◌, ℕ, zero, suc, ◌+◌, ◌<◌, List, [], ◌∷◌, length}
+use Rattle.std.specs.Prelude.{◌≡◌, ℕ, zero, suc, ◌+◌, ◌<◌, Bool, true, false, List, [], ◌∷◌, length, Option, Some}
+use Rattle.std.specs.List.{list_any}
 use Rattle.cw_code.specs.declared.CellInfo.{CellInfo}
 use Rattle.cw_code.specs.declared.instruction.Code.{Code}
+use Rattle.cw_code.specs.Table.{Effect, cancel}
+use Rattle.cw_code.specs.Rules.{effect_of}
+
+abbrev pub is_cancel : Option Effect → Bool
+is_cancel (Some cancel) = true
+is_cancel e = false
+
+-- an instruction of the code is a cancel, whether it is reached or not
+abbrev pub cancels : Code → Bool
+cancels c = list_any (λ i. is_cancel (effect_of i)) c.instrs
 
 -- how many elements a cell has: a plain one has one
 abbrev pub elements : CellInfo → ℕ

@@ -6,9 +6,9 @@ use Rattle.cw_code.specs.declared.instruction.CodeFault.{CodeFault}
 use Rattle.cw_code.specs.declared.instruction.Instr.{Instr}
 use Rattle.cw_code.specs.declared.instruction.Func.{Func}
 use Rattle.cw_code.specs.declared.instruction.Code.{Code}
-use Rattle.cw_code.specs.declared.situation.Situation.{Situation}
-use Rattle.cw_code.specs.declared.situation.Known.{Known}
-use Rattle.cw_code.specs.Table.{Effect, local, set, load, load_at, store, store_at, jump, jump_zero, call, ret, begin, end, fork, done, tick, effect_at, taken, left_there}
+use Rattle.cw_code.specs.declared.situation.Part.{Part}
+use Rattle.cw_code.specs.declared.situation.Part.TheVariants.{Block as block, Fork as forked}
+use Rattle.cw_code.specs.Table.{Effect, local, set, load, load_at, store, store_at, jump, jump_zero, call, ret, begin, end, fork, done, tick, cancel, effect_at, taken, left_there}
 
 -- a natural number, or none
 abbrev pub natural : ℤ → Option ℕ
@@ -84,24 +84,52 @@ abbrev pub pushes : Option Effect → ℕ
 pushes None = 0
 pushes (Some e) = left_there e
 
+-- The height of the operands' stack, and the parts that are open, innermost first: blocks that were begun and parts that were forked.
+pub record Situation : Type 0 where
+  pub height : ℕ
+  pub parts : List Part
+
+-- a situation, and the place that gave it
+pub record Known : Type 0 where
+  pub from : ℕ
+  pub situation : Situation
+
 abbrev pub at_start : Situation
-at_start = record { height = 0; blocks = 0; forks = 0 }
+at_start = record { height = 0; parts = [] }
 
-abbrev pub blocks_after : Option Effect → ℕ → ℕ
-blocks_after (Some begin) n = n + 1
-blocks_after (Some end) n = n - 1
-blocks_after e n = n
+abbrev pub is_part : Part → Part → Bool
+is_part block block = true
+is_part forked forked = true
+is_part p q = false
 
-abbrev pub forks_after : Option Effect → ℕ → ℕ
-forks_after (Some done) n = n - 1
-forks_after e n = n
+-- how many parts of a kind are open
+abbrev pub parts_in : Part → List Part → ℕ
+parts_in p [] = 0
+parts_in p (q ∷ qs) = if is_part p q then parts_in p qs + 1 else parts_in p qs
+
+abbrev pub blocks_in : List Part → ℕ
+blocks_in = parts_in block
+
+abbrev pub forks_in : List Part → ℕ
+forks_in = parts_in forked
+
+-- the innermost one of a kind is ended, wherever it stands
+abbrev pub without : Part → List Part → List Part
+without p [] = []
+without p (q ∷ qs) = if is_part p q then qs else q ∷ without p qs
+
+abbrev pub parts_after : Option Effect → List Part → List Part
+parts_after (Some begin) ps = block ∷ ps
+parts_after (Some end) ps = without block ps
+parts_after (Some done) ps = without forked ps
+parts_after e ps = ps
 
 abbrev pub passed : Code → Instr → Option Effect → Situation → Situation
-passed c i e s = record { height = s.height - pops c i e + pushes e; blocks = blocks_after e s.blocks; forks = forks_after e s.forks }
+passed c i e s = record { height = s.height - pops c i e + pushes e; parts = parts_after e s.parts }
 
 -- what goes on at the place after a fork is a forked part
 abbrev pub onwards : Code → Instr → Option Effect → Situation → Situation
-onwards c i (Some fork) s = record { height = s.height; blocks = s.blocks; forks = s.forks + 1 }
+onwards c i (Some fork) s = record { height = s.height; parts = forked ∷ s.parts }
 onwards c i e s = passed c i e s
 
 abbrev pub jumps : Option Effect → Bool
@@ -188,31 +216,48 @@ is_border (Some begin) = true
 is_border (Some end) = true
 is_border (Some fork) = true
 is_border (Some done) = true
+is_border (Some cancel) = true
 is_border e = false
 
--- what may not be around an instruction
+-- the innermost part is a block
+abbrev pub is_in_block : List Part → Bool
+is_in_block [] = false
+is_in_block (p ∷ ps) = is_part block p
+
+-- a part is around an instruction that may not be, or one that has to be is not
 abbrev pub is_torn : Option Effect → Situation → Bool
-is_torn (Some ret) s = not (s.blocks == 0) || not (s.forks == 0)
-is_torn (Some end) s = s.blocks == 0
-is_torn (Some done) s = s.forks == 0
+is_torn (Some ret) s = not (blocks_in s.parts == 0) || not (forks_in s.parts == 0)
+is_torn (Some end) s = blocks_in s.parts == 0
+is_torn (Some done) s = forks_in s.parts == 0
+is_torn (Some cancel) s = not (is_in_block s.parts)
 is_torn e s = false
+
+-- the same parts in the same order
+abbrev pub same_parts : List Part → List Part → Bool
+same_parts [] [] = true
+same_parts (p ∷ ps) (q ∷ qs) = is_part p q && same_parts ps qs
+same_parts ps qs = false
 
 abbrev pub same : Option Situation → Situation → Bool
 same None t = false
-same (Some s) t = (s.height == t.height) && ((s.blocks == t.blocks) && (s.forks == t.forks))
+same (Some s) t = (s.height == t.height) && same_parts s.parts t.parts
 
 -- a way into a place, with what comes by it
 abbrev pub uneven_faults : Func → Places → Option ℕ → Situation → List CodeFault
 uneven_faults f t None s = []
 uneven_faults f t (Some q) s = when (not (same (known_at f t q) s)) Uneven q
 
-abbrev pub situation_faults : Code → Func → Places → ℕ → Instr → Option Effect → Situation → List CodeFault
-situation_faults c f t p i e s =
+-- of what stands at an instruction
+abbrev pub faults_here : Code → Func → ℕ → Instr → Option Effect → Situation → List CodeFault
+faults_here c f p i e s =
     when (nat_lt s.height (pops c i e)) Underflow p
     ++ (when (is_border e && not (s.height == 0)) Uneven p
     ++ (when (is_torn e s) Uneven p
-    ++ (when (not (never_passed e) && (p + 1 == f.end)) NoEnd p
-    ++ (uneven_faults f t (next_of f p e) (onwards c i e s) ++ uneven_faults f t (target_of f i e) (passed c i e s)))))
+    ++ when (not (never_passed e) && (p + 1 == f.end)) NoEnd p))
+
+abbrev pub situation_faults : Code → Func → Places → ℕ → Instr → Option Effect → Situation → List CodeFault
+situation_faults c f t p i e s =
+    faults_here c f p i e s ++ (uneven_faults f t (next_of f p e) (onwards c i e s) ++ uneven_faults f t (target_of f i e) (passed c i e s))
 
 abbrev pub faults_at : Code → Func → Places → ℕ → Option Instr → Option Situation → List CodeFault
 faults_at c f t p None s = []

@@ -6,7 +6,7 @@ pub use Rattle.cw_code.specs.declared.table.Operands.TheVariants.{Zero as none, 
 pub use Rattle.cw_code.specs.declared.effects.Operator.{Operator}
 pub use Rattle.cw_code.specs.declared.effects.Operator.TheVariants.{Add as add, Sub as sub, Mul as mul, Div as div, Rem as rem, Neg as neg, Not as logical_not, Eq as eq, Ne as ne, Lt as lt, Le as le, Gt as gt, Ge as ge}
 pub use Rattle.cw_code.specs.declared.effects.Effect.{Effect}
-pub use Rattle.cw_code.specs.declared.effects.Effect.TheVariants.{Push as push, Local as local, Set as set, Load as load, LoadAt as load_at, Store as store, StoreAt as store_at, Lift as lift, Join as join, Jump as jump, JumpZero as jump_zero, Call as call, Ret as ret, Drop as drop_top, Out as out, Begin as begin, End as end, Fork as fork, Sync as sync, Done as done, Tick as tick}
+pub use Rattle.cw_code.specs.declared.effects.Effect.TheVariants.{Push as push, Local as local, Set as set, Load as load, LoadAt as load_at, Store as store, StoreAt as store_at, Lift as lift, Join as join, Jump as jump, JumpZero as jump_zero, Call as call, Ret as ret, Drop as drop_top, Out as out, Begin as begin, End as end, Fork as fork, Sync as sync, Done as done, Tick as tick, Cancel as cancel}
 
 abbrev pub row : Operands → Effect → Row
 row operands effect = record { operands = operands; effect = effect }
@@ -46,6 +46,7 @@ rows =
     ∷ row none sync
     ∷ row none done
     ∷ row none tick
+    ∷ row none cancel
     ∷ []
 
 abbrev pub row_at : ℕ → Option Row
@@ -83,6 +84,7 @@ taken fork params = 0
 taken sync params = 0
 taken done params = 0
 taken tick params = 0
+taken cancel params = 0
 
 abbrev pub operator_name : Operator → List ℕ
 operator_name add = codes "add"
@@ -121,6 +123,7 @@ effect_name fork = codes "fork"
 effect_name sync = codes "sync"
 effect_name done = codes "done"
 effect_name tick = codes "tick"
+effect_name cancel = codes "cancel"
 
 abbrev pub left_there : Effect → ℕ
 left_there push = 1

@@ -7,7 +7,7 @@ use Rattle.cw_code.specs.declared.instruction.CodeKind.{CodeKind}
 use Rattle.cw_code.specs.declared.instruction.CodeFault.{CodeFault}
 use Rattle.cw_code.specs.declared.instruction.CodeKind.TheVariants.{Underflow, Uneven, JumpOut, NoEnd}
 use Rattle.cw_code.specs.Table.{rows}
-use Rattle.cw_code.specs.Mnemonics.{plain, push, jump, jump_zero, fork, ret, done, tick}
+use Rattle.cw_code.specs.Mnemonics.{plain, push, jump, jump_zero, fork, ret, discard, begin, end, done, tick, cancel}
 use Rattle.cw_code.specs.Printed.{lines_from}
 use Rattle.cw_code.specs.Rules.{faults}
 
@@ -22,7 +22,7 @@ abbrev pub fault : CodeKind → ℕ → CodeFault
 fault k p = record { kind = k; at = p }
 
 pub record Verdicts : Type 0 where
-  pub table : length rows ≡ 32
+  pub table : length rows ≡ 33
   pub no_operands : faults (code (add ∷ ret ∷ [])) ≡ fault Underflow 0 ∷ []
   pub sound : faults (code (push (pos 1) ∷ ret ∷ [])) ≡ []
   pub no_target : faults (code (jump 9 ∷ ret ∷ [])) ≡ fault JumpOut 0 ∷ []
@@ -36,9 +36,20 @@ pub record Verdicts : Type 0 where
   pub growing : faults (code (tick ∷ push (pos 3) ∷ jump 0 ∷ [])) ≡ fault Uneven 0 ∷ []
   -- a fork to the place behind it
   pub to_the_next : faults (code (fork 1 ∷ done ∷ [])) ≡ fault Uneven 1 ∷ fault Uneven 1 ∷ []
+  -- blocks that are given up
+  pub outside : faults (code (cancel ∷ push (pos 0) ∷ ret ∷ [])) ≡ fault Uneven 0 ∷ []
+  pub given_up : faults (code (begin ∷ cancel ∷ end ∷ push (pos 0) ∷ ret ∷ [])) ≡ []
+  pub operand_left : faults (code (begin ∷ push (pos 1) ∷ cancel ∷ discard ∷ end ∷ push (pos 0) ∷ ret ∷ [])) ≡ fault Uneven 2 ∷ []
+  pub in_fork : faults (code (begin ∷ fork 4 ∷ cancel ∷ done ∷ end ∷ push (pos 0) ∷ ret ∷ [])) ≡ fault Uneven 2 ∷ []
+  pub block_in_fork : faults (code (fork 5 ∷ begin ∷ cancel ∷ end ∷ done ∷ push (pos 0) ∷ ret ∷ [])) ≡ []
+  -- an end of the block around a forked part
+  pub from_under : faults (code (begin ∷ fork 6 ∷ end ∷ begin ∷ cancel ∷ done ∷ end ∷ push (pos 0) ∷ ret ∷ [])) ≡ []
+  pub nothing_behind : faults (code (begin ∷ cancel ∷ [])) ≡ fault NoEnd 1 ∷ []
+  -- as many blocks and forked parts, in another order
+  pub other_order : faults (code (push (pos 1) ∷ jump_zero 5 ∷ begin ∷ fork 9 ∷ jump 7 ∷ fork 10 ∷ begin ∷ end ∷ done ∷ end ∷ push (pos 0) ∷ ret ∷ [])) ≡ fault Uneven 7 ∷ []
   pub no_function : faults (record { cells = 0; funcs = []; instrs = tick ∷ [] }) ≡ fault JumpOut 0 ∷ []
   -- an instruction that is none
-  pub unknown : faults (code (plain 33 ∷ ret ∷ [])) ≡ fault Underflow 0 ∷ fault Underflow 1 ∷ []
+  pub unknown : faults (code (plain 34 ∷ ret ∷ [])) ≡ fault Underflow 0 ∷ fault Underflow 1 ∷ []
 
 pub record Texts : Type 0 where
   pub one : lines_from 0 (push (pos 1) ∷ ret ∷ []) ≡ decimal 0 ++ (codes " push " ++ (signed_decimal (pos 1) ++ 10 ∷ [])) ++ (decimal 1 ++ codes " ret\n")

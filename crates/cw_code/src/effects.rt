@@ -40,4 +40,5 @@ pub enum Effect {
     Sync,
     Done,
     Tick,
+    Cancel,
 }

@@ -1,52 +1,57 @@
-ghost use Rattle.std.specs.Prelude.{◌≡◌, ℕ, ◌+◌, ◌-◌, ◌<◌, ◌≤◌, Bool, List, Option, length, slice_get, slice_index_or, Some, None, IfOk, IfSome, ◌==◌, nat_lt, nat_le, ◌&&◌, [], replicate, ◌*◌, true, ◌++◌, if◌then◌else◌};
-ghost use Rattle.cw_code.specs.Rules.{earliest, effect_of, situation_faults, uneven_faults, same, known_at, faults_at, place_faults, give, offered, visit, pass, passes, begun, places, size_of, head_faults, is_laid, faults_from, faults, inside};
+ghost use Rattle.std.specs.Prelude.{◌≡◌, ℕ, ◌+◌, ◌-◌, ◌<◌, ◌≤◌, Bool, List, Option, length, slice_get, slice_index_or, Some, None, IfOk, IfSome, ◌==◌, nat_lt, nat_le, ◌&&◌, [], ◌∷◌, replicate, ◌*◌, true, ◌++◌, if◌then◌else◌};
+ghost use Rattle.cw_code.specs.Nested.{Nested, IsGrown, parts_at, situation_at, level_at, level_of, seen, IsBelow, AreBelow, give_level, none_yet};
+ghost use Rattle.cw_code.specs.Rules.{earliest, effect_of, situation_faults, uneven_faults, same, known_at, faults_here, faults_at, place_faults, offered, visit, pass, passes, begun, places, size_of, head_faults, is_laid, faults_from, faults, inside};
 
 use crate::effects::Effect;
 use crate::instruction::{Code, CodeFault, CodeKind, Func, Instr};
-use crate::situation::{Known, Situation};
+use crate::nestings::Nestings;
+use crate::situation::{Arrival, Level};
 use crate::{judging, table};
 use cw_base::OutOfMemory;
 use std::alloc::Global;
 
 /// Whether this is what stands at a place.
-fn is_same(known: Option<Situation>, situation: &Situation) -> bool
-    ensures { result ≡ same known situation.now }
+fn is_same(nestings: &Nestings, known: Option<Level>, level: &Level) -> bool
+    requires known { IsBelow (length nestings.now) known }
+    requires level { level.now.nesting < length nestings.now }
+    ensures { result ≡ same (level_at nestings.now known) (situation_at nestings.now level.now) }
 {
     match known {
         None => false,
-        Some(k) => k.height == situation.height
-            && k.blocks == situation.blocks
-            && k.forks == situation.forks,
+        Some(k) => k.height == level.height && nestings.are_same(k.nesting, level.nesting),
     }
 }
 
-/// What is known of a place of the function.
-fn known(func: &Func, places: &[Option<Known>], place: u32) -> Option<Situation>
+/// What is kept of a place of the function.
+fn kept(func: &Func, places: &[Option<Arrival>], place: u32) -> Option<Level>
     requires { (func.now.start ≤ place) × (place < func.now.end) × (length places.now ≡ size_of func.now) }
-    ensures { result ≡ known_at func.now places.now place }
+    ensures { result ≡ level_of (slice_index_or places.now (place - func.now.start) None) }
 {
     match places[(place - func.start) as usize] {
         None => None,
-        Some(k) => Some(k.situation),
+        Some(arrival) => Some(arrival.level),
     }
 }
 
 /// What is broken where a way comes into a place.
 fn judge_way(
     best: Option<CodeFault>,
+    nestings: &Nestings,
     func: &Func,
-    places: &[Option<Known>],
+    places: &[Option<Arrival>],
     to: Option<u32>,
-    situation: &Situation,
+    level: &Level,
 ) -> Option<CodeFault>
-    requires { (length places.now ≡ size_of func.now) × ((target : ℕ) → to ≡ Some target → (func.now.start ≤ target) × (target < func.now.end)) }
-    ensures { result ≡ earliest best (uneven_faults func.now places.now to situation.now) }
+    requires inside { (length places.now ≡ size_of func.now) × ((target : ℕ) → to ≡ Some target → (func.now.start ≤ target) × (target < func.now.end)) }
+    requires places { AreBelow (length nestings.now) places.now }
+    requires level { level.now.nesting < length nestings.now }
+    ensures { result ≡ earliest best (uneven_faults func.now (seen nestings.now places.now) to (situation_at nestings.now level.now)) }
 {
     match to {
         None => best,
         Some(target) => judging::note(
             best,
-            !is_same(known(func, places, target), situation),
+            !is_same(nestings, kept(func, places, target), level),
             CodeKind::Uneven,
             target,
         ),
@@ -62,74 +67,99 @@ fn is_last(func: &Func, place: u32) -> bool
     place + 1 == end
 }
 
-/// All that is broken of what stands at an instruction, and of what it leaves to the places where it leads.
-#[tactic(auto, using(crate::proofs::Fold::earliest_append, crate::proofs::Fold::next_inside, crate::proofs::Fold::target_inside))]
-fn judge_situation(
+/// All that is broken of what stands at an instruction.
+#[tactic(auto, using(crate::proofs::Fold::earliest_append))]
+fn judge_here(
     best: Option<CodeFault>,
+    nestings: &Nestings,
     code: &Code,
     func: &Func,
-    places: &[Option<Known>],
     place: u32,
     instr: Instr,
     effect: Option<Effect>,
-    situation: &Situation,
-) -> Result<Option<CodeFault>, OutOfMemory>
-    requires { (place < func.now.end) × (length places.now ≡ size_of func.now) }
-    ensures { IfOk result (λ r. r ≡ earliest best (situation_faults code.now func.now places.now place instr effect situation.now)) }
+    level: &Level,
+) -> Option<CodeFault>
+    requires { (place < func.now.end) × (level.now.nesting < length nestings.now) }
+    ensures { result ≡ earliest best (faults_here code.now func.now place instr effect (situation_at nestings.now level.now)) }
 {
-    let ahead = judging::ahead(code, instr, effect, situation)?;
-    let away = judging::after(code, instr, effect, situation)?;
     let best = judging::note(
         best,
-        situation.height < judging::popped(code, instr, effect) as u64,
+        level.height < judging::popped(code, instr, effect) as u64,
         CodeKind::Underflow,
         place,
     );
     let best = judging::note(
         best,
-        judging::borders(effect) && situation.height != 0,
+        judging::borders(effect) && level.height != 0,
         CodeKind::Uneven,
         place,
     );
     let best = judging::note(
         best,
-        judging::tears(effect, situation),
+        judging::tears(nestings, effect, level),
         CodeKind::Uneven,
         place,
     );
-    let best = judging::note(
+    judging::note(
         best,
         !judging::is_left(effect) && is_last(func, place),
         CodeKind::NoEnd,
         place,
-    );
+    )
+}
+
+/// All that is broken of what stands at an instruction, and of what it leaves to the places where it leads.
+#[tactic(auto, using(crate::proofs::Fold::earliest_append, crate::proofs::Fold::next_inside, crate::proofs::Fold::target_inside))]
+fn judge_level(
+    best: Option<CodeFault>,
+    nestings: &mut Nestings,
+    code: &Code,
+    func: &Func,
+    places: &[Option<Arrival>],
+    place: u32,
+    instr: Instr,
+    effect: Option<Effect>,
+    level: &Level,
+) -> Result<Option<CodeFault>, OutOfMemory>
+    requires inside { (place < func.now.end) × (length places.now ≡ size_of func.now) }
+    requires places { AreBelow (length nestings.old) places.now }
+    requires level { level.now.nesting < length nestings.old }
+    ensures grown { IsGrown nestings.old nestings.new }
+    ensures first { IfOk result (λ r. r ≡ earliest best (situation_faults code.now func.now (seen nestings.old places.now) place instr effect (situation_at nestings.old level.now))) }
+{
+    let ahead = judging::ahead(nestings, code, instr, effect, level)?;
+    let away = judging::after(nestings, code, instr, effect, level)?;
+    let best = judge_here(best, nestings, code, func, place, instr, effect, level);
     let behind = judging::next(func, place, effect);
-    let best = judge_way(best, func, places, behind, &ahead);
+    let best = judge_way(best, nestings, func, places, behind, &ahead);
     let target = judging::target(func, instr, effect);
-    Ok(judge_way(best, func, places, target, &away))
+    Ok(judge_way(best, nestings, func, places, target, &away))
 }
 
 /// All that is broken at one place.
 #[tactic(auto, using(crate::proofs::Fold::earliest_append))]
 fn judge_place(
     best: Option<CodeFault>,
+    nestings: &mut Nestings,
     code: &Code,
     func: &Func,
-    places: &[Option<Known>],
+    places: &[Option<Arrival>],
     place: u32,
 ) -> Result<Option<CodeFault>, OutOfMemory>
-    requires { (func.now.start ≤ place) × (place < func.now.end) × (length places.now ≡ size_of func.now) }
-    ensures { IfOk result (λ r. r ≡ earliest best (faults_at code.now func.now places.now place (slice_get code.now.instrs place) (known_at func.now places.now place))) }
+    requires inside { (func.now.start ≤ place) × (place < func.now.end) × (length places.now ≡ size_of func.now) }
+    requires places { AreBelow (length nestings.old) places.now }
+    ensures grown { IsGrown nestings.old nestings.new }
+    ensures first { IfOk result (λ r. r ≡ earliest best (faults_at code.now func.now (seen nestings.old places.now) place (slice_get code.now.instrs place) (known_at func.now (seen nestings.old places.now) place))) }
 {
     match code.instr(place) {
         None => Ok(best),
         Some(instr) => {
             let effect = table::effect_at(instr.op);
             let best = judging::operand(best, code, func, place, instr, effect);
-            match known(func, places, place) {
+            match kept(func, places, place) {
                 None => Ok(best),
-                Some(situation) => judge_situation(
-                    best, code, func, places, place, instr, effect, &situation,
+                Some(level) => judge_level(
+                    best, nestings, code, func, places, place, instr, effect, &level,
                 ),
             }
         }
@@ -140,30 +170,26 @@ fn judge_place(
 #[tactic(auto, using(crate::proofs::Fold::earliest_append))]
 fn judge_places(
     best: Option<CodeFault>,
+    nestings: &mut Nestings,
     code: &Code,
     func: &Func,
-    places: &[Option<Known>],
+    places: &[Option<Arrival>],
 ) -> Result<Option<CodeFault>, OutOfMemory>
-    requires { (func.now.start ≤ func.now.end) × (length places.now ≡ size_of func.now) }
-    ensures { IfOk result (λ r. r ≡ earliest best (place_faults code.now func.now places.now (size_of func.now))) }
+    requires inside { (func.now.start ≤ func.now.end) × (length places.now ≡ size_of func.now) }
+    requires places { AreBelow (length nestings.old) places.now }
+    ensures { IfOk result (λ r. r ≡ earliest best (place_faults code.now func.now (seen nestings.old places.now) (size_of func.now))) }
 {
     let mut first = best;
     for n in 0..(func.end - func.start) {
-        first = judge_place(first, code, func, places, func.start + n)?;
+        first = judge_place(first, nestings, code, func, places, func.start + n)?;
     }
     Ok(first)
 }
 
 /// A place gets what another gives it, unless a smaller one gave.
-fn offer(
-    func: &Func,
-    to: Option<u32>,
-    place: u32,
-    situation: Situation,
-    places: &mut [Option<Known>],
-)
+fn offer(func: &Func, to: Option<u32>, place: u32, level: Level, places: &mut [Option<Arrival>])
     requires { (length places.old ≡ size_of func.now) × ((target : ℕ) → to ≡ Some target → (func.now.start ≤ target) × (target < func.now.end)) }
-    ensures { places.new ≡ give func.now to place situation places.old }
+    ensures { places.new ≡ give_level func.now to place level places.old }
 {
     match to {
         None => {}
@@ -171,16 +197,10 @@ fn offer(
             if target > func.start {
                 let at = (target - func.start) as usize;
                 match places[at] {
-                    None => places[at] = Some(Known {
-                        from: place,
-                        situation: situation,
-                    }),
-                    Some(k) => {
-                        if place <= k.from {
-                            places[at] = Some(Known {
-                                from: place,
-                                situation: situation,
-                            });
+                    None => places[at] = Some(Arrival { from: place, level }),
+                    Some(arrival) => {
+                        if place <= arrival.from {
+                            places[at] = Some(Arrival { from: place, level });
                         }
                     }
                 }
@@ -190,16 +210,20 @@ fn offer(
 }
 
 /// A place gives what stands there to the places where it leads.
-#[tactic(auto, using(crate::proofs::Fold::next_inside, crate::proofs::Fold::target_inside, crate::proofs::Visits::length_give))]
+#[tactic(auto, using(crate::proofs::Fold::next_inside, crate::proofs::Fold::target_inside))]
 fn visit_place(
+    nestings: &mut Nestings,
     code: &Code,
     func: &Func,
     n: u32,
-    places: &mut [Option<Known>],
+    places: &mut [Option<Arrival>],
 ) -> Result<(), OutOfMemory>
-    requires { (func.now.start + n < func.now.end) × (length places.old ≡ size_of func.now) }
+    requires inside { (func.now.start + n < func.now.end) × (length places.old ≡ size_of func.now) }
+    requires places { AreBelow (length nestings.old) places.old }
     ensures length { length places.new ≡ length places.old }
-    ensures visited { IfOk result (λ _. places.new ≡ visit code.now func.now (func.now.start + n) (slice_get code.now.instrs (func.now.start + n)) (slice_index_or places.old n None) places.old) }
+    ensures grown { IsGrown nestings.old nestings.new }
+    ensures below { AreBelow (length nestings.new) places.new }
+    ensures visited { IfOk result (λ _. seen nestings.new places.new ≡ visit code.now func.now (func.now.start + n) (slice_get code.now.instrs (func.now.start + n)) (slice_index_or (seen nestings.old places.old) n None) (seen nestings.old places.old)) }
 {
     let place = func.start + n;
     let instr = match code.instr(place) {
@@ -208,10 +232,10 @@ fn visit_place(
     };
     match places[n as usize] {
         None => Ok(()),
-        Some(k) => {
+        Some(arrival) => {
             let effect = table::effect_at(instr.op);
-            let ahead = judging::ahead(code, instr, effect, &k.situation)?;
-            let away = judging::after(code, instr, effect, &k.situation)?;
+            let ahead = judging::ahead(nestings, code, instr, effect, &arrival.level)?;
+            let away = judging::after(nestings, code, instr, effect, &arrival.level)?;
             offer(
                 func,
                 judging::next(func, place, effect),
@@ -232,20 +256,28 @@ fn visit_place(
 }
 
 /// Each place once.
-#[tactic(auto, using(crate::proofs::Visits::length_visit))]
-fn pass_places(code: &Code, func: &Func, places: &mut [Option<Known>]) -> Result<(), OutOfMemory>
-    requires { (func.now.start ≤ func.now.end) × (length places.old ≡ size_of func.now) }
+#[tactic(auto, using(crate::proofs::Seen::below_grown))]
+fn pass_places(
+    nestings: &mut Nestings,
+    code: &Code,
+    func: &Func,
+    places: &mut [Option<Arrival>],
+) -> Result<(), OutOfMemory>
+    requires inside { (func.now.start ≤ func.now.end) × (length places.old ≡ size_of func.now) }
+    requires places { AreBelow (length nestings.old) places.old }
     ensures length { length places.new ≡ length places.old }
-    ensures passed { IfOk result (λ _. places.new ≡ pass code.now func.now (size_of func.now) places.old) }
+    ensures grown { IsGrown nestings.old nestings.new }
+    ensures below { AreBelow (length nestings.new) places.new }
+    ensures passed { IfOk result (λ _. seen nestings.new places.new ≡ pass code.now func.now (size_of func.now) (seen nestings.old places.old)) }
 {
     for n in 0..(func.end - func.start) {
-        visit_place(code, func, n, places)?;
+        visit_place(nestings, code, func, n, places)?;
     }
     Ok(())
 }
 
 /// Whether two places are the same, in what stands there and in who gave it.
-fn is_like(a: Option<Known>, b: Option<Known>) -> bool
+fn is_like(a: Option<Arrival>, b: Option<Arrival>) -> bool
     ensures same { result ≡ true → a ≡ b }
     ensures told { a ≡ b → result ≡ true }
 {
@@ -254,16 +286,15 @@ fn is_like(a: Option<Known>, b: Option<Known>) -> bool
         Some(x) => match b {
             None => false,
             Some(y) => x.from == y.from
-                && x.situation.height == y.situation.height
-                && x.situation.blocks == y.situation.blocks
-                && x.situation.forks == y.situation.forks,
+                && x.level.height == y.level.height
+                && x.level.nesting == y.level.nesting,
         },
     }
 }
 
 /// Whether all places of two are the same.
-#[tactic(auto, using(crate::proofs::Visits::same_elements))]
-fn are_equal(a: &[Option<Known>], b: &[Option<Known>]) -> bool
+#[tactic(auto, using(crate::proofs::Seen::same_elements))]
+fn are_equal(a: &[Option<Arrival>], b: &[Option<Arrival>]) -> bool
     ensures same { result ≡ true → a.now ≡ b.now }
     ensures told { a.now ≡ b.now → result ≡ true }
 {
@@ -279,58 +310,67 @@ fn are_equal(a: &[Option<Known>], b: &[Option<Known>]) -> bool
 }
 
 /// At the start of a function nothing stands yet.
-#[tactic(auto, using(crate::proofs::Visits::more_begun))]
-fn begin(func: &Func, size: u32, alloc: Global) -> Result<Vec<Option<Known>>, OutOfMemory>
-    ensures { IfOk result (λ t. t.items ≡ begun func.now size) }
+#[tactic(auto, using(crate::proofs::Seen::more_none))]
+fn begin(func: &Func, size: u32, alloc: Global) -> Result<Vec<Option<Arrival>>, OutOfMemory>
+    ensures { IfOk result (λ t. t.items ≡ none_yet func.now size) }
 {
     let mut places = Vec::new(alloc);
     for n in 0..size {
-        let known = if n == 0 {
-            Some(Known {
+        let arrival = if n == 0 {
+            Some(Arrival {
                 from: func.start,
-                situation: Situation {
+                level: Level {
                     height: 0,
-                    blocks: 0,
-                    forks: 0,
+                    nesting: 0,
                 },
             })
         } else {
             None
         };
-        places.push(known)?;
+        places.push(arrival)?;
     }
     Ok(places)
 }
 
 /// Each place once, and whether that changed nothing.
 fn turn(
+    nestings: &mut Nestings,
     code: &Code,
     func: &Func,
-    places: &mut [Option<Known>],
+    places: &mut [Option<Arrival>],
     alloc: Global,
 ) -> Result<bool, OutOfMemory>
-    requires { (func.now.start ≤ func.now.end) × (length places.old ≡ size_of func.now) }
+    requires inside { (func.now.start ≤ func.now.end) × (length places.old ≡ size_of func.now) }
+    requires places { AreBelow (length nestings.old) places.old }
     ensures length { length places.new ≡ length places.old }
-    ensures passed { IfOk result (λ _. places.new ≡ pass code.now func.now (size_of func.now) places.old) }
+    ensures grown { IsGrown nestings.old nestings.new }
+    ensures below { AreBelow (length nestings.new) places.new }
+    ensures passed { IfOk result (λ _. seen nestings.new places.new ≡ pass code.now func.now (size_of func.now) (seen nestings.old places.old)) }
     ensures same { IfOk result (λ b. b ≡ true → places.new ≡ places.old) }
     ensures told { IfOk result (λ b. places.new ≡ places.old → b ≡ true) }
 {
     let before = places.to_vec(alloc)?;
-    pass_places(code, func, places)?;
+    pass_places(nestings, code, func, places)?;
     Ok(are_equal(places, &before))
 }
 
 /// What stands at the places of a function.
-#[tactic(auto, using(crate::proofs::Visits::settles_at, crate::proofs::Visits::length_begun))]
-fn situations(code: &Code, func: &Func, alloc: Global) -> Result<Vec<Option<Known>>, OutOfMemory>
-    requires { func.now.start ≤ func.now.end }
-    ensures known { IfOk result (λ t. t.items ≡ places code.now func.now) }
+fn situations(
+    nestings: &mut Nestings,
+    code: &Code,
+    func: &Func,
+    alloc: Global,
+) -> Result<Vec<Option<Arrival>>, OutOfMemory>
+    requires inside { func.now.start ≤ func.now.end }
+    requires nothing { nestings.old ≡ [] ∷ [] }
+    ensures known { IfOk result (λ t. seen nestings.new t.items ≡ places code.now func.now) }
     ensures length { IfOk result (λ t. length t.items ≡ size_of func.now) }
+    ensures below { IfOk result (λ t. AreBelow (length nestings.new) t.items) }
 {
     let size = func.end - func.start;
     let mut places = begin(func, size, alloc)?;
     for _ in 0..(size as u64 + size as u64) {
-        if turn(code, func, &mut places, alloc)? {
+        if turn(nestings, code, func, &mut places, alloc)? {
             return Ok(places);
         }
     }
@@ -374,8 +414,9 @@ fn judge_body(
     requires { func.now.start ≤ func.now.end }
     ensures { IfOk result (λ r. r ≡ earliest best (place_faults code.now func.now (places code.now func.now) (size_of func.now))) }
 {
-    let places = situations(code, func, alloc)?;
-    judge_places(best, code, func, &places)
+    let mut nestings = Nestings::new(alloc)?;
+    let places = situations(&mut nestings, code, func, alloc)?;
+    judge_places(best, &mut nestings, code, func, &places)
 }
 
 /// What is broken of a function and at its places.

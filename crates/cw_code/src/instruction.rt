@@ -48,7 +48,7 @@ impl Code {
 pub enum CodeKind {
     /// An operand or a local is missing, or the instruction is none.
     Underflow = 1,
-    /// Two ways into the place bring different heights or depths, or what is around it may not be there.
+    /// Two ways into the place bring different heights or open parts, or what is around it may not be there.
     Uneven = 2,
     /// A target, a function or a cell is not there, or a function does not lie behind the one before it.
     JumpOut = 3,

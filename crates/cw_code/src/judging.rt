@@ -1,10 +1,12 @@
-ghost use Rattle.std.specs.Prelude.{◌≡◌, ◌+◌, ◌<◌, ◌^◌, length, slice_get, Some, IfOk};
-ghost use Rattle.cw_code.specs.Rules.{earlier, earliest, when, kind_number, below, cells_below, inside, is_target, is_tick, operand_faults, effect_of, called, pops, passed, onwards, never_passed, jumps, is_border, is_torn, next_of, target_of, if_inside, natural};
+ghost use Rattle.std.specs.Prelude.{◌≡◌, ◌+◌, ◌-◌, ◌<◌, ◌^◌, length, slice_get, Some, IfOk};
+ghost use Rattle.cw_code.specs.Rules.{earlier, earliest, when, kind_number, below, cells_below, inside, is_target, is_tick, operand_faults, effect_of, called, pops, pushes, parts_after, passed, onwards, never_passed, jumps, is_border, is_torn, next_of, target_of, if_inside, natural};
+ghost use Rattle.cw_code.specs.Nested.{parts_at, situation_at, IsGrown};
 ghost use Rattle.cw_code.specs.Table.{effect_at, taken, left_there};
 
 use crate::effects::Effect;
 use crate::instruction::{Code, CodeFault, CodeKind, Func, Instr};
-use crate::situation::Situation;
+use crate::nestings::Nestings;
+use crate::situation::{Level, Part};
 use crate::table;
 use cw_base::OutOfMemory;
 
@@ -207,53 +209,84 @@ pub fn popped(code: &Code, instr: Instr, effect: Option<Effect>) -> u32
     }
 }
 
-/// What an instruction leaves of what stands at it. A height or a depth that is beyond all numbers is want of memory.
-pub fn after(
+/// The height that an instruction leaves of one. A height beyond all numbers is want of memory.
+fn height_after(
     code: &Code,
     instr: Instr,
     effect: Option<Effect>,
-    situation: &Situation,
-) -> Result<Situation, OutOfMemory>
-    ensures { IfOk result (λ t. t ≡ passed code.now instr effect situation.now) }
+    height: u64,
+) -> Result<u64, OutOfMemory>
+    ensures { IfOk result (λ n. n ≡ height - pops code.now instr effect + pushes effect) }
 {
     let pushed = match effect {
         None => 0,
         Some(e) => leaves(e),
     };
-    Ok(Situation {
-        height: situation
-            .height
-            .saturating_sub(popped(code, instr, effect) as u64)
-            .checked_add(pushed as u64)
-            .ok_or(OutOfMemory)?,
-        blocks: match effect {
-            Some(Effect::Begin) => situation.blocks.checked_add(1).ok_or(OutOfMemory)?,
-            Some(Effect::End) => situation.blocks.saturating_sub(1),
-            _ => situation.blocks,
-        },
-        forks: match effect {
-            Some(Effect::Done) => situation.forks.saturating_sub(1),
-            _ => situation.forks,
-        },
-    })
+    height
+        .saturating_sub(popped(code, instr, effect) as u64)
+        .checked_add(pushed as u64)
+        .ok_or(OutOfMemory)
+}
+
+/// The parts that an instruction leaves open.
+fn nesting_after(
+    nestings: &mut Nestings,
+    effect: Option<Effect>,
+    nesting: u32,
+) -> Result<u32, OutOfMemory>
+    requires { nesting < length nestings.old }
+    ensures grown { IsGrown nestings.old nestings.new }
+    ensures made { IfOk result (λ n. n < length nestings.new) }
+    ensures parts { IfOk result (λ n. parts_at nestings.new n ≡ parts_after effect (parts_at nestings.old nesting)) }
+{
+    match effect {
+        Some(Effect::Begin) => nestings.within(nesting, Part::Block),
+        Some(Effect::End) => nestings.without(nesting, Part::Block),
+        Some(Effect::Done) => nestings.without(nesting, Part::Fork),
+        _ => Ok(nesting),
+    }
+}
+
+/// What an instruction leaves of what stands at it.
+pub fn after(
+    nestings: &mut Nestings,
+    code: &Code,
+    instr: Instr,
+    effect: Option<Effect>,
+    level: &Level,
+) -> Result<Level, OutOfMemory>
+    requires { level.now.nesting < length nestings.old }
+    ensures grown { IsGrown nestings.old nestings.new }
+    ensures made { IfOk result (λ t. t.nesting < length nestings.new) }
+    ensures leaves { IfOk result (λ t. situation_at nestings.new t ≡ passed code.now instr effect (situation_at nestings.old level.now)) }
+{
+    let height = height_after(code, instr, effect, level.height)?;
+    let nesting = nesting_after(nestings, effect, level.nesting)?;
+    Ok(Level { height, nesting })
 }
 
 /// What stands at the place behind an instruction.
 pub fn ahead(
+    nestings: &mut Nestings,
     code: &Code,
     instr: Instr,
     effect: Option<Effect>,
-    situation: &Situation,
-) -> Result<Situation, OutOfMemory>
-    ensures { IfOk result (λ t. t ≡ onwards code.now instr effect situation.now) }
+    level: &Level,
+) -> Result<Level, OutOfMemory>
+    requires { level.now.nesting < length nestings.old }
+    ensures grown { IsGrown nestings.old nestings.new }
+    ensures made { IfOk result (λ t. t.nesting < length nestings.new) }
+    ensures leaves { IfOk result (λ t. situation_at nestings.new t ≡ onwards code.now instr effect (situation_at nestings.old level.now)) }
 {
     match effect {
-        Some(Effect::Fork) => Ok(Situation {
-            height: situation.height,
-            blocks: situation.blocks,
-            forks: situation.forks.checked_add(1).ok_or(OutOfMemory)?,
-        }),
-        _ => after(code, instr, effect, situation),
+        Some(Effect::Fork) => {
+            let nesting = nestings.within(level.nesting, Part::Fork)?;
+            Ok(Level {
+                height: level.height,
+                nesting,
+            })
+        }
+        _ => after(nestings, code, instr, effect, level),
     }
 }
 
@@ -282,19 +315,26 @@ pub fn borders(effect: Option<Effect>) -> bool
     ensures { result ≡ is_border effect }
 {
     match effect {
-        Some(Effect::Begin) | Some(Effect::End) | Some(Effect::Fork) | Some(Effect::Done) => true,
+        Some(Effect::Begin)
+        | Some(Effect::End)
+        | Some(Effect::Fork)
+        | Some(Effect::Done)
+        | Some(Effect::Cancel) => true,
         _ => false,
     }
 }
 
 /// Whether a block or a forked part is around an instruction that may not be, or is not around one that needs it.
-pub fn tears(effect: Option<Effect>, situation: &Situation) -> bool
-    ensures { result ≡ is_torn effect situation.now }
+pub fn tears(nestings: &Nestings, effect: Option<Effect>, level: &Level) -> bool
+    requires { level.now.nesting < length nestings.now }
+    ensures { result ≡ is_torn effect (situation_at nestings.now level.now) }
 {
+    let open = level.nesting;
     match effect {
-        Some(Effect::Ret) => situation.blocks != 0 || situation.forks != 0,
-        Some(Effect::End) => situation.blocks == 0,
-        Some(Effect::Done) => situation.forks == 0,
+        Some(Effect::Ret) => nestings.holds(open, Part::Block) || nestings.holds(open, Part::Fork),
+        Some(Effect::End) => !nestings.holds(open, Part::Block),
+        Some(Effect::Done) => !nestings.holds(open, Part::Fork),
+        Some(Effect::Cancel) => !nestings.is_in_block(open),
         _ => false,
     }
 }

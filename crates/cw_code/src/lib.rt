@@ -2,7 +2,8 @@
 //! several layers name: run faults, limits, cells.
 //! Stands on `cw_base`.
 //! Contracts cite `specs/Table.antt` (instructions), `specs/Rules.antt` (the rules, as the list of what is broken), `specs/Answers.antt`
-//! (what the verifier answers), `specs/Printed.antt` (texts) and `specs/Programs.antt` (programs). `Worked` tries them.
+//! (what the verifier answers), `specs/Nested.antt` (how it keeps what stands at a place), `specs/Printed.antt` (texts) and
+//! `specs/Programs.antt` (programs). `Worked` tries them.
 #![tactic(auto)]
 
 ghost use Rattle.cw_code.specs.Worked.{Verdicts, Texts};
@@ -11,6 +12,7 @@ mod effects;
 mod finding;
 mod instruction;
 mod judging;
+mod nestings;
 mod print;
 mod program;
 mod situation;
@@ -45,6 +47,13 @@ pub struct Limits {
     pub aborts: u32,
     pub strands: u32,
     pub moves: u64,
+}
+
+/// A cell, and the value that a block that is given up puts back there.
+#[derive(Clone, Copy, PartialEq, Eq, Debug)]
+pub struct Back {
+    pub cell: u32,
+    pub value: i64,
 }
 
 /// A cell: its name, its number of elements, or 0 for a plain one, the number of its first element, and the

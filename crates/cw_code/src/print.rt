@@ -51,6 +51,7 @@ fn effect_name(effect: Effect) -> &'static str
         Effect::Sync => "sync",
         Effect::Done => "done",
         Effect::Tick => "tick",
+        Effect::Cancel => "cancel",
     }
 }
 

@@ -1,14 +1,20 @@
-/// What stands at a place: the height of the operand stack, and how many blocks and forked parts are open.
+/// A part of code that is open at a place: an atomic block that was begun, or a part that was forked.
 #[derive(Clone, Copy, PartialEq, Eq, Debug)]
-pub struct Situation {
-    pub height: u64,
-    pub blocks: u64,
-    pub forks: u64,
+pub enum Part {
+    Block,
+    Fork,
 }
 
-/// A situation, and the place that gave it.
+/// What stands at a place: the height of the operand stack, and the number of the nesting of the parts that are open.
 #[derive(Clone, Copy, PartialEq, Eq, Debug)]
-pub struct Known {
+pub struct Level {
+    pub height: u64,
+    pub nesting: u32,
+}
+
+/// A level, and the place that gave it.
+#[derive(Clone, Copy, PartialEq, Eq, Debug)]
+pub struct Arrival {
     pub from: u32,
-    pub situation: Situation,
+    pub level: Level,
 }

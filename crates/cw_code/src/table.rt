@@ -36,6 +36,7 @@ macro_rules! row {
     (sync) => { Effect::Sync };
     (done) => { Effect::Done };
     (tick) => { Effect::Tick };
+    (cancel) => { Effect::Cancel };
 }
 
 /// A row for each instruction.
@@ -61,8 +62,8 @@ pub struct Row {
 }
 
 /// The instructions, from number 1 on.
-pub const TABLE: [Row; 32] =
-    rows!(push One, local One, set One, load One, loadx Two, store One, storex Two, add Zero, sub Zero, mul Zero, div Zero, rem Zero, neg Zero, not Zero, eq Zero, ne Zero, lt Zero, le Zero, gt Zero, ge Zero, jump One, jumpz One, call One, ret Zero, drop Zero, out Zero, begin Zero, end Zero, fork One, sync Zero, done Zero, tick Zero);
+pub const TABLE: [Row; 33] =
+    rows!(push One, local One, set One, load One, loadx Two, store One, storex Two, add Zero, sub Zero, mul Zero, div Zero, rem Zero, neg Zero, not Zero, eq Zero, ne Zero, lt Zero, le Zero, gt Zero, ge Zero, jump One, jumpz One, call One, ret Zero, drop Zero, out Zero, begin Zero, end Zero, fork One, sync Zero, done Zero, tick Zero, cancel Zero);
 
 /// The row of a number in a table that counts from 1.
 pub fn look_up<const N: usize>(rows: &[Row; N], op: u8) -> Option<Row>

@@ -5,7 +5,7 @@ use Rattle.std.proofs.Math.Seq.{set-append_seam}
 use Rattle.cw_text.specs.Syntax.{Term, Statement, declare, Block, first, choose, repeat, atomic, spawn}
 use Rattle.cw_code.specs.declared.instruction.Instr.{Instr}
 use Rattle.cw_strand.proofs.Numbering.{count_behind}
-use Rattle.cw_strand.specs.Compilation.{Slots, slots_after, term_code, statement_code, block_code, jump, jump_zero, tick, begin, end, fork, wait, done}
+use Rattle.cw_strand.specs.Compilation.{Slots, slots_after, term_code, statement_code, block_code, block_length, jump, jump_zero, tick, begin, end, fork, wait, done}
 use Rattle.cw_compile.specs.declared.emitter.Emitter.{Emitter}
 use Rattle.cw_compile.specs.Emitted.{peak, with_code, with_statement, with_block, IsLeft}
 
@@ -13,26 +13,26 @@ two_more : (xs : List Instr) (x y : Instr) → length ((xs ++ x ∷ []) ++ y ∷
 two_more xs x y = omega (arith, length-append xs (x ∷ []), length-append (xs ++ x ∷ []) (y ∷ []))
 
 -- an atomic block, piece by piece
-pub atomic_emitted : (e e1 e2 e3 e4 e5 : Emitter) (b : Block) → e1 ≡ with_code e (tick ∷ []) → e2 ≡ with_code e1 (begin ∷ []) → e3 ≡ with_block e2 b → e4 ≡ with_code e3 (wait ∷ []) → e5 ≡ with_code e4 (end ∷ []) → e5 ≡ with_statement e (atomic b)
-atomic_emitted e e1 e2 e3 e4 e5 b i1 i2 i3 i4 i5 =
+pub atomic_emitted : (e e1 e2 e3 e4 e5 : Emitter) (b : Block) (q last : ℕ) → e1 ≡ with_code e (tick ∷ []) → e2 ≡ with_code e1 (begin ∷ []) → last ≡ length e2.code + block_length b + 1 → e3 ≡ with_block e2 last b → e4 ≡ with_code e3 (wait ∷ []) → e5 ≡ with_code e4 (end ∷ []) → e5 ≡ with_statement e q (atomic b)
+atomic_emitted e e1 e2 e3 e4 e5 b q last i1 i2 k i3 i4 i5 =
     let before : List Instr = (e.code ++ tick ∷ []) ++ begin ∷ [] in
-    let body : ℕ → List Instr = λ n. block_code e.elements e.functions e.slots n b in
+    let body : ℕ → List Instr = λ n. block_code e.elements e.functions e.slots n (n + block_length b + 1) b in
     let flat : ((before ++ body (length before)) ++ wait ∷ []) ++ end ∷ [] ≡ e.code ++ (tick ∷ begin ∷ (body (length e.code + 1 + 1) ++ (wait ∷ end ∷ []))) = rw (two_more e.code tick begin) (simp append_assoc) in
-    rw (i5, i4, i3, i2, i1) (ap (λ c. record e { code = c; most = (with_block e b).most }) flat)
+    rw (i5, i4, i3, k, i2, i1) (ap (λ c. record e { code = c; most = (with_block e q b).most }) flat)
 
 -- a spawned block, piece by piece, where the target of the fork was written last
-module _ (e e1 e2 e3 e4 e5 : Emitter) (b : Block) (n : ℕ) where
-  pub spawn_emitted : e1 ≡ with_code e (tick ∷ []) → n ≡ length e1.code → e2 ≡ with_code e1 (fork 0 ∷ []) → e3 ≡ with_block e2 b → e4 ≡ with_code e3 (wait ∷ []) → e5 ≡ with_code e4 (done ∷ []) → record e5 { code = slice_set e5.code n (fork (length e5.code)) } ≡ with_statement e (spawn b)
+module _ (e e1 e2 e3 e4 e5 : Emitter) (b : Block) (n q : ℕ) where
+  pub spawn_emitted : e1 ≡ with_code e (tick ∷ []) → n ≡ length e1.code → e2 ≡ with_code e1 (fork 0 ∷ []) → e3 ≡ with_block e2 q b → e4 ≡ with_code e3 (wait ∷ []) → e5 ≡ with_code e4 (done ∷ []) → record e5 { code = slice_set e5.code n (fork (length e5.code)) } ≡ with_statement e q (spawn b)
   spawn_emitted i1 m i2 i3 i4 i5 =
       let front : List Instr = e.code ++ tick ∷ [] in
       let before : List Instr = front ++ fork 0 ∷ [] in
-      let body : List Instr = block_code e.elements e.functions e.slots (length before) b in
+      let body : List Instr = block_code e.elements e.functions e.slots (length before) q b in
       let all : List Instr = ((before ++ body) ++ wait ∷ []) ++ done ∷ [] in
       let flat : all ≡ front ++ fork 0 ∷ (body ++ (wait ∷ done ∷ [])) = simp append_assoc in
       let past : length all ≡ length e.code + 1 + 1 + length body + 1 + 1 = omega (arith, two_more e.code tick (fork 0), length-append before body, two_more (before ++ body) wait done) in
       let set : slice_set all (length front) (fork (length all)) ≡ e.code ++ (tick ∷ fork (length e.code + 1 + 1 + length body + 1 + 1) ∷ (body ++ (wait ∷ done ∷ []))) =
       ap (λ l. slice_set l (length front) (fork (length all))) flat ∙ set-append_seam front (fork 0) (body ++ (wait ∷ done ∷ [])) (fork (length all)) ∙ rw past (append_assoc e.code (tick ∷ []) _) in
-      rw (i5, i4, i3, i2, m, i1) (ap (λ c. record e { code = c; most = (with_block e b).most }) set ∙ rw (two_more e.code tick (fork 0)) refl)
+      rw (i5, i4, i3, i2, m, i1) (ap (λ c. record e { code = c; most = (with_block e q b).most }) set ∙ rw (two_more e.code tick (fork 0)) refl)
 
 -- a jump that was emitted before its target is written again, with its target
 targeted : (front : List Instr) (p : ℕ) (i j : Instr) (rest : List Instr) → length front ≡ p → slice_set (front ++ i ∷ rest) p j ≡ front ++ j ∷ rest
@@ -137,12 +137,12 @@ module _ (before test : List Instr) (body : ℕ → List Instr) where
         ∙ in_place (jump_zero (past + 1) ∷ (one ++ (last ∷ other)))
 
 -- a choice, piece by piece, and a loop
-module _ (e e1 e2 : Emitter) (t : Term) (n : ℕ) (i1 : e1 ≡ with_code e (tick ∷ [])) (i2 : e2 ≡ with_code e1 (term_code e1.elements e1.functions e1.slots t ++ jump_zero 0 ∷ [])) (last : n + 1 ≡ length e2.code) where
+module _ (e e1 e2 : Emitter) (t : Term) (n q : ℕ) (i1 : e1 ≡ with_code e (tick ∷ [])) (i2 : e2 ≡ with_code e1 (term_code e1.elements e1.functions e1.slots t ++ jump_zero 0 ∷ [])) (last : n + 1 ≡ length e2.code) where
   abbrev test : List Instr
   test = term_code e.elements e.functions e.slots t
 
   abbrev code_of : Block → ℕ → List Instr
-  code_of b p = block_code e.elements e.functions e.slots p b
+  code_of b p = block_code e.elements e.functions e.slots p q b
 
   abbrev ticked : Emitter
   ticked = with_code (with_code e (tick ∷ [])) (test ++ jump_zero 0 ∷ [])
@@ -153,18 +153,18 @@ module _ (e e1 e2 : Emitter) (t : Term) (n : ℕ) (i1 : e1 ≡ with_code e (tick
   number : (b : Block) → n ≡ skip e.code test (code_of b)
   number b = omega (arith, last, ap (λ x. length x.code) is_tested, tested_long e.code test (code_of b))
 
-  pub choice_emitted : (e3 e4 e5 : Emitter) (a b : Block) (m : ℕ) → e3 ≡ with_block e2 a → e4 ≡ record e3 { code = slice_set (e3.code ++ jump 0 ∷ []) n (jump_zero (length e3.code + 1)) } → m ≡ length e3.code → e5 ≡ with_block e4 b
-      → record e5 { code = slice_set e5.code m (jump (length e5.code)) } ≡ with_statement e (choose t a b)
+  pub choice_emitted : (e3 e4 e5 : Emitter) (a b : Block) (m : ℕ) → e3 ≡ with_block e2 q a → e4 ≡ record e3 { code = slice_set (e3.code ++ jump 0 ∷ []) n (jump_zero (length e3.code + 1)) } → m ≡ length e3.code → e5 ≡ with_block e4 q b
+      → record e5 { code = slice_set e5.code m (jump (length e5.code)) } ≡ with_statement e q (choose t a b)
   choice_emitted e3 e4 e5 a b m i3 i4 k i5 =
       let c = e.code in
-      let s3 : e3 ≡ with_block ticked a = i3 ∙ ap (λ x. with_block x a) is_tested in
+      let s3 : e3 ≡ with_block ticked q a = i3 ∙ ap (λ x. with_block x q a) is_tested in
       let past_is : m ≡ past c test (code_of a) = k ∙ ap (λ x. length x.code) s3 ∙ with_body_long c test (code_of a) in
       let whole = choice_written c test (code_of a) (code_of b) in
       let high : max (max e.most (peak (length e.slots) a)) (peak (length e.slots) b) ≡ max e.most (max (peak (length e.slots) a) (peak (length e.slots) b)) = omega arith in
-      rw (i5, i4, s3, number a, past_is) (ap (λ l. record e { code = l; most = max (max e.most (peak (length e.slots) a)) (peak (length e.slots) b) }) whole ∙ ap (λ m. record (with_statement e (choose t a b)) { most = m }) high)
+      rw (i5, i4, s3, number a, past_is) (ap (λ l. record e { code = l; most = max (max e.most (peak (length e.slots) a)) (peak (length e.slots) b) }) whole ∙ ap (λ m. record (with_statement e q (choose t a b)) { most = m }) high)
 
-  pub loop_emitted : (e3 e4 : Emitter) (b : Block) (p : ℕ) → e3 ≡ with_block e2 b → e4 ≡ with_code e3 (jump p ∷ []) → p ≡ length e.code
-      → record e4 { code = slice_set e4.code n (jump_zero (length e4.code)) } ≡ with_statement e (repeat t b)
+  pub loop_emitted : (e3 e4 : Emitter) (b : Block) (p : ℕ) → e3 ≡ with_block e2 q b → e4 ≡ with_code e3 (jump p ∷ []) → p ≡ length e.code
+      → record e4 { code = slice_set e4.code n (jump_zero (length e4.code)) } ≡ with_statement e q (repeat t b)
   loop_emitted e3 e4 b p i3 i4 start =
       let whole = loop_written e.code test (code_of b) in
       rw (i4, i3, is_tested, number b, start) (ap (λ l. record e { code = l; most = max e.most (peak (length e.slots) b) }) whole)
@@ -174,9 +174,9 @@ grown (declare w e) g outer inner is = (w.name ∷ inner, ap (λ h. w.name ∷ h
 grown _ g outer inner is = (inner, is)
 
 -- one statement more of a block
-pub emit_next : (body : Block) (start : Emitter) (s : Statement) (b : Block) (e : Emitter) → IsLeft body start (first s b) e → IsLeft body start b (with_statement e s)
-emit_next body start s b e is =
-    let here : List Instr = statement_code e.elements e.functions e.slots (length e.code) s in
+pub emit_next : (q : ℕ) (body : Block) (start : Emitter) (s : Statement) (b : Block) (e : Emitter) → IsLeft q body start (first s b) e → IsLeft q body start b (with_statement e q s)
+emit_next q body start s b e is =
+    let here : List Instr = statement_code e.elements e.functions e.slots (length e.code) q s in
     record {
       elements = is.elements;
       functions = is.functions;

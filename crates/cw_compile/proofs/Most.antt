@@ -2,7 +2,7 @@
 use Rattle.std.proofs.Common.{◌≡◌, ℕ, ◌-◌, ◌≤◌, List, [], length, drop, max, arith}
 use Rattle.std.proofs.lemmas.List.{drop_all}
 use Rattle.cw_text.specs.declared.ast.Word.{Word}
-use Rattle.cw_text.specs.Syntax.{Statement, declare, assign, assign_at, run, out, choose, repeat, atomic, spawn, sync, return, Block, empty, first}
+use Rattle.cw_text.specs.Syntax.{Statement, declare, assign, assign_at, run, out, choose, repeat, atomic, spawn, sync, cancel, return, Block, empty, first}
 use Rattle.cw_strand.specs.Compilation.{Slots, slots_with_params, most_in, most, visible_after}
 use Rattle.cw_strand.proofs.Numbering.{count_of_params}
 use Rattle.cw_compile.specs.Emitted.{peak_in, peak}
@@ -18,6 +18,7 @@ visible_most n (repeat e b) = omega arith
 visible_most n (atomic b) = omega arith
 visible_most n (spawn b) = omega arith
 visible_most n sync = omega arith
+visible_most n (cancel l) = omega arith
 visible_most n (return l e) = omega arith
 
 mutual
@@ -32,6 +33,7 @@ mutual
   most_in_is_peak n (atomic b) = most_is_peak n b
   most_in_is_peak n (spawn b) = most_is_peak n b
   most_in_is_peak n sync = omega arith
+  most_in_is_peak n (cancel l) = omega arith
   most_in_is_peak n (return l e) = omega arith
 
   -- those that are visible before it, or right behind a `let`

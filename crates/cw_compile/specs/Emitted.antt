@@ -26,24 +26,25 @@ with_code e is = record e { code = e.code ++ is }
 abbrev pub with_terms : Emitter → Terms → Emitter
 with_terms e es = with_code e (terms_code e.elements e.functions e.slots es)
 
-abbrev pub with_statement : Emitter → Statement → Emitter
-with_statement e s = record e {
-  code = e.code ++ statement_code e.elements e.functions e.slots (length e.code) s;
+-- a statement, where the innermost atomic block of its function has its `end` at the place `ending`
+abbrev pub with_statement : Emitter → (ending : ℕ) → Statement → Emitter
+with_statement e q s = record e {
+  code = e.code ++ statement_code e.elements e.functions e.slots (length e.code) q s;
   slots = slots_after s e.slots;
   most = max e.most (peak_in (length e.slots) s);
 }
 
 -- what a block declares is visible to its end
-abbrev pub with_block : Emitter → Block → Emitter
-with_block e b = record e {
-  code = e.code ++ block_code e.elements e.functions e.slots (length e.code) b;
+abbrev pub with_block : Emitter → (ending : ℕ) → Block → Emitter
+with_block e q b = record e {
+  code = e.code ++ block_code e.elements e.functions e.slots (length e.code) q b;
   most = max e.most (peak (length e.slots) b);
 }
 
 -- Where the start of a block was emitted, the rest of it still adds what the block adds.
-pub record IsLeft (body : Block) (start : Emitter) (rest : Block) (e : Emitter) : Type 0 where
+pub record IsLeft (ending : ℕ) (body : Block) (start : Emitter) (rest : Block) (e : Emitter) : Type 0 where
   pub elements : e.elements ≡ start.elements
   pub functions : e.functions ≡ start.functions
-  pub code : (with_block e rest).code ≡ (with_block start body).code
-  pub most : (with_block e rest).most ≡ (with_block start body).most
+  pub code : (with_block e ending rest).code ≡ (with_block start ending body).code
+  pub most : (with_block e ending rest).most ≡ (with_block start ending body).most
   pub slots : (inner : Slots) × (e.slots ≡ inner ++ start.slots)

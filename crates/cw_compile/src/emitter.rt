@@ -1,14 +1,15 @@
 ghost use Rattle.std.specs.Prelude.{◌≡◌, ◌<◌, ◌+◌, ◌∷◌, ◌++◌, [], length, max, slice_set, OnOk, IfOk};
 ghost use Rattle.cw_strand.specs.Meaning.{cell_of};
 ghost use Rattle.cw_text.specs.Syntax.{term_of, terms_of, statement_of, block_of};
-ghost use Rattle.cw_strand.specs.Compilation.{jump, jump_zero, set, discard, show, wait, ret, loads_at, stores_at, reads, writes, slot_of, calls, term_code, terms_code, slots_with_params, function_code, most};
+ghost use Rattle.cw_strand.specs.Compilation.{jump, jump_zero, set, discard, show, wait, cancel, ret, loads_at, stores_at, reads, writes, slot_of, calls, term_code, terms_code, slots_with_params, function_code, most};
 
 use crate::elements::Elements;
 use crate::functions::Functions;
 use crate::instructions::{
-    BEGIN, DISCARD, DONE, END, RET, SHOW, TICK, WAIT, arithmetic, call, fork, join, jump,
+    BEGIN, CANCEL, DISCARD, DONE, END, RET, SHOW, TICK, WAIT, arithmetic, call, fork, join, jump,
     jump_zero, lifted, load, load_at, local, plain, push, set, store, store_at,
 };
+use crate::lengths;
 use crate::listing::Listing;
 use crate::slots::Slots;
 use cw_base::{OutOfMemory, Text};
@@ -227,10 +228,20 @@ impl<'a> Emitter<'a> {
         Ok(place)
     }
 
-    /// The code of a statement. What it declares is visible afterwards.
+    /// The code of a `cancel`, behind its tick: what the block spawned is waited for, and once its cells are written back it ends.
+    fn cancel(&mut self, ending: u32) -> Result<(), OutOfMemory>
+        ensures { OnOk result (self.new ≡ with_code self.old (wait ∷ cancel ∷ jump ending ∷ [])) }
+    {
+        self.emit(plain(WAIT))?;
+        self.emit(plain(CANCEL))?;
+        self.emit(jump(ending))
+    }
+
+    /// The code of a statement, where the innermost atomic block of its function has its end at the place `ending`. What it declares is
+    /// visible afterwards.
     #[cycle(walk)]
-    fn statement(&mut self, statement: &'a Stmt) -> Result<(), OutOfMemory>
-        ensures { OnOk result (self.new ≡ with_statement self.old (statement_of statement.now)) }
+    fn statement(&mut self, statement: &'a Stmt, ending: u32) -> Result<(), OutOfMemory>
+        ensures { OnOk result (self.new ≡ with_statement self.old ending (statement_of statement.now)) }
     {
         let start = self.code.place();
         self.emit(plain(TICK))?;
@@ -242,47 +253,50 @@ impl<'a> Emitter<'a> {
             Stmt::Out(value) => self.show(value),
             Stmt::If { test, then, other } => {
                 let skip = self.test(test)?;
-                self.block(then.as_slice())?;
+                self.block(then.as_slice(), ending)?;
                 let pass = self.pass(skip)?;
-                self.block(other.as_slice())?;
+                self.block(other.as_slice(), ending)?;
                 self.code.put(pass, jump(self.code.place()));
                 Ok(())
             }
             Stmt::While { test, body } => {
                 let skip = self.test(test)?;
-                self.block(body.as_slice())?;
+                self.block(body.as_slice(), ending)?;
                 self.emit(jump(start))?;
                 self.code.put(skip, jump_zero(self.code.place()));
                 Ok(())
             }
             Stmt::Atomic(body) => {
+                let body = body.as_slice();
                 self.emit(plain(BEGIN))?;
-                self.block(body.as_slice())?;
+                let last = lengths::place_behind(self.code.place(), body)?;
+                self.block(body, last)?;
                 self.emit(plain(WAIT))?;
                 self.emit(plain(END))
             }
             Stmt::Spawn(body) => {
                 let place = self.code.place();
                 self.emit(fork(0))?;
-                self.block(body.as_slice())?;
+                self.block(body.as_slice(), ending)?;
                 self.emit(plain(WAIT))?;
                 self.emit(plain(DONE))?;
                 self.code.put(place, fork(self.code.place()));
                 Ok(())
             }
             Stmt::Sync => self.emit(plain(WAIT)),
+            Stmt::Cancel { .. } => self.cancel(ending),
             Stmt::Return { value, .. } => self.return_value(value),
         }
     }
 
     /// The code of the statements of a block. What they declare is visible to the block's end.
     #[cycle(walk)]
-    pub(crate) fn block(&mut self, body: &'a [Stmt]) -> Result<(), OutOfMemory>
-        ensures { OnOk result (self.new ≡ with_block self.old (block_of body.now)) }
+    fn block(&mut self, body: &'a [Stmt], ending: u32) -> Result<(), OutOfMemory>
+        ensures { OnOk result (self.new ≡ with_block self.old ending (block_of body.now)) }
     {
         let outer = self.slots.count();
         for statement in body {
-            self.statement(statement)?;
+            self.statement(statement, ending)?;
         }
         self.slots.forget(outer)
     }
@@ -319,7 +333,7 @@ impl<'a> Emitter<'a> {
         self.params(params)?;
         let params = self.slots.count();
         self.most = params;
-        self.block(body)?;
+        self.block(body, 0)?;
         self.emit(plain(WAIT))?;
         self.emit(push(0))?;
         self.emit(plain(RET))?;

@@ -46,6 +46,8 @@ pub(crate) const DONE: u8 = 31;
 
 pub(crate) const TICK: u8 = 32;
 
+pub(crate) const CANCEL: u8 = 33;
+
 /// An instruction without operands.
 pub(crate) fn plain(op: u8) -> Instr
     ensures { result ≡ code.plain op }

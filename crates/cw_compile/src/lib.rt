@@ -10,6 +10,7 @@ mod elements;
 mod emitter;
 mod functions;
 mod instructions;
+mod lengths;
 mod listing;
 mod locals;
 mod names;

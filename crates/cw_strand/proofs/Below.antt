@@ -1,6 +1,6 @@
 -- What stood below the begin of a block stands there still, for each strand inside the block.
-use Rattle.std.proofs.Common.{◌≡◌, ◌∙◌, ℕ, zero, suc, ◌+◌, ◌-◌, ◌<◌, ◌≤◌, Bool, true, false, not, ◌||◌, List, [], ◌∷◌, length, drop, refl, sym, ap, subst, arith, Option, Some, None, Result, Ok, Err, ℤ, pos, negsuc, nat_lt}
-use Rattle.std.specs.Prelude.{slice_get, slice_set, Contains, if◌then◌else◌, nat_le, ◌==◌, ◌&&◌}
+use Rattle.std.proofs.Common.{◌≡◌, ◌∙◌, ℕ, zero, suc, ◌+◌, ◌-◌, ◌<◌, ◌≤◌, Bool, true, false, ◌||◌, List, [], ◌∷◌, length, drop, refl, sym, ap, subst, arith, Option, Some, None, Result, Ok, Err, ℤ, pos, negsuc, nat_lt}
+use Rattle.std.specs.Prelude.{slice_get, slice_set, Contains, if◌then◌else◌, nat_le, ◌==◌}
 use Rattle.std.proofs.lemmas.Bool.{eqb-true, eq-eqb}
 use Rattle.std.proofs.lemmas.List.{length-set}
 use Rattle.cw_code.specs.declared.instruction.Instr.{Instr}
@@ -11,13 +11,14 @@ use Rattle.cw_code.specs.declared.FaultKind.TheVariants.{Depth, Size}
 use Rattle.cw_code.specs.declared.Limits.{Limits}
 use Rattle.cw_code.specs.declared.effects.Effect.{Effect}
 use Rattle.cw_code.specs.declared.effects.Effect.TheVariants as t
-use Rattle.cw_code.specs.declared.situation.Situation.{Situation}
-use Rattle.cw_code.specs.Rules.{at_start, effect_of, blocks_after, is_torn, is_border, is_target, inside, jumps, known_at, never_passed, onwards, operand_faults, passed, places, pops, situation_faults, when, faults}
-use Rattle.cw_code.proofs.Sound.{Around, around, contained, inside_is, is_inside, laid, next_is, nil_left, nil_right, not_false, operands_fine, situation_fine, start_known, target_found, target_is, tested, when_not}
+use Rattle.cw_code.specs.Rules.{Situation, at_start, effect_of, blocks_in, is_torn, is_target, inside, jumps, known_at, never_passed, onwards, operand_faults, passed, places, situation_faults, faults}
+use Rattle.cw_code.proofs.Parts.{blocks_after, blocks_onwards, blocks_passed}
+use Rattle.cw_code.proofs.Sound.{Around, around, contained, inside_is, is_inside, laid, next_is, not_false, operands_fine, situation_fine, start_known, target_found, target_is, tested}
 use Rattle.cw_strand.specs.declared.want.Want.{Want}
-use Rattle.cw_strand.specs.declared.want.Want.TheVariants.{Load, Store, Out, Begin, End, Fork, Done, Fault}
+use Rattle.cw_strand.specs.declared.want.Want.TheVariants.{Load, Store, Out, Begin, End, Fork, Done, Fault, Cancel}
 use Rattle.cw_strand.specs.declared.want.Given.{Given}
-use Rattle.cw_strand.specs.declared.want.Given.TheVariants.{Nothing, Value}
+use Rattle.cw_strand.specs.declared.want.Given.TheVariants.{Nothing, Value, Back as Wrote}
+use Rattle.cw_code.specs.declared.Back.{Back}
 use Rattle.cw_strand.specs.Running.{Standing, on, wants, stuck, stand}
 use Rattle.cw_strand.specs.Meaning.{one_more, one_inside, most_frames}
 use Rattle.cw_strand.specs.Arithmetic.{is_zero}
@@ -72,7 +73,7 @@ module _ (code : Code) where
     within : inside func p ≡ true
     situation : Situation
     known : known_at func (places code func) p ≡ Some situation
-    blocks : situation.blocks ≡ n
+    blocks : blocks_in situation.parts ≡ n
 
   module _ (ok : faults code ≡ []) where
     starts : (f : Func) → Contains code.funcs f → BlocksAt f.start 0
@@ -92,18 +93,7 @@ module _ (code : Code) where
 
       -- nothing around it is torn
       whole : {n : ℕ} (at : BlocksAt p n) → is_torn (Some e) at.situation ≡ false
-      whole at =
-          let s = at.situation in
-          let b1 = nat_lt s.height (pops code i (Some e)) in
-          let b2 = is_border (Some e) && not (s.height == 0) in
-          let b3 = is_torn (Some e) s in
-          let r1 = nil_right (when b1 _ p) _ (fine at) in
-          let r2 = nil_right (when b2 _ p) _ r1 in
-          when_not b3 _ p (nil_left (when b3 _ p) _ r2)
-
-      onwards_blocks : (f : Effect) (s : Situation) → (onwards code i (Some f) s).blocks ≡ blocks_after (Some f) s.blocks
-      onwards_blocks t.Fork s = refl
-      onwards_blocks f s = refl
+      whole at = (around_it at).whole
 
       onward : {n : ℕ} → never_passed (Some e) ≡ false → BlocksAt p n → BlocksAt (p + 1) (blocks_after (Some e) n)
       onward goes at =
@@ -115,7 +105,7 @@ module _ (code : Code) where
             within = inside_is code at.func (p + 1) (omega (arith, here.from)) (omega (arith, here.to, w.last goes));
             situation = onwards code i (Some e) at.situation;
             known = w.next (p + 1) (next_is code at.func p (Some e) here goes (w.last goes));
-            blocks = onwards_blocks e at.situation ∙ ap (blocks_after (Some e)) at.blocks;
+            blocks = blocks_onwards code i (Some e) at.situation ∙ ap (blocks_after (Some e)) at.blocks;
           }
 
       jumped : {n : ℕ} → jumps (Some e) ≡ true → ((f : Func) → operand_faults code f p i (Some e) ≡ [] → is_target code f p i.a ≡ true) → BlocksAt p n → BlocksAt (index i.a) (blocks_after (Some e) n)
@@ -129,7 +119,7 @@ module _ (code : Code) where
             within = to.2;
             situation = passed code i (Some e) at.situation;
             known = w.target to.0 (target_found code at.func i (Some e) to.0 j to.1 to.2);
-            blocks = ap (blocks_after (Some e)) at.blocks;
+            blocks = blocks_passed code i (Some e) at.situation ∙ ap (blocks_after (Some e)) at.blocks;
           } in
           subst (λ q. BlocksAt q (blocks_after (Some e) n)) (sym (ap index to.1)) there
 
@@ -137,7 +127,7 @@ module _ (code : Code) where
     returns_flat : (p n : ℕ) (i : Instr) → slice_get code.instrs p ≡ Some i → effect_of i ≡ Some t.Ret → BlocksAt p n → n ≡ 0
     returns_flat p n i is does at =
         let torn = whole p i t.Ret is does at in
-        sym at.blocks ∙ eqb-true at.situation.blocks 0 (not_false (at.situation.blocks == 0) (first _ _ torn))
+        sym at.blocks ∙ eqb-true (blocks_in at.situation.parts) 0 (not_false (blocks_in at.situation.parts == 0) (first _ _ torn))
       where
         first : (a b : Bool) → (a || b) ≡ false → a ≡ false
         first true b e = absurd cc
@@ -147,8 +137,8 @@ module _ (code : Code) where
     ends_some : (p n : ℕ) (i : Instr) → slice_get code.instrs p ≡ Some i → effect_of i ≡ Some t.End → BlocksAt p n → 0 < n
     ends_some p n i is does at = by n at.blocks (whole p i t.End is does at)
       where
-        by : (n : ℕ) → at.situation.blocks ≡ n → (at.situation.blocks == 0) ≡ false → 0 < n
-        by zero same torn = absurd (let no : true ≡ false = sym (eq-eqb at.situation.blocks 0 same) ∙ torn in cc)
+        by : (n : ℕ) → blocks_in at.situation.parts ≡ n → (blocks_in at.situation.parts == 0) ≡ false → 0 < n
+        by zero same torn = absurd (let no : true ≡ false = sym (eq-eqb (blocks_in at.situation.parts) 0 same) ∙ torn in cc)
         by (suc n) same torn = omega arith
 
 -- ## Functions above the begin
@@ -323,6 +313,7 @@ module _ (code : Code) (ok : faults code ≡ []) (start : State) (deep : ℕ) (s
       acts t.Sync vs does = goes_waited s.scopes (s.current.place + 1) vs s refl h (moved t.Sync does refl (λ j. refl) vs)
       acts t.Done vs does = goes_ended s.scopes s refl h
       acts t.Tick vs does = goes_spent s (λ u. on (goes_to (s.current.place + 1) vs u)) h (moved t.Tick does refl (λ j. refl) vs)
+      acts t.Cancel vs does = goes_counts Cancel (goes_to (s.current.place + 1) vs s) refl (moved t.Cancel does refl (λ j. refl) vs)
       acts e vs does = tt
 
     steps_at : (o : Option Instr) (s : State) → slice_get code.instrs s.current.place ≡ o → Holds n s → Goes n (coded.step_at code o s)
@@ -334,7 +325,11 @@ module _ (code : Code) (ok : faults code ≡ []) (start : State) (deep : ℕ) (s
         by (Some e) does = acts i s is h e s.current.operands does
 
     steps : (s : State) → Holds n s → Goes n (coded.step code s)
-    steps s h = goes_either n (nat_lt s.limits.size s.size) (wants (Fault Size) s) _ (λ stays. (n, (enough, h))) (steps_at (slice_get code.instrs s.current.place) s refl h)
+    steps s h = goes_either n (nat_lt s.limits.size s.size) (wants (Fault Size) s) _ (λ stays. (n, (enough, h))) (by s.back)
+      where
+        by : (bs : List Back) → Goes n (coded.writes_back code bs s)
+        by [] = steps_at (slice_get code.instrs s.current.place) s refl h
+        by (b ∷ bs) = goes_counts (Store b.cell b.value) (record s { back = bs }) refl h
 
   -- ## Strands inside
 
@@ -360,6 +355,7 @@ module _ (code : Code) (ok : faults code ≡ []) (start : State) (deep : ℕ) (s
   given : (n : ℕ) (s : State) (g : Given) → HoldsMore n s → HoldsMore n (with_value g s)
   given n s Nothing h = h
   given n s (Value v) h = h
+  given n s (Wrote bs) h = h
 
   module _ (main : ℕ) (words : List ℤ) (limits : Limits) where
     stands_so : (n : ℕ) (s : State) → HoldsMore n s → let x = stand (coded.runs code main words limits) s in HoldsAt n x.want x.state
@@ -395,11 +391,11 @@ module _ (code : Code) (ok : faults code ≡ []) (main : ℕ) (words : List ℤ)
   stays_below begin x forks inner is stands inside stays =
       let s = begin.state in
       let b = stands.begun refl in
-      let at : BlocksAt code s.current.place (0 + b.current.situation.blocks) = record { func = b.current.func; declared = b.current.declared; within = b.current.within; situation = b.current.situation; known = b.current.known; blocks = omega arith } in
+      let at : BlocksAt code s.current.place (0 + (blocks_in b.current.situation.parts)) = record { func = b.current.func; declared = b.current.declared; within = b.current.within; situation = b.current.situation; known = b.current.known; blocks = omega arith } in
       let below : List ℕ = b.around ∷ b.scopes in
       let around : 0 < length below = omega arith in
       let over : Over below 0 s.scopes = subst (Over below 0) (sym b.opened) last in
-      let deep = b.current.situation.blocks in
+      let deep = (blocks_in b.current.situation.parts) in
       let first : HoldsMore code ok s deep b.within below around 0 s = (0, (omega arith, (own {n = 0} at refl refl over, refl))) in
       let there = inside_holds code ok s deep b.within below around main words limits begin first inside stays in
       still code ok s deep b.within below around _ x.state b.opened there

@@ -1,7 +1,6 @@
 -- Local work ends: a tick and a call spend fuel, a return leaves a caller, and each other step comes nearer to the end of the code.
 use Rattle.std.proofs.Common.{◌≡◌, ℕ, zero, suc, ◌+◌, ◌-◌, ◌*◌, ◌<◌, ◌≤◌, ◌⊎◌, inl, inr, Bool, true, false, List, [], ◌∷◌, length, refl, sym, ap, ◌∙◌, subst, arith, Option, Some, None, Result, Ok, Err, ℤ, pos, negsuc, nat_lt}
 use Rattle.std.specs.Prelude.{slice_get, max, if◌then◌else◌, nat_le}
-use Rattle.std.proofs.Math.Nat.{mul-le-mul_left}
 use Rattle.std.proofs.lemmas.Bool.{leb-false}
 use Rattle.std.proofs.lemmas.Option.{slice_get_within}
 use Rattle.cw_code.specs.declared.instruction.Instr.{Instr}
@@ -9,29 +8,23 @@ use Rattle.cw_code.specs.declared.instruction.Func.{Func}
 use Rattle.cw_code.specs.declared.instruction.Code.{Code}
 use Rattle.cw_code.specs.declared.FaultKind.{FaultKind}
 use Rattle.cw_code.specs.declared.FaultKind.TheVariants.{Range, Fuel, Size}
+use Rattle.cw_code.specs.declared.Back.{Back}
 use Rattle.cw_code.specs.declared.Limits.{Limits}
 use Rattle.cw_code.specs.declared.effects.Effect.{Effect}
 use Rattle.cw_code.specs.declared.effects.Effect.TheVariants as t
 use Rattle.cw_code.specs.Rules.{effect_of, is_target, is_tick, ticks, faults, operand_faults}
 use Rattle.cw_code.proofs.Sound.{owner, operands_fine, has_effect, target_is, tested}
 use Rattle.cw_strand.specs.declared.want.Want.{Want}
-use Rattle.cw_strand.specs.declared.want.Want.TheVariants.{Begin, Done, Fork, Fault}
+use Rattle.cw_strand.specs.declared.want.Want.TheVariants.{Begin, Cancel, Done, Fork, Fault, Sync}
 use Rattle.cw_strand.specs.declared.want.Given.{Given}
-use Rattle.cw_strand.specs.declared.want.Given.TheVariants.{Nothing, Value}
+use Rattle.cw_strand.specs.declared.want.Given.TheVariants.{Nothing, Value, Back as Wrote}
 use Rattle.cw_strand.specs.Running.{Running, on, wants, stuck, depth_of, IsBounded}
 use Rattle.cw_strand.specs.Arithmetic.{is_zero}
 use Rattle.cw_strand.specs.Meaning.{one_more, one_inside, most_frames}
 use Rattle.cw_strand.specs.Coded as coded
+use Rattle.cw_strand.proofs.Counting.{Keeps, StepKeeps, step_keeps}
+use Rattle.cw_strand.proofs.Weights.{lighter, no_heavier}
 use Rattle.cw_strand.specs.Coded.{Frame, State, Step, index, goes_to, with_value, joined, counted, counts, spends, result, in_range, read_local, returned, wait_in, rank, steps_left}
-
--- less by a smaller weight, whatever is added below the factor
-lighter : (n v w q r : ℕ) → v < w → q ≤ n + 1 → (n + 2) * v + q < (n + 2) * w + r
-lighter n v w q r less low =
-    let most : (n + 2) * (v + 1) ≤ (n + 2) * w = mul-le-mul_left (n + 2) (omega (arith, less)) in
-    omega (arith, most, low)
-
-no_heavier : (n v w q : ℕ) → v ≤ w → (n + 2) * v + q ≤ (n + 2) * w + q
-no_heavier n v w q le = omega (arith, mul-le-mul_left (n + 2) le)
 
 module _ (code : Code) where
   rank_low : (p : ℕ) → rank code p ≤ length code.instrs + 1
@@ -55,8 +48,12 @@ module _ (code : Code) where
       by false e (inr w) lt = absurd (let no : false ≡ true = sym e ∙ w in cc)
 
   module _ (main : ℕ) (words : List ℤ) (limits : Limits) where
+    abbrev whole : Running State
+    whole = coded.runs code main words limits
+
+    -- where nothing is to be written back
     abbrev run : Running State
-    run = coded.runs code main words limits
+    run = record whole { bound = λ s. steps_left code s }
 
     -- what a step leads to has less to do by itself
     abbrev Falls : State → Step → Type 0
@@ -162,6 +159,7 @@ module _ (code : Code) where
         act_falls t.Sync vs d = waited_falls s.scopes _ vs (next_falls t.Sync d refl)
         act_falls t.Done vs d = ended_falls s s.scopes
         act_falls t.Tick vs d = spent_falls s (λ u. on (goes_to (s.current.place + 1) vs u)) (λ lt. lighter (length code.instrs) _ _ (rank code (s.current.place + 1)) (rank code s.current.place) (omega (arith, lt)) (rank_low (s.current.place + 1)))
+        act_falls t.Cancel vs d = wanted Cancel s (goes_to (s.current.place + 1) vs s) refl (omega (arith, next_falls t.Cancel d refl))
         act_falls t.Set [] d = tt
         act_falls t.LoadAt [] d = tt
         act_falls t.Store [] d = tt
@@ -175,28 +173,68 @@ module _ (code : Code) where
         act_falls t.Drop [] d = tt
         act_falls t.Out [] d = tt
 
+    -- less to do by itself is less of all
+    less_of_all : (s u : State) → steps_left code u < steps_left code s → u.limits ≡ s.limits → whole.bound u < whole.bound s
+    less_of_all s u less same =
+        let n : u.limits.size ≡ s.limits.size = ap (λ (l : Limits). l.size) same in
+        let lt = lighter s.limits.size (steps_left code u) (steps_left code s) (s.limits.size + 1 - u.size) (s.limits.size + 1 - s.size) less (omega arith) in
+        subst (λ m. (m + 2) * steps_left code u + (m + 1 - u.size) < whole.bound s) (sym n) lt
+
+    no_more_of_all : (s u : State) → steps_left code u ≤ steps_left code s → Keeps s u → whole.bound u ≤ whole.bound s
+    no_more_of_all s u low kept =
+        let n : u.limits.size ≡ s.limits.size = ap (λ (l : Limits). l.size) kept.limits in
+        let le : (s.limits.size + 2) * steps_left code u + (s.limits.size + 1 - u.size) ≤ whole.bound s = omega (arith, no_heavier s.limits.size (steps_left code u) (steps_left code s) (s.limits.size + 1 - u.size) low, kept.counted) in
+        subst (λ m. (m + 2) * steps_left code u + (m + 1 - u.size) ≤ whole.bound s) (sym n) le
+
+    -- what a step leads to has less to do and to write back
+    abbrev FallsAll : State → Step → Type 0
+    FallsAll s (on u) = whole.bound u < whole.bound s
+    FallsAll s (wants w u) = depth_of whole w u ≤ whole.bound s
+    FallsAll s stuck = Unit {0}
+
+    want_falls_all : (s u : State) (w : Want) → depth_of run w u ≤ steps_left code s → Keeps s u → depth_of whole w u ≤ whole.bound s
+    want_falls_all s u Fork low kept = omega (arith, less_of_all s u (omega (arith, low)) kept.limits, less_of_all s (coded.left u) (omega (arith, low)) kept.limits)
+    want_falls_all s u Sync low kept = no_more_of_all s u low kept
+    want_falls_all s u Done low kept = no_more_of_all s u low kept
+    want_falls_all s u (Fault k) low kept = no_more_of_all s u low kept
+    want_falls_all s u w low kept = omega (arith, less_of_all s u (omega (arith, low)) kept.limits)
+
+    all_falls : (s : State) (x : Step) → Falls s x → StepKeeps s x → FallsAll s x
+    all_falls s (on u) h kept = less_of_all s u h kept.limits
+    all_falls s (wants w u) h kept = want_falls_all s u w h kept
+    all_falls s stuck h kept = tt
+
+    either_all : (s : State) (b : Bool) (x y : Step) → (b ≡ true → FallsAll s x) → (b ≡ false → FallsAll s y) → FallsAll s (if b then x else y)
+    either_all s true x y g h = g refl
+    either_all s false x y g h = h refl
+
     module _ (ok : faults code ≡ []) where
-      step_falls : (s : State) → Falls s (coded.step code s)
-      step_falls s = falls_either s (nat_lt s.limits.size s.size) _ _ (λ e. at_fault Size s) (λ e. at (slice_get code.instrs s.current.place) refl)
+      at_falls : (s : State) (o : Option Instr) → slice_get code.instrs s.current.place ≡ o → Falls s (coded.step_at code o s)
+      at_falls s None is = tt
+      at_falls s (Some i) is =
+          let w = owner code ok s.current.place (slice_get_within code.instrs s.current.place i is) in
+          let ops = operands_fine code ok w.func s.current.place w.declared w.inside i is in
+          let e = has_effect code w.func s.current.place i (effect_of i) ops in
+          subst (λ o. Falls s (coded.act_of code o i s)) (sym e.1)
+          (act_falls s i is w.func (λ x d. subst (λ o. operand_faults code w.func s.current.place i o ≡ []) d ops) e.0 s.current.operands e.1)
+
+      step_falls : (s : State) → FallsAll s (coded.step code s)
+      step_falls s = either_all s (nat_lt s.limits.size s.size) _ _ (λ _. omega arith) (λ _. by s.back)
         where
-          at : (o : Option Instr) → slice_get code.instrs s.current.place ≡ o → Falls s (coded.step_at code o s)
-          at None is = tt
-          at (Some i) is =
-              let w = owner code ok s.current.place (slice_get_within code.instrs s.current.place i is) in
-              let ops = operands_fine code ok w.func s.current.place w.declared w.inside i is in
-              let e = has_effect code w.func s.current.place i (effect_of i) ops in
-              subst (λ o. Falls s (coded.act_of code o i s)) (sym e.1)
-              (act_falls s i is w.func (λ x d. subst (λ o. operand_faults code w.func s.current.place i o ≡ []) d ops) e.0 s.current.operands e.1)
+          by : (bs : List Back) → FallsAll s (coded.writes_back code bs s)
+          by [] = all_falls s _ (at_falls s (slice_get code.instrs s.current.place) refl) (step_keeps code s (slice_get code.instrs s.current.place))
+          by (b ∷ bs) = either_all s (nat_le s.limits.size s.size) _ _ (λ _. omega arith) (λ e. omega (arith, leb-false s.limits.size s.size e))
+
+      answered_falls : (given : Given) (s : State) → whole.bound (with_value given s) ≤ whole.bound s
+      answered_falls Nothing s = omega arith
+      answered_falls (Value v) s = omega arith
+      answered_falls (Wrote bs) s = omega arith
 
       -- what is left to do falls with each step
-      pub bounded : IsBounded run
+      pub bounded : IsBounded whole
       bounded = record {
-        on = λ s u is. subst (Falls s) is (step_falls s);
-        want = λ s u w is. subst (Falls s) is (step_falls s);
-        answered = λ given s. omega (arith, answered_same given s);
-        joined = λ r l. no_heavier (length code.instrs) _ _ (rank code r.current.place) (omega arith);
+        on = λ s u is. subst (FallsAll s) is (step_falls s);
+        want = λ s u w is. subst (FallsAll s) is (step_falls s);
+        answered = answered_falls;
+        joined = λ r l. no_more_of_all r (joined r l) (no_heavier (length code.instrs) _ _ (rank code r.current.place) (omega arith)) (record { limits = refl; counted = omega arith; back = refl });
       }
-        where
-          answered_same : (given : Given) (s : State) → steps_left code (with_value given s) ≡ steps_left code s
-          answered_same Nothing s = refl
-          answered_same (Value v) s = refl

@@ -1,5 +1,5 @@
 -- The code at a place does what is still to be done.
-use Rattle.std.proofs.Common.{◌≡◌, ℕ, suc, Bool, ℤ, ◌+◌, ◌-◌, ◌<◌, ◌≤◌, List, [], ◌∷◌, ◌++◌, length, drop, refl, subst, arith, Option, Some, None, append_assoc, length-append}
+use Rattle.std.proofs.Common.{◌≡◌, ℕ, suc, ℤ, ◌+◌, ◌-◌, ◌<◌, ◌≤◌, List, [], ◌∷◌, ◌++◌, length, drop, refl, subst, arith, Option, Some, None, append_assoc, length-append}
 use Rattle.std.specs.Prelude.{slice_get}
 use Rattle.cw_text.specs.declared.ast.Op.{Op}
 use Rattle.cw_text.specs.declared.ast.Op.TheVariants as op
@@ -8,8 +8,10 @@ use Rattle.cw_code.specs.declared.instruction.Instr.{Instr}
 use Rattle.cw_code.specs.declared.effects.Operator.{Operator}
 use Rattle.cw_code.specs.declared.effects.Effect.TheVariants as effect
 use Rattle.cw_code.specs.Table.{effect_at}
+use Rattle.cw_strand.specs.declared.naming.Around.{Around}
+use Rattle.cw_strand.specs.declared.naming.Around.TheVariants as around
 use Rattle.cw_strand.specs.Names.{find, used, indexed, fault_of_call, count_of, in_term, in_terms, in_block, cells_of}
-use Rattle.cw_strand.specs.Meaning.{Locals, cell_of, Task, value, lift, join, enter, perform, bind, store_in, load_at, store_at, show, choose_by, test, repeat_by, forget, wait, commit, finish, finish_main, back_to, leave, arguments, unwound, lifted, joining, lifts, joins}
+use Rattle.cw_strand.specs.Meaning.{Locals, cell_of, Task, value, lift, join, enter, perform, bind, store_in, load_at, store_at, show, choose_by, test, repeat_by, forget, wait, commit, finish, finish_main, back_to, leave, give_up, given_up, arguments, unwound, lifted, joining, lifts, joins}
 use Rattle.cw_strand.specs.Meaning as meaning
 use Rattle.cw_strand.specs.Coded.{Frame}
 use Rattle.cw_strand.specs.Compilation.{Slots, slot_of, function_names, calls, term_code, terms_code, statement_code, block_code, most, plain, operator_number, lift_code, join_code, writes, loads_at, stores_at, set}
@@ -51,26 +53,29 @@ stands_behind before (i ∷ is) =
 module _ (ds : List Declaration) (code : List Instr) where
   -- The blocks of a choice stand behind the jump to the second one. After the first one comes a jump past the second one.
   pub record Choice (n p end : ℕ) (g : Slots) (a b : Block) : Type 0 where
-    pub inside : Bool
+    pub inside : Around
+    -- where the innermost atomic block ends
+    pub ending : ℕ
     pub first_named : in_block (scope_of ds g) inside a ≡ None
     pub second_named : in_block (scope_of ds g) inside b ≡ None
     pub first_room : most (length g) a ≤ n
     pub second_room : most (length g) b ≤ n
     pub past : ℕ
-    pub past_is : past ≡ p + 1 + length (block_code (cells_of ds) (function_names ds) g (p + 1) a)
-    pub end_is : end ≡ past + 1 + length (block_code (cells_of ds) (function_names ds) g (past + 1) b)
+    pub past_is : past ≡ p + 1 + length (block_code (cells_of ds) (function_names ds) g (p + 1) ending a)
+    pub end_is : end ≡ past + 1 + length (block_code (cells_of ds) (function_names ds) g (past + 1) ending b)
     pub skips : slice_get code p ≡ Some (instr.jump_zero (past + 1))
-    pub first_stands : HasAt code (p + 1) (block_code (cells_of ds) (function_names ds) g (p + 1) a)
+    pub first_stands : HasAt code (p + 1) (block_code (cells_of ds) (function_names ds) g (p + 1) ending a)
     pub passes : slice_get code past ≡ Some (instr.jump end)
-    pub second_stands : HasAt code (past + 1) (block_code (cells_of ds) (function_names ds) g (past + 1) b)
+    pub second_stands : HasAt code (past + 1) (block_code (cells_of ds) (function_names ds) g (past + 1) ending b)
 
   -- a loop stands at a place
   pub record Loop (n p : ℕ) (g : Slots) (e : Term) (b : Block) : Type 0 where
-    pub inside : Bool
+    pub inside : Around
+    pub ending : ℕ
     pub test_named : in_term (scope_of ds g) e ≡ None
     pub body_named : in_block (scope_of ds g) inside b ≡ None
     pub room : most (length g) b ≤ n
-    pub stands : HasAt code p (statement_code (cells_of ds) (function_names ds) g p (repeat e b))
+    pub stands : HasAt code p (statement_code (cells_of ds) (function_names ds) g p ending (repeat e b))
 
   mutual
     -- The code at a place does these tasks, with so many locals of which these are visible, so many operands, and these callers.
@@ -80,24 +85,35 @@ module _ (ds : List Declaration) (code : List Instr) where
       does_join : {n h p : ℕ} {g : Slots} {o : Operator} {k : List Task} {fs : List Frame} → effect_at (operator_number o) ≡ Some (effect.Join o) → slice_get code p ≡ Some (plain (operator_number o)) → Does n g (suc h) k (p + 1) fs → Does n g (suc (suc h)) (join o ∷ k) p fs
       does_enter : {n h p a : ℕ} {g : Slots} {x : List ℕ} {k : List Task} {fs : List Frame} (line : ℕ) → fault_of_call (find x (scope_of ds g)) a line ≡ None → a ≤ h → slice_get code p ≡ Some (calls (cells_of ds) (function_names ds) x) → Does n g (suc (h - a)) k (p + 1) fs → Does n g h (enter x a ∷ k) p fs
       does_discard : {n h p : ℕ} {g : Slots} {k : List Task} {fs : List Frame} → slice_get code p ≡ Some instr.discard → Does n g h k (p + 1) fs → Does n g (suc h) (meaning.discard ∷ k) p fs
-      does_perform : {n h p : ℕ} {g : Slots} {b : Block} {k : List Task} {fs : List Frame} (inside : Bool) → in_block (scope_of ds g) inside b ≡ None → most (length g) b ≤ n → HasAt code p (block_code (cells_of ds) (function_names ds) g p b) → Does n (slots_behind b g) h k (p + length (block_code (cells_of ds) (function_names ds) g p b)) fs → Does n g h (perform b ∷ k) p fs
+      does_perform : {n h p : ℕ} {g : Slots} {b : Block} {k : List Task} {fs : List Frame} (inside : Around) (ending : ℕ) → in_block (scope_of ds g) inside b ≡ None → most (length g) b ≤ n → HasAt code p (block_code (cells_of ds) (function_names ds) g p ending b)
+          → ((more : Slots) → inside ≡ around.Atomic → Shuts n (more ++ g) h k ending fs) → Does n (slots_behind b g) h k (p + length (block_code (cells_of ds) (function_names ds) g p ending b)) fs → Does n g h (perform b ∷ k) p fs
       does_bind : {n h p : ℕ} {g : Slots} {x : List ℕ} {k : List Task} {fs : List Frame} → length g < n → slice_get code p ≡ Some (set (length g)) → Does n (x ∷ g) h k (p + 1) fs → Does n g (suc h) (bind x ∷ k) p fs
       does_store : {n h p : ℕ} {g : Slots} {x : List ℕ} {k : List Task} {fs : List Frame} (line : ℕ) → used (find x (scope_of ds g)) line ≡ None → slice_get code p ≡ Some (writes (cells_of ds) (function_names ds) (slot_of g x) x) → Does n g h k (p + 1) fs → Does n g (suc h) (store_in x ∷ k) p fs
       does_load_at : {n h p : ℕ} {g : Slots} {x : List ℕ} {k : List Task} {fs : List Frame} (line : ℕ) → indexed (find x (scope_of ds g)) line ≡ None → slice_get code p ≡ Some (loads_at (cells_of ds) (function_names ds) (cell_of (cells_of ds) x)) → Does n g (suc h) k (p + 1) fs → Does n g (suc h) (load_at x ∷ k) p fs
       does_store_at : {n h p : ℕ} {g : Slots} {x : List ℕ} {k : List Task} {fs : List Frame} (line : ℕ) → indexed (find x (scope_of ds g)) line ≡ None → slice_get code p ≡ Some (stores_at (cells_of ds) (function_names ds) (cell_of (cells_of ds) x)) → Does n g h k (p + 1) fs → Does n g (suc (suc h)) (store_at x ∷ k) p fs
       does_show : {n h p : ℕ} {g : Slots} {k : List Task} {fs : List Frame} → slice_get code p ≡ Some instr.show → Does n g h k (p + 1) fs → Does n g (suc h) (show ∷ k) p fs
-      does_choose : {n h p end : ℕ} {g : Slots} {a b : Block} {k : List Task} {fs : List Frame} → Choice n p end g a b → Does n g h k end fs → Does n g (suc h) (choose_by a b ∷ k) p fs
-      does_test : {n h p : ℕ} {g : Slots} {e : Term} {b : Block} {k : List Task} {fs : List Frame} → Loop n p g e b → Does n g h k (p + length (statement_code (cells_of ds) (function_names ds) g p (repeat e b))) fs → Does n g h (test e b ∷ k) p fs
-      does_repeat : {n h p q : ℕ} {g : Slots} {e : Term} {b : Block} {k : List Task} {fs : List Frame} → q ≡ p + 1 + length (term_code (cells_of ds) (function_names ds) g e) → Loop n p g e b → Does n g h k (p + length (statement_code (cells_of ds) (function_names ds) g p (repeat e b))) fs → Does n g (suc h) (repeat_by e b ∷ k) q fs
+      does_choose : {n h p end : ℕ} {g : Slots} {a b : Block} {k : List Task} {fs : List Frame} → (w : Choice n p end g a b) → (w.inside ≡ around.Atomic → Shuts n g h k w.ending fs) → Does n g h k end fs → Does n g (suc h) (choose_by a b ∷ k) p fs
+      does_test : {n h p : ℕ} {g : Slots} {e : Term} {b : Block} {k : List Task} {fs : List Frame} → (w : Loop n p g e b) → (w.inside ≡ around.Atomic → Shuts n g h k w.ending fs) → Does n g h k (p + length (statement_code (cells_of ds) (function_names ds) g p w.ending (repeat e b))) fs → Does n g h (test e b ∷ k) p fs
+      does_repeat : {n h p q : ℕ} {g : Slots} {e : Term} {b : Block} {k : List Task} {fs : List Frame} → q ≡ p + 1 + length (term_code (cells_of ds) (function_names ds) g e) → (w : Loop n p g e b) → (w.inside ≡ around.Atomic → Shuts n g h k w.ending fs) → Does n g h k (p + length (statement_code (cells_of ds) (function_names ds) g p w.ending (repeat e b))) fs → Does n g (suc h) (repeat_by e b ∷ k) q fs
       -- a jump comes first
       does_there : {n h p q : ℕ} {g : Slots} {todo : List Task} {fs : List Frame} → slice_get code p ≡ Some (instr.jump q) → Does n g h todo q fs → Does n g h todo p fs
       does_forget : {n h p o : ℕ} {g : Slots} {k : List Task} {fs : List Frame} → Does n (drop (length g - o) g) h k p fs → Does n g h (forget o ∷ k) p fs
       does_wait : {n h p : ℕ} {g : Slots} {k : List Task} {fs : List Frame} → slice_get code p ≡ Some instr.wait → Does n g h k (p + 1) fs → Does n g h (wait ∷ k) p fs
       does_commit : {n h p : ℕ} {g : Slots} {k : List Task} {fs : List Frame} → slice_get code p ≡ Some instr.end → Does n g h k (p + 1) fs → Does n g h (commit ∷ k) p fs
+      -- a cancel, and the jump behind it
+      does_give_up : {n h p q : ℕ} {g : Slots} {k : List Task} {fs : List Frame} → slice_get code p ≡ Some instr.cancel → slice_get code (p + 1) ≡ Some (instr.jump q) → Shuts n g h k q fs → Does n g h (give_up ∷ k) p fs
       does_finish : {n p : ℕ} {g : Slots} → slice_get code p ≡ Some instr.done → Does n g 0 (finish ∷ []) p []
       -- the end of a function, and a return
       does_end : {n h p : ℕ} {g : Slots} {todo : List Task} {fs : List Frame} → slice_get code p ≡ Some instr.ret → Ending todo fs → Does n g (suc h) todo p fs
       does_leave : {n h p : ℕ} {g : Slots} {k : List Task} {fs : List Frame} → slice_get code p ≡ Some instr.ret → Ending (unwound k) fs → Does n g (suc h) (leave ∷ k) p fs
+
+    -- The code at this place ends the innermost atomic block among these tasks, and does what comes behind it.
+    pub data Shuts : ℕ → Slots → ℕ → List Task → ℕ → List Frame → Type 0 where
+      shuts_perform : {n h q : ℕ} {g : Slots} {b : Block} {k : List Task} {fs : List Frame} → Shuts n g h k q fs → Shuts n g h (perform b ∷ k) q fs
+      shuts_test : {n h q : ℕ} {g : Slots} {e : Term} {b : Block} {k : List Task} {fs : List Frame} → Shuts n g h k q fs → Shuts n g h (test e b ∷ k) q fs
+      shuts_wait : {n h q : ℕ} {g : Slots} {k : List Task} {fs : List Frame} → Shuts n g h k q fs → Shuts n g h (wait ∷ k) q fs
+      shuts_forget : {n h q o : ℕ} {g : Slots} {k : List Task} {fs : List Frame} → Shuts n (drop (length g - o) g) h k q fs → Shuts n g h (forget o ∷ k) q fs
+      shuts_commit : {n h q : ℕ} {g : Slots} {k : List Task} {fs : List Frame} → slice_get code q ≡ Some instr.end → Does n g h k (q + 1) fs → Shuts n g h (commit ∷ k) q fs
 
     -- These tasks are done where a function has ended, with these callers.
     pub data Ending : List Task → List Frame → Type 0 where
@@ -106,31 +122,48 @@ module _ (ds : List Declaration) (code : List Instr) where
       ends_left : Ending (finish ∷ []) []
       ends_call : {l : Locals} {vs : List ℤ} {k : List Task} {f : Frame} {fs : List Frame} (g : Slots) → Agree l g f.locals → vs ≡ f.operands → Does (length f.locals) g (suc (length vs)) k f.place fs → Ending (back_to l vs ∷ k) (f ∷ fs)
 
-  -- from anything that is to be done in a function the function's end follows
-  pub unwinds : {n h p : ℕ} {g : Slots} {todo : List Task} {fs : List Frame} → Does n g h todo p fs → Ending (unwound todo) fs
-  unwinds (does_value named has rest) = unwinds rest
-  unwinds (does_lift is there rest) = unwinds rest
-  unwinds (does_join is there rest) = unwinds rest
-  unwinds (does_enter line named enough there rest) = unwinds rest
-  unwinds (does_discard there rest) = unwinds rest
-  unwinds (does_perform inside named room has rest) = unwinds rest
-  unwinds (does_bind less there rest) = unwinds rest
-  unwinds (does_store line named there rest) = unwinds rest
-  unwinds (does_load_at line named there rest) = unwinds rest
-  unwinds (does_store_at line named there rest) = unwinds rest
-  unwinds (does_show there rest) = unwinds rest
-  unwinds (does_choose w rest) = unwinds rest
-  unwinds (does_test w rest) = unwinds rest
-  unwinds (does_repeat is w rest) = unwinds rest
-  unwinds (does_there there rest) = unwinds rest
-  unwinds (does_forget rest) = unwinds rest
-  unwinds (does_wait there rest) = unwinds rest
-  unwinds (does_commit there rest) = unwinds rest
-  unwinds (does_finish there) = ends_left
-  unwinds (does_end there ends_main) = ends_main
-  unwinds (does_end there ends_left) = ends_left
-  unwinds (does_end there (ends_call g agree same rest)) = ends_call g agree same rest
-  unwinds (does_leave there ending) = ending
+  mutual
+    -- from anything that is to be done in a function the function's end follows
+    pub unwinds : {n h p : ℕ} {g : Slots} {todo : List Task} {fs : List Frame} → Does n g h todo p fs → Ending (unwound todo) fs
+    unwinds (does_value named has rest) = unwinds rest
+    unwinds (does_lift is there rest) = unwinds rest
+    unwinds (does_join is there rest) = unwinds rest
+    unwinds (does_enter line named enough there rest) = unwinds rest
+    unwinds (does_discard there rest) = unwinds rest
+    unwinds (does_perform inside ending named room has shut rest) = unwinds rest
+    unwinds (does_bind less there rest) = unwinds rest
+    unwinds (does_store line named there rest) = unwinds rest
+    unwinds (does_load_at line named there rest) = unwinds rest
+    unwinds (does_store_at line named there rest) = unwinds rest
+    unwinds (does_show there rest) = unwinds rest
+    unwinds (does_choose w shut rest) = unwinds rest
+    unwinds (does_test w shut rest) = unwinds rest
+    unwinds (does_repeat is w shut rest) = unwinds rest
+    unwinds (does_there there rest) = unwinds rest
+    unwinds (does_forget rest) = unwinds rest
+    unwinds (does_wait there rest) = unwinds rest
+    unwinds (does_commit there rest) = unwinds rest
+    unwinds (does_finish there) = ends_left
+    unwinds (does_end there ends_main) = ends_main
+    unwinds (does_end there ends_left) = ends_left
+    unwinds (does_end there (ends_call g agree same rest)) = ends_call g agree same rest
+    unwinds (does_leave there ending) = ending
+    unwinds (does_give_up there jumps shut) = shut_unwinds shut
+
+    shut_unwinds : {n h q : ℕ} {g : Slots} {k : List Task} {fs : List Frame} → Shuts n g h k q fs → Ending (unwound k) fs
+    shut_unwinds (shuts_perform shut) = shut_unwinds shut
+    shut_unwinds (shuts_test shut) = shut_unwinds shut
+    shut_unwinds (shuts_wait shut) = shut_unwinds shut
+    shut_unwinds (shuts_forget shut) = shut_unwinds shut
+    shut_unwinds (shuts_commit there rest) = unwinds rest
+
+  -- where a block is given up the code at its end does what is left
+  pub shut_does : {n h q : ℕ} {g : Slots} {k : List Task} {fs : List Frame} → Shuts n g h k q fs → Does n g h (given_up k) q fs
+  shut_does (shuts_perform shut) = shut_does shut
+  shut_does (shuts_test shut) = shut_does shut
+  shut_does (shuts_wait shut) = shut_does shut
+  shut_does (shuts_forget shut) = does_forget (shut_does shut)
+  shut_does (shuts_commit there rest) = does_commit there rest
 
   -- an operator of one operand, if there is one, lifts
   abbrev pub Lifts : Option Operator → Type 0

@@ -1,5 +1,5 @@
 -- Strands of code that breaks no rule load and store only elements of the cells.
-use Rattle.std.proofs.Common.{◌≡◌, ℕ, zero, suc, ◌+◌, ◌<◌, Bool, true, false, List, [], ◌∷◌, length, refl, sym, subst, arith, Option, Some, None, Result, Ok, Err, ℤ, pos, negsuc, nat_lt}
+use Rattle.std.proofs.Common.{◌≡◌, ℕ, zero, suc, ◌+◌, ◌<◌, Bool, true, false, List, [], ◌∷◌, length, reverse, refl, sym, subst, arith, Option, Some, None, Result, Ok, Err, ℤ, pos, negsuc, nat_lt}
 use Rattle.std.specs.Prelude.{slice_get, if◌then◌else◌, nat_le}
 use Rattle.std.proofs.lemmas.Bool.{ltb-true, leb-true, and_parts}
 use Rattle.std.proofs.lemmas.Option.{slice_get_within}
@@ -13,14 +13,18 @@ use Rattle.cw_code.specs.declared.effects.Effect.TheVariants as t
 use Rattle.cw_code.specs.Rules.{below, cells_below, effect_of, faults, operand_faults}
 use Rattle.cw_code.proofs.Sound.{owner, operands_fine, has_effect, below_names, tested}
 use Rattle.cw_strand.specs.declared.want.Want.{Want}
-use Rattle.cw_strand.specs.declared.want.Want.TheVariants.{Out, Begin}
-use Rattle.cw_strand.specs.Strands.{Strands, GoesTo, Reached, stays, answered, joins, of_main, of_left, of_right}
+use Rattle.cw_strand.specs.declared.want.Want.TheVariants.{Out, Begin, Cancel}
+use Rattle.cw_strand.specs.declared.want.Given.{Given}
+use Rattle.cw_strand.specs.declared.want.Given.TheVariants.{Nothing, Value, Back as Wrote}
+use Rattle.cw_code.specs.declared.Back.{Back}
+use Rattle.cw_strand.specs.Strands.{Strands, AreElements, IsAnswer, GoesTo, Reached, stays, answered, joins, of_main, of_left, of_right}
 use Rattle.cw_strand.specs.Running.{Standing, on, wants, stuck, stand}
 use Rattle.cw_strand.specs.Coded as coded
 use Rattle.cw_strand.specs.Meaning.{one_inside, most_frames}
-use Rattle.cw_strand.specs.Coded.{Frame, State, Step, index, goes_to, counts, spends, result, in_range, read_local, returned, wait_in}
+use Rattle.cw_strand.specs.Coded.{Frame, State, Step, index, goes_to, counts, spends, result, in_range, read_local, returned, wait_in, with_value}
 use Rattle.cw_strand.specs.Laws.{NamesElement}
 use Rattle.cw_strand.proofs.Bounding.{bounded}
+use Rattle.cw_strand.proofs.Counting.{StepKeeps, step_keeps}
 use Rattle.cw_strand.proofs.Settling.{stand_holds}
 
 -- a cell of an array
@@ -95,11 +99,37 @@ module _ (code : Code) where
   act_names f q t.Sync i ok p vs s = waited_names s.scopes p vs s
   act_names f q t.Done i ok p vs s = tt
   act_names f q t.Tick i ok p vs s = spent_names s (λ u. on (goes_to p vs u)) tt
+  act_names f q t.Cancel i ok p vs s = counted_names Cancel (goes_to p vs s) tt
   act_names f q e i ok p vs s = tt
 
+  -- what a strand has to write back names elements
+  abbrev Writes : State → Type 0
+  Writes s = AreElements code.cells s.back
+
+  -- a step wants an element, and what is to be written back then names elements
+  abbrev NamesAll : Step → Type 0
+  NamesAll (on s) = Writes s
+  NamesAll (wants w s) = NamesElement code w × Writes s
+  NamesAll stuck = Unit {0}
+
+  all_names : (s : State) (x : Step) → Writes s → Names x → StepKeeps s x → NamesAll x
+  all_names s (on u) writes h kept = subst (AreElements code.cells) (sym kept.back) writes
+  all_names s (wants w u) writes h kept = (h, subst (AreElements code.cells) (sym kept.back) writes)
+  all_names s stuck writes h kept = tt
+
+  all_either : (b : Bool) (x y : Step) → NamesAll x → NamesAll y → NamesAll (if b then x else y)
+  all_either true x y g h = g
+  all_either false x y g h = h
+
+  given_writes : (w : Want) (given : Given) (s : State) → IsAnswer code.cells w given → Writes s → Writes (with_value given s)
+  given_writes w Nothing s is h = h
+  given_writes w (Value v) s is h = h
+  given_writes Cancel (Wrote bs) s is h = is
+  given_writes w (Wrote bs) s is h = absurd is
+
   module _ (ok : faults code ≡ []) where
-    pub step_names : (s : State) → Names (coded.step code s)
-    step_names s = names_either (nat_lt s.limits.size s.size) _ _ (λ e. tt) (λ e. at (slice_get code.instrs s.current.place) refl)
+    pub step_names : (s : State) → Writes s → NamesAll (coded.step code s)
+    step_names s writes = all_either (nat_lt s.limits.size s.size) _ _ (tt, writes) (by s.back refl)
       where
         at : (o : Option Instr) → slice_get code.instrs s.current.place ≡ o → Names (coded.step_at code o s)
         at None is = tt
@@ -110,24 +140,41 @@ module _ (code : Code) where
             subst (λ o. Names (coded.act_of code o i s)) (sym e.1)
             (act_names w.func s.current.place e.0 i (subst (λ o. operand_faults code w.func s.current.place i o ≡ []) e.1 ops) (s.current.place + 1) s.current.operands s)
 
+        by : (bs : List Back) → s.back ≡ bs → NamesAll (coded.writes_back code bs s)
+        by [] same = all_names s _ writes (at (slice_get code.instrs s.current.place) refl) (step_keeps code s (slice_get code.instrs s.current.place))
+        by (b ∷ bs) same = let named = subst (AreElements code.cells) same writes in all_either (nat_le s.limits.size s.size) _ _ (tt, named.1) (named.0, named.1)
+
     module _ (main : ℕ) (words : List ℤ) (limits : Limits) where
       abbrev strands : Strands (Standing State)
       strands = coded.strands_of_code code main words limits
 
-      stand_names : (s : State) → NamesElement code (stand (coded.runs code main words limits) s).want
-      stand_names s =
-          stand_holds (coded.runs code main words limits) (bounded code main words limits ok).on (λ u. Unit {0}) (λ x. NamesElement code x.want)
-          (λ u v h is. tt)
-          (λ u v w h is. subst Names is (step_names u))
-          (λ u h is. tt)
-          s tt
+      -- a strand that stands so wants an element, and writes back elements
+      abbrev Stands : Standing State → Type 0
+      Stands x = NamesElement code x.want × Writes x.state
 
-      goes_names : (from own : List ℕ) (a b : Standing State) → GoesTo strands from a own b → NamesElement code a.want → NamesElement code b.want
+      stand_names : (s : State) → Writes s → Stands (stand (coded.runs code main words limits) s)
+      stand_names s writes =
+          stand_holds (coded.runs code main words limits) (bounded code main words limits ok).on Writes Stands
+          (λ u v h is. subst NamesAll is (step_names u h))
+          (λ u v w h is. subst NamesAll is (step_names u h))
+          (λ u h is. (tt, h))
+          s writes
+
+      starts : (o : Option Func) → Writes (coded.starts_at code o (reverse words) limits)
+      starts None = tt
+      starts (Some f) = tt
+
+      goes_names : (from own : List ℕ) (a b : Standing State) → GoesTo strands from a own b → Stands a → Stands b
       goes_names from own a b stays h = h
-      goes_names from own a b (answered {b = c} g given is) h = stand_names _
-      goes_names from own a b (joins g is l lo r ro) h = stand_names _
+      goes_names from own a b (answered {b = c} g given is) h = stand_names (with_value given c.state) (given_writes c.want given c.state is (goes_names _ _ _ _ g h).1)
+      goes_names from own a b (joins {b = c} {left = l} {right = r} g is gl lo gr ro) h =
+          let forked = goes_names _ _ _ _ g h in
+          stand_names (coded.joined r.state l.state) (goes_names _ _ _ _ gr (stand_names c.state forked.1)).1
+
+      reached_names : (own : List ℕ) (x : Standing State) → Reached strands own x → Stands x
+      reached_names own x (of_main g) = goes_names _ _ _ _ g (stand_names _ (starts (slice_get code.funcs main)))
+      reached_names own x (of_left {f = f} r is g) = goes_names _ _ _ _ g (stand_names (coded.left f.state) tt)
+      reached_names own x (of_right {f = f} r is g) = goes_names _ _ _ _ g (stand_names f.state (reached_names _ _ r).1)
 
       pub names_elements : (own : List ℕ) (x : Standing State) → Reached strands own x → NamesElement code x.want
-      names_elements own x (of_main g) = goes_names _ _ _ _ g (stand_names _)
-      names_elements own x (of_left {f = f} r is g) = goes_names _ _ _ _ g (stand_names (coded.left f.state))
-      names_elements own x (of_right r is g) = goes_names _ _ _ _ g (stand_names _)
+      names_elements own x reached = (reached_names own x reached).0

@@ -1,7 +1,7 @@
 -- Where one way of running strands follows another, and both settle, the two want the same.
-use Rattle.std.proofs.Common.{◌≡◌, ◌∙◌, true, refl, sym, ap, subst}
+use Rattle.std.proofs.Common.{◌≡◌, ◌∙◌, ℕ, true, refl, sym, ap, subst}
 use Rattle.cw_strand.specs.declared.want.Want.{Want}
-use Rattle.cw_strand.specs.declared.want.Want.TheVariants.{Load, Store, Out, Begin, End, Fork, Sync, Done, Fault}
+use Rattle.cw_strand.specs.declared.want.Want.TheVariants.{Load, Store, Out, Begin, End, Cancel, Fork, Sync, Done, Fault}
 use Rattle.cw_strand.specs.declared.want.Given.{Given}
 use Rattle.cw_strand.specs.Strands.{IsAnswer, is_over}
 use Rattle.cw_strand.specs.Running.{LocalStep, on, wants, stuck, Standing, Running, stand, strands, ComesTo, here, lacks, goes_on, Settles}
@@ -48,6 +48,7 @@ module _ {S T : Type 0} (a : Running S) (b : Running T) (M : S → T → Type 0)
   after_step stuck c d is h = h
 
   pub record IsFollowed : Type 0 where
+    pub elements : a.elements ≡ b.elements
     pub first : M a.first b.first
     pub step : (s : S) (c : T) → M s c → Follows (a.step s) c
     pub answered : (given : Given) (s : S) (c : T) → M s c → M (a.answered given s) (b.answered given c)
@@ -70,13 +71,14 @@ module _ {S T : Type 0} (a : Running S) (b : Running T) (M : S → T → Type 0)
     alike : (s : S) (c : T) → M s c → Alike (stand a s) (stand b c)
     alike s c m = meets (settles s) c m (stand b c) (settled c)
 
-    after_answer : (w : Want) (given : Given) (s : S) (c : T) → IsAnswer w given → Kept w s c → M (a.answered given s) (b.answered given c)
-    after_answer (Load n) given s c is kept = follows.answered given s c kept
-    after_answer (Store n v) given s c is kept = follows.answered given s c kept
-    after_answer (Out v) given s c is kept = follows.answered given s c kept
-    after_answer Begin given s c is kept = follows.answered given s c kept
-    after_answer End given s c is kept = follows.answered given s c kept
-    after_answer w given s c is kept = absurd is
+    after_answer : (n : ℕ) (w : Want) (given : Given) (s : S) (c : T) → IsAnswer n w given → Kept w s c → M (a.answered given s) (b.answered given c)
+    after_answer n (Load m) given s c is kept = follows.answered given s c kept
+    after_answer n (Store m v) given s c is kept = follows.answered given s c kept
+    after_answer n (Out v) given s c is kept = follows.answered given s c kept
+    after_answer n Begin given s c is kept = follows.answered given s c kept
+    after_answer n End given s c is kept = follows.answered given s c kept
+    after_answer n Cancel given s c is kept = follows.answered given s c kept
+    after_answer n w given s c is kept = absurd is
 
     at_end : (w : Want) (s : S) (c : T) → is_over w ≡ true → Kept w s c → M s c
     at_end Sync s c is kept = kept
@@ -89,7 +91,7 @@ module _ {S T : Type 0} (a : Running S) (b : Running T) (M : S → T → Type 0)
     become (answered p given) can =
         let x = became (strands a) p in
         let y = became (strands b) p in
-        alike (a.answered given x.state) (b.answered given y.state) (after_answer x.want given x.state y.state can.1 (become p can.0).1)
+        alike (a.answered given x.state) (b.answered given y.state) (after_answer a.elements x.want given x.state y.state can.1 (become p can.0).1)
     become (left_of p) can =
         let x = became (strands a) p in
         let y = became (strands b) p in
@@ -108,4 +110,4 @@ module _ {S T : Type 0} (a : Running S) (b : Running T) (M : S → T → Type 0)
         alike (a.joined x.state u.state) (b.joined y.state v.state) (follows.joined x.state u.state y.state v.state r l)
 
     pub want_the_same : WantTheSame (strands a) (strands b)
-    want_the_same p can = (become p can).0
+    want_the_same = record { elements = follows.elements; wants = λ p can. (become p can).0 }

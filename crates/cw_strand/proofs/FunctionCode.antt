@@ -8,6 +8,7 @@ use Rattle.cw_text.specs.Syntax.{Declaration, cell, func, number}
 use Rattle.cw_code.specs.declared.CellInfo.{CellInfo}
 use Rattle.cw_code.specs.declared.instruction.Instr.{Instr}
 use Rattle.cw_code.specs.declared.instruction.Func.{Func}
+use Rattle.cw_strand.specs.declared.naming.Around.TheVariants as around
 use Rattle.cw_strand.specs.Names.{globals, in_block, in_functions, cells_of}
 use Rattle.cw_strand.specs.Meaning.{Function, Task, function_of, bound_to, perform, wait, value}
 use Rattle.cw_strand.specs.Coded.{Frame, locals_for}
@@ -33,7 +34,7 @@ module _ (ds : List Declaration) where
     pub numbered : slice_get (code_of ds).funcs (number_from k n (function_names rest)) ≡ Some func
     pub params : func.params ≡ length f.params
     pub locals : func.locals ≡ most (length f.params) f.body
-    pub named : in_block (scope_of ds (slots_with_params f.params [])) false f.body ≡ None
+    pub named : in_block (scope_of ds (slots_with_params f.params [])) around.Neither f.body ≡ None
     pub stands : HasAt instrs func.start (function_code cells function_list func.start f.params f.body)
 
   code_in : (rest : List Declaration) (p k : ℕ) (n : List ℕ) (f : Function) → HasAt instrs p (instrs_from cells function_list p rest) → ((j : ℕ) → slice_get (funcs_from cells function_list p rest) j ≡ slice_get (code_of ds).funcs (k + j))
@@ -61,7 +62,7 @@ module _ (ds : List Declaration) where
             numbered = ap (λ y. slice_get (code_of ds).funcs (if y then k else number_from (k + 1) n (function_names rest))) e ∙ ap (slice_get (code_of ds).funcs) (sym at) ∙ sym (same 0);
             params = refl;
             locals = refl;
-            named = subst (λ g. in_block g false b ≡ None) (scope_of_params ds ps []) ((no_fault _ _ (no_fault _ _ named).1).0);
+            named = subst (λ g. in_block g around.Neither b ≡ None) (scope_of_params ds ps []) ((no_fault _ _ (no_fault _ _ named).1).0);
             stands = front instrs p here later has;
           })
       by false e z g =
@@ -95,7 +96,7 @@ module _ (ds : List Declaration) where
     function_does todo fs ending =
         let g = slots_with_params f.params [] in
         let numbers = locals_for c.func vs in
-        let body = block_code cells function_list g c.func.start f.body in
+        let body = block_code cells function_list g c.func.start 0 f.body in
         let last = instr.wait ∷ push (pos 0) ∷ instr.ret ∷ [] in
         let tail = behind instrs c.func.start body last c.stands in
         let fewer : c.func.params ≤ c.func.locals = omega (arith, c.params, c.locals, most_from (length f.params) f.body) in
@@ -103,4 +104,4 @@ module _ (ds : List Declaration) where
         let long : length numbers ≡ c.func.locals = simp (length-append, length-reverse, length-replicate, length-take-le c.func.params vs taken) (omega arith) in
         let visible : length g ≡ length f.params = count_of_params f.params [] ∙ add-zero (length f.params) in
         let room : most (length g) f.body ≤ length numbers = subst (λ z. most z f.body ≤ length numbers) (sym visible) (omega (arith, long, c.locals)) in
-        does_perform false c.named room (front instrs c.func.start body last c.stands) (does_wait tail.0 (does_value refl (tail.1.0, tt) (does_end tail.1.1.0 ending)))
+        does_perform around.Neither 0 c.named room (front instrs c.func.start body last c.stands) (λ more never. cc) (does_wait tail.0 (does_value refl (tail.1.0, tt) (does_end tail.1.1.0 ending)))

@@ -1,9 +1,10 @@
 -- The strands of a faultless program are lawful: whatever they come to fits, so they want only what they may.
-use Rattle.std.proofs.Common.{◌≡◌, ◌≤◌, ℕ, zero, suc, true, false, List, [], ◌∷◌, length, reverse, Option, Some, None, ℤ, refl, subst, arith}
+use Rattle.std.proofs.Common.{◌≡◌, ◌≤◌, ℕ, zero, suc, true, List, [], ◌∷◌, length, reverse, Option, Some, None, ℤ, refl, subst, arith}
 use Rattle.std.specs.Prelude.{codes}
 use Rattle.std.proofs.lemmas.List.{length-reverse}
 use Rattle.cw_text.specs.Syntax.{Declaration}
 use Rattle.cw_code.specs.declared.Limits.{Limits}
+use Rattle.cw_strand.specs.declared.naming.Around.TheVariants as around
 use Rattle.cw_strand.specs.declared.want.Want.{Want}
 use Rattle.cw_strand.specs.declared.want.Want.TheVariants.{Fork, Sync, Done, Fault}
 use Rattle.cw_strand.specs.declared.want.Given.{Given}
@@ -43,16 +44,16 @@ module _ (ds : List Declaration) (words : List ℤ) (limits : Limits) (faultless
       (λ t fit is. absurd (step_goes ds limits named own t _ fit is))
       s h
 
-  answer_fits : (w : Want) (own : List ℕ) (t : State) (given : Given) → IsAnswer w given → FitAfter ds limits w own t → fits (own_after w own) t
-  answer_fits Fork own t given is h = absurd is
-  answer_fits Sync own t given is h = absurd is
-  answer_fits Done own t given is h = absurd is
-  answer_fits (Fault k) own t given is h = absurd is
-  answer_fits w own t given is h = h
+  answer_fits : (n : ℕ) (w : Want) (own : List ℕ) (t : State) (given : Given) → IsAnswer n w given → FitAfter ds limits w own t → fits (own_after w own) t
+  answer_fits n Fork own t given is h = absurd is
+  answer_fits n Sync own t given is h = absurd is
+  answer_fits n Done own t given is h = absurd is
+  answer_fits n (Fault k) own t given is h = absurd is
+  answer_fits n w own t given is h = h
 
   left_fits : (own : List ℕ) (t : State) → FitAfter ds limits Fork own t → Stands (0 ∷ []) (stand run (left t))
   left_fits [] t h = absurd h
-  left_fits (b ∷ bs) t h = stand_fits (0 ∷ []) (left t) (record { open_scopes = opened true 0 ∷ []; counted = refl; scoped = outermost; fits = (h.1, λ more m. refl) })
+  left_fits (b ∷ bs) t h = stand_fits (0 ∷ []) (left t) (record { open_scopes = opened around.Spawn 0 ∷ []; counted = refl; scoped = outermost; fits = (h.1, λ more m. (refl, λ never. cc)) })
 
   right_fits : (own : List ℕ) (t : State) → FitAfter ds limits Fork own t → Stands (0 ∷ own) (stand run t)
   right_fits [] t h = absurd h
@@ -76,7 +77,7 @@ module _ (ds : List Declaration) (words : List ℤ) (limits : Limits) (faultless
       absurd (main_there 0 ds (no_fault _ _ rest).1 is)
   main_fits (Some f) is takes =
       let enough : length (reverse f.params) ≤ length (reverse words) = omega (arith, takes, length-reverse words, length-reverse f.params) in
-      record { open_scopes = opened false 0 ∷ []; counted = refl; scoped = outermost; fits = (body_named ds (codes "main") f (reverse words) named is enough, λ more m. (refl, refl)) }
+      record { open_scopes = opened around.Neither 0 ∷ []; counted = refl; scoped = outermost; fits = (body_named ds (codes "main") f (reverse words) named is enough, λ more m. ((refl, refl), λ never. cc)) }
 
   start_fits : Stands (0 ∷ []) (stand run (at_main (function_of ds (codes "main")) words))
   start_fits = stand_fits (0 ∷ []) _ (main_fits (function_of ds (codes "main")) refl faultless.takes)
@@ -84,7 +85,7 @@ module _ (ds : List Declaration) (words : List ℤ) (limits : Limits) (faultless
   goes_to_fits : {from own : List ℕ} {a b : Standing State} → GoesTo (strands_of_syntax ds words limits) from a own b → Stands from a → Stands own b
   goes_to_fits stays h = h
   goes_to_fits (answered {own = own} {b = b} goes given is) h =
-      let fit : fits (own_after b.want own) b.state = answer_fits b.want own b.state given is (goes_to_fits goes h).after in
+      let fit : fits (own_after b.want own) b.state = answer_fits _ b.want own b.state given is (goes_to_fits goes h).after in
       stand_fits (own_after b.want own) (with_value given b.state) (with_value_fits ds limits given _ b.state fit)
   goes_to_fits (joins {own = own} {n = n} {b = b} {left = l} {right = right} goes fork left left_over goes_right over) h =
       let fit = fork_fits own b fork (goes_to_fits goes h) in

@@ -2,14 +2,19 @@ pub mod Arguments
 pub mod Below
 pub mod Bounding
 pub mod Calls
+pub mod Cancelling
 pub mod CodeLaws
 pub mod Compiled
+pub mod CompiledCancels
+pub mod Counting
 pub mod Doing
+pub mod ElementCount
 pub mod Elements
 pub mod FitTasks
 pub mod Following
 pub mod FunctionCode
 pub mod Lawful
+pub mod Lengths
 pub mod LocalWork
 pub mod Lowest
 pub mod MainCode
@@ -25,3 +30,4 @@ pub mod StandingNames
 pub mod Statements
 pub mod Tasks
 pub mod Unbroken
+pub mod Weights

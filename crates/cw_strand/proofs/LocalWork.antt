@@ -1,24 +1,27 @@
 -- Over the syntax each step by itself leaves less to do: a test of a loop and a call spend a unit of fuel, and each other step leaves less work. A want
 -- leaves no more than its depth says.
-use Rattle.std.proofs.Common.{◌≡◌, ◌<◌, ◌≤◌, ◌+◌, ◌-◌, ◌*◌, ℕ, zero, suc, Bool, true, false, List, [], ◌∷◌, drop, Option, Some, None, Result, Ok, Err, ℤ, pos, negsuc, refl, subst, arith}
+use Rattle.std.proofs.Common.{◌≡◌, ◌<◌, ◌≤◌, ◌+◌, ◌-◌, ◌*◌, ℕ, zero, suc, Bool, true, false, List, [], ◌∷◌, drop, Option, Some, None, Result, Ok, Err, ℤ, pos, negsuc, refl, subst, sym, arith}
 use Rattle.std.specs.Prelude.{nat_le, nat_lt, max, if◌then◌else◌}
 use Rattle.std.proofs.Math.Nat.{mul-le-mul}
 use Rattle.std.proofs.lemmas.Bool.{leb-false}
 use Rattle.std.proofs.lemmas.Option.{same_Some}
 use Rattle.std.specs.Str.{bytes_eq}
-use Rattle.cw_text.specs.Syntax.{number, name, at, call, unary, binary, Terms, none, more, Statement, declare, assign, assign_at, run, out, choose, repeat, atomic, spawn, sync, return, Block, empty, first, Declaration, cell, func}
+use Rattle.cw_text.specs.Syntax.{number, name, at, call, unary, binary, Terms, none, more, Statement, declare, assign, assign_at, run, out, choose, repeat, atomic, spawn, sync, cancel, return, Block, empty, first, Declaration, cell, func}
 use Rattle.cw_code.specs.declared.CellInfo.{CellInfo}
 use Rattle.cw_code.specs.declared.Limits.{Limits}
 use Rattle.cw_code.specs.declared.FaultKind.{FaultKind}
 use Rattle.cw_code.specs.declared.FaultKind.TheVariants.{Fuel}
 use Rattle.cw_code.specs.declared.effects.Operator.{Operator}
-use Rattle.cw_strand.specs.declared.want.Want.TheVariants.{Done, Fault}
+use Rattle.cw_strand.specs.declared.want.Want.TheVariants.{Cancel, Done, Fault, Fork, Load, Out, Store, Sync}
 use Rattle.cw_strand.specs.declared.want.Given.{Given}
-use Rattle.cw_strand.specs.declared.want.Given.TheVariants.{Nothing, Value}
+use Rattle.cw_strand.specs.declared.want.Given.TheVariants.{Nothing, Value, Back as Wrote}
+use Rattle.cw_strand.specs.declared.want.Want.{Want}
+use Rattle.cw_code.specs.declared.Back.{Back}
 use Rattle.cw_strand.specs.Arithmetic.{one, two, is_zero}
-use Rattle.cw_strand.specs.Running.{on, wants, stuck, depth_of, IsBounded}
+use Rattle.cw_strand.specs.Running.{Running, on, wants, stuck, depth_of, IsBounded}
 use Rattle.cw_strand.specs.Names.{cells_of, count_of}
-use Rattle.cw_strand.specs.Meaning.{State, Locals, Step, Function, function_of, Task, value, lift, join, enter, discard, perform, bind, store_in, load_at, store_at, show, choose_by, test, repeat_by, forget, wait, commit, finish, finish_main, back_to, leave, arguments, unwound, begins_call, most_frames, lifted, joining, lifts, joins, result, wait_in, read_name, write_name, begin_with, perform_with, to_do, spends, local_of, element_of, cell_of, in_range, step, step_of, work, most_added, most_begun, block_work, terms_work, steps_left, with_value, ended, runs}
+use Rattle.cw_strand.proofs.Weights.{lighter, no_heavier}
+use Rattle.cw_strand.specs.Meaning.{State, Locals, Step, Function, function_of, Task, value, lift, join, enter, discard, perform, bind, store_in, load_at, store_at, show, choose_by, test, repeat_by, forget, wait, commit, finish, finish_main, back_to, leave, give_up, given_up, counts, writes_back, left, joined, arguments, unwound, begins_call, most_frames, lifted, joining, lifts, joins, result, wait_in, read_name, write_name, begin_with, perform_with, to_do, spends, local_of, element_of, cell_of, in_range, step, step_of, work, most_added, most_begun, block_work, terms_work, steps_left, with_value, ended, runs}
 
 -- ## Less to do
 
@@ -72,6 +75,12 @@ unwound_work (finish ∷ k) = (omega arith, omega arith)
 unwound_work (finish_main ∷ k) = (omega arith, omega arith)
 unwound_work (t ∷ k) = let h = unwound_work k in (omega (arith, h.0), omega (arith, h.1))
 
+given_up_work : (k : List Task) → (work (given_up k) ≤ work k) × (most_added (given_up k) ≤ most_added k)
+given_up_work [] = (omega arith, omega arith)
+given_up_work (forget n ∷ k) = let h = given_up_work k in (omega (arith, h.0), omega (arith, h.1))
+given_up_work (commit ∷ k) = (omega arith, omega arith)
+given_up_work (t ∷ k) = let h = given_up_work k in (omega (arith, h.0), omega (arith, h.1))
+
 -- no function adds more than the greatest
 body_begun : (ds : List Declaration) (n : List ℕ) (f : Function) → function_of ds n ≡ Some f → block_work f.body + 2 ≤ most_begun ds
 body_begun [] n f is = absurd cc
@@ -92,10 +101,14 @@ module _ (ds : List Declaration) (words : List ℤ) (limits : Limits) (cells : L
   abbrev functions : List ℕ → Option Function
   functions = function_of ds
 
+  -- where nothing is to be written back
+  abbrev plain : Running State
+  plain = record (runs ds words limits) { bound = λ s. steps_left ds limits s }
+
   -- a step leaves less to do than so much
   abbrev Leaves : ℕ → Step → Type 0
   Leaves n (on t) = steps_left ds limits t < n
-  Leaves n (wants w t) = depth_of (runs ds words limits) w t ≤ n
+  Leaves n (wants w t) = depth_of plain w t ≤ n
   Leaves n stuck = Unit {0}
 
   either : (n : ℕ) (b : Bool) (x y : Step) → Leaves n x → Leaves n y → Leaves n (if b then x else y)
@@ -140,7 +153,7 @@ module _ (ds : List Declaration) (words : List ℤ) (limits : Limits) (cells : L
 
   module _ (ls : Locals) (frames : ℕ) (ns : List ℕ) (size : ℕ) (beside : Block) where
     abbrev state : ℕ → List Task → List ℤ → State
-    state fuel k vs = record { todo = k; values = vs; locals = ls; frames = frames; scopes = ns; fuel = fuel; size = size; beside = beside }
+    state fuel k vs = record { todo = k; values = vs; locals = ls; frames = frames; scopes = ns; fuel = fuel; size = size; beside = beside; back = [] }
 
     -- a statement, with what is done after it
     begin_leaves : (fuel spent : ℕ) → fuel ≤ spent → (st : Statement) (b : Block) (k : List Task) (vs : List ℤ)
@@ -164,6 +177,7 @@ module _ (ds : List Declaration) (words : List ℤ) (limits : Limits) (cells : L
         let left = less ds limits fuel spent (perform c ∷ wait ∷ finish ∷ []) before later (record { added = omega arith; work = omega arith }) in
         either _ (nat_le limits.size size) _ _ (no_more ds limits fuel spent before later) (omega (arith, right, left))
     begin_leaves fuel spent later sync b k vs = less ds limits fuel spent (wait ∷ perform b ∷ k) (perform (first sync b) ∷ k) later (record { added = omega arith; work = omega arith })
+    begin_leaves fuel spent later (cancel l) b k vs = less ds limits fuel spent (wait ∷ give_up ∷ perform b ∷ k) (perform (first (cancel l) b) ∷ k) later (record { added = omega arith; work = omega arith })
     begin_leaves fuel spent later (return l e) b k vs = less ds limits fuel spent (value e ∷ wait ∷ leave ∷ perform b ∷ k) (perform (first (return l e) b) ∷ k) later (record { added = omega arith; work = omega arith })
 
     module _ (fuel : ℕ) where
@@ -223,23 +237,164 @@ module _ (ds : List Declaration) (words : List ℤ) (limits : Limits) (cells : L
       leaves (finish ∷ k) vs = ended_leaves ns (state fuel (finish ∷ k) vs)
       leaves (finish_main ∷ k) (v ∷ vs) = ended_leaves ns (state fuel (finish_main ∷ k) (v ∷ vs))
       leaves (back_to l us ∷ k) (v ∷ vs) = goes k (back_to l us ∷ k) (omega arith) (omega arith)
+      leaves (give_up ∷ k) vs =
+          let h = given_up_work k in
+          let lt = goes (given_up k) (give_up ∷ k) (omega (arith, h.1)) (omega (arith, h.0)) in
+          either _ (nat_le limits.size size) _ _ (omega (arith, lt)) lt
       leaves (leave ∷ k) vs = let h = unwound_work k in goes (unwound k) (leave ∷ k) (omega (arith, h.1)) (omega (arith, h.0))
       leaves todo vs = tt
 
-module _ (ds : List Declaration) (words : List ℤ) (limits : Limits) where
-  step_leaves : (s : State) (x : Step) → step (cells_of ds) (function_of ds) limits s ≡ x → Leaves ds words limits (cells_of ds) (steps_left ds limits s) x
-  step_leaves s x h =
-      subst (λ (y : Step). Leaves ds words limits (cells_of ds) (steps_left ds limits s) y) h
-      (either ds words limits (cells_of ds) (steps_left ds limits s) (nat_lt limits.size s.size) _ _ (omega arith) (leaves ds words limits (cells_of ds) s.locals s.frames s.scopes s.size s.beside s.fuel s.todo s.values))
+-- ## What was counted
 
-  answered_leaves : (given : Given) (s : State) → steps_left ds limits (with_value given s) ≤ steps_left ds limits s
+module _ (ds : List Declaration) (limits : Limits) (cells : List CellInfo) where
+  -- where a step comes to a want, so much was counted at least
+  abbrev Counts : ℕ → Step → Type 0
+  Counts n (on t) = Unit {0}
+  Counts n (wants w t) = n ≤ t.size
+  Counts n stuck = Unit {0}
+
+  one_of : (n : ℕ) (b : Bool) (x y : Step) → Counts n x → Counts n y → Counts n (if b then x else y)
+  one_of n true x y h g = h
+  one_of n false x y h g = g
+
+  counts_one : (n : ℕ) (w : Want) (s : State) → n ≤ s.size → Counts n (counts cells (function_of ds) limits w s)
+  counts_one n w s h = one_of n (nat_le limits.size s.size) _ _ h (omega (arith, h))
+
+  counts_spent : (n : ℕ) (s : State) (go : State → Step) → n ≤ s.size → Counts n (go (record s { fuel = s.fuel + 1 })) → Counts n (spends cells (function_of ds) limits s go)
+  counts_spent n s go h g = one_of n (nat_le limits.fuel s.fuel) _ _ h g
+
+  counts_result : (n : ℕ) (r : Result ℤ FaultKind) (vs : List ℤ) (s : State) → n ≤ s.size → Counts n (result r vs s)
+  counts_result n (Ok v) vs s h = tt
+  counts_result n (Err k) vs s h = h
+
+  counts_read : (n : ℕ) (v : Option ℤ) (c : Option ℕ) (s : State) → n ≤ s.size → Counts n (read_name cells (function_of ds) limits v c s)
+  counts_read n (Some v) c s h = tt
+  counts_read n None (Some c) s h = counts_one n _ _ h
+  counts_read n None None s h = tt
+
+  counts_write : (n : ℕ) (o : Option ℤ) (c : Option ℕ) (x : List ℕ) (v : ℤ) (s : State) → n ≤ s.size → Counts n (write_name cells (function_of ds) limits o c x v s)
+  counts_write n (Some o) c x v s h = tt
+  counts_write n None (Some c) x v s h = counts_one n _ _ h
+  counts_write n None None x v s h = tt
+
+  counts_range : (n : ℕ) (o : Option CellInfo) (i : ℤ) (s : State) (go : ℕ → Step) → n ≤ s.size → ((c : ℕ) → Counts n (go c)) → Counts n (in_range cells (function_of ds) limits o i s go)
+  counts_range n None i s go h g = tt
+  counts_range n (Some c) (negsuc m) s go h g = h
+  counts_range n (Some c) (pos m) s go h g = one_of n (nat_lt m c.len) _ _ (g (c.base + m)) h
+
+  counts_wait : (n : ℕ) (ns : List ℕ) (k : List Task) (s : State) → n ≤ s.size → Counts n (wait_in ns k s)
+  counts_wait n [] k s h = tt
+  counts_wait n (zero ∷ ns) k s h = tt
+  counts_wait n (suc m ∷ ns) k s h = h
+
+  counts_ended : (n : ℕ) (ns : List ℕ) (s : State) → n ≤ s.size → Counts n (wants Done (ended ns s))
+  counts_ended n [] s h = h
+  counts_ended n (m ∷ []) s h = h
+  counts_ended n (m ∷ l ∷ ns) s h = h
+
+  counts_call : (n : ℕ) (o : Option Function) (c : ℕ) (k : List Task) (s : State) → n ≤ s.size → Counts n (begins_call cells (function_of ds) limits o c k s)
+  counts_call n None c k s h = tt
+  counts_call n (Some f) c k s h = one_of n (nat_le most_frames s.frames) _ _ h tt
+
+  counts_begin : (n : ℕ) (st : Statement) (k : List Task) (s : State) → n ≤ s.size → Counts n (begin_with cells (function_of ds) limits st k s)
+  counts_begin n (atomic b) k s h = counts_one n _ _ h
+  counts_begin n (spawn b) k s h = one_of n (nat_le limits.size s.size) _ _ h (omega (arith, h))
+  counts_begin n st k s h = tt
+
+  counts_perform : (n : ℕ) (st : Statement) (k : List Task) (s : State) → n ≤ s.size → Counts n (perform_with cells (function_of ds) limits st k s)
+  counts_perform n (repeat e b) k s h = counts_begin n (repeat e b) k s h
+  counts_perform n st k s h = counts_spent n s (λ t. begin_with cells (function_of ds) limits st k t) h (counts_begin n st k (record s { fuel = s.fuel + 1 }) h)
+
+  counts_tasks : (n : ℕ) (todo : List Task) (vs : List ℤ) (s : State) → n ≤ s.size → Counts n (step_of cells (function_of ds) limits todo (record s { values = vs }))
+  counts_tasks n [] vs s h = tt
+  counts_tasks n (value (number z) ∷ k) vs s h = tt
+  counts_tasks n (value (at w i) ∷ k) vs s h = tt
+  counts_tasks n (value (call w es) ∷ k) vs s h = tt
+  counts_tasks n (value (unary o e) ∷ k) vs s h = tt
+  counts_tasks n (value (binary o l r) ∷ k) vs s h = tt
+  counts_tasks n (discard ∷ k) (v ∷ vs) s h = tt
+  counts_tasks n (perform empty ∷ k) vs s h = tt
+  counts_tasks n (bind x ∷ k) (v ∷ vs) s h = tt
+  counts_tasks n (choose_by a b ∷ k) (v ∷ vs) s h = tt
+  counts_tasks n (forget m ∷ k) vs s h = tt
+  counts_tasks n (back_to l us ∷ k) (v ∷ vs) s h = tt
+  counts_tasks n (leave ∷ k) vs s h = tt
+  counts_tasks n (value (name w) ∷ k) vs s h = counts_read n (local_of s.locals w.name) (element_of cells w.name) (record s { todo = k; values = vs }) h
+  counts_tasks n (lift o ∷ k) (x ∷ vs) s h = counts_result n (one o x) vs (record s { todo = k; values = x ∷ vs }) h
+  counts_tasks n (join o ∷ k) (y ∷ x ∷ vs) s h = counts_result n (two o x y) vs (record s { todo = k; values = y ∷ x ∷ vs }) h
+  counts_tasks n (enter x c ∷ k) vs s h =
+      let at = record s { values = vs } in
+      counts_spent n at (λ t. begins_call cells (function_of ds) limits (function_of ds x) c k t) h (counts_call n (function_of ds x) c k (record at { fuel = s.fuel + 1 }) h)
+  counts_tasks n (perform (first st b) ∷ k) vs s h = counts_perform n st (perform b ∷ k) (record s { values = vs }) h
+  counts_tasks n (store_in x ∷ k) (v ∷ vs) s h = counts_write n (local_of s.locals x) (element_of cells x) x v (record s { todo = k; values = vs }) h
+  counts_tasks n (load_at x ∷ k) (i ∷ vs) s h =
+      counts_range n (cell_of cells x) i (record s { values = i ∷ vs }) (λ c. counts cells (function_of ds) limits (Load c) (record s { todo = k; values = pos 0 ∷ vs })) h (λ c. counts_one n (Load c) (record s { todo = k; values = pos 0 ∷ vs }) h)
+  counts_tasks n (store_at x ∷ k) (v ∷ i ∷ vs) s h =
+      counts_range n (cell_of cells x) i (record s { values = v ∷ i ∷ vs }) (λ c. counts cells (function_of ds) limits (Store c v) (record s { todo = k; values = vs })) h (λ c. counts_one n (Store c v) (record s { todo = k; values = vs }) h)
+  counts_tasks n (show ∷ k) (v ∷ vs) s h = counts_one n (Out v) (record s { todo = k; values = vs }) h
+  counts_tasks n (test e b ∷ k) vs s h = one_of n (nat_le limits.fuel s.fuel) _ _ h tt
+  counts_tasks n (repeat_by e b ∷ k) (v ∷ vs) s h = one_of n (is_zero v) _ _ tt tt
+  counts_tasks n (wait ∷ k) vs s h = counts_wait n s.scopes k (record s { values = vs }) h
+  counts_tasks n (commit ∷ k) vs s h = h
+  counts_tasks n (finish ∷ k) vs s h = counts_ended n s.scopes (record s { values = vs }) h
+  counts_tasks n (finish_main ∷ k) (v ∷ vs) s h = counts_ended n s.scopes (record s { values = v ∷ vs }) h
+  counts_tasks n (give_up ∷ k) vs s h = counts_one n Cancel (record s { todo = given_up k; values = vs }) h
+  counts_tasks n todo vs s h = tt
+
+-- ## With what is written back
+
+module _ (ds : List Declaration) (words : List ℤ) (limits : Limits) where
+  abbrev whole : Running State
+  whole = runs ds words limits
+
+  -- a step leaves less to do and to write back
+  abbrev LeavesAll : State → Step → Type 0
+  LeavesAll s (on t) = whole.bound t < whole.bound s
+  LeavesAll s (wants w t) = depth_of whole w t ≤ whole.bound s
+  LeavesAll s stuck = Unit {0}
+
+  -- less to do by itself is less of all
+  less_of_all : (s t : State) → steps_left ds limits t < steps_left ds limits s → whole.bound t < whole.bound s
+  less_of_all s t less = lighter limits.size (steps_left ds limits t) (steps_left ds limits s) (limits.size + 1 - t.size) (limits.size + 1 - s.size) less (omega arith)
+
+  no_more_of_all : (s t : State) → steps_left ds limits t ≤ steps_left ds limits s → s.size ≤ t.size → whole.bound t ≤ whole.bound s
+  no_more_of_all s t low counted = omega (arith, no_heavier limits.size (steps_left ds limits t) (steps_left ds limits s) (limits.size + 1 - t.size) low, counted)
+
+  want_leaves_all : (s t : State) (w : Want) → depth_of (plain ds words limits (cells_of ds)) w t ≤ steps_left ds limits s → s.size ≤ t.size → depth_of whole w t ≤ whole.bound s
+  want_leaves_all s t Fork low counted = omega (arith, less_of_all s t (omega (arith, low)), less_of_all s (left t) (omega (arith, low)))
+  want_leaves_all s t Sync low counted = no_more_of_all s t low counted
+  want_leaves_all s t Done low counted = no_more_of_all s t low counted
+  want_leaves_all s t (Fault k) low counted = no_more_of_all s t low counted
+  want_leaves_all s t w low counted = omega (arith, less_of_all s t (omega (arith, low)))
+
+  all_left : (s : State) (x : Step) → Leaves ds words limits (cells_of ds) (steps_left ds limits s) x → Counts ds limits (cells_of ds) s.size x → LeavesAll s x
+  all_left s (on t) h g = less_of_all s t h
+  all_left s (wants w t) h g = want_leaves_all s t w h g
+  all_left s stuck h g = tt
+
+  either_all : (s : State) (b : Bool) (x y : Step) → (b ≡ true → LeavesAll s x) → (b ≡ false → LeavesAll s y) → LeavesAll s (if b then x else y)
+  either_all s true x y h g = h refl
+  either_all s false x y h g = g refl
+
+  step_leaves : (s : State) (x : Step) → step (cells_of ds) (function_of ds) limits s ≡ x → LeavesAll s x
+  step_leaves s x h = subst (λ (y : Step). LeavesAll s y) h (either_all s (nat_lt limits.size s.size) _ _ (λ _. omega arith) (λ _. by s.back refl))
+    where
+      by : (bs : List Back) → s.back ≡ bs → LeavesAll s (writes_back (cells_of ds) (function_of ds) limits bs s)
+      by [] same =
+          let here = leaves ds words limits (cells_of ds) s.locals s.frames s.scopes s.size s.beside s.fuel s.todo s.values in
+          let mine = subst (λ (bs : List Back). Leaves ds words limits (cells_of ds) (steps_left ds limits s) (step_of (cells_of ds) (function_of ds) limits s.todo (record s { back = bs }))) (sym same) here in
+          all_left s _ mine (counts_tasks ds limits (cells_of ds) s.size s.todo s.values s (omega arith))
+      by (b ∷ bs) same = either_all s (nat_le limits.size s.size) _ _ (λ _. omega arith) (λ e. omega (arith, leb-false limits.size s.size e))
+
+  answered_leaves : (given : Given) (s : State) → whole.bound (with_value given s) ≤ whole.bound s
   answered_leaves Nothing s = omega arith
   answered_leaves (Value v) s = omega arith
+  answered_leaves (Wrote bs) s = omega arith
 
-  pub bounded : IsBounded (runs ds words limits)
+  pub bounded : IsBounded whole
   bounded = record {
     on = λ s t is. step_leaves s (on t) is;
     want = λ s t w is. step_leaves s (wants w t) is;
     answered = answered_leaves;
-    joined = λ right left. no_more ds limits right.fuel (max left.fuel right.fuel) right.todo (omega arith);
+    joined = λ right l. no_more_of_all right (joined limits right l) (no_more ds limits right.fuel (max l.fuel right.fuel) right.todo (omega arith)) (omega arith);
   }

@@ -62,6 +62,7 @@ module _ (ds : List Declaration) (words : List ℤ) (limits : Limits) (faultless
         scopes = refl;
         fuel = refl;
         size = refl;
+        back = refl;
         within = refl;
       }
 

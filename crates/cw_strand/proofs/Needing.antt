@@ -52,6 +52,7 @@ module _ (code : Code) (ok : faults code ≡ []) where
   needs cells i t.Sync s low w = tt
   needs cells i t.Done s low w = tt
   needs cells i t.Tick s low w = tt
+  needs cells i t.Cancel s low w = tt
 
   module _ (s : State) (f : StandsIn code s) where
     -- an instruction stands at the place

@@ -57,6 +57,17 @@ pub count_of_params : (ps : List Word) (g : Slots) → length (slots_with_params
 count_of_params [] g = omega arith
 count_of_params (w ∷ ps) g = let e = count_of_params ps (w.name ∷ g) in omega (arith, e)
 
+-- a statement hides nothing
+pub more_behind : (x : Statement) (g : Slots) → (more : Slots) × (slots_after x g ≡ more ++ g)
+more_behind (declare w e) g = (w.name ∷ [], refl)
+more_behind x g = ([], refl)
+
+-- whatever a block declared is dropped at its end
+pub more_dropped : (more g : Slots) (n : ℕ) → n ≡ length g → drop (length (more ++ g) - n) (more ++ g) ≡ g
+more_dropped more g n same =
+    let front : length (more ++ g) - n ≡ length more = omega (arith, same, length-append more g) in
+    ap (λ m. drop m (more ++ g)) front ∙ drop-append_seam more g
+
 -- at the end of a block its own locals are dropped
 length_behind : (b : Block) (g : Slots) → drop (length (slots_behind b g) - length g) (slots_behind b g) ≡ g
 length_behind b g = let w = more_slots b g in subst (λ l. drop (length l - length g) l ≡ g) (sym w.1) (cut w.0 g)

@@ -1,34 +1,43 @@
 -- Laws of strands that want the same: what can be over the one can be over the other, and what a strand of the one has come to, a strand
 -- of the other has come to by the same past.
 use Rattle.std.proofs.Common.{◌≡◌, ◌∙◌, ℕ, List, refl, sym, ap, subst}
+use Rattle.cw_strand.specs.declared.want.Given.{Given}
+use Rattle.cw_strand.specs.declared.want.Want.{Want}
 use Rattle.cw_strand.specs.declared.want.Want.TheVariants.{Fork}
 use Rattle.cw_strand.specs.Strands.{Strands, IsAnswer, is_over, own_after, MayWant, GoesTo, stays, answered as on_answered, joins, Reached, of_main, of_left, of_right, Closes}
 use Rattle.cw_strand.specs.Pasts.{Past, start, answered, left_of, right_of, joined_of, became, CanBe, WantTheSame}
 
 module _ {A B : Type 0} (s : Strands A) (t : Strands B) (same : WantTheSame s t) where
+  -- what answers a want over the one answers the same one over the other
+  takes_there : {w x : Want} (given : Given) → w ≡ x → IsAnswer s.elements w given → IsAnswer t.elements x given
+  takes_there {x = x} given e is = subst (λ n. IsAnswer n x given) same.elements (subst (λ w. IsAnswer s.elements w given) e is)
+
+  takes_back : {w x : Want} (given : Given) → w ≡ x → IsAnswer t.elements w given → IsAnswer s.elements x given
+  takes_back {x = x} given e is = subst (λ n. IsAnswer n x given) (sym same.elements) (subst (λ w. IsAnswer t.elements w given) e is)
+
   -- what can be over the one can be over the other
   pub can_be : (p : Past) → CanBe s p → CanBe t p
   can_be start can = tt
-  can_be (answered p given) can = (can_be p can.0, subst (λ w. IsAnswer w given) (same p can.0) can.1)
-  can_be (left_of p) can = (can_be p can.0, sym (same p can.0) ∙ can.1)
-  can_be (right_of p) can = (can_be p can.0, sym (same p can.0) ∙ can.1)
+  can_be (answered p given) can = (can_be p can.0, takes_there given (same.wants p can.0) can.1)
+  can_be (left_of p) can = (can_be p can.0, sym (same.wants p can.0) ∙ can.1)
+  can_be (right_of p) can = (can_be p can.0, sym (same.wants p can.0) ∙ can.1)
   can_be (joined_of right left) can =
-      let r = sym (ap is_over (same right can.0.0)) ∙ can.0.1 in
-      let l = sym (ap is_over (same left can.1.0)) ∙ can.1.1 in
+      let r = sym (ap is_over (same.wants right can.0.0)) ∙ can.0.1 in
+      let l = sym (ap is_over (same.wants left can.1.0)) ∙ can.1.1 in
       ((can_be right can.0.0, r), (can_be left can.1.0, l))
 
   pub can_be_back : (p : Past) → CanBe t p → CanBe s p
   can_be_back start can = tt
-  can_be_back (answered p given) can = let c = can_be_back p can.0 in (c, subst (λ w. IsAnswer w given) (sym (same p c)) can.1)
-  can_be_back (left_of p) can = let c = can_be_back p can.0 in (c, same p c ∙ can.1)
-  can_be_back (right_of p) can = let c = can_be_back p can.0 in (c, same p c ∙ can.1)
+  can_be_back (answered p given) can = let c = can_be_back p can.0 in (c, takes_back given (sym (same.wants p c)) can.1)
+  can_be_back (left_of p) can = let c = can_be_back p can.0 in (c, same.wants p c ∙ can.1)
+  can_be_back (right_of p) can = let c = can_be_back p can.0 in (c, same.wants p c ∙ can.1)
   can_be_back (joined_of right left) can =
       let r = can_be_back right can.0.0 in
       let l = can_be_back left can.1.0 in
-      ((r, ap is_over (same right r) ∙ can.0.1), (l, ap is_over (same left l) ∙ can.1.1))
+      ((r, ap is_over (same.wants right r) ∙ can.0.1), (l, ap is_over (same.wants left l) ∙ can.1.1))
 
   pub want_back : WantTheSame t s
-  want_back p can = sym (same p (can_be_back p can))
+  want_back = record { elements = sym same.elements; wants = λ p can. sym (same.wants p (can_be_back p can)) }
 
   -- what a strand of t has come to: by a past that can be, by which a strand of s has come to what P says
   pub record ComeTo (P : A → Type 0) (b : B) : Type 0 where
@@ -40,7 +49,7 @@ module _ {A B : Type 0} (s : Strands A) (t : Strands B) (same : WantTheSame s t)
   module _ {P : A → Type 0} {b : B} (h : ComeTo P b) where
     -- the two want the same there
     pub wants_there : t.want b ≡ s.want (became s h.past)
-    wants_there = ap t.want h.is ∙ sym (same h.past h.can)
+    wants_there = ap t.want h.is ∙ sym (same.wants h.past h.can)
 
   -- where a strand goes on, that of the other law goes on
   goes : {from own : List ℕ} {a b : B} → GoesTo t from a own b → (p : Past) → CanBe s p → a ≡ became t p → ComeTo (λ x. GoesTo s from (became s p) own x) b
@@ -48,7 +57,7 @@ module _ {A B : Type 0} (s : Strands A) (t : Strands B) (same : WantTheSame s t)
   goes {from = from} (on_answered {own = own} {b = b} way given takes) p can is =
       let h = goes way p can is in
       let w = wants_there h in
-      let takes2 = subst (λ x. IsAnswer x given) w takes in
+      let takes2 = takes_back given w takes in
       record {
         past = answered h.past given;
         can = (h.can, takes2);

@@ -1,5 +1,6 @@
 -- What a strand is once it went back to the begin of a block.
 use Rattle.std.proofs.Common.{◌≡◌, ◌∙◌, ℕ, suc, ◌<◌, ◌≤◌, List, [], ◌∷◌, length, drop, refl, sym, ap, subst, arith, ℤ}
+use Rattle.cw_code.specs.declared.Back.{Back}
 use Rattle.cw_code.specs.declared.Limits.{Limits}
 use Rattle.cw_strand.specs.Coded.{Frame, State}
 use Rattle.cw_strand.specs.Standing.{HasBegun}
@@ -15,6 +16,7 @@ made p vs ls fs ns fuel size beside limits = record {
   fuel = fuel;
   size = size;
   beside = beside;
+  back = [];
   limits = limits;
 }
 
@@ -88,3 +90,4 @@ module _ (kept : Kept) (now : State) (m : MayGoBack kept now) where
         ∙ ap (λ fs. made k.place start.current.operands k.locals (drop 1 fs) (0 ∷ lowest kept.scopes last.scopes) k.fuel k.size k.beside last.limits) waiting
         ∙ ap (λ ns. made k.place start.current.operands k.locals start.callers ns k.fuel k.size k.beside last.limits) scopes_again
         ∙ ap (λ l. made k.place start.current.operands k.locals start.callers start.scopes k.fuel k.size k.beside l) (ap (λ s. s.limits) rest ∙ still.limits)
+        ∙ ap (λ (bs : List Back). record start { back = bs }) (sym began.back)

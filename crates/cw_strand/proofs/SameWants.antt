@@ -9,11 +9,13 @@ use Rattle.cw_strand.specs.Laws.{IsFaultless, compiled}
 use Rattle.cw_strand.proofs.Following.{IsFollowed, want_the_same}
 use Rattle.cw_strand.proofs.Sharing.{over_syntax, over_code, Alike, answered_alike, joined_alike}
 use Rattle.cw_strand.proofs.Compiled.{steps}
+use Rattle.cw_strand.proofs.ElementCount.{element_count}
 use Rattle.cw_strand.proofs.MainCode.{functions_named, starts}
 
 module _ (ds : List Declaration) (words : List ℤ) (limits : Limits) (faultless : IsFaultless ds words) where
   is_followed : IsFollowed (over_syntax ds words limits) (over_code ds words limits) (Alike ds words limits)
   is_followed = record {
+    elements = element_count ds;
     first = starts ds words limits faultless;
     step = steps ds words limits (functions_named ds faultless.named);
     answered = answered_alike ds words limits;

@@ -12,7 +12,7 @@ use Rattle.cw_code.specs.Table.{effect_at}
 use Rattle.cw_strand.specs.declared.want.Want.{Want}
 use Rattle.cw_strand.specs.declared.want.Want.TheVariants.{Fault}
 use Rattle.cw_strand.specs.declared.want.Given.{Given}
-use Rattle.cw_strand.specs.declared.want.Given.TheVariants.{Nothing, Value}
+use Rattle.cw_strand.specs.declared.want.Given.TheVariants.{Nothing, Value, Back as Wrote}
 use Rattle.cw_strand.specs.Running.{Running, on, wants}
 use Rattle.cw_strand.specs.Names.{cells_of}
 use Rattle.cw_strand.specs.Meaning as m
@@ -49,6 +49,7 @@ module _ (ds : List Declaration) (words : List ℤ) (limits : Limits) where
     pub scopes : s.scopes ≡ d.scopes
     pub fuel : s.fuel ≡ d.fuel
     pub size : s.size ≡ d.size
+    pub back : s.back ≡ d.back
     pub within : d.limits ≡ limits
 
   -- they do so after an answer
@@ -65,12 +66,27 @@ module _ (ds : List Declaration) (words : List ℤ) (limits : Limits) where
     scopes = h.scopes;
     fuel = h.fuel;
     size = h.size;
+    back = h.back;
     within = h.within;
   }
     where
       same_length : (vs : List ℤ) → length (in_place v vs) ≡ length vs
       same_length [] = refl
       same_length (x ∷ vs) = refl
+  answered_alike (Wrote bs) s d h = record {
+    slots = h.slots;
+    height = h.height;
+    does = h.does;
+    agree = h.agree;
+    operands = h.operands;
+    high = h.high;
+    frames = h.frames;
+    scopes = h.scopes;
+    fuel = h.fuel;
+    size = h.size;
+    back = refl;
+    within = h.within;
+  }
 
   -- and where two were joined
   pub joined_alike : (right left : m.State) (d e : c.State) → Alike right d → Alike left e → Alike (m.joined limits right left) (c.joined d e)
@@ -88,6 +104,7 @@ module _ (ds : List Declaration) (words : List ℤ) (limits : Limits) where
         ap (λ x. both_counts limits right.size x) l.size
         ∙ ap (λ x. both_counts limits x e.size) h.size
         ∙ ap (λ x. both_counts x d.size e.size) (sym h.within);
+    back = h.back;
     within = h.within;
   }
 
@@ -108,11 +125,11 @@ module _ (ds : List Declaration) (words : List ℤ) (limits : Limits) where
 
   -- with this to be done, and these operands
   abbrev pub syntax_at : {g : Slots} {n : ℕ} {fs : List Frame} → Shared g n fs → List Task → List ℤ → m.State
-  syntax_at {fs = fs} x k vs = record { todo = k; values = vs; locals = x.locals; frames = length fs + 1; scopes = x.scopes; fuel = x.fuel; size = x.size; beside = x.beside }
+  syntax_at {fs = fs} x k vs = record { todo = k; values = vs; locals = x.locals; frames = length fs + 1; scopes = x.scopes; fuel = x.fuel; size = x.size; beside = x.beside; back = [] }
 
   -- at this place, with these operands
   abbrev pub code_at : {g : Slots} {n : ℕ} {fs : List Frame} → Shared g n fs → ℕ → List ℤ → c.State
-  code_at {fs = fs} x p vs = record { current = record { place = p; operands = vs; locals = x.numbers }; callers = fs; scopes = x.scopes; fuel = x.fuel; size = x.size; beside = x.begins; limits = limits }
+  code_at {fs = fs} x p vs = record { current = record { place = p; operands = vs; locals = x.numbers }; callers = fs; scopes = x.scopes; fuel = x.fuel; size = x.size; beside = x.begins; back = []; limits = limits }
 
   -- not over the limit
   abbrev pub IsSmall : {g : Slots} {n : ℕ} {fs : List Frame} → Shared g n fs → Type 0
@@ -136,6 +153,7 @@ module _ (ds : List Declaration) (words : List ℤ) (limits : Limits) where
     scopes = refl;
     fuel = refl;
     size = refl;
+    back = refl;
     within = refl;
   }
 

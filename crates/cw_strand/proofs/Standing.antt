@@ -12,14 +12,14 @@ use Rattle.cw_code.specs.declared.FaultKind.TheVariants.{Range, Depth, Fuel, Siz
 use Rattle.cw_code.specs.declared.Limits.{Limits}
 use Rattle.cw_code.specs.declared.effects.Effect.{Effect}
 use Rattle.cw_code.specs.declared.effects.Effect.TheVariants as t
-use Rattle.cw_code.specs.declared.situation.Situation.{Situation}
 use Rattle.cw_code.specs.Table.{taken, left_there}
-use Rattle.cw_code.specs.Rules.{at_start, effect_of, never_passed, jumps, called, params_of, is_target, operand_faults, situation_faults, places, onwards, passed, faults}
+use Rattle.cw_code.specs.Rules.{Situation, at_start, blocks_in, effect_of, never_passed, jumps, called, params_of, is_target, operand_faults, situation_faults, places, onwards, passed, faults}
 use Rattle.cw_code.proofs.Sound.{contained, laid, is_inside, inside_is, instr_at, operands_fine, situation_fine, has_effect, start_known, Around, around, next_is, target_found, below_names, target_is, tested}
 use Rattle.cw_strand.specs.declared.want.Want.{Want}
-use Rattle.cw_strand.specs.declared.want.Want.TheVariants.{Begin, End, Fork, Sync, Done, Fault}
+use Rattle.cw_strand.specs.declared.want.Want.TheVariants.{Begin, End, Fork, Sync, Done, Fault, Store}
 use Rattle.cw_strand.specs.declared.want.Given.{Given}
-use Rattle.cw_strand.specs.declared.want.Given.TheVariants.{Nothing, Value}
+use Rattle.cw_strand.specs.declared.want.Given.TheVariants.{Nothing, Value, Back as Wrote}
+use Rattle.cw_code.specs.declared.Back.{Back}
 use Rattle.cw_strand.specs.Running.{on, wants, stuck, Visits, starts, steps, answers, goes_left, goes_right, joins}
 use Rattle.cw_strand.specs.Arithmetic.{is_zero}
 use Rattle.cw_strand.specs.Meaning.{in_place, one_more, one_inside, both_counts, most_frames}
@@ -87,6 +87,7 @@ module _ (code : Code) where
       same_length : (vs : List ℤ) → length vs ≡ length (in_place v vs)
       same_length [] = refl
       same_length (x ∷ vs) = refl
+  given_stands (Wrote bs) s h = record { current = h.current; callers = h.callers; scopes = h.scopes }
 
   -- with more fuel spent, and no less counted
   pub grown_stands : (s : State) (fuel size : ℕ) → s.size ≤ size → StandsIn code s → StandsIn code (record s { fuel = fuel; size = size })
@@ -214,7 +215,7 @@ module _ (code : Code) (ok : faults code ≡ []) where
       (λ few. absurd (omega (arith, le, ltb-true (length vs) g.params few)))
       (λ enough. stands_either code (nat_le most_frames (length s.callers + 1)) _ _ (λ deep. at_fault code Depth s f) (λ room. record { current = begins g vs co le; callers = (h, f.callers); scopes = (omega arith, f.scopes) })))
 
-  module _ (i : Instr) (s : State) (f : StandsIn code s) where
+  module _ (i : Instr) (s : State) (f : StandsIn code s) (empty : s.back ≡ []) where
     -- a place and operands at which the current function stands
     moved : (p : ℕ) (vs : List ℤ) → StandsAt code p (length s.current.locals) (length vs) → StandsIn code (goes_to p vs s)
     moved p vs h = record { current = h; callers = f.callers; scopes = f.scopes }
@@ -228,7 +229,8 @@ module _ (code : Code) (ok : faults code ≡ []) where
       scopes = (one_around s.scopes).1;
       opened = (one_around s.scopes).2;
       current = onward w refl 0 (omega (arith, none));
-      within = let some : 0 < w.at.situation.blocks + 1 = omega arith in some;
+      within = let some : 0 < blocks_in w.at.situation.parts + 1 = omega arith in some;
+      back = empty;
     }
 
     act_stands : (e : Effect) (vs : List ℤ) → Here s.current.place (length s.current.locals) (length vs) i e → StepStands code (coded.act code e i (s.current.place + 1) vs s)
@@ -287,6 +289,7 @@ module _ (code : Code) (ok : faults code ≡ []) where
     act_stands t.Sync vs w = waited_stands s.scopes (s.current.place + 1) vs s f.scopes f (moved _ vs (onward w refl _ (omega arith)))
     act_stands t.Done vs w = at_want code Done (coded.ended s.scopes s) (λ is. cc) (λ is. cc) (ended_stands code s.scopes s (ap is_end w.is ∙ ap ends w.does) f)
     act_stands t.Tick vs w = spent_stands s (λ u. on (goes_to (s.current.place + 1) vs u)) f (record { current = onward w refl _ (omega arith); callers = f.callers; scopes = f.scopes })
+    act_stands t.Cancel vs w = wants_counted _ _ (λ is. cc) (λ is. cc) (moved _ vs (onward w refl _ (omega arith)))
     act_stands t.Set [] w = absurd (omega (arith, w.room))
     act_stands t.LoadAt [] w = absurd (omega (arith, w.room))
     act_stands t.Store [] w = absurd (omega (arith, w.room))
@@ -323,12 +326,17 @@ module _ (code : Code) (ok : faults code ≡ []) where
   -- no step of a strand that stands is stuck, and what it leads to stands
   pub step_stands : (s : State) → StandsIn code s → StepStands code (coded.step code s)
   step_stands s f =
-      let n = next s f in
       stands_either code (nat_lt s.limits.size s.size) _ _
       (λ e. at_fault code Size s f)
-      (λ e. subst (λ o. StepStands code (coded.step_at code o s)) (sym n.here.is)
-      (subst (λ o. StepStands code (coded.act_of code o n.instr s)) (sym n.does)
-      (act_stands n.instr s f n.effect s.current.operands n.here)))
+      (λ e. by s.back refl)
+    where
+      by : (bs : List Back) → s.back ≡ bs → StepStands code (coded.writes_back code bs s)
+      by [] empty =
+          let n = next s f in
+          subst (λ o. StepStands code (coded.step_at code o s)) (sym n.here.is)
+          (subst (λ o. StepStands code (coded.act_of code o n.instr s)) (sym n.does)
+          (act_stands n.instr s f empty n.effect s.current.operands n.here))
+      by (b ∷ bs) some = wants_counted (Store b.cell b.value) (record s { back = bs }) (λ is. cc) (λ is. cc) (record { current = f.current; callers = f.callers; scopes = f.scopes })
 
   module _ (main : ℕ) (words : List ℤ) (limits : Limits) (takes : coded.MainTakes code main (length words)) where
     first_stands : StandsIn code (coded.runs code main words limits).first

@@ -13,6 +13,7 @@ use Rattle.cw_code.specs.declared.CellInfo.{CellInfo}
 use Rattle.cw_strand.specs.Names.{Thing, a_local, a_function, cell_thing, Scope, ◌then◌, find, used, indexed, fault_of_call, elements, globals, scope_with_params, in_block, in_functions, main_from, without_main, cells_from, cells_of}
 use Rattle.cw_strand.specs.Names as names
 use Rattle.cw_strand.specs.declared.naming.NameKind.TheVariants.{WrongCount}
+use Rattle.cw_strand.specs.declared.naming.Around.TheVariants as around
 use Rattle.cw_strand.specs.Meaning.{Locals, Function, function_of, local_of, with_local, bound_to, element_of, cell_of}
 
 -- where neither of two has a fault, none has one
@@ -182,7 +183,7 @@ params_named (w ∷ ws) g =
     ∙ (sym (with_names_behind (map name_of (reverse ws)) w.name g) ∙ ap (λ (ns : List (List ℕ)). with_names ns g) turned)
 
 abbrev HasNoFault : Scope → Function → Type 0
-HasNoFault g f = in_block (scope_with_params g f.params) false f.body ≡ None
+HasNoFault g f = in_block (scope_with_params g f.params) around.Neither f.body ≡ None
 
 first_or_later : (g : Scope) (b : Bool) (f h : Function) (p : Option Function) → cond b (Some f) p ≡ Some h → HasNoFault g f → (p ≡ Some h → HasNoFault g h) → HasNoFault g h
 first_or_later g true f h p is fine later = subst (λ (e : Function). HasNoFault g e) (same_Some f h is) fine
@@ -197,9 +198,9 @@ no_block_fault g (func x l ps b ∷ ds) n f named is =
 
 -- the body has no naming fault where the locals are its arguments
 pub body_named : (ds : List Declaration) (n : List ℕ) (f : Function) (vs : List ℤ) → in_functions (globals ds) ds ≡ None → function_of ds n ≡ Some f → length (reverse f.params) ≤ length vs
-    → in_block (with_names (names_of (bound_to (reverse f.params) vs)) (globals ds)) false f.body ≡ None
+    → in_block (with_names (names_of (bound_to (reverse f.params) vs)) (globals ds)) around.Neither f.body ≡ None
 body_named ds n f vs named is enough =
     let fine = no_block_fault (globals ds) ds n f named is in
     let same = bound_names (reverse f.params) vs enough in
     let scope = params_named f.params (globals ds) ∙ ap (λ (ns : List (List ℕ)). with_names ns (globals ds)) (sym same) in
-    subst (λ (g : Scope). in_block g false f.body ≡ None) scope fine
+    subst (λ (g : Scope). in_block g around.Neither f.body ≡ None) scope fine

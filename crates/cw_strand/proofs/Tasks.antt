@@ -15,20 +15,22 @@ use Rattle.cw_code.specs.declared.FaultKind.{FaultKind}
 use Rattle.cw_code.specs.declared.FaultKind.TheVariants.{Range, Size}
 use Rattle.cw_code.specs.Table.{effect_at}
 use Rattle.cw_strand.specs.declared.want.Want.{Want}
-use Rattle.cw_strand.specs.declared.want.Want.TheVariants.{Load, Store, Out, End, Sync, Fault}
+use Rattle.cw_strand.specs.declared.want.Want.TheVariants.{Load, Store, Out, End, Cancel, Sync, Fault}
 use Rattle.cw_strand.specs.Arithmetic.{one, two, is_zero}
 use Rattle.cw_strand.specs.Running.{on, wants, stuck}
+use Rattle.cw_strand.specs.declared.naming.Around.{Around}
+use Rattle.cw_strand.specs.declared.naming.Around.TheVariants as around
 use Rattle.cw_strand.specs.Names.{find, used, indexed, count_of, in_term, in_block, cells_of}
 use Rattle.cw_strand.specs.Meaning as m
-use Rattle.cw_strand.specs.Meaning.{Function, function_of, arguments, enter, Task, value, lift, join, discard, perform, bind, store_in, load_at, store_at, show, choose_by, test, repeat_by, forget, wait, commit, local_of, with_local, element_of, cell_of, lifted, joining, lifts, joins}
+use Rattle.cw_strand.specs.Meaning.{Function, function_of, arguments, enter, Task, value, lift, join, discard, perform, bind, store_in, load_at, store_at, show, choose_by, test, repeat_by, forget, wait, commit, give_up, given_up, local_of, with_local, element_of, cell_of, lifted, joining, lifts, joins}
 use Rattle.cw_strand.specs.Coded as c
 use Rattle.cw_strand.specs.Coded.{Frame}
 use Rattle.cw_strand.specs.Compilation.{Slots, code_of, function_names, calls, slot_of, term_code, terms_code, statement_code, block_code, most, plain, operator_number, lift_code, join_code, reads, writes, loads_at, stores_at, element, push, set}
 use Rattle.cw_strand.specs.Compilation as instr
-use Rattle.cw_strand.proofs.Numbering.{Agree, scope_of, Slotted, slotted, find_out, element_there, get_set, agree_newer, same_count, agree_drop, dropped_behind, array_there}
+use Rattle.cw_strand.proofs.Numbering.{Agree, scope_of, Slotted, slotted, find_out, element_there, get_set, agree_newer, same_count, agree_drop, dropped_behind, more_dropped, array_there}
 use Rattle.cw_strand.proofs.StandingNames.{IsCell}
 use Rattle.cw_strand.proofs.StandingNames.{no_fault}
-use Rattle.cw_strand.proofs.Doing.{HasAt, front, behind, Choice, Loop, Does, does_value, does_perform, does_load_at, does_repeat, does_test, does_there, does_forget, does_wait, does_lifts, does_joins, does_call}
+use Rattle.cw_strand.proofs.Doing.{HasAt, front, behind, Choice, Loop, Does, Shuts, shuts_forget, shuts_test, shut_does, does_value, does_perform, does_load_at, does_repeat, does_test, does_there, does_forget, does_wait, does_lifts, does_joins, does_call}
 use Rattle.cw_strand.proofs.Sharing.{Shared, syntax_at, code_at, IsSmall, Ahead, Keeps, alike, same_place, moves, both_want, both_choose, acts, ticks}
 use Rattle.cw_strand.proofs.Following.{stays}
 
@@ -207,32 +209,39 @@ module _ (ds : List Declaration) (words : List ℤ) (limits : Limits) {g : Slots
   -- ## Choices and loops
 
   -- a block, behind which its locals are forgotten
-  block_does : {h q : ℕ} {k : List Task} (inside : Bool) (b : Block) → in_block (scope_of ds g) inside b ≡ None → most (length g) b ≤ n → HasAt instrs q (block_code cells function_list g q b) → Does ds instrs n g h k (q + length (block_code cells function_list g q b)) fs → Does ds instrs n g h (perform b ∷ forget (length x.locals) ∷ k) q fs
-  block_does {h = h} {q = q} {k = k} inside b named room has rest =
-      let back = dropped_behind b g (length x.locals) (same_count x.locals g x.numbers x.agree) in
-      does_perform inside named room has (does_forget {o = length x.locals} (subst (λ s. Does ds instrs n s h k (q + length (block_code cells function_list g q b)) fs) (sym back) rest))
+  block_does : {h q : ℕ} {k : List Task} (inside : Around) (ending : ℕ) (b : Block) → in_block (scope_of ds g) inside b ≡ None → most (length g) b ≤ n → HasAt instrs q (block_code cells function_list g q ending b) → (inside ≡ around.Atomic → Shuts ds instrs n g h k ending fs)
+      → Does ds instrs n g h k (q + length (block_code cells function_list g q ending b)) fs → Does ds instrs n g h (perform b ∷ forget (length x.locals) ∷ k) q fs
+  block_does {h = h} {q = q} {k = k} inside ending b named room has shut rest =
+      let count = same_count x.locals g x.numbers x.agree in
+      let back = dropped_behind b g (length x.locals) count in
+      does_perform inside ending named room has (λ more is. shuts_forget {o = length x.locals} (subst (λ s. Shuts ds instrs n s h k ending fs) (sym (more_dropped more g (length x.locals) count)) (shut is)))
+      (does_forget {o = length x.locals} (subst (λ s. Does ds instrs n s h k (q + length (block_code cells function_list g q ending b)) fs) (sym back) rest))
 
-  pub choose_follows : {end : ℕ} (a b : Block) (v : ℤ) (vs : List ℤ) (k : List Task) → Choice ds instrs n p end g a b → Does ds instrs n g (length vs) k end fs → Follows (m.act cells functions limits (choose_by a b) (v ∷ vs) k (source (choose_by a b ∷ k) (v ∷ vs))) (v ∷ vs)
-  choose_follows {end = end} a b v vs k w rest = by (is_zero v) (acts ds words limits x p (v ∷ vs) small (instr.jump_zero (w.past + 1)) effect.JumpZero w.skips refl)
+  pub choose_follows : {end : ℕ} (a b : Block) (v : ℤ) (vs : List ℤ) (k : List Task) → (w : Choice ds instrs n p end g a b) → (w.inside ≡ around.Atomic → Shuts ds instrs n g (length vs) k w.ending fs) → Does ds instrs n g (length vs) k end fs → Follows (m.act cells functions limits (choose_by a b) (v ∷ vs) k (source (choose_by a b ∷ k) (v ∷ vs))) (v ∷ vs)
+  choose_follows {end = end} a b v vs k w shut rest = by (is_zero v) (acts ds words limits x p (v ∷ vs) small (instr.jump_zero (w.past + 1)) effect.JumpZero w.skips refl)
     where
       by : (z : Bool) → Steps (v ∷ vs) (on (coded (if z then w.past + 1 else p + 1) vs)) → Follows (on (source (perform (if z then b else a) ∷ forget (length x.locals) ∷ k) vs)) (v ∷ vs)
-      by true step = moves ds words limits x p (v ∷ vs) x _ (w.past + 1) vs step (block_does w.inside b w.second_named w.second_room w.second_stands (subst (λ q. Does ds instrs n g (length vs) k q fs) w.end_is rest)) refl
-      by false step = moves ds words limits x p (v ∷ vs) x _ (p + 1) vs step (block_does w.inside a w.first_named w.first_room w.first_stands (subst (λ q. Does ds instrs n g (length vs) k q fs) w.past_is (does_there w.passes rest))) refl
+      by true step = moves ds words limits x p (v ∷ vs) x _ (w.past + 1) vs step (block_does w.inside w.ending b w.second_named w.second_room w.second_stands shut (subst (λ q. Does ds instrs n g (length vs) k q fs) w.end_is rest)) refl
+      by false step = moves ds words limits x p (v ∷ vs) x _ (p + 1) vs step (block_does w.inside w.ending a w.first_named w.first_room w.first_stands shut (subst (λ q. Does ds instrs n g (length vs) k q fs) w.past_is (does_there w.passes rest))) refl
 
   module _ (e : Term) (b : Block) where
-    abbrev DoesBehind : ℕ → ℕ → List Task → Type 0
-    DoesBehind h q k = Does ds instrs n g h k (q + length (statement_code cells function_list g q (repeat e b))) fs
+    abbrev DoesBehind : (h q ending : ℕ) → List Task → Type 0
+    DoesBehind h q ending k = Does ds instrs n g h k (q + length (statement_code cells function_list g q ending (repeat e b))) fs
 
-    pub test_follows : (vs : List ℤ) (k : List Task) → Loop ds instrs n p g e b → DoesBehind (length vs) p k → Follows (m.act cells functions limits (test e b) vs k (source (test e b ∷ k) vs)) vs
-    test_follows vs k w rest =
-        let body = block_code cells function_list g (p + 1 + length (term_code cells function_list g e) + 1) b in
+    -- inside an atomic block its end comes behind the loop
+    abbrev ShutsBehind : {q : ℕ} → ℕ → List Task → Loop ds instrs n q g e b → Type 0
+    ShutsBehind h k w = w.inside ≡ around.Atomic → Shuts ds instrs n g h k w.ending fs
+
+    pub test_follows : (vs : List ℤ) (k : List Task) → (w : Loop ds instrs n p g e b) → ShutsBehind (length vs) k w → DoesBehind (length vs) p w.ending k → Follows (m.act cells functions limits (test e b) vs k (source (test e b ∷ k) vs)) vs
+    test_follows vs k w shut rest =
+        let body = block_code cells function_list g (p + 1 + length (term_code cells function_list g e) + 1) w.ending b in
         ticks ds words limits x p vs small (test e b ∷ k) (λ t. on (m.to_do (value e ∷ repeat_by e b ∷ k) t)) w.stands.0 (λ z.
         let y : Shared ds words limits g n fs = record x { fuel = z } in
-        same_place ds words limits y (p + 1) vs (value e ∷ repeat_by e b ∷ k) (does_value w.test_named (front instrs (p + 1) (term_code cells function_list g e) _ w.stands.1) (does_repeat refl w rest)) refl)
+        same_place ds words limits y (p + 1) vs (value e ∷ repeat_by e b ∷ k) (does_value w.test_named (front instrs (p + 1) (term_code cells function_list g e) _ w.stands.1) (does_repeat refl w shut rest)) refl)
 
     -- the loop stands at q, and behind its test the place is p
-    pub repeat_follows : (q : ℕ) (v : ℤ) (vs : List ℤ) (k : List Task) → p ≡ q + 1 + length (term_code cells function_list g e) → Loop ds instrs n q g e b → DoesBehind (length vs) q k → Follows (m.act cells functions limits (repeat_by e b) (v ∷ vs) k (source (repeat_by e b ∷ k) (v ∷ vs))) (v ∷ vs)
-    repeat_follows q v vs k is w rest =
+    pub repeat_follows : (q : ℕ) (v : ℤ) (vs : List ℤ) (k : List Task) → p ≡ q + 1 + length (term_code cells function_list g e) → (w : Loop ds instrs n q g e b) → ShutsBehind (length vs) k w → DoesBehind (length vs) q w.ending k → Follows (m.act cells functions limits (repeat_by e b) (v ∷ vs) k (source (repeat_by e b ∷ k) (v ∷ vs))) (v ∷ vs)
+    repeat_follows q v vs k is w shut rest =
         by (is_zero v) (acts ds words limits x p (v ∷ vs) small (instr.jump_zero past) effect.JumpZero (subst (λ r. slice_get instrs r ≡ Some (instr.jump_zero past)) (sym is) behind_test.0) refl)
       where
         one : List Instr
@@ -242,7 +251,7 @@ module _ (ds : List Declaration) (words : List ℤ) (limits : Limits) {g : Slots
         inner = q + 1 + length one + 1
 
         body : List Instr
-        body = block_code cells function_list g inner b
+        body = block_code cells function_list g inner w.ending b
 
         past : ℕ
         past = inner + length body + 1
@@ -250,11 +259,11 @@ module _ (ds : List Declaration) (words : List ℤ) (limits : Limits) {g : Slots
         behind_test : HasAt instrs (q + 1 + length one) (instr.jump_zero past ∷ (body ++ instr.jump q ∷ []))
         behind_test = behind instrs (q + 1) one (instr.jump_zero past ∷ (body ++ instr.jump q ∷ [])) w.stands.1
 
-        ends : q + length (statement_code cells function_list g q (repeat e b)) ≡ past
+        ends : q + length (statement_code cells function_list g q w.ending (repeat e b)) ≡ past
         ends = omega (arith, length-append one (instr.jump_zero past ∷ (body ++ instr.jump q ∷ [])), length-append body (instr.jump q ∷ []))
 
         does_body : Does ds instrs n g (length vs) (perform b ∷ forget (length x.locals) ∷ test e b ∷ k) inner fs
-        does_body = block_does w.inside b w.body_named w.room (front instrs inner body (instr.jump q ∷ []) behind_test.1) (does_there (behind instrs inner body (instr.jump q ∷ []) behind_test.1).0 (does_test w rest))
+        does_body = block_does w.inside w.ending b w.body_named w.room (front instrs inner body (instr.jump q ∷ []) behind_test.1) (λ is. shuts_test (shut is)) (does_there (behind instrs inner body (instr.jump q ∷ []) behind_test.1).0 (does_test w shut rest))
 
         by : (z : Bool) → Steps (v ∷ vs) (on (coded (if z then past else p + 1) vs)) → Follows (if z then on (source k vs) else on (source (perform b ∷ forget (length x.locals) ∷ test e b ∷ k) vs)) (v ∷ vs)
         by true step = moves ds words limits x p (v ∷ vs) x k past vs step (subst (λ r. Does ds instrs n g (length vs) k r fs) ends rest) refl
@@ -295,3 +304,9 @@ module _ (ds : List Declaration) (words : List ℤ) (limits : Limits) {g : Slots
   commit_follows vs k there rest =
       let y : Shared ds words limits g n fs = record x { scopes = drop 1 x.scopes } in
       both_want ds words limits x p vs End (syntax_at ds words limits y k vs) (code_at ds words limits y (p + 1) vs) (acts ds words limits x p vs small instr.end effect.End there refl) (alike ds words limits y k (p + 1) vs rest refl)
+
+  -- a block is given up
+  pub give_up_follows : (q : ℕ) (vs : List ℤ) (k : List Task) → slice_get instrs p ≡ Some instr.cancel → slice_get instrs (p + 1) ≡ Some (instr.jump q) → Shuts ds instrs n g (length vs) k q fs → Follows (m.act cells functions limits give_up vs k (source (give_up ∷ k) vs)) vs
+  give_up_follows q vs k there jumps shut =
+      let y : Shared ds words limits g n fs = record x { size = x.size + 1 } in
+      counts_follow vs Cancel x (given_up k) (p + 1) vs (acts ds words limits x p vs small instr.cancel effect.Cancel there refl) (alike ds words limits y (given_up k) (p + 1) vs (does_there jumps (shut_does ds instrs shut)) refl)

@@ -10,17 +10,18 @@ use Rattle.cw_code.specs.declared.FaultKind.{FaultKind}
 use Rattle.cw_code.specs.declared.FaultKind.TheVariants.{Range, Depth, Fuel, Size}
 use Rattle.cw_code.specs.declared.Limits.{Limits}
 use Rattle.cw_code.specs.declared.effects.Effect.{Effect}
-use Rattle.cw_code.specs.declared.effects.Effect.TheVariants.{Push as push, Local as local, Set as set, Load as load, LoadAt as load_at, Store as store, StoreAt as store_at, Lift as lift, Join as join, Jump as jump, JumpZero as jump_zero, Call as call, Ret as ret, Drop as drop_top, Out as out, Begin as begin, End as end, Fork as fork, Sync as sync, Done as done, Tick as tick}
+use Rattle.cw_code.specs.declared.effects.Effect.TheVariants.{Push as push, Local as local, Set as set, Load as load, LoadAt as load_at, Store as store, StoreAt as store_at, Lift as lift, Join as join, Jump as jump, JumpZero as jump_zero, Call as call, Ret as ret, Drop as drop_top, Out as out, Begin as begin, End as end, Fork as fork, Sync as sync, Done as done, Tick as tick, Cancel as cancel}
 use Rattle.cw_code.specs.Table.{effect_at}
 use Rattle.cw_code.specs.Rules.{is_tick}
 use Rattle.cw_strand.specs.declared.want.Want.{Want}
-use Rattle.cw_strand.specs.declared.want.Want.TheVariants.{Load, Store, Out, Begin, End, Fork, Sync, Done, Fault}
+use Rattle.cw_strand.specs.declared.want.Want.TheVariants.{Load, Store, Out, Begin, End, Cancel, Fork, Sync, Done, Fault}
 use Rattle.cw_strand.specs.declared.want.Given.{Given}
-use Rattle.cw_strand.specs.declared.want.Given.TheVariants.{Nothing, Value}
+use Rattle.cw_strand.specs.declared.want.Given.TheVariants.{Nothing, Value, Back as Wrote}
+use Rattle.cw_code.specs.declared.Back.{Back}
 use Rattle.cw_strand.specs.Strands.{Strands}
 use Rattle.cw_strand.specs.Running as running
 use Rattle.cw_strand.specs.Running.{Running, Standing, on, wants, stuck}
-use Rattle.cw_strand.specs.Meaning.{one_more, one_inside, in_place, both_counts, most_frames}
+use Rattle.cw_strand.specs.Meaning.{one_more, one_inside, in_place, both_counts, most_frames, stores_and_steps_left}
 use Rattle.cw_strand.specs.Arithmetic.{one, two, is_zero}
 
 -- a function that stands: where it goes on, its operands, the newest first, and its locals by number
@@ -40,6 +41,8 @@ pub record State : Type 0 where
   pub size : ℕ
   -- where the left strand of the newest fork begins
   pub beside : ℕ
+  -- what is still to be written back, the next first
+  pub back : List Back
   pub limits : Limits
 
 abbrev pub Step : Type 0
@@ -57,6 +60,7 @@ goes_to p vs s = record s { current = record { place = p; operands = vs; locals 
 abbrev pub with_value : Given → State → State
 with_value Nothing s = s
 with_value (Value v) s = goes_to s.current.place (in_place v s.current.operands) s
+with_value (Wrote bs) s = record s { back = bs }
 
 -- the arguments, the last one first, as the first locals, and zeros after them
 abbrev pub locals_for : Func → List ℤ → List ℤ
@@ -74,6 +78,7 @@ left s = record s {
   callers = [];
   scopes = 0 ∷ [];
   size = 0;
+  back = [];
 }
 
 -- the strand that forked has what the right one has, the greater fuel, and both counts
@@ -158,6 +163,7 @@ module _ (code : Code) where
   act fork i p vs s = counted s (λ t. wants Fork (record (goes_to (index i.a) vs t) { scopes = one_more t.scopes; beside = p }))
   act sync i p vs s = wait_in s.scopes p vs s
   act done i p vs s = wants Done (ended s.scopes s)
+  act cancel i p vs s = counts Cancel (goes_to p vs s)
   act tick i p vs s = spends s (λ t. on (goes_to p vs t))
   act e i p vs s = stuck
 
@@ -169,9 +175,14 @@ module _ (code : Code) where
   step_at None s = stuck
   step_at (Some i) s = act_of (effect_at i.op) i s
 
+  -- what is to be written back comes before all else
+  abbrev pub writes_back : List Back → State → Step
+  writes_back [] s = step_at (slice_get code.instrs s.current.place) s
+  writes_back (b ∷ bs) s = counts (Store b.cell b.value) (record s { back = bs })
+
   -- a count over the limit comes from a join
   abbrev pub step : State → Step
-  step s = if nat_lt s.limits.size s.size then wants (Fault Size) s else step_at (slice_get code.instrs s.current.place) s
+  step s = if nat_lt s.limits.size s.size then wants (Fault Size) s else writes_back s.back s
 
   -- ## Local work
 
@@ -179,7 +190,7 @@ module _ (code : Code) where
   abbrev pub rank : ℕ → ℕ
   rank p = if is_tick (slice_get code.instrs p) then 0 else suc (length code.instrs - p)
 
-  -- no more steps by itself than so many: a tick and a call spend fuel, a return leaves a caller, and else the end comes nearer
+  -- no more steps by itself than so many, where nothing is to be written back: a tick and a call spend fuel, a return leaves a caller, and else the end comes nearer
   abbrev pub steps_left : State → ℕ
   steps_left s = (length code.instrs + 2) * (2 * (s.limits.fuel - s.fuel) + length s.callers) + rank s.current.place
 
@@ -187,7 +198,7 @@ module _ (code : Code) where
 
   -- the strand of a function with these arguments, the last one first
   abbrev pub starts_at : Option Func → List ℤ → Limits → State
-  starts_at None vs limits = record { current = record { place = 0; operands = []; locals = [] }; callers = []; scopes = []; fuel = 0; size = 0; beside = 0; limits = limits }
+  starts_at None vs limits = record { current = record { place = 0; operands = []; locals = [] }; callers = []; scopes = []; fuel = 0; size = 0; beside = 0; back = []; limits = limits }
   starts_at (Some f) vs limits = record {
     current = record { place = f.start; operands = []; locals = locals_for f vs };
     callers = [];
@@ -195,6 +206,7 @@ module _ (code : Code) where
     fuel = 0;
     size = 0;
     beside = 0;
+    back = [];
     limits = limits;
   }
 
@@ -205,12 +217,13 @@ module _ (code : Code) where
   -- How the strands of code run from a function on, with the words of the command and the limits.
   abbrev pub runs : (main : ℕ) → List ℤ → Limits → Running State
   runs main words limits = record {
+    elements = code.cells;
     first = starts_at (slice_get code.funcs main) (reverse words) limits;
     step = step;
     answered = with_value;
     left = left;
     joined = joined;
-    bound = steps_left;
+    bound = λ s. stores_and_steps_left s.limits (steps_left s) s.size;
   }
 
   -- The strands of code.

@@ -7,14 +7,14 @@
 use Rattle.std.specs.Prelude.{ℕ, ◌+◌, List, [], ◌∷◌, ◌++◌, length, max, Option, Some, None, if◌then◌else◌, codes, pos}
 use Rattle.std.specs.Str.{bytes_eq}
 use Rattle.cw_text.specs.declared.ast.Word.{Word}
-use Rattle.cw_text.specs.Syntax.{Term, number, name, at, call as call_of, unary, binary, Terms, none, more, Statement, declare, assign, assign_at, run, out, choose, repeat, atomic, spawn, sync, return, Block, empty, first, Declaration, cell, func}
+use Rattle.cw_text.specs.Syntax.{Term, number, name, at, call as call_of, unary, binary, Terms, none, more, Statement, declare, assign, assign_at, run, out, choose, repeat, atomic, spawn, sync, cancel as cancel_of, return, Block, empty, first, Declaration, cell, func}
 use Rattle.cw_code.specs.declared.CellInfo.{CellInfo}
 use Rattle.cw_code.specs.declared.instruction.Instr.{Instr}
 use Rattle.cw_code.specs.declared.instruction.Func.{Func}
 use Rattle.cw_code.specs.declared.instruction.Code.{Code}
 use Rattle.cw_code.specs.declared.effects.Operator.{Operator}
 use Rattle.cw_code.specs.declared.effects.Operator.TheVariants.{Add as add, Sub as sub, Mul as mul, Div as div, Rem as rem, Neg as neg, Not as logical_not, Eq as eq, Ne as ne, Lt as lt, Le as le, Gt as gt, Ge as ge}
-pub use Rattle.cw_code.specs.Mnemonics.{plain, with_a, push, local, set, load, store, load_at, store_at, jump, jump_zero, call, ret, discard, show, begin, end, fork, wait, done, tick}
+pub use Rattle.cw_code.specs.Mnemonics.{plain, with_a, push, local, set, load, store, load_at, store_at, jump, jump_zero, call, ret, discard, show, begin, end, fork, wait, done, tick, cancel}
 use Rattle.cw_strand.specs.Names.{elements, cells_of}
 use Rattle.cw_strand.specs.Meaning.{element_of, cell_of, lifted, joining}
 
@@ -78,6 +78,41 @@ abbrev pub number_from : ℕ → List ℕ → List (List ℕ) → ℕ
 number_from k n [] = k
 number_from k n (x ∷ xs) = if bytes_eq x n then k else number_from (k + 1) n xs
 
+-- ## Lengths
+
+-- how long the code of a block is, wherever it stands
+abbrev mutual
+  pub term_length : Term → ℕ
+  term_length (number n) = 1
+  term_length (name w) = 1
+  term_length (at w i) = term_length i + 1
+  term_length (call_of w es) = terms_length es + 1
+  term_length (unary o e) = term_length e + length (lift_code (lifted o))
+  term_length (binary o l r) = term_length l + term_length r + 1
+
+  pub terms_length : Terms → ℕ
+  terms_length none = 0
+  terms_length (more e es) = term_length e + terms_length es
+
+abbrev mutual
+  pub statement_length : Statement → ℕ
+  statement_length (declare w e) = term_length e + 2
+  statement_length (assign w e) = term_length e + 2
+  statement_length (assign_at w i e) = term_length i + term_length e + 2
+  statement_length (run w es) = terms_length es + 3
+  statement_length (out e) = term_length e + 2
+  statement_length (choose e a b) = term_length e + block_length a + block_length b + 3
+  statement_length (repeat e b) = term_length e + block_length b + 3
+  statement_length (atomic b) = block_length b + 4
+  statement_length (spawn b) = block_length b + 4
+  statement_length sync = 2
+  statement_length (cancel_of l) = 4
+  statement_length (return l e) = term_length e + 3
+
+  pub block_length : Block → ℕ
+  block_length empty = 0
+  block_length (first s b) = statement_length s + block_length b
+
 -- ## Expressions and statements
 
 module _ (cells : List CellInfo) (functions : List (List ℕ)) where
@@ -115,38 +150,40 @@ module _ (cells : List CellInfo) (functions : List (List ℕ)) where
     terms_code g (more e es) = term_code g e ++ terms_code g es
 
   abbrev mutual
-    -- the code of a statement whose first instruction stands at the place p
-    pub statement_code : Slots → ℕ → Statement → List Instr
-    statement_code g p (declare w e) = tick ∷ (term_code g e ++ set (length g) ∷ [])
-    statement_code g p (assign w e) = tick ∷ (term_code g e ++ writes (slot_of g w.name) w.name ∷ [])
-    statement_code g p (assign_at w i e) = tick ∷ (term_code g i ++ (term_code g e ++ stores_at (cell_of cells w.name) ∷ []))
-    statement_code g p (run w es) = tick ∷ (terms_code g es ++ (calls w.name ∷ discard ∷ []))
-    statement_code g p (out e) = tick ∷ (term_code g e ++ show ∷ [])
-    statement_code g p (choose e a b) =
+    -- the code of a statement whose first instruction stands at the place p, where the innermost atomic block of its function has its `end` at
+    -- the place `ending`
+    pub statement_code : Slots → (p ending : ℕ) → Statement → List Instr
+    statement_code g p q (declare w e) = tick ∷ (term_code g e ++ set (length g) ∷ [])
+    statement_code g p q (assign w e) = tick ∷ (term_code g e ++ writes (slot_of g w.name) w.name ∷ [])
+    statement_code g p q (assign_at w i e) = tick ∷ (term_code g i ++ (term_code g e ++ stores_at (cell_of cells w.name) ∷ []))
+    statement_code g p q (run w es) = tick ∷ (terms_code g es ++ (calls w.name ∷ discard ∷ []))
+    statement_code g p q (out e) = tick ∷ (term_code g e ++ show ∷ [])
+    statement_code g p q (choose e a b) =
         let test = term_code g e in
-        let one = block_code g (p + 1 + length test + 1) a in
+        let one = block_code g (p + 1 + length test + 1) q a in
         let past = p + 1 + length test + 1 + length one in
-        let other = block_code g (past + 1) b in
+        let other = block_code g (past + 1) q b in
         tick ∷ (test ++ (jump_zero (past + 1) ∷ (one ++ (jump (past + 1 + length other) ∷ other))))
-    statement_code g p (repeat e b) =
+    statement_code g p q (repeat e b) =
         let test = term_code g e in
-        let body = block_code g (p + 1 + length test + 1) b in
+        let body = block_code g (p + 1 + length test + 1) q b in
         tick ∷ (test ++ (jump_zero (p + 1 + length test + 1 + length body + 1) ∷ (body ++ jump p ∷ [])))
-    statement_code g p (atomic b) = tick ∷ begin ∷ (block_code g (p + 1 + 1) b ++ (wait ∷ end ∷ []))
-    statement_code g p (spawn b) =
-        let body = block_code g (p + 1 + 1) b in
+    statement_code g p q (atomic b) = tick ∷ begin ∷ (block_code g (p + 1 + 1) (p + 1 + 1 + block_length b + 1) b ++ (wait ∷ end ∷ []))
+    statement_code g p q (spawn b) =
+        let body = block_code g (p + 1 + 1) q b in
         tick ∷ fork (p + 1 + 1 + length body + 1 + 1) ∷ (body ++ (wait ∷ done ∷ []))
-    statement_code g p sync = tick ∷ wait ∷ []
-    statement_code g p (return l e) = tick ∷ (term_code g e ++ (wait ∷ ret ∷ []))
+    statement_code g p q sync = tick ∷ wait ∷ []
+    statement_code g p q (cancel_of l) = tick ∷ wait ∷ cancel ∷ jump q ∷ []
+    statement_code g p q (return l e) = tick ∷ (term_code g e ++ (wait ∷ ret ∷ []))
 
-    pub block_code : Slots → ℕ → Block → List Instr
-    block_code g p empty = []
-    block_code g p (first s b) =
-        let here = statement_code g p s in here ++ block_code (slots_after s g) (p + length here) b
+    pub block_code : Slots → (p ending : ℕ) → Block → List Instr
+    block_code g p q empty = []
+    block_code g p q (first s b) =
+        let here = statement_code g p q s in here ++ block_code (slots_after s g) (p + length here) q b
 
   -- the function's value is 0 where it has no `return`
   abbrev pub function_code : ℕ → List Word → Block → List Instr
-  function_code p params body = block_code (slots_with_params params []) p body ++ (wait ∷ push (pos 0) ∷ ret ∷ [])
+  function_code p params body = block_code (slots_with_params params []) p 0 body ++ (wait ∷ push (pos 0) ∷ ret ∷ [])
 
 -- how many locals are visible at once at most, where so many are visible before
 abbrev mutual

@@ -1,11 +1,13 @@
 -- What holds of strands: over the syntax, over code that breaks no rule, and of both together.
-use Rattle.std.specs.Prelude.{◌≡◌, ◌<◌, ℕ, ℤ, List, [], ◌∷◌, length, None}
+use Rattle.std.specs.Prelude.{◌≡◌, ◌<◌, ℕ, ℤ, List, [], ◌∷◌, length, None, false}
+use Rattle.cw_text.specs.Cancels.{has_cancel}
 use Rattle.cw_text.specs.Syntax.{Declaration}
 use Rattle.cw_code.specs.declared.Limits.{Limits}
 use Rattle.cw_code.specs.declared.instruction.Code.{Code}
+use Rattle.cw_code.specs.Programs.{cancels}
 use Rattle.cw_code.specs.Rules.{faults}
 use Rattle.cw_strand.specs.declared.want.Want.{Want}
-use Rattle.cw_strand.specs.declared.want.Want.TheVariants.{Load, Store, Begin, Done}
+use Rattle.cw_strand.specs.declared.want.Want.TheVariants.{Load, Store, Begin, Cancel, Done}
 use Rattle.cw_strand.specs.Strands.{Strands, Reached, IsDeep, Closes, IsLawful}
 use Rattle.cw_strand.specs.Running.{Standing, Settles, NeverStuck, Visits}
 use Rattle.cw_strand.specs.Pasts.{Past, became, CanBe, WantTheSame}
@@ -96,6 +98,18 @@ CodeNamesElements =
     → let s = coded.strands_of_code code main words limits in
     (own : List ℕ) (x : Standing coded.State) → Reached s own x → NamesElement code (s.want x)
 
+-- a want is none to give up a block
+abbrev pub GivesUpNothing : Want → Type 0
+GivesUpNothing Cancel = ⊥
+GivesUpNothing w = Unit {0}
+
+-- A strand of code in which no instruction is a cancel never gives up a block.
+abbrev pub CodeGivesUpNothing : Type 0
+CodeGivesUpNothing =
+    (code : Code) (main : ℕ) (words : List ℤ) (limits : Limits) → faults code ≡ [] → cancels code ≡ false
+    → let s = coded.strands_of_code code main words limits in
+    (own : List ℕ) (x : Standing coded.State) → Reached s own x → GivesUpNothing (s.want x)
+
 -- What stood below the begin of a block stands there still for each strand inside the block that does not want its end.
 abbrev pub BeginStaysBelow : Type 0
 BeginStaysBelow =
@@ -109,6 +123,10 @@ BeginStaysBelow =
 -- The code of a program without a naming fault breaks no rule.
 abbrev pub BreaksNoRule : Type 0
 BreaksNoRule = (ds : List Declaration) → naming_fault ds ≡ None → faults (code_of ds) ≡ []
+
+-- An instruction of the code of a program is a cancel exactly where a `cancel` stands in the program.
+abbrev pub CodeHasItsCancels : Type 0
+CodeHasItsCancels = (ds : List Declaration) → cancels (code_of ds) ≡ has_cancel ds
 
 -- the strands of a program's code
 abbrev pub compiled : List Declaration → List ℤ → Limits → Strands (Standing coded.State)

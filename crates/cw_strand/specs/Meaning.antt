@@ -10,14 +10,17 @@
 -- A function that is called begins with its arguments as its locals, and with no operands; what called it waits with its own. A function
 -- gives the value of its `return`, which waits for what the function spawned, or 0 at its end.
 --
+-- A cancel waits as the end of its atomic block does, and once it was told what the block wrote and what was there before, all that is left
+-- of the block is not done: that is written back, a store after the other, and the block ends.
+--
 -- Each statement but a loop costs a unit of fuel when it begins, and each test of a loop and each call costs one. A load, a store, an output,
--- the begin of a block and a fork count one each.
+-- the begin of a block, a cancel and a fork count one each, and so does each store that writes back.
 use Rattle.std.specs.Prelude.{◌≡◌, ℕ, suc, ◌+◌, ◌-◌, ◌*◌, List, [], ◌∷◌, length, drop, reverse, max, min, Option, Some, None, Result, Ok, Err, if◌then◌else◌, nat_lt, nat_le, codes, ℤ, pos, negsuc}
 use Rattle.std.specs.Str.{bytes_eq}
 use Rattle.cw_text.specs.declared.ast.Word.{Word}
 use Rattle.cw_text.specs.declared.ast.Op.{Op}
 use Rattle.cw_text.specs.declared.ast.Op.TheVariants as op
-use Rattle.cw_text.specs.Syntax.{Term, number, name, at, call, unary, binary, Terms, none, more, Statement, declare, assign, assign_at, run, out, choose, repeat, atomic, spawn, sync, return, Block, empty, first, Declaration, cell, func}
+use Rattle.cw_text.specs.Syntax.{Term, number, name, at, call, unary, binary, Terms, none, more, Statement, declare, assign, assign_at, run, out, choose, repeat, atomic, spawn, sync, cancel, return, Block, empty, first, Declaration, cell, func}
 use Rattle.cw_code.specs.declared.FaultKind.{FaultKind}
 use Rattle.cw_code.specs.declared.FaultKind.TheVariants.{Range, Depth, Fuel, Size}
 use Rattle.cw_code.specs.declared.CellInfo.{CellInfo}
@@ -25,13 +28,14 @@ use Rattle.cw_code.specs.declared.Limits.{Limits}
 use Rattle.cw_code.specs.declared.effects.Operator.{Operator}
 use Rattle.cw_code.specs.declared.effects.Operator.TheVariants.{Add as add, Sub as sub, Mul as mul, Div as div, Rem as rem, Neg as neg, Not as logical_not, Eq as eq, Ne as ne, Lt as lt, Le as le, Gt as gt, Ge as ge}
 use Rattle.cw_strand.specs.declared.want.Want.{Want}
-use Rattle.cw_strand.specs.declared.want.Want.TheVariants.{Load, Store, Out, Begin, End, Fork, Sync, Done, Fault}
+use Rattle.cw_strand.specs.declared.want.Want.TheVariants.{Load, Store, Out, Begin, End, Cancel, Fork, Sync, Done, Fault}
 use Rattle.cw_strand.specs.declared.want.Given.{Given}
-use Rattle.cw_strand.specs.declared.want.Given.TheVariants.{Nothing, Value}
+use Rattle.cw_strand.specs.declared.want.Given.TheVariants.{Nothing, Value, Back as Wrote}
+use Rattle.cw_code.specs.declared.Back.{Back}
 use Rattle.cw_strand.specs.Strands.{Strands}
 use Rattle.cw_strand.specs.Running as running
 use Rattle.cw_strand.specs.Running.{Running, Standing, on, wants, stuck}
-use Rattle.cw_strand.specs.Names.{cells_of, count_of}
+use Rattle.cw_strand.specs.Names.{cells_of, count_of, first_memory}
 use Rattle.cw_strand.specs.Arithmetic.{one, two, is_zero}
 
 -- ## Names
@@ -148,6 +152,8 @@ pub data Task : Type 0 where
   back_to : Locals → List ℤ → Task
   -- a return: what is left of the function is not done
   leave : Task
+  -- a cancel: what is left of the atomic block is not done
+  give_up : Task
 
 pub record State : Type 0 where
   pub todo : List Task
@@ -163,6 +169,8 @@ pub record State : Type 0 where
   pub size : ℕ
   -- what the left strand of the newest fork does
   pub beside : Block
+  -- what is still to be written back, the next first
+  pub back : List Back
 
 abbrev pub Step : Type 0
 Step = running.LocalStep State
@@ -196,6 +204,13 @@ unwound (finish ∷ k) = finish ∷ k
 unwound (finish_main ∷ k) = finish_main ∷ k
 unwound (t ∷ k) = unwound k
 
+-- what is done where the innermost atomic block is given up: all that it declared is forgotten, and it ends
+abbrev pub given_up : List Task → List Task
+given_up [] = []
+given_up (forget n ∷ k) = forget n ∷ given_up k
+given_up (commit ∷ k) = commit ∷ k
+given_up (t ∷ k) = given_up k
+
 -- the innermost scope has one fork more to wait for
 abbrev pub one_more : List ℕ → List ℕ
 one_more [] = 1 ∷ []
@@ -219,6 +234,7 @@ in_place v (x ∷ xs) = v ∷ xs
 abbrev pub with_value : Given → State → State
 with_value Nothing s = s
 with_value (Value v) s = record s { values = in_place v s.values }
+with_value (Wrote bs) s = record s { back = bs }
 
 -- what is done, with no scope open but its own, keeps no locals and no scope
 abbrev pub ended : List ℕ → State → State
@@ -227,7 +243,7 @@ ended ns s = s
 
 -- the left strand of the newest fork: it has the locals and the fuel spent so far, and counts from 0
 abbrev pub left : State → State
-left s = record s { todo = perform s.beside ∷ wait ∷ finish ∷ []; values = []; frames = 1; scopes = 0 ∷ []; size = 0 }
+left s = record s { todo = perform s.beside ∷ wait ∷ finish ∷ []; values = []; frames = 1; scopes = 0 ∷ []; size = 0; back = [] }
 
 -- both counts, no further than past the limit
 abbrev pub both_counts : Limits → (right left : ℕ) → ℕ
@@ -291,6 +307,7 @@ module _ (cells : List CellInfo) (functions : List ℕ → Option Function) (lim
   begin_with (atomic b) k s = counts Begin (record s { todo = perform b ∷ forget (length s.locals) ∷ wait ∷ commit ∷ k; scopes = one_inside s.scopes })
   begin_with (spawn b) k s = counted s (λ t. wants Fork (record t { todo = k; scopes = one_more t.scopes; beside = b }))
   begin_with sync k s = on (to_do (wait ∷ k) s)
+  begin_with (cancel l) k s = on (to_do (wait ∷ give_up ∷ k) s)
   begin_with (return l e) k s = on (to_do (value e ∷ wait ∷ leave ∷ k) s)
 
   -- a loop alone costs nothing itself
@@ -329,15 +346,21 @@ module _ (cells : List CellInfo) (functions : List ℕ → Option Function) (lim
   act finish_main (v ∷ vs) k s = wants Done (ended s.scopes s)
   act (back_to ls us) (v ∷ vs) k s = on (record s { todo = k; values = v ∷ us; locals = ls; frames = s.frames - 1; scopes = drop 1 s.scopes })
   act leave vs k s = on (to_do (unwound k) s)
+  act give_up vs k s = counts Cancel (to_do (given_up k) s)
   act t vs k s = stuck
 
   abbrev pub step_of : List Task → State → Step
   step_of [] s = stuck
   step_of (t ∷ k) s = act t s.values k s
 
+  -- what is to be written back comes before all else that is to be done
+  abbrev pub writes_back : List Back → State → Step
+  writes_back [] s = step_of s.todo s
+  writes_back (b ∷ bs) s = counts (Store b.cell b.value) (record s { back = bs })
+
   -- a count over the limit comes from a join
   abbrev pub step : State → Step
-  step s = if nat_lt limits.size s.size then wants (Fault Size) s else step_of s.todo s
+  step s = if nat_lt limits.size s.size then wants (Fault Size) s else writes_back s.back s
 
 -- ## Local work
 
@@ -367,6 +390,7 @@ abbrev mutual
   statement_work (atomic b) = block_work b + 3
   statement_work (spawn b) = block_work b + 2
   statement_work sync = 1
+  statement_work (cancel l) = 2
   statement_work (return l e) = term_work e + 2
 
   pub block_work : Block → ℕ
@@ -402,15 +426,19 @@ most_begun [] = 0
 most_begun (cell x l len i ∷ ds) = most_begun ds
 most_begun (func x l ps b ∷ ds) = max (block_work b + 2) (most_begun ds)
 
--- no more steps by itself than so many
+-- no more steps by itself than so many, where nothing is to be written back
 abbrev pub steps_left : List Declaration → Limits → State → ℕ
 steps_left ds limits s = (max (most_begun ds) (most_added s.todo) + 1) * (limits.fuel - s.fuel) + work s.todo
+
+-- no more steps by itself and stores that write back than so many
+abbrev pub stores_and_steps_left : Limits → (steps size : ℕ) → ℕ
+stores_and_steps_left limits steps size = (limits.size + 2) * steps + (limits.size + 1 - size)
 
 -- ## Strands
 
 -- the strand of main, with the words of the command under its parameters' names
 abbrev pub at_main : Option Function → List ℤ → State
-at_main None words = record { todo = []; values = []; locals = []; frames = 1; scopes = []; fuel = 0; size = 0; beside = empty }
+at_main None words = record { todo = []; values = []; locals = []; frames = 1; scopes = []; fuel = 0; size = 0; beside = empty; back = [] }
 at_main (Some f) words = record {
   todo = perform f.body ∷ wait ∷ value (number (pos 0)) ∷ finish_main ∷ [];
   values = [];
@@ -420,17 +448,19 @@ at_main (Some f) words = record {
   fuel = 0;
   size = 0;
   beside = empty;
+  back = [];
 }
 
 -- How the strands of a program run, with the words of its command and its limits.
 abbrev pub runs : List Declaration → List ℤ → Limits → Running State
 runs ds words limits = record {
+  elements = length (first_memory (cells_of ds));
   first = at_main (function_of ds (codes "main")) words;
   step = step (cells_of ds) (function_of ds) limits;
   answered = with_value;
   left = left;
   joined = joined limits;
-  bound = λ s. steps_left ds limits s;
+  bound = λ s. stores_and_steps_left limits (steps_left ds limits s) s.size;
 }
 
 -- The strands of a program.

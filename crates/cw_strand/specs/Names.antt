@@ -1,15 +1,17 @@
 -- The naming rules: the first naming fault of a program, and what its names declare.
 --
 -- Items come first, in the order of the text; then the functions, each from its first token; last, whether there is a main.
-use Rattle.std.specs.Prelude.{ℕ, zero, suc, ◌+◌, Bool, true, false, List, [], ◌∷◌, length, replicate, Option, Some, None, if◌then◌else◌, nat_lt, ◌==◌, codes, ℤ}
+use Rattle.std.specs.Prelude.{ℕ, zero, suc, ◌+◌, List, [], ◌∷◌, length, replicate, Option, Some, None, if◌then◌else◌, nat_lt, ◌==◌, codes, ℤ}
 use Rattle.std.specs.List.{flat_map}
 use Rattle.cw_text.specs.declared.ast.Word.{Word}
 use Rattle.std.specs.Str.{bytes_eq}
-use Rattle.cw_text.specs.Syntax.{Term, number, name, at, call, unary, binary, Terms, none, more, Statement, declare, assign, assign_at, run, out, choose, repeat, atomic, spawn, sync, return, Block, empty, first, Declaration, cell, func}
+use Rattle.cw_text.specs.Syntax.{Term, number, name, at, call, unary, binary, Terms, none, more, Statement, declare, assign, assign_at, run, out, choose, repeat, atomic, spawn, sync, cancel, return, Block, empty, first, Declaration, cell, func}
 use Rattle.cw_code.specs.declared.CellInfo.{CellInfo}
 use Rattle.cw_strand.specs.declared.naming.NameKind.{NameKind}
 use Rattle.cw_strand.specs.declared.naming.NameKind.TheVariants as kind
 use Rattle.cw_strand.specs.declared.naming.NameFault.{NameFault}
+use Rattle.cw_strand.specs.declared.naming.Around.{Around}
+use Rattle.cw_strand.specs.declared.naming.Around.TheVariants as around
 
 -- what a name stands for
 pub data Thing : Type 0 where
@@ -67,9 +69,14 @@ declared_new None l = None
 declared_new (Some t) l = fault kind.Twice l
 
 -- a `return`: it may not stand inside an atomic or a spawned block of its function
-abbrev pub returned_from : (inside : Bool) → ℕ → Fault
-returned_from true l = fault kind.ReturnInside l
-returned_from false l = None
+abbrev pub returned_from : Around → ℕ → Fault
+returned_from around.Neither l = None
+returned_from a l = fault kind.ReturnInside l
+
+-- a `cancel`: it stands inside an atomic block of its function, and inside no spawned block in that
+abbrev pub cancelled_in : Around → ℕ → Fault
+cancelled_in around.Atomic l = None
+cancelled_in a l = fault kind.CancelOutside l
 
 abbrev pub count_of : Terms → ℕ
 count_of none = 0
@@ -94,9 +101,9 @@ abbrev pub scope_after : Statement → Scope → Scope
 scope_after (declare w e) g = (w.name, a_local) ∷ g
 scope_after s g = g
 
--- inside: in an atomic or a spawned block of the function
+-- with what is innermost around it, an atomic or a spawned block of the function
 abbrev mutual
-  pub in_statement : Scope → (inside : Bool) → Statement → Fault
+  pub in_statement : Scope → Around → Statement → Fault
   in_statement g i (declare w e) = declared_new (find w.name g) w.line then in_term g e
   in_statement g i (assign w e) = used (find w.name g) w.line then in_term g e
   in_statement g i (assign_at w a e) = indexed (find w.name g) w.line then in_term g a then in_term g e
@@ -104,13 +111,14 @@ abbrev mutual
   in_statement g i (out e) = in_term g e
   in_statement g i (choose e a b) = in_term g e then in_block g i a then in_block g i b
   in_statement g i (repeat e b) = in_term g e then in_block g i b
-  in_statement g i (atomic b) = in_block g true b
-  in_statement g i (spawn b) = in_block g true b
+  in_statement g i (atomic b) = in_block g around.Atomic b
+  in_statement g i (spawn b) = in_block g around.Spawn b
   in_statement g i sync = None
+  in_statement g i (cancel l) = cancelled_in i l
   in_statement g i (return l e) = returned_from i l then in_term g e
 
   -- what is declared in a block is visible to its end
-  pub in_block : Scope → (inside : Bool) → Block → Fault
+  pub in_block : Scope → Around → Block → Fault
   in_block g i empty = None
   in_block g i (first s b) = in_statement g i s then in_block (scope_after s g) i b
 
@@ -152,7 +160,7 @@ in_items g n (func x l ps b ∷ ds) = declared_new (find x g) l then in_items ((
 abbrev pub in_functions : Scope → List Declaration → Fault
 in_functions g [] = None
 in_functions g (cell x l len i ∷ ds) = in_functions g ds
-in_functions g (func x l ps b ∷ ds) = in_params g ps then in_block (scope_with_params g ps) false b then in_functions g ds
+in_functions g (func x l ps b ∷ ds) = in_params g ps then in_block (scope_with_params g ps) around.Neither b then in_functions g ds
 
 -- the number of the item, counted from one on, that is the function main
 abbrev pub main_from : ℕ → List Declaration → Option ℕ

@@ -28,11 +28,12 @@ module _ {A : Type 0} (s : Strands A) where
   -- This may have happened: each want was answered with what it takes, forks were wanted, and only strands that were over were joined.
   abbrev pub CanBe : Past → Type 0
   CanBe start = Unit {0}
-  CanBe (answered p given) = CanBe p × IsAnswer (s.want (became p)) given
+  CanBe (answered p given) = CanBe p × IsAnswer s.elements (s.want (became p)) given
   CanBe (left_of p) = CanBe p × (s.want (became p) ≡ Fork)
   CanBe (right_of p) = CanBe p × (s.want (became p) ≡ Fork)
   CanBe (joined_of right left) = (CanBe right × (is_over (s.want (became right)) ≡ true)) × (CanBe left × (is_over (s.want (became left)) ≡ true))
 
--- After whatever may have happened to a strand, the two want the same.
-abbrev pub WantTheSame : {A B : Type 0} → Strands A → Strands B → Type 0
-WantTheSame s t = (p : Past) → CanBe s p → s.want (became s p) ≡ t.want (became t p)
+-- The cells have as many elements, and after whatever may have happened to a strand, the two want the same.
+pub record WantTheSame {A B : Type 0} (s : Strands A) (t : Strands B) : Type 0 where
+  pub elements : s.elements ≡ t.elements
+  pub wants : (p : Past) → CanBe s p → s.want (became s p) ≡ t.want (became t p)

@@ -18,6 +18,8 @@ pub record Standing (S : Type 0) : Type 0 where
   pub state : S
 
 pub record Running (S : Type 0) : Type 0 where
+  -- how many elements the cells have
+  pub elements : ℕ
   -- the strand of main, before its first step
   pub first : S
   pub step : S → LocalStep S
@@ -57,6 +59,7 @@ module _ {S : Type 0} (r : Running S) where
   -- The strands: each stands where it comes to by itself.
   abbrev pub strands : Strands (Standing S)
   strands = record {
+    elements = r.elements;
     start = stand r.first;
     want = λ x. x.want;
     answer = λ x given. stand (r.answered given x.state);

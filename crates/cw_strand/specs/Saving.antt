@@ -31,7 +31,7 @@ module _ {A : Type 0} (s : Strands A) where
   -- The numbers say of how many forks inside it is the right strand, and how many blocks are begun inside and not ended.
   pub data Inside (begin : A) : (forks inner : ℕ) → A → Type 0 where
     begun : Inside begin 0 0 (s.answer begin Nothing)
-    answered : {forks inner : ℕ} {a : A} → Inside begin forks inner a → (given : Given) → IsAnswer (s.want a) given → StaysIn (s.want a) inner
+    answered : {forks inner : ℕ} {a : A} → Inside begin forks inner a → (given : Given) → IsAnswer s.elements (s.want a) given → StaysIn (s.want a) inner
         → Inside begin forks (inner_after (s.want a) inner) (s.answer a given)
     goes_right : {forks inner : ℕ} {a : A} → Inside begin forks inner a → s.want a ≡ Fork → Inside begin (suc forks) inner (s.right a)
     joins : {forks inner : ℕ} {right : A} → Inside begin (suc forks) inner right → StaysIn (s.want right) inner → (left : A)

@@ -4,10 +4,9 @@ use Rattle.cw_code.specs.declared.Limits.{Limits}
 use Rattle.cw_code.specs.declared.instruction.Func.{Func}
 use Rattle.cw_code.specs.declared.instruction.Instr.{Instr}
 use Rattle.cw_code.specs.declared.instruction.Code.{Code}
-use Rattle.cw_code.specs.declared.situation.Situation.{Situation}
 use Rattle.cw_code.specs.declared.effects.Effect.{Effect}
 use Rattle.cw_code.specs.declared.effects.Effect.TheVariants.{Ret as ret, Done as done}
-use Rattle.cw_code.specs.Rules.{effect_of, inside, known_at, places}
+use Rattle.cw_code.specs.Rules.{Situation, blocks_in, effect_of, inside, known_at, places}
 use Rattle.cw_strand.specs.declared.want.Want.{Want}
 use Rattle.cw_strand.specs.declared.want.Want.TheVariants.{Begin, Fork}
 use Rattle.cw_strand.specs.declared.want.Given.{Given}
@@ -60,7 +59,9 @@ module _ (code : Code) where
     pub scopes : List ℕ
     pub opened : s.scopes ≡ 0 ∷ around ∷ scopes
     pub current : StandsAt s.current.place (length s.current.locals) 0
-    pub within : 0 < current.situation.blocks
+    pub within : 0 < blocks_in current.situation.parts
+    -- and nothing is to be written back
+    pub back : s.back ≡ []
 
   -- At its want: so does the left strand of its fork; and at the begin of a block that has begun.
   pub record StandsWanting (w : Want) (s : State) : Type 0 where

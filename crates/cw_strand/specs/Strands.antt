@@ -2,11 +2,14 @@
 -- the syntax tree in `Meaning`, and from compiled code in `Coded`.
 use Rattle.std.specs.Prelude.{◌≡◌, ℕ, zero, suc, ◌<◌, ◌≤◌, Bool, true, false, List, [], ◌∷◌}
 use Rattle.cw_strand.specs.declared.want.Want.{Want}
-use Rattle.cw_strand.specs.declared.want.Want.TheVariants.{Load, Store, Out, Begin, End, Fork, Sync, Done, Fault}
+use Rattle.cw_strand.specs.declared.want.Want.TheVariants.{Load, Store, Out, Begin, End, Cancel, Fork, Sync, Done, Fault}
 use Rattle.cw_strand.specs.declared.want.Given.{Given}
-use Rattle.cw_strand.specs.declared.want.Given.TheVariants.{Nothing, Value}
+use Rattle.cw_strand.specs.declared.want.Given.TheVariants.{Nothing, Value, Back as Wrote}
+use Rattle.cw_code.specs.declared.Back.{Back}
 
 pub record Strands (A : Type 0) : Type 0 where
+  -- how many elements the cells have
+  pub elements : ℕ
   -- the strand of main, at its first want
   pub start : A
   -- what a strand stands at
@@ -41,14 +44,21 @@ takes_answer Done = false
 takes_answer (Fault k) = false
 takes_answer w = true
 
--- this answers that want: a value a load; nothing a store, an output, and the begin and the end of a block
-abbrev pub IsAnswer : Want → Given → Type 0
-IsAnswer (Load c) (Value v) = Unit {0}
-IsAnswer (Store c v) Nothing = Unit {0}
-IsAnswer (Out v) Nothing = Unit {0}
-IsAnswer Begin Nothing = Unit {0}
-IsAnswer End Nothing = Unit {0}
-IsAnswer w given = ⊥
+-- what is to be written back names elements of the cells, of which there are so many
+abbrev pub AreElements : ℕ → List Back → Type 0
+AreElements n [] = Unit {0}
+AreElements n (b ∷ bs) = (b.cell < n) × AreElements n bs
+
+-- This answers that want, where the cells have so many elements: a value a load; what is to be written back a cancel; nothing a store, an
+-- output, and the begin and the end of a block.
+abbrev pub IsAnswer : (elements : ℕ) → Want → Given → Type 0
+IsAnswer n (Load c) (Value v) = Unit {0}
+IsAnswer n (Store c v) Nothing = Unit {0}
+IsAnswer n (Out v) Nothing = Unit {0}
+IsAnswer n Begin Nothing = Unit {0}
+IsAnswer n End Nothing = Unit {0}
+IsAnswer n Cancel (Wrote bs) = AreElements n bs
+IsAnswer n w given = ⊥
 
 -- ## Blocks
 --
@@ -61,11 +71,13 @@ own_after Begin (b ∷ bs) = suc b ∷ bs
 own_after End (suc b ∷ bs) = b ∷ bs
 own_after w bs = bs
 
--- What a strand with these numbers of blocks may want: an end where it began a block itself; with no such block left, a sync
+-- What a strand with these numbers of blocks may want: an end or a cancel where it began a block itself; with no such block left, a sync
 -- where it is a right strand, and to be done where it is another one; all else at any time.
 abbrev pub MayWant : Want → List ℕ → Type 0
 MayWant End (suc b ∷ bs) = Unit {0}
 MayWant End bs = ⊥
+MayWant Cancel (suc b ∷ bs) = Unit {0}
+MayWant Cancel bs = ⊥
 MayWant Sync (zero ∷ b ∷ bs) = Unit {0}
 MayWant Sync bs = ⊥
 MayWant Done (zero ∷ []) = Unit {0}
@@ -79,7 +91,7 @@ module _ {A : Type 0} (s : Strands A) where
   -- forks both strands of the fork come to their ends and are joined.
   pub data GoesTo : List ℕ → A → List ℕ → A → Type 0 where
     stays : {own : List ℕ} {a : A} → GoesTo own a own a
-    answered : {from own : List ℕ} {a b : A} → GoesTo from a own b → (given : Given) → IsAnswer (s.want b) given → GoesTo from a (own_after (s.want b) own) (s.answer b given)
+    answered : {from own : List ℕ} {a b : A} → GoesTo from a own b → (given : Given) → IsAnswer s.elements (s.want b) given → GoesTo from a (own_after (s.want b) own) (s.answer b given)
     joins : {from own beside : List ℕ} {n : ℕ} {a b left right : A} → GoesTo from a own b → s.want b ≡ Fork
         → GoesTo (0 ∷ []) (s.left b) beside left → is_over (s.want left) ≡ true
         → GoesTo (0 ∷ own) (s.right b) (n ∷ own) right → is_over (s.want right) ≡ true

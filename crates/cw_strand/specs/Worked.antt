@@ -1,16 +1,19 @@
 -- Worked programs: their naming faults, their code, and what their strands want, over the syntax and over the code.
-use Rattle.std.specs.Prelude.{ℕ, zero, suc, ◌-◌, ◌≡◌, List, [], ◌∷◌, replicate, codes, Result, Ok, Err, Option, Some, None, ℤ, pos, negsuc}
+use Rattle.std.specs.Prelude.{ℕ, zero, suc, ◌-◌, ◌≡◌, List, [], ◌∷◌, map, replicate, codes, Result, Ok, Err, Option, Some, None, ℤ, pos, negsuc}
 use Rattle.cw_text.specs.declared.fault.TextFault.{TextFault}
 use Rattle.cw_text.specs.Syntax.{Declaration, empty}
 use Rattle.cw_text.specs.Worked.{read}
+use Rattle.cw_text.specs.Lexemes.{keywords_of, lexemes}
+use Rattle.cw_text.specs.Grammar.{program_of}
 use Rattle.cw_code.specs.declared.FaultKind.TheVariants.{Zero, Overflow, Range, Depth, Fuel, Size}
 use Rattle.cw_code.specs.declared.Limits.{Limits}
 use Rattle.cw_code.specs.declared.instruction.Code.{Code}
-use Rattle.cw_strand.specs.declared.naming.NameKind.TheVariants.{Unknown, Twice, WrongCount, NoMain, ReturnInside, NotACell, NotALocal, TooManyCells}
+use Rattle.cw_strand.specs.declared.naming.NameKind.TheVariants.{Unknown, Twice, WrongCount, NoMain, ReturnInside, NotACell, NotALocal, TooManyCells, CancelOutside}
 use Rattle.cw_strand.specs.declared.want.Want.{Want}
-use Rattle.cw_strand.specs.declared.want.Want.TheVariants.{Load, Store, Out, Begin, End, Fork, Sync, Done, Fault}
+use Rattle.cw_strand.specs.declared.want.Want.TheVariants.{Load, Store, Out, Begin, End, Cancel, Fork, Sync, Done, Fault}
 use Rattle.cw_strand.specs.declared.want.Given.{Given}
-use Rattle.cw_strand.specs.declared.want.Given.TheVariants.{Nothing, Value}
+use Rattle.cw_strand.specs.declared.want.Given.TheVariants.{Nothing, Value, Back as Wrote}
+use Rattle.cw_code.specs.declared.Back.{Back}
 use Rattle.cw_strand.specs.Names as names
 use Rattle.cw_strand.specs.Strands.{Strands}
 use Rattle.cw_strand.specs.Running.{LocalStep, on, wants, stuck}
@@ -67,38 +70,43 @@ pub data Other (A : Type 0) : Type 0 where
   to_come : A → Other A
   ended : A → Other A
 
-module _ {A : Type 0} (s : Strands A) (go : List ℤ → List (Other A) → A → List Want) where
+module _ {A : Type 0} (s : Strands A) (go : List Given → List (Other A) → A → List Want) where
   -- after an end the right strand goes on, and after that one's the strand that forked
-  abbrev pub after_end : List ℤ → List (Other A) → A → List Want
-  after_end vs [] a = []
-  after_end vs (to_come right ∷ others) a = go vs (ended a ∷ others) right
-  after_end vs (ended left ∷ others) a = go vs others (s.joined a left)
+  abbrev pub after_end : List Given → List (Other A) → A → List Want
+  after_end gs [] a = []
+  after_end gs (to_come right ∷ others) a = go gs (ended a ∷ others) right
+  after_end gs (ended left ∷ others) a = go gs others (s.joined a left)
 
-  -- after a want, with the values that are left for loads
-  abbrev pub after_want : Want → List ℤ → List (Other A) → A → List Want
-  after_want (Load c) [] others a = []
-  after_want (Load c) (v ∷ vs) others a = go vs others (s.answer a (Value v))
-  after_want Fork vs others a = go vs (to_come (s.right a) ∷ others) (s.left a)
-  after_want Sync vs others a = after_end vs others a
-  after_want Done vs others a = after_end vs others a
-  after_want (Fault k) vs others a = []
-  after_want w vs others a = go vs others (s.answer a Nothing)
+  -- the next of the answers that are left
+  abbrev pub after_answer : List Given → List (Other A) → A → List Want
+  after_answer [] others a = []
+  after_answer (g ∷ gs) others a = go gs others (s.answer a g)
 
--- What the strands want, each left one up to its end before its right one, where loads are answered with these values.
-abbrev pub asked : {A : Type 0} → Strands A → ℕ → List ℤ → List (Other A) → A → List Want
-asked s zero vs others a = []
-asked s (suc n) vs others a = s.want a ∷ after_want s (λ us more b. asked s n us more b) (s.want a) vs others a
+  -- after a want, with the answers that are left for loads and cancels
+  abbrev pub after_want : Want → List Given → List (Other A) → A → List Want
+  after_want (Load c) gs others a = after_answer gs others a
+  after_want Cancel gs others a = after_answer gs others a
+  after_want Fork gs others a = go gs (to_come (s.right a) ∷ others) (s.left a)
+  after_want Sync gs others a = after_end gs others a
+  after_want Done gs others a = after_end gs others a
+  after_want (Fault k) gs others a = []
+  after_want w gs others a = go gs others (s.answer a Nothing)
+
+-- What the strands want, each left one up to its end before its right one, where loads and cancels are answered so.
+abbrev pub asked : {A : Type 0} → Strands A → ℕ → List Given → List (Other A) → A → List Want
+asked s zero gs others a = []
+asked s (suc n) gs others a = s.want a ∷ after_want s (λ us more b. asked s n us more b) (s.want a) gs others a
 
 -- limits of fuel and size
 abbrev pub within : ℕ → ℕ → Limits
 within fuel size = record { fuel = fuel; size = size; aborts = 1; strands = 1; moves = 1 }
 
 abbrev pub trace : List ℤ → ℕ → ℕ → List ℕ → List ℤ → List Want
-trace words fuel size text vs = let s = meaning.strands_of_syntax (tree text) words (within fuel size) in asked s 20 vs [] s.start
+trace words fuel size text vs = let s = meaning.strands_of_syntax (tree text) words (within fuel size) in asked s 20 (map Value vs) [] s.start
 
 -- the same over its code
 abbrev pub code_trace : List ℤ → ℕ → ℕ → List ℕ → List ℤ → List Want
-code_trace words fuel size text vs = let s = compiled (tree text) words (within fuel size) in asked s 20 vs [] s.start
+code_trace words fuel size text vs = let s = compiled (tree text) words (within fuel size) in asked s 20 (map Value vs) [] s.start
 
 -- what the strands want with these words, over the syntax and over the code
 abbrev pub WantsWith : List ℤ → ℕ → ℕ → List ℕ → List ℤ → List Want → Type 0
@@ -107,6 +115,63 @@ WantsWith words fuel size text vs ws = (trace words fuel size text vs ≡ ws) ×
 -- without words
 abbrev pub Wants : ℕ → ℕ → List ℕ → List ℤ → List Want → Type 0
 Wants = WantsWith []
+
+-- ## Cancels
+
+-- the tree of a text in language 2, behind the line that says so
+abbrev pub newer_tree : List ℕ → List Declaration
+newer_tree text = given (program_of (lexemes (keywords_of 2) text)) where
+  given : Result (List Declaration) TextFault → List Declaration
+  given (Ok ds) = ds
+  given (Err f) = []
+
+abbrev pub newer_faulty : List ℕ → names.Fault
+newer_faulty text = names.naming_fault (newer_tree text)
+
+-- an element, and a value that is written back
+abbrev pub back : ℕ → ℤ → Back
+back c v = record { cell = c; value = v }
+
+-- what the strands want with these answers, over the syntax and over the code
+abbrev pub Asks : ℕ → ℕ → List ℕ → List Given → List Want → Type 0
+Asks fuel size text gs ws =
+    (let s = meaning.strands_of_syntax (newer_tree text) [] (within fuel size) in asked s 20 gs [] s.start ≡ ws)
+    × (let s = compiled (newer_tree text) [] (within fuel size) in asked s 20 gs [] s.start ≡ ws)
+
+-- A cancel stands inside an atomic block of its function, and inside no spawned block in that.
+abbrev pub Outside : Type 0
+Outside =
+    (newer_faulty (codes "fn main() {\ncancel; }") ≡ names.fault CancelOutside 2)
+    × (newer_faulty (codes "fn main() { if 1 { cancel; } }") ≡ names.fault CancelOutside 1)
+    × (newer_faulty (codes "fn main() { spawn { cancel; } }") ≡ names.fault CancelOutside 1)
+    × (newer_faulty (codes "fn main() { atomic { spawn { cancel; } } }") ≡ names.fault CancelOutside 1)
+    × (newer_faulty (codes "fn main() { atomic { atomic { spawn { cancel; } } } }") ≡ names.fault CancelOutside 1)
+    × (newer_faulty (codes "fn f() { cancel; } fn main() { atomic { f(); } }") ≡ names.fault CancelOutside 1)
+    × (newer_faulty (codes "fn main() { cancel;\nx = 1; }") ≡ names.fault CancelOutside 1)
+    × (newer_faulty (codes "fn main() { x = 1;\ncancel; }") ≡ names.fault Unknown 1)
+    × (newer_faulty (codes "fn main() { atomic { spawn { atomic { cancel; } } } }") ≡ None)
+    × (newer_faulty (codes "fn main() { spawn { atomic { cancel; } } }") ≡ None)
+    × (newer_faulty (codes "fn main() { atomic { if 1 { while 1 { cancel; } } } }") ≡ None)
+
+-- What the block wrote is written back, a store after the other, and nothing comes between that and the end of the block. Locals stay.
+abbrev pub Cancels : Type 0
+Cancels =
+    Asks 9 9 (codes "cell c = 5; fn main() { atomic { c = 9; out c; cancel; out 1; } out c; }") (Value (pos 9) ∷ Wrote (back 0 (pos 5) ∷ []) ∷ Value (pos 5) ∷ [])
+    (Begin ∷ Store 0 (pos 9) ∷ Load 0 ∷ Out (pos 9) ∷ Cancel ∷ Store 0 (pos 5) ∷ End ∷ Load 0 ∷ Out (pos 5) ∷ Done ∷ [])
+    × Asks 9 9 (codes "cell c; fn main() { atomic { cancel; } }") (Wrote [] ∷ []) (Begin ∷ Cancel ∷ End ∷ Done ∷ [])
+    × Asks 9 9 (codes "cell c; cell d; fn main() { atomic { spawn { c = 1; } d = 2; cancel; } }") (Wrote (back 0 (pos 0) ∷ back 1 (pos 0) ∷ []) ∷ [])
+    (Begin ∷ Fork ∷ Store 0 (pos 1) ∷ Done ∷ Store 1 (pos 2) ∷ Sync ∷ Cancel ∷ Store 0 (pos 0) ∷ Store 1 (pos 0) ∷ End ∷ Done ∷ [])
+    × Asks 19 19 (codes "cell c; fn main() { let x = 3; atomic { let y = 1; x = x + y; c = 7; if x { let z = 9; x = z; cancel; } x = 0; } out x; let y = 2; out y; }") (Wrote (back 0 (pos 0) ∷ []) ∷ [])
+    (Begin ∷ Store 0 (pos 7) ∷ Cancel ∷ Store 0 (pos 0) ∷ End ∷ Out (pos 9) ∷ Out (pos 2) ∷ Done ∷ [])
+    × Asks 29 19 (codes "cell c; fn main() { let i = 0; atomic { while 1 { i = i + 1; c = i; if i == 3 { cancel; } } } out i; }") (Wrote (back 0 (pos 0) ∷ []) ∷ [])
+    (Begin ∷ Store 0 (pos 1) ∷ Store 0 (pos 2) ∷ Store 0 (pos 3) ∷ Cancel ∷ Store 0 (pos 0) ∷ End ∷ Out (pos 3) ∷ Done ∷ [])
+    -- a cancel and each store that writes back count one
+    × Asks 9 3 (codes "cell c; cell d; fn main() { atomic { c = 1; d = 2; cancel; } }") [] (Begin ∷ Store 0 (pos 1) ∷ Store 1 (pos 2) ∷ Fault Size ∷ [])
+    × Asks 9 5 (codes "cell c; cell d; fn main() { atomic { c = 1; d = 2; cancel; } }") (Wrote (back 0 (pos 0) ∷ back 1 (pos 0) ∷ []) ∷ []) (Begin ∷ Store 0 (pos 1) ∷ Store 1 (pos 2) ∷ Cancel ∷ Store 0 (pos 0) ∷ Fault Size ∷ [])
+    × Asks 9 6 (codes "cell c; cell d; fn main() { atomic { c = 1; d = 2; cancel; } }") (Wrote (back 0 (pos 0) ∷ back 1 (pos 0) ∷ []) ∷ [])
+    (Begin ∷ Store 0 (pos 1) ∷ Store 1 (pos 2) ∷ Cancel ∷ Store 0 (pos 0) ∷ Store 1 (pos 0) ∷ End ∷ Done ∷ [])
+    × Asks 2 9 (codes "cell c; fn main() { atomic { c = 1; cancel; } }") [] (Begin ∷ Store 0 (pos 1) ∷ Fault Fuel ∷ [])
+    × Asks 3 9 (codes "cell c; fn main() { atomic { c = 1; cancel; } }") (Wrote (back 0 (pos 0) ∷ []) ∷ []) (Begin ∷ Store 0 (pos 1) ∷ Cancel ∷ Store 0 (pos 0) ∷ End ∷ Done ∷ [])
 
 abbrev pub count_one : List ℕ
 count_one = codes "cell c; fn main() { c = c + 1; out c; }"
@@ -206,6 +271,7 @@ called_among n = stop_of (meaning.step [] (function_of main_alone) (within 9 9) 
   fuel = 0;
   size = 0;
   beside = empty;
+  back = [];
 }))
 
 abbrev pub code_called_among : ℕ → Option Want
@@ -216,6 +282,7 @@ code_called_among n = stop_of (coded.step (code_of main_alone) (record {
   fuel = 0;
   size = 0;
   beside = 0;
+  back = [];
   limits = within 9 9;
 }))
 

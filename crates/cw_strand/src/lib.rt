@@ -8,10 +8,10 @@
 #![tactic(auto)]
 
 ghost use Rattle.cw_strand.specs.Laws.{LocalWorkEnds, ForksEnd, EndsOnlyWhenDone, BlocksClose, StrandsAreLawful};
-ghost use Rattle.cw_strand.specs.Laws.{CodeIsNeverStuck, StandsOn, VisitedStand, CodeWorkEnds, CodeForksEnd, CodeNamesElements, BeginStaysBelow};
-ghost use Rattle.cw_strand.specs.Laws.{BreaksNoRule, WantsOfTheSource, CodeEndsOnlyWhenDone, CodeIsLawful, ClosesWithIt};
+ghost use Rattle.cw_strand.specs.Laws.{CodeIsNeverStuck, StandsOn, VisitedStand, CodeWorkEnds, CodeForksEnd, CodeNamesElements, CodeGivesUpNothing, BeginStaysBelow};
+ghost use Rattle.cw_strand.specs.Laws.{BreaksNoRule, CodeHasItsCancels, WantsOfTheSource, CodeEndsOnlyWhenDone, CodeIsLawful, ClosesWithIt};
 ghost use Rattle.cw_strand.specs.Pasts.{CanBe, Past, WantTheSame};
-ghost use Rattle.cw_strand.specs.Worked.{Arrays, Calls, Choices, Depths, Faults, Traces, Forks, Loops, Returns, Spent, Codes, Endings};
+ghost use Rattle.cw_strand.specs.Worked.{Arrays, Calls, Choices, Depths, Faults, Outside, Cancels, Traces, Forks, Loops, Returns, Spent, Codes, Endings};
 ghost use Rattle.cw_strand.specs.Strands.{Strands};
 ghost use Rattle.std.specs.Prelude.{◌↔◌};
 
@@ -22,13 +22,15 @@ mod scopes;
 mod strand;
 mod want;
 
-pub use naming::{NameFault, NameKind};
+pub use naming::{Around, NameFault, NameKind};
 pub use strand::{Saved, Strand};
 pub use want::{Given, Want};
 
 /// Worked programs: their naming faults, their code, and what their strands want, over the syntax and over the code.
 pub fn worked_programs()
     ensures faults { Faults }
+    ensures outside { Outside }
+    ensures cancels { Cancels }
     ensures codes { Codes }
     ensures traces { Traces }
     ensures arrays { Arrays }
@@ -92,6 +94,11 @@ pub fn code_names_elements()
     ensures { CodeNamesElements }
 {}
 
+/// Over code that breaks no rule, in which no instruction is a cancel, no strand gives up a block.
+pub fn code_gives_up_nothing()
+    ensures { CodeGivesUpNothing }
+{}
+
 /// Over code that breaks no rule what stood below the begin of a block stands there still for each strand inside the block: so each may go
 /// back to the begin, with what was kept there.
 pub fn begin_stays_below()
@@ -101,6 +108,11 @@ pub fn begin_stays_below()
 /// The code of a program without a naming fault breaks no rule.
 pub fn compiled_code_breaks_no_rule()
     ensures { BreaksNoRule }
+{}
+
+/// The code of a program has a cancel exactly where its text has one.
+pub fn compiled_code_has_its_cancels()
+    ensures { CodeHasItsCancels }
 {}
 
 /// Compiled code wants what the source wants: after whatever may have happened to a strand, it stands at the same want over the syntax and

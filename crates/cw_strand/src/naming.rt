@@ -17,6 +17,16 @@ pub enum NameKind {
     NotACell = 7,
     /// The name of a function that is read or assigned.
     NotALocal = 8,
+    /// A `cancel` that is in no `atomic` block of its function, or in a `spawn` block that is in the innermost such block.
+    CancelOutside = 9,
+}
+
+/// What is innermost around a statement, of the `atomic` and `spawn` blocks of its function.
+#[derive(Clone, Copy, PartialEq, Eq, Debug)]
+pub enum Around {
+    Neither,
+    Atomic,
+    Spawn,
 }
 
 /// The first naming fault of a program, at its name's line.

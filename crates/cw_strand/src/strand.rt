@@ -12,8 +12,8 @@ use crate::led::Led;
 use crate::scopes::Scopes;
 use crate::{Given, Want};
 use calls::take_locals;
-use cw_base::{OutOfMemory, Stack};
-use cw_code::{Limits, Program};
+use cw_base::{OutOfMemory, Seq, Stack};
+use cw_code::{Back, Limits, Program};
 pub use saving::Saved;
 use std::alloc::Global;
 use std::marker::Model;
@@ -49,10 +49,14 @@ pub struct Strand {
     size: u64,
     /// Where the left strand of the newest fork begins.
     beside: usize,
+    /// What it was told to write back, and how much of that it wrote.
+    back: Seq<Back>,
+    written: usize,
     limits: Limits,
 }
 
 impl Model for Strand {
+    ghost use Rattle.std.specs.Prelude.{drop};
     ghost use Rattle.cw_strand.specs.Coded.{State};
 
     ghost Value = { State };
@@ -64,6 +68,7 @@ impl Model for Strand {
       fuel = s.fuel;
       size = s.size;
       beside = s.beside;
+      back = drop s.written s.back;
       limits = s.limits;
     } };
 }
@@ -103,6 +108,8 @@ impl Strand {
             fuel: 0,
             size: 0,
             beside: 0,
+            back: Seq::new(alloc),
+            written: 0,
             limits,
         })
     }
@@ -141,6 +148,8 @@ impl Strand {
             fuel: self.fuel,
             size: 0, // what it counts is added where it is joined
             beside: self.beside,
+            back: Seq::new(alloc),
+            written: 0,
             limits: self.limits,
         })
     }

@@ -1,4 +1,5 @@
-use cw_code::FaultKind;
+use cw_base::Seq;
+use cw_code::{Back, FaultKind};
 
 /// What a strand stands at.
 #[derive(Clone, Copy, PartialEq, Eq, Debug)]
@@ -12,6 +13,8 @@ pub enum Want {
     Begin,
     /// The innermost block is to end.
     End,
+    /// The innermost block is given up: what stood there before its writes is to be written back.
+    Cancel,
     /// A strand beside this one is to start; this one goes on as the right one.
     Fork,
     /// Nothing more: as a right strand it has ended, and waits for the left one.
@@ -22,9 +25,11 @@ pub enum Want {
     Fault(FaultKind),
 }
 
-/// What a want is answered with: a `Load` with a value; a `Store`, an `Out`, a `Begin` and an `End` with nothing.
-#[derive(Clone, Copy, PartialEq, Eq, Debug)]
+/// What a want is answered with: a `Load` with a value; a `Cancel` with what is to be written back, in this order; a `Store`, an `Out`, a
+/// `Begin` and an `End` with nothing.
+#[derive(Drop)]
 pub enum Given {
     Nothing,
     Value(i64),
+    Back(Seq<Back>),
 }

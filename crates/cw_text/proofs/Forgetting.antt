@@ -2,7 +2,7 @@
 use Rattle.std.proofs.Common.{◌≡◌, ◌+◌, ◌∷◌, [], ℕ, map, ℤ, refl, ap}
 use Rattle.std.proofs.lemmas.List.{map-append}
 use Rattle.cw_text.specs.declared.ast.Op.{Op}
-use Rattle.cw_text.specs.Syntax.{Term, Terms, number, name, at, call, unary, binary, none, more, Statement, Block, empty, first, declare, assign, assign_at, run, out, choose, repeat, atomic, spawn, return, with_term, with_statement, height, height_of_all}
+use Rattle.cw_text.specs.Syntax.{cancel, Term, Terms, number, name, at, call, unary, binary, none, more, Statement, Block, empty, first, declare, assign, assign_at, run, out, choose, repeat, atomic, spawn, return, with_term, with_statement, height, height_of_all}
 use Rattle.cw_text.specs.Grammar as g
 use Rattle.cw_text.specs.Grammar.{Value, Values, a_word, a_size, an_init, some_words, a_line, a_term, some_terms, a_block, declared, newest_height, stated}
 use Rattle.cw_text.specs.WithoutLines.{word_without_line, term_without_lines, terms_without_lines, statement_without_lines, block_without_lines, tree_without_lines}
@@ -113,6 +113,10 @@ atomic_done_forgets vs = refl
 pub spawn_done_forgets : Forgets g.spawn_done g.spawn_done
 spawn_done_forgets (a_block b ∷ vs) = stated_forgets (spawn b) vs
 spawn_done_forgets vs = refl
+
+pub cancel_done_forgets : Forgets g.cancel_done g.cancel_done
+cancel_done_forgets (a_line l ∷ vs) = stated_forgets (cancel l) vs
+cancel_done_forgets vs = refl
 
 pub return_done_forgets : Forgets g.return_done g.return_done
 return_done_forgets (a_term e ∷ a_line l ∷ vs) = stated_forgets (return l e) vs

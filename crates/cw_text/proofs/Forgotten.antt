@@ -11,7 +11,7 @@ use Rattle.cw_text.specs.Syntax.{Declaration, sync}
 use Rattle.cw_text.specs.Grammar as g
 use Rattle.cw_text.specs.Grammar.{Value, Values, Symbol, Next, ReadingState, take, skip, refuse, declared, act, lifted, read_from, brackets, closing, exactly, expansion, feed, go_on, opened, pending, newest_height, push, read, then_read, program_in, program_of, word, items, params, block, cell_size, cell_init, size, init, negated, more_params, stmts, assignment, otherwise, expr, operand, products, sums, comparison, args, more_args, infix_by, operand_by, product_of, sum_of, comparison_of, only, rest_of_expr}
 use Rattle.cw_text.specs.WithoutLines.{tree_without_lines, tokens_without_lines}
-use Rattle.cw_text.proofs.Forgetting.{Forgets, arg_done_forgets, assign_at_done_forgets, assign_done_forgets, atomic_done_forgets, call_done_forgets, cell_done_forgets, choose_done_forgets, func_done_forgets, index_done_forgets, join_forgets, let_done_forgets, lift_forgets, newest_without, out_done_forgets, param_done_forgets, repeat_done_forgets, return_done_forgets, run_done_forgets, spawn_done_forgets, stated_forgets, value_without, values_without, with_init_forgets, with_size_forgets, without_newest_forgets}
+use Rattle.cw_text.proofs.Forgetting.{cancel_done_forgets, Forgets, arg_done_forgets, assign_at_done_forgets, assign_done_forgets, atomic_done_forgets, call_done_forgets, cell_done_forgets, choose_done_forgets, func_done_forgets, index_done_forgets, join_forgets, let_done_forgets, lift_forgets, newest_without, out_done_forgets, param_done_forgets, repeat_done_forgets, return_done_forgets, run_done_forgets, spawn_done_forgets, stated_forgets, value_without, values_without, with_init_forgets, with_size_forgets, without_newest_forgets}
 
 -- ## Symbols
 
@@ -107,6 +107,7 @@ statement_alike (terminal m.While) l = takes (same tt (same tt (done repeat_done
 statement_alike (terminal m.Atomic) l = takes (same tt (done atomic_done_forgets (same tt nil)))
 statement_alike (terminal m.Spawn) l = takes (same tt (done spawn_done_forgets (same tt nil)))
 statement_alike (terminal m.Sync) l = takes (same tt (done (stated_forgets sync) (same tt nil)))
+statement_alike (terminal m.Cancel) l = takes (put refl (same tt (done cancel_done_forgets (same tt nil))))
 statement_alike (terminal m.Return) l = takes (put refl (same tt (same tt (done return_done_forgets (same tt nil)))))
 statement_alike t l = skips
 

@@ -1,14 +1,17 @@
 pub mod Blocks
+pub mod Cancels
 pub mod Digits
 pub mod Forgetting
 pub mod Forgotten
 pub mod Fronts
+pub mod Headings
 pub mod Levels
 pub mod Lines
 pub mod Operators
 pub mod Passing
 pub mod Places
 pub mod Prefixes
+pub mod Older
 pub mod PrintedIsWritten
 pub mod PrintedTexts
 pub mod Printing

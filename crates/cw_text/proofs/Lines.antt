@@ -1,4 +1,4 @@
--- Of the lines of tokens, only those of names and of `return` have a part in what is read.
+-- Of the lines of tokens, only those of names, of `cancel` and of `return` have a part in what is read.
 use Rattle.std.proofs.Common.{◌≡◌, ℕ, zero, ◌+◌, nat_lt, cond, Bool, true, false, List, [], ◌∷◌, ◌++◌, Option, Some, None, Result, Ok, Err, refl, ap, sym, ◌∙◌}
 use Rattle.cw_text.specs.declared.fault.TextFault.{TextFault}
 use Rattle.cw_text.specs.declared.terminal.Terminal.TheVariants as m
@@ -51,9 +51,10 @@ plain_state (Err e) = None
 
 -- ## One token
 
--- the lines of a name and of `return` count
+-- the lines of a name, of `cancel` and of `return` count
 abbrev SameLine : Token → ℕ → ℕ → Type 0
 SameLine (a_name n) i l = i ≡ l
+SameLine (terminal m.Cancel) i l = i ≡ l
 SameLine (terminal m.Return) i l = i ≡ l
 SameLine t i l = Unit {0}
 
@@ -67,6 +68,7 @@ operand_by-plain k t i l same = refl
 
 expansion-plain : (s : Symbol) (t : Token) (i l : ℕ) → SameLine t i l → plain_next (expansion s t i) ≡ plain_next (expansion s t l)
 expansion-plain s (a_name n) i l same = ap (λ l. plain_next (expansion s (a_name n) l)) same
+expansion-plain s (terminal m.Cancel) i l same = ap (λ l. plain_next (expansion s (terminal m.Cancel) l)) same
 expansion-plain s (terminal m.Return) i l same = ap (λ l. plain_next (expansion s (terminal m.Return) l)) same
 expansion-plain expr t i l same = operand_by-plain rest_of_expr t i l same
 expansion-plain operand t i l same = operand_by-plain [] t i l same
@@ -142,6 +144,7 @@ feed-plain (s ∷ k) vs t i l same = go_on-plain (expansion s t i) (expansion s 
 
 same_line : (t : Token) (l : ℕ) → SameLine t l l
 same_line (a_name n) l = refl
+same_line (terminal m.Cancel) l = refl
 same_line (terminal m.Return) l = refl
 same_line t l = tt
 
@@ -169,6 +172,9 @@ read_same (end_on l) j k vs same =
     then_read-same (feed j vs end 1) (feed k vs end l) (λ _ vs. Ok vs) (λ _ vs. Ok vs) (feed_same j k vs end 1 l same tt) (λ j k vs _. refl)
 read_same (comes (a_name n) l xs) j k vs same =
     then_read-same (feed j vs (a_name n) l) (feed k vs (a_name n) l) (λ k vs. read k vs (only_tree_lines xs)) (λ k vs. read k vs xs) (feed_same j k vs (a_name n) l l same refl) (read_same xs)
+read_same (comes (terminal m.Cancel) l xs) j k vs same =
+    let again = terminal m.Cancel in
+    then_read-same (feed j vs again l) (feed k vs again l) (λ k vs. read k vs (only_tree_lines xs)) (λ k vs. read k vs xs) (feed_same j k vs again l l same refl) (read_same xs)
 read_same (comes (terminal m.Return) l xs) j k vs same =
     let again = terminal m.Return in
     then_read-same (feed j vs again l) (feed k vs again l) (λ k vs. read k vs (only_tree_lines xs)) (λ k vs. read k vs xs) (feed_same j k vs again l l same refl) (read_same xs)

@@ -9,7 +9,7 @@ use Rattle.cw_text.specs.declared.ast.Word.{Word}
 use Rattle.cw_text.specs.declared.terminal.Terminal.{Terminal}
 use Rattle.cw_text.specs.declared.terminal.Terminal.TheVariants as m
 use Rattle.cw_text.specs.Lexemes.{Lexemes, end_on, comes, terminal, name as a_name}
-use Rattle.cw_text.specs.Syntax.{Term, Terms, number, name, at, call, unary, binary, none, more, Statement, declare, assign, assign_at, run, out, choose, repeat, atomic, spawn, sync, return, Block, empty, first, Declaration, cell, func, height, height_of_all}
+use Rattle.cw_text.specs.Syntax.{Term, Terms, number, name, at, call, unary, binary, none, more, Statement, declare, assign, assign_at, run, out, choose, repeat, atomic, spawn, sync, cancel, return, Block, empty, first, Declaration, cell, func, height, height_of_all}
 use Rattle.cw_text.specs.Grammar.{prefix_of}
 use Rattle.cw_text.specs.Printed.{Placed, tokens_before, sign, terminal_of, tightness, of_left, of_right, bracketed, in_braces, in_parens, in_squares, word_tokens, words_tokens, term_tokens, terms_tokens, more_terms_tokens, value_tokens, statement_tokens, statements_tokens, else_tokens, size_tokens, init_tokens, declaration_tokens, tokens, printed, IsWellFormed, AreWellFormed, most_open, most_open_of_all, IsReadableTerm, IsReadableStatement, IsReadableBlock, IsReadableDeclaration, IsReadable}
 use Rattle.cw_text.specs.Written as w
@@ -170,6 +170,7 @@ mutual
   statement_written (atomic b) around xs h = w.is_atomic (block_written b around xs h.0 (λ ys. statements_written b (around + 1) ys h.1))
   statement_written (spawn b) around xs h = w.spawns (block_written b around xs h.0 (λ ys. statements_written b (around + 1) ys h.1))
   statement_written sync around xs h = w.syncs
+  statement_written (cancel l) around xs h = w.cancels
   statement_written (return l e) around xs h = w.returns (value_written e around xs h)
 
   statements_written : (b : Block) (around : ℕ) (xs : Lexemes) → IsReadableBlock around b → w.AreStatements around b (tokens_before (statements_tokens b) xs) xs

@@ -10,9 +10,9 @@ use Rattle.cw_text.specs.declared.fault.TextFault.{TextFault}
 use Rattle.cw_text.specs.declared.fault.TextKind.TheVariants.{Unexpected}
 use Rattle.cw_text.specs.declared.terminal.Terminal.{Terminal}
 use Rattle.cw_text.specs.declared.terminal.Terminal.TheVariants as m
-use Rattle.cw_text.specs.Lexemes.{Token, Lexemes, end_on, comes, terminal, name as a_name, number as a_number, end, spelling, keywords, front, Front, found}
-use Rattle.cw_text.specs.Syntax.{Term, number, name, at, call, unary, binary, Terms, none, more, Statement, declare, assign, assign_at, run, out, choose, repeat, atomic, spawn, sync, return, Block, empty, first, with_statement, Declaration, cell, func}
-use Rattle.cw_text.specs.Grammar.{Symbol, Values, ReadingState, a_line, a_term, a_word, a_size, a_block, an_init, act, arg_done, args, assignment, assign_done, assign_at_done, atomic_done, block, brackets, call_done, cell_done, cell_init, cell_size, choose_done, closing, comparison, comparison_of, declared, exactly, expr, feed, func_done, go_on, index_done, infix_by, init, items, join, let_done, lift, lifted, more_args, more_params, negated, newest_height, opened, operand, operand_by, otherwise, out_done, param_done, params, pending, product_of, products, program_in, program_of, push, read, read_from, refuse, repeat_done, rest_of_expr, return_done, run_done, same_terminal, size, some_terms, some_words, spawn_done, stated, stmts, sum_of, sums, sync_done, take, then_read, with_init, with_size, without_newest, word, word_at}
+use Rattle.cw_text.specs.Lexemes.{Token, Lexemes, end_on, comes, terminal, name as a_name, number as a_number, end, spelling, keywords_of, front, Front, found}
+use Rattle.cw_text.specs.Syntax.{Term, number, name, at, call, unary, binary, Terms, none, more, Statement, declare, assign, assign_at, run, out, choose, repeat, atomic, spawn, sync, cancel, return, Block, empty, first, with_statement, Declaration, cell, func}
+use Rattle.cw_text.specs.Grammar.{Symbol, Values, ReadingState, a_line, a_term, a_word, a_size, a_block, an_init, act, arg_done, args, assignment, assign_done, assign_at_done, atomic_done, block, brackets, call_done, cell_done, cell_init, cell_size, choose_done, closing, comparison, comparison_of, declared, exactly, expr, feed, func_done, go_on, index_done, infix_by, init, items, join, let_done, lift, lifted, more_args, more_params, negated, newest_height, opened, operand, operand_by, otherwise, out_done, param_done, params, pending, product_of, products, program_in, program_of, push, read, read_from, refuse, repeat_done, rest_of_expr, return_done, cancel_done, run_done, same_terminal, size, some_terms, some_words, spawn_done, stated, stmts, sum_of, sums, sync_done, take, then_read, with_init, with_size, without_newest, word, word_at}
 use Rattle.cw_text.specs.Written as w
 use Rattle.cw_text.proofs.Blocks.{joined, joined_empty, with_terms, with_terms_one}
 
@@ -112,12 +112,12 @@ abbrev terminal_in : Front → Terminal
 terminal_in (found (terminal a) n) = a
 terminal_in f = m.Cell
 
-terminal_spelled : (a : Terminal) → terminal_in (front keywords (spelling a)) ≡ a
+terminal_spelled : (a : Terminal) → terminal_in (front (keywords_of 2) (spelling a)) ≡ a
 terminal_spelled m.Cell = refl
 terminal_spelled a = refl
 
 spelled_alike : (a b : Terminal) → true ≡ same_terminal a b → a ≡ b
-spelled_alike a b same = sym (terminal_spelled a) ∙ ap (λ s. terminal_in (front keywords s)) (same_text (spelling a) (spelling b) same) ∙ terminal_spelled b
+spelled_alike a b same = sym (terminal_spelled a) ∙ ap (λ s. terminal_in (front (keywords_of 2) s)) (same_text (spelling a) (spelling b) same) ∙ terminal_spelled b
 
 unless : (P : List Declaration → Type 0) (b : Bool) (xs : Lexemes) (f : TextFault) (r : Result ReadingState TextFault) → (b ≡ false → Leads P xs r) → Leads P xs (cond b (Err f) r)
 unless P b xs f r h = cond_both b (Err f) r (Leads P xs) (λ _. tt) h
@@ -293,6 +293,10 @@ step P (stmts ∷ k) (a_block b ∷ us) (comes (terminal m.Sync) i xs) owes =
     opened_leads P (exactly m.Semicolon ∷ act sync_done ∷ stmts ∷ k) (a_block b ∷ us) (comes (terminal m.Sync) i xs) i
     (λ low j ys over. statement_owes P k us b (comes (terminal m.Sync) i xs) owes sync ys
     (subst (λ xs. w.IsStatement (pending k) sync (comes (terminal m.Sync) i xs) ys) (sym over) w.syncs))
+step P (stmts ∷ k) (a_block b ∷ us) (comes (terminal m.Cancel) l xs) owes =
+    opened_leads P (act (push (a_line l)) ∷ exactly m.Semicolon ∷ act cancel_done ∷ stmts ∷ k) (a_block b ∷ us) (comes (terminal m.Cancel) l xs) l
+    (λ low j ys over. statement_owes P k us b (comes (terminal m.Cancel) l xs) owes (cancel l) ys
+    (subst (λ xs. w.IsStatement (pending k) (cancel l) (comes (terminal m.Cancel) l xs) ys) (sym over) w.cancels))
 step P (stmts ∷ k) (a_block b ∷ us) (comes (terminal m.Return) l xs) owes =
     opened_leads P (act (push (a_line l)) ∷ expr ∷ exactly m.Semicolon ∷ act return_done ∷ stmts ∷ k) (a_block b ∷ us) (comes (terminal m.Return) l xs) l
     (λ low e ys g j zs over. statement_owes P k us b (comes (terminal m.Return) l xs) owes (return l e) zs (w.returns (subst (w.IsExpr (pending k) e xs) over g)))

@@ -6,10 +6,9 @@ use Rattle.cw_text.specs.declared.ast.Expr.{Expr}
 use Rattle.cw_text.specs.declared.ast.Stmt.{Stmt}
 use Rattle.cw_text.specs.declared.fault.TextKind.TheVariants.{TooDeep}
 use Rattle.cw_text.specs.declared.terminal.Terminal.TheVariants as m
-use Rattle.cw_text.specs.Cursor.{rest_of}
 use Rattle.cw_text.specs.declared.cursor.Token.TheVariants as token
 use Rattle.cw_text.specs.declared.parser.Parser.{Parser}
-use Rattle.cw_text.specs.Lexemes.{Lexemes, end_on, comes, number as a_number, name as a_name, terminal, bad, end}
+use Rattle.cw_text.specs.Lexemes.{Lexemes, rest_of, end_on, comes, number as a_number, name as a_name, terminal, bad, end}
 use Rattle.cw_text.specs.declared.ast.Word.{Word}
 use Rattle.cw_text.specs.Syntax.{Term, Terms, at, binary, block_of, call, first, height, height_of_all, more, name, none, statement_of, term_of, terms_of, unary, with_statement, with_term}
 use Rattle.cw_text.specs.Grammar.{Symbol, Values, a_term, read, pending, lifted, fault, act, arg_done, args, assign_done, assignment, more_args, call_done, index_done, join, some_terms, read_from, operand, expr, products, sums, comparison, closing, exactly}

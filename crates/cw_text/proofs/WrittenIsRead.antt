@@ -6,7 +6,7 @@ use Rattle.cw_text.specs.declared.terminal.Terminal.{Terminal}
 use Rattle.cw_text.specs.declared.terminal.Terminal.TheVariants as m
 use Rattle.cw_text.specs.Lexemes.{Lexemes, comes, name as a_name, terminal}
 use Rattle.cw_text.specs.Syntax.{Term, Terms, binary, unary, none, more, with_term, Statement, Block, empty, with_statement, Declaration, cell, height}
-use Rattle.cw_text.specs.Grammar.{Symbol, Values, a_line, a_term, a_word, a_size, a_block, an_init, act, arg_done, args, assignment, assign_done, assign_at_done, atomic_done, block, cell_done, choose_done, closing, comparison_of, declared, exactly, expr, func_done, items, let_done, more_args, more_params, otherwise, out_done, param_done, params, pending, prefix_of, product_of, program_in, program_of, push, read, repeat_done, return_done, run_done, some_terms, some_words, spawn_done, stmts, sum_of, sync_done, without_newest, word, word_at}
+use Rattle.cw_text.specs.Grammar.{Symbol, Values, a_line, a_term, a_word, a_size, a_block, an_init, act, arg_done, args, assignment, assign_done, assign_at_done, atomic_done, block, cell_done, choose_done, closing, comparison_of, declared, exactly, expr, func_done, items, let_done, more_args, more_params, otherwise, out_done, param_done, params, pending, prefix_of, product_of, program_in, program_of, push, read, repeat_done, return_done, cancel_done, run_done, some_terms, some_words, spawn_done, stmts, sum_of, sync_done, without_newest, word, word_at}
 use Rattle.cw_text.specs.Printed.{terminal_of, tightness}
 use Rattle.cw_text.specs.Written as w
 use Rattle.cw_text.proofs.Blocks.{joined, joined_empty, with_terms, with_terms_one}
@@ -177,6 +177,7 @@ statement_begins (w.repeats h g) = tt
 statement_begins (w.is_atomic h) = tt
 statement_begins (w.spawns h) = tt
 statement_begins w.syncs = tt
+statement_begins w.cancels = tt
 statement_begins (w.returns h) = tt
 
 statements_begin : {around : ℕ} {b : Block} {xs ys : Lexemes} → w.AreStatements around b xs ys → NoElse ys → NoElse xs
@@ -265,6 +266,13 @@ mutual
       taken_open (exactly m.Semicolon ∷ left) (a_block b ∷ vs) i (comes (terminal m.Sync) i close) low
       ∙ taken_open left (a_block b ∷ vs) j close low
       ∙ read-act sync_done (stmts ∷ k) (a_block b ∷ vs) ys
+  statement_read {ys = ys} b k vs (w.cancels {j = j} {l = l}) same over low =
+      let close = comes (terminal m.Semicolon) j ys in
+      let left = act cancel_done ∷ stmts ∷ k in
+      taken_open (act (push (a_line l)) ∷ exactly m.Semicolon ∷ left) (a_block b ∷ vs) l (comes (terminal m.Cancel) l close) low
+      ∙ read-act (push (a_line l)) (exactly m.Semicolon ∷ left) (a_block b ∷ vs) close
+      ∙ taken_open left (a_line l ∷ a_block b ∷ vs) j close low
+      ∙ read-act cancel_done (stmts ∷ k) (a_line l ∷ a_block b ∷ vs) ys
   statement_read {ys = ys} b k vs (w.returns {l = l} {e = e} {xs = xs} h) same over low =
       let left = expr ∷ exactly m.Semicolon ∷ act return_done ∷ stmts ∷ k in
       taken_open (act (push (a_line l)) ∷ left) (a_block b ∷ vs) l (comes (terminal m.Return) l xs) low

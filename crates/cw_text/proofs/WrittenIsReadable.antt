@@ -91,6 +91,7 @@ mutual
   statement_good (w.is_atomic h) room small = let body = block_good h small in ((body.0, body.1), body.2)
   statement_good (w.spawns h) room small = let body = block_good h small in ((body.0, body.1), body.2)
   statement_good w.syncs room small = (tt, small)
+  statement_good w.cancels room small = (tt, small)
   statement_good (w.returns h) room small = whole_good h room small
 
   block_good : {around : ℕ} {b : Block} {xs ys : Lexemes} → w.IsBlock around b xs ys → HasSmallNumbers xs → (around < 200) × IsReadableBlock (around + 1) b × HasSmallNumbers ys

@@ -4,7 +4,7 @@ use Rattle.cw_text.specs.declared.cursor.Token.{Token}
 use Rattle.cw_text.specs.declared.cursor.Token.TheVariants as token
 use Rattle.cw_text.specs.declared.cursor.Cursor.{Cursor}
 use Rattle.cw_text.specs.Front.{lexeme_of}
-use Rattle.cw_text.specs.Lexemes.{Lexemes, end_on, comes, lexemes_from, keywords}
+use Rattle.cw_text.specs.Lexemes.{Lexemes, end_on, comes, lexemes_from, keywords_of}
 
 -- a token on its line, and what comes behind it
 abbrev pub before : Token → ℕ → Lexemes → Lexemes
@@ -12,11 +12,7 @@ before token.End line xs = end_on line
 before t line xs = comes (lexeme_of t) line xs
 
 abbrev pub tokens_left : Cursor → Lexemes
-tokens_left c = before c.token c.line (lexemes_from keywords c.rest_line 0 c.rest.now)
-
-abbrev pub rest_of : Lexemes → Lexemes
-rest_of (end_on line) = end_on line
-rest_of (comes t line xs) = xs
+tokens_left c = before c.token c.line (lexemes_from (keywords_of c.language) c.rest_line 0 c.rest.now)
 
 -- how many tokens are left
 abbrev pub count_of : Lexemes → ℕ

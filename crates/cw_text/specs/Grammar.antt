@@ -14,7 +14,7 @@ use Rattle.cw_text.specs.declared.fault.TextKind.TheVariants.{BadNumber, Unexpec
 use Rattle.cw_text.specs.declared.fault.TextFault.{TextFault}
 use Rattle.cw_text.specs.declared.terminal.Terminal.{Terminal}
 use Rattle.cw_text.specs.declared.terminal.Terminal.TheVariants as m
-use Rattle.cw_text.specs.Syntax.{Term, number, name, at, call, unary, binary, Terms, none, Statement, declare, assign, assign_at, run, out, choose, repeat, atomic, spawn, sync, return, Block, empty, Declaration, cell, func, with_term, with_statement, height}
+use Rattle.cw_text.specs.Syntax.{Term, number, name, at, call, unary, binary, Terms, none, Statement, declare, assign, assign_at, run, out, choose, repeat, atomic, spawn, sync, cancel, return, Block, empty, Declaration, cell, func, with_term, with_statement, height}
 use Rattle.cw_text.specs.Lexemes.{Token, Lexemes, end_on, comes, name as a_name, number as a_number, terminal, bad, end, spelling}
 use Rattle.std.specs.Str.{bytes_eq}
 
@@ -130,6 +130,10 @@ spawn_done vs = vs
 abbrev pub sync_done : Values → Values
 sync_done vs = stated sync vs
 
+abbrev pub cancel_done : Values → Values
+cancel_done (a_line l ∷ vs) = stated (cancel l) vs
+cancel_done vs = vs
+
 abbrev pub return_done : Values → Values
 return_done (a_term e ∷ a_line l ∷ vs) = stated (return l e) vs
 return_done vs = vs
@@ -170,6 +174,11 @@ word_at n l = record { name = n; line = l }
 abbrev pub why : Token → TextKind
 why (bad k) = k
 why t = Unexpected
+
+-- the fault of the next token, where it may not stand
+abbrev pub fault_at : Lexemes → TextFault
+fault_at (end_on l) = record { kind = Unexpected; line = l }
+fault_at (comes t l xs) = record { kind = why t; line = l }
 
 -- that terminal, and nothing else
 abbrev pub only : Terminal → Terminal → Next
@@ -260,6 +269,7 @@ expansion stmts (terminal m.While) l = take (expr ∷ block ∷ act repeat_done 
 expansion stmts (terminal m.Atomic) l = take (block ∷ act atomic_done ∷ stmts ∷ [])
 expansion stmts (terminal m.Spawn) l = take (block ∷ act spawn_done ∷ stmts ∷ [])
 expansion stmts (terminal m.Sync) l = take (exactly m.Semicolon ∷ act sync_done ∷ stmts ∷ [])
+expansion stmts (terminal m.Cancel) l = take (act (push (a_line l)) ∷ exactly m.Semicolon ∷ act cancel_done ∷ stmts ∷ [])
 expansion stmts (terminal m.Return) l = take (act (push (a_line l)) ∷ expr ∷ exactly m.Semicolon ∷ act return_done ∷ stmts ∷ [])
 expansion stmts t l = skip
 -- without one the block that was pushed stays, which is empty

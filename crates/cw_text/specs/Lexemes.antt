@@ -20,6 +20,11 @@ pub data Lexemes : Type 0 where
   end_on : ℕ → Lexemes
   comes : Token → ℕ → Lexemes → Lexemes
 
+-- what comes behind the first token
+abbrev pub rest_of : Lexemes → Lexemes
+rest_of (end_on line) = end_on line
+rest_of (comes t line xs) = xs
+
 -- what a text begins with, and how many bytes it takes: a gap or a token
 pub data Front : Type 0 where
   gap : ℕ → Front
@@ -46,6 +51,7 @@ spelling m.While = codes "while"
 spelling m.Atomic = codes "atomic"
 spelling m.Spawn = codes "spawn"
 spelling m.Sync = codes "sync"
+spelling m.Cancel = codes "cancel"
 spelling m.Return = codes "return"
 spelling m.BraceOpen = codes "{"
 spelling m.BraceClose = codes "}"
@@ -69,8 +75,13 @@ spelling m.LessEq = codes "<="
 spelling m.Greater = codes ">"
 spelling m.GreaterEq = codes ">="
 
+-- the words that are no names in language 1
 abbrev pub keywords : List Terminal
 keywords = m.Cell ∷ m.Fn ∷ m.Let ∷ m.Out ∷ m.If ∷ m.Else ∷ m.While ∷ m.Atomic ∷ m.Spawn ∷ m.Sync ∷ m.Return ∷ []
+
+-- language 2 has one more
+abbrev pub keywords_of : (language : ℕ) → List Terminal
+keywords_of language = if language == 2 then m.Cancel ∷ keywords else keywords
 
 -- the longer signs stand before those that begin them
 abbrev pub signs : List Terminal

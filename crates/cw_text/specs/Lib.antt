@@ -1,4 +1,5 @@
 pub mod Syntax
+pub mod Cancels
 pub mod Lexemes
 pub mod Grammar
 pub mod Text

@@ -1,25 +1,32 @@
 -- What a parsing function promises, in the words of the grammar.
-use Rattle.std.specs.Prelude.{ℕ, ◌≡◌, ◌<◌, List, [], ◌∷◌, ◌++◌, Option, Some, None, Result, Ok, Err}
+use Rattle.std.specs.Prelude.{ℕ, ◌≡◌, ◌<◌, List, [], ◌∷◌, ◌++◌, map, Option, Some, None, Result, Ok, Err, Vec}
+use Rattle.std.specs.declared.alloc.Global.{Global}
 use Rattle.cw_text.specs.declared.ast.Item.{Item}
 use Rattle.cw_text.specs.declared.ast.Stmt.{Stmt}
 use Rattle.cw_text.specs.declared.fault.TextFault.{TextFault}
-use Rattle.cw_text.specs.declared.fault.TextKind.TheVariants.{Unexpected}
 use Rattle.cw_text.specs.declared.fault.TextRefusal.{TextRefusal}
 use Rattle.cw_text.specs.declared.fault.TextRefusal.TheVariants.{Text, OutOfMemory}
 use Rattle.cw_text.specs.declared.parser.Parser.{Parser}
-use Rattle.cw_text.specs.Lexemes.{Lexemes, end_on, comes}
-use Rattle.cw_text.specs.Cursor.{tokens_left, rest_of, count_of}
+use Rattle.cw_text.specs.Lexemes.{Lexemes, rest_of}
+use Rattle.cw_text.specs.Cursor.{tokens_left, count_of}
 use Rattle.cw_text.specs.Syntax.{Declaration, declaration_of, statement_of}
-use Rattle.cw_text.specs.Grammar.{Symbol, Values, declared, items, opened, pending, read, stated, stmts, then_read, why}
+use Rattle.cw_text.specs.Grammar.{Symbol, Values, declared, items, opened, pending, read, stated, stmts, then_read}
+
+-- An answer is the language that these tokens name, or their fault.
+abbrev pub IsLanguage : Result ℕ TextRefusal → Result ℕ TextFault → Type 0
+IsLanguage (Ok n) named = named ≡ Ok n
+IsLanguage (Err (Text f)) named = named ≡ Err f
+IsLanguage (Err OutOfMemory) named = ⊥
+
+-- An answer is what these tokens were read as, unless memory ran out.
+abbrev pub ReadsItems : Result (Vec Item Global) TextRefusal → Result (List Declaration) TextFault → Type 0
+ReadsItems (Ok list) read = read ≡ Ok (map declaration_of list.items)
+ReadsItems (Err (Text f)) read = read ≡ Err f
+ReadsItems (Err OutOfMemory) read = Unit {0}
 
 -- the tokens that a parser has left
 abbrev pub ahead : Parser → Lexemes
 ahead p = tokens_left p.cursor
-
--- the fault of the next token, where it may not stand
-abbrev pub fault_at : Lexemes → TextFault
-fault_at (end_on l) = record { kind = Unexpected; line = l }
-fault_at (comes t l xs) = record { kind = why t; line = l }
 
 -- The next token was taken, and these symbols may come behind it.
 abbrev pub taken : List Symbol → Values → ℕ → Lexemes → Result Values TextFault

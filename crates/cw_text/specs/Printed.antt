@@ -1,12 +1,12 @@
 -- The tokens that a tree is printed as, and which trees can be read from their tokens.
-use Rattle.std.specs.Prelude.{ℕ, zero, suc, ◌+◌, ◌^◌, ◌<◌, ◌≤◌, max, ◌≡◌, Bool, true, false, List, [], ◌∷◌, ◌++◌, if◌then◌else◌, nat_lt, ℤ, pos, negsuc, nat_abs, All}
+use Rattle.std.specs.Prelude.{ℕ, zero, suc, ◌+◌, ◌^◌, ◌<◌, ◌≤◌, max, ◌≡◌, ◌==◌, Bool, true, false, List, [], ◌∷◌, ◌++◌, codes, if◌then◌else◌, nat_lt, ℤ, pos, negsuc, nat_abs, All}
 use Rattle.std.specs.List.{flat_map}
 use Rattle.cw_text.specs.declared.ast.Op.{Op}
 use Rattle.cw_text.specs.declared.ast.Op.TheVariants as op
 use Rattle.cw_text.specs.declared.ast.Word.{Word}
 use Rattle.cw_text.specs.declared.terminal.Terminal.{Terminal}
 use Rattle.cw_text.specs.declared.terminal.Terminal.TheVariants as m
-use Rattle.cw_text.specs.Syntax.{Term, number, name, at, call, unary, binary, Terms, none, more, Statement, declare, assign, assign_at, run, out, choose, repeat, atomic, spawn, sync, return, Block, empty, first, Declaration, cell, func, height, height_of_all}
+use Rattle.cw_text.specs.Syntax.{Term, number, name, at, call, unary, binary, Terms, none, more, Statement, declare, assign, assign_at, run, out, choose, repeat, atomic, spawn, sync, cancel, return, Block, empty, first, Declaration, cell, func, height, height_of_all}
 use Rattle.cw_text.specs.Lexemes.{Token, Lexemes, end_on, comes, name as a_name, number as a_number, terminal}
 
 -- a token and its line
@@ -18,7 +18,7 @@ abbrev pub tokens_before : List Placed → Lexemes → Lexemes
 tokens_before [] xs = xs
 tokens_before (p ∷ ps) xs = comes p.0 p.1 (tokens_before ps xs)
 
--- A name and a `return` have their lines in the tree. Every other token is put on line 1.
+-- A name, a `cancel` and a `return` have their lines in the tree. Every other token is put on line 1.
 abbrev pub named : List ℕ → ℕ → List Placed
 named n l = (a_name n, l) ∷ []
 
@@ -117,6 +117,7 @@ abbrev mutual
   statement_tokens (atomic b) = sign m.Atomic ++ in_braces (statements_tokens b)
   statement_tokens (spawn b) = sign m.Spawn ++ in_braces (statements_tokens b)
   statement_tokens sync = sign m.Sync ++ sign m.Semicolon
+  statement_tokens (cancel l) = (terminal m.Cancel, l) ∷ sign m.Semicolon
   statement_tokens (return l e) = (terminal m.Return, l) ∷ term_tokens 0 e ++ sign m.Semicolon
 
   pub statements_tokens : Block → List Placed
@@ -149,6 +150,10 @@ declaration_tokens (func n l ps b) = sign m.Fn ++ named n l ++ in_parens (words_
 
 abbrev pub tokens : List Declaration → List Placed
 tokens ds = flat_map declaration_tokens ds
+
+-- Language 1 is not written.
+abbrev pub heading_tokens : (language : ℕ) → List Placed
+heading_tokens language = if language == 2 then named (codes "language") 1 ++ (a_number 2, 1) ∷ sign m.Semicolon else []
 
 -- a program, which ends on line 1
 abbrev pub printed : List Declaration → Lexemes
@@ -210,6 +215,7 @@ abbrev mutual
   IsReadableStatement n (atomic b) = (n < 200) × IsReadableBlock (n + 1) b
   IsReadableStatement n (spawn b) = (n < 200) × IsReadableBlock (n + 1) b
   IsReadableStatement n sync = Unit {0}
+  IsReadableStatement n (cancel l) = Unit {0}
   IsReadableStatement n (return l e) = IsReadableTerm n e
 
   pub IsReadableBlock : (around : ℕ) → Block → Type 0
@@ -233,5 +239,6 @@ HasSmallNumbers (comes t l xs) = HasSmallNumbers xs
 abbrev pub only_tree_lines : Lexemes → Lexemes
 only_tree_lines (end_on l) = end_on 1
 only_tree_lines (comes (a_name n) l xs) = comes (a_name n) l (only_tree_lines xs)
+only_tree_lines (comes (terminal m.Cancel) l xs) = comes (terminal m.Cancel) l (only_tree_lines xs)
 only_tree_lines (comes (terminal m.Return) l xs) = comes (terminal m.Return) l (only_tree_lines xs)
 only_tree_lines (comes t l xs) = comes t 1 (only_tree_lines xs)

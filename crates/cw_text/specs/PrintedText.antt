@@ -2,10 +2,11 @@
 use Rattle.std.specs.Prelude.{ℕ, ◌≡◌, ◌<◌, ◌^◌, true, List, [], ◌∷◌, ◌++◌}
 use Rattle.std.specs.Fmt.{decimal}
 use Rattle.std.specs.List.{list_all}
+use Rattle.cw_text.specs.declared.terminal.Terminal.{Terminal}
 use Rattle.cw_text.specs.declared.terminal.Terminal.TheVariants as m
-use Rattle.cw_text.specs.Lexemes.{Token, name as a_name, number as a_number, terminal, bad, end, begins_by, is_letter, is_word, keywords, spelling, word_token}
-use Rattle.cw_text.specs.Printed.{Placed, tokens}
-use Rattle.cw_text.specs.Syntax.{Declaration}
+use Rattle.cw_text.specs.Lexemes.{Token, name as a_name, number as a_number, terminal, bad, end, begins_by, is_letter, is_word, spelling, word_token}
+use Rattle.cw_text.specs.Printed.{Placed, heading_tokens, tokens}
+use Rattle.cw_text.specs.Syntax.{Source}
 
 -- the bytes of a token; a tree has no other ones
 abbrev pub spelled : Token → List ℕ
@@ -26,8 +27,11 @@ abbrev pub text_of : List Placed → List ℕ
 text_of [] = []
 text_of (p ∷ ps) = spelled p.0 ++ blank_behind p.0 ∷ text_of ps
 
-abbrev pub printed_text : List Declaration → List ℕ
-printed_text ds = text_of (tokens ds)
+abbrev pub source_tokens : Source → List Placed
+source_tokens s = heading_tokens s.language ++ tokens s.items
+
+abbrev pub printed_text : Source → List ℕ
+printed_text s = text_of (source_tokens s)
 
 -- a text with the bytes of these tokens behind it
 abbrev pub with_tokens : List ℕ → List Placed → List ℕ
@@ -36,17 +40,18 @@ with_tokens text (p ∷ ps) = with_tokens (text ++ (spelled p.0 ++ blank_behind 
 
 -- ## What can be read
 
--- letters, digits and `_`, no digit first, and no keyword
-abbrev pub IsName : List ℕ → Type 0
-IsName n = (begins_by is_letter n ≡ true) × (list_all is_word n ≡ true) × (word_token keywords n ≡ a_name n)
+-- letters, digits and `_`, no digit first, and none of these keywords
+abbrev pub IsName : (words : List Terminal) → List ℕ → Type 0
+IsName words n = (begins_by is_letter n ≡ true) × (list_all is_word n ≡ true) × (word_token words n ≡ a_name n)
 
--- a token that its bytes spell
-abbrev pub IsSpellable : Token → Type 0
-IsSpellable (a_name n) = IsName n
-IsSpellable (a_number n) = n < 2 ^ 63
-IsSpellable (terminal a) = Unit {0}
-IsSpellable t = ⊥
+-- a token that its bytes spell, under these keywords; of them only `cancel` may be no keyword
+abbrev pub IsSpellable : (words : List Terminal) → Token → Type 0
+IsSpellable words (a_name n) = IsName words n
+IsSpellable words (a_number n) = n < 2 ^ 63
+IsSpellable words (terminal m.Cancel) = word_token words (spelling m.Cancel) ≡ terminal m.Cancel
+IsSpellable words (terminal a) = Unit {0}
+IsSpellable words t = ⊥
 
-pub data AreSpellable : List Placed → Type 0 where
-  none : AreSpellable []
-  more : {t : Token} {l : ℕ} {ps : List Placed} → IsSpellable t → AreSpellable ps → AreSpellable ((t, l) ∷ ps)
+pub data AreSpellable (words : List Terminal) : List Placed → Type 0 where
+  none : AreSpellable words []
+  more : {t : Token} {l : ℕ} {ps : List Placed} → IsSpellable words t → AreSpellable words ps → AreSpellable words ((t, l) ∷ ps)

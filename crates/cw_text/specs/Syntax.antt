@@ -43,6 +43,8 @@ mutual
     atomic : Block → Statement
     spawn : Block → Statement
     sync : Statement
+    -- the innermost atomic block is given up; its keyword stands on this line
+    cancel : ℕ → Statement
     -- the end of a function with this value; its keyword stands on this line
     return : ℕ → Term → Statement
 
@@ -109,6 +111,7 @@ abbrev mutual
   statement_of (stmt.Atomic' s b) = atomic (inner_of b)
   statement_of (stmt.Spawn' s b) = spawn (inner_of b)
   statement_of stmt.Sync = sync
+  statement_of (stmt.Cancel l) = cancel l
   statement_of (stmt.Return l e) = return l (term_of e)
 
   -- the statements within a statement
@@ -126,3 +129,11 @@ declaration_of (Func n l ps b) = func n l ps.items (block_of b.items)
 
 abbrev pub tree_of : Ast → List Declaration
 tree_of a = map declaration_of a.items.items
+
+-- what a whole text says: its language, and its declarations
+pub record Source : Type 0 where
+  pub language : ℕ
+  pub items : List Declaration
+
+abbrev pub source_of : Ast → Source
+source_of a = record { language = a.language; items = tree_of a }

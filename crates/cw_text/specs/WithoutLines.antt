@@ -3,7 +3,7 @@ use Rattle.std.specs.Prelude.{◌≡◌, List, map, Result, Ok}
 use Rattle.cw_text.specs.declared.ast.Word.{Word}
 use Rattle.cw_text.specs.declared.fault.TextFault.{TextFault}
 use Rattle.cw_text.specs.Lexemes.{Lexemes, end_on, comes}
-use Rattle.cw_text.specs.Syntax.{Term, number, name, at, call, unary, binary, Terms, none, more, Statement, declare, assign, assign_at, run, out, choose, repeat, atomic, spawn, sync, return, Block, empty, first, Declaration, cell, func}
+use Rattle.cw_text.specs.Syntax.{Term, number, name, at, call, unary, binary, Terms, none, more, Statement, declare, assign, assign_at, run, out, choose, repeat, atomic, spawn, sync, cancel, return, Block, empty, first, Declaration, cell, func, Source}
 
 abbrev pub word_without_line : Word → Word
 word_without_line w = record w { line = 1 }
@@ -33,6 +33,7 @@ abbrev mutual
   statement_without_lines (atomic b) = atomic (block_without_lines b)
   statement_without_lines (spawn b) = spawn (block_without_lines b)
   statement_without_lines sync = sync
+  statement_without_lines (cancel l) = cancel 1
   statement_without_lines (return l e) = return 1 (term_without_lines e)
 
   pub block_without_lines : Block → Block
@@ -53,3 +54,7 @@ tokens_without_lines (comes t l xs) = comes t 1 (tokens_without_lines xs)
 -- This tree was read, but for its lines.
 abbrev pub IsReadAs : Result (List Declaration) TextFault → List Declaration → Type 0
 IsReadAs read ds = (es : List Declaration) × (read ≡ Ok es) × (tree_without_lines es ≡ tree_without_lines ds)
+
+-- This source was read, but for its lines.
+abbrev pub IsSourceReadAs : Result Source TextFault → Source → Type 0
+IsSourceReadAs read s = (t : Source) × (read ≡ Ok t) × (t.language ≡ s.language) × (tree_without_lines t.items ≡ tree_without_lines s.items)

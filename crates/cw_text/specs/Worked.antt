@@ -1,9 +1,12 @@
 -- Worked texts: what they read as, or their first fault.
 use Rattle.std.specs.Prelude.{Result, ◌++◌, pos, negsuc, replicate, ℕ, zero, suc, ◌≡◌, List, [], ◌∷◌, codes, Ok, Err}
 use Rattle.std.specs.List.{flat_map}
-use Rattle.cw_text.specs.Syntax.{Declaration, func, cell, Block, empty, first, declare, assign, assign_at, run, out, choose, repeat, atomic, spawn, sync, return, Term, at, call, none, more, binary, name, number, unary}
-use Rattle.cw_text.specs.Lexemes.{end_on, comes, name as a_name, number as a_number, terminal, bad, lexemes, keywords}
+use Rattle.cw_text.specs.Syntax.{Declaration, func, cell, Block, empty, first, declare, assign, assign_at, run, out, choose, repeat, atomic, spawn, sync, cancel, return, Source, Term, at, call, none, more, binary, name, number, unary}
+use Rattle.cw_text.specs.Lexemes.{end_on, comes, name as a_name, number as a_number, terminal, bad, lexemes, keywords, keywords_of}
 use Rattle.cw_text.specs.Grammar.{program_of}
+use Rattle.cw_text.specs.Text.{language_of, source_in}
+use Rattle.cw_text.specs.Printed.{tokens_before}
+use Rattle.cw_text.specs.PrintedText.{source_tokens}
 use Rattle.cw_text.specs.declared.fault.TextKind.{TextKind}
 use Rattle.cw_text.specs.declared.fault.TextKind.TheVariants.{BadChar, BadNumber, Unexpected, TooDeep}
 use Rattle.cw_text.specs.declared.fault.TextFault.{TextFault}
@@ -152,3 +155,46 @@ Refusals =
     × (read (codes "fn main() { spawn\n; }") ≡ refused Unexpected 2)
     × (read (codes "fn main() { out\natomic; }") ≡ refused Unexpected 2)
     × (read (codes "fn main() {\nif }") ≡ refused Unexpected 2)
+
+-- ## Languages
+
+abbrev pub refused_source : TextKind → ℕ → Result Source TextFault
+refused_source k l = Err (record { kind = k; line = l })
+
+abbrev pub read_in : (newest : ℕ) → List ℕ → Result Source TextFault
+read_in newest text = source_in (language_of newest (lexemes keywords text)) text
+
+-- main alone, with this body
+abbrev pub main_of : ℕ → Block → Source
+main_of n b = record { language = n; items = func (codes "main") 1 [] b ∷ [] }
+
+abbrev pub Languages : Type 0
+Languages =
+    (read_in 2 (codes "language 2; fn main() { atomic { cancel; } }") ≡ Ok (main_of 2 (first (atomic (first (cancel 1) empty)) empty)))
+    × (read_in 2 (codes "language 1; fn main() {}") ≡ Ok (main_of 1 empty))
+    × (read_in 1 (codes "language 1; fn main() {}") ≡ Ok (main_of 1 empty))
+    × (read_in 2 (codes "fn main() {}") ≡ Ok (main_of 1 empty))
+    × (read_in 2 (codes "// c\nlanguage // d\n02 ; fn main() { cancel; }") ≡ Ok (record { language = 2; items = func (codes "main") 3 [] (first (cancel 3) empty) ∷ [] }))
+    × (read_in 2 (codes "cell language; fn main() { language = 2; }") ≡ Ok (record { language = 1; items = cell (codes "language") 1 0 (pos 0) ∷ func (codes "main") 1 [] (first (assign (word (codes "language")) (number (pos 2))) empty) ∷ [] }))
+    × (read_in 2 (codes "language 1; cell cancel; fn main() { cancel = 1; }") ≡ Ok (record { language = 1; items = cell (codes "cancel") 1 0 (pos 0) ∷ func (codes "main") 1 [] (first (assign (word (codes "cancel")) (number (pos 1))) empty) ∷ [] }))
+    × (read_in 2 (codes "language 2;") ≡ Ok (record { language = 2; items = [] }))
+    × (read_in 2 (codes "language 0;") ≡ refused_source Unexpected 1)
+    × (read_in 2 (codes "language 3") ≡ refused_source Unexpected 1)
+    × (read_in 2 (codes "language -2;") ≡ refused_source Unexpected 1)
+    × (read_in 2 (codes "language 2 2;") ≡ refused_source Unexpected 1)
+    × (read_in 2 (codes "language") ≡ refused_source Unexpected 1)
+    × (read_in 2 (codes "language\n2\nfn main() {}") ≡ refused_source Unexpected 3)
+    × (read_in 2 (codes "language 2; language 2;") ≡ refused_source Unexpected 1)
+    × (read_in 2 (codes "fn main() {} language 2;") ≡ refused_source Unexpected 1)
+    × (read_in 2 (codes "language 2; cell cancel; fn main() {}") ≡ refused_source Unexpected 1)
+    × (read_in 2 (codes "language 1; fn main() { cancel; }") ≡ refused_source Unexpected 1)
+    × (read_in 2 (codes "language 2; fn main() { atomic { cancel } }") ≡ refused_source Unexpected 1)
+    × (read_in 2 (codes "language 2; fn main() { atomic { cancel 1; } }") ≡ refused_source Unexpected 1)
+    × (read_in 2 (codes "language 2; fn main() { atomic { cancel = 1; } }") ≡ refused_source Unexpected 1)
+    × (read_in 2 (codes "language 2; fn main() { atomic { cancel(); } }") ≡ refused_source Unexpected 1)
+    × (read_in 2 (codes "language 2x;") ≡ refused_source BadNumber 1)
+    × (read_in 2 (codes "language 99999999999999999999;") ≡ refused_source BadNumber 1)
+    × (read_in 1 (codes "language 2 @") ≡ refused_source Unexpected 1)
+    × (read_in 1 (codes "language 1 @") ≡ refused_source BadChar 1)
+    × (lexemes (keywords_of 2) (codes "language 2 ; cell c = - 5 ; fn main ( ) { atomic { cancel ; } }")
+    ≡ tokens_before (source_tokens (record { language = 2; items = cell (codes "c") 1 0 (negsuc 4) ∷ func (codes "main") 1 [] (first (atomic (first (cancel 1) empty)) empty) ∷ [] })) (end_on 1))

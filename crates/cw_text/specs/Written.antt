@@ -3,13 +3,14 @@
 -- `IsExpr around e xs ys` says that the tokens from xs up to ys spell the expression e, where so many brackets and
 -- operators of one operand are open around it; so do the others, of what their names say. No more than 200 are ever
 -- open, and no expression is higher than 200.
-use Rattle.std.specs.Prelude.{ℕ, suc, ◌+◌, ◌<◌, ◌≤◌, ◌≡◌, List, [], ◌∷◌, Some, ℤ, pos, neg_ℤ}
+use Rattle.std.specs.Prelude.{ℕ, suc, ◌+◌, ◌<◌, ◌≤◌, ◌≡◌, false, List, [], ◌∷◌, codes, Some, ℤ, pos, neg_ℤ}
 use Rattle.cw_text.specs.declared.ast.Op.{Op}
 use Rattle.cw_text.specs.declared.ast.Word.{Word}
 use Rattle.cw_text.specs.declared.terminal.Terminal.{Terminal}
 use Rattle.cw_text.specs.declared.terminal.Terminal.TheVariants as m
 use Rattle.cw_text.specs.Lexemes.{Lexemes, end_on, comes, name as a_name, number as a_number, terminal}
-use Rattle.cw_text.specs.Syntax.{Term, number, name, at, call, unary, binary, Terms, none, more, Statement, declare, assign, assign_at, run, out, choose, repeat, atomic, spawn, sync, return, Block, empty, first, Declaration, cell, func, height}
+use Rattle.cw_text.specs.Syntax.{Term, number, name, at, call, unary, binary, Terms, none, more, Statement, declare, assign, assign_at, run, out, choose, repeat, atomic, spawn, sync, cancel, return, Block, empty, first, Declaration, cell, func, height}
+use Rattle.cw_text.specs.Text.{is_headed}
 use Rattle.cw_text.specs.Grammar.{prefix_of, product_of, sum_of, comparison_of, word_at}
 
 -- ## Expressions
@@ -88,6 +89,7 @@ mutual
     is_atomic : {around i : ℕ} {b : Block} {xs ys : Lexemes} → IsBlock around b xs ys → IsStatement around (atomic b) (comes (terminal m.Atomic) i xs) ys
     spawns : {around i : ℕ} {b : Block} {xs ys : Lexemes} → IsBlock around b xs ys → IsStatement around (spawn b) (comes (terminal m.Spawn) i xs) ys
     syncs : {around i j : ℕ} {xs : Lexemes} → IsStatement around sync (comes (terminal m.Sync) i (comes (terminal m.Semicolon) j xs)) xs
+    cancels : {around j l : ℕ} {xs : Lexemes} → IsStatement around (cancel l) (comes (terminal m.Cancel) l (comes (terminal m.Semicolon) j xs)) xs
     returns : {around j l : ℕ} {e : Term} {xs ys : Lexemes} → IsExpr around e xs (comes (terminal m.Semicolon) j ys) →
         IsStatement around (return l e) (comes (terminal m.Return) l xs) ys
 
@@ -140,3 +142,8 @@ pub data IsItem : Declaration → (start behind : Lexemes) → Type 0 where
 pub data IsProgram : List Declaration → Lexemes → Type 0 where
   over : {l : ℕ} → IsProgram [] (end_on l)
   items : {d : Declaration} {ds : List Declaration} {xs ys : Lexemes} → IsItem d xs ys → IsProgram ds ys → IsProgram (d ∷ ds) xs
+
+-- [ "language" NUMBER ";" ] before the items, of a text in this language, up to the newest that is read
+pub data IsHeading (newest : ℕ) : (language : ℕ) → Lexemes → Type 0 where
+  no_heading : {xs : Lexemes} → is_headed xs ≡ false → IsHeading newest 1 xs
+  a_heading : {n i j l : ℕ} {xs : Lexemes} → 1 ≤ n → n ≤ newest → IsHeading newest n (comes (a_name (codes "language")) i (comes (a_number n) j (comes (terminal m.Semicolon) l xs)))

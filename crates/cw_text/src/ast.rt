@@ -3,6 +3,8 @@ use cw_base::Text;
 /// The syntax tree of a program.
 #[derive(Drop)]
 pub struct Ast {
+    /// 1, or 2 where its text began with `language 2;`.
+    pub language: u32,
     pub items: Vec<Item>,
 }
 
@@ -70,6 +72,10 @@ pub enum Stmt {
     Spawn(Vec<Stmt>),
     /// Waits for the work that was spawned in the innermost block that waits at its end.
     Sync,
+    /// The end of the innermost atomic block, which is given up: what stood there before its writes is written back. With its keyword's line.
+    Cancel {
+        line: u32,
+    },
     /// The end of a function, with its keyword's line and the function's value.
     Return {
         line: u32,

@@ -1,9 +1,10 @@
-ghost use Rattle.std.specs.Prelude.{◌≡◌, ◌<◌, ◌≤◌, ◌+◌, ◌^◌, length, drop};
-ghost use Rattle.cw_text.specs.Lexemes.{keywords, lexemes, lexemes_from};
+ghost use Rattle.std.specs.Prelude.{◌≡◌, ◌<◌, ◌≤◌, ◌+◌, ◌^◌, length, drop, List};
+ghost use Rattle.cw_text.specs.declared.terminal.Terminal.{Terminal};
+ghost use Rattle.cw_text.specs.Lexemes.{keywords_of, lexemes, lexemes_from};
 
 use crate::letters::{Letters, Whole};
 use crate::scan::{Front, newlines, read_front};
-use crate::spelling::KEYWORDS;
+use crate::spelling::keywords_of;
 use crate::{Terminal, TextKind};
 
 /// A token of a text. `Bad` is none, for this reason.
@@ -16,9 +17,11 @@ pub enum Token<'a> {
     End,
 }
 
-/// A place in a text: the token there, its line, and the bytes behind it with the line on which they begin.
+/// A place in a text: the token there, its line, and the bytes behind it with the line on which they begin. Its tokens
+/// are those of one language.
 #[derive(Drop)]
 pub struct Cursor<'a> {
+    pub language: u32,
     pub token: Token<'a>,
     pub line: u32,
     rest: &'a [u8],
@@ -27,14 +30,40 @@ pub struct Cursor<'a> {
 }
 
 impl<'a> Cursor<'a> {
-    ghost use Rattle.cw_text.specs.Cursor.{tokens_left, rest_of};
+    ghost use Rattle.cw_text.specs.Cursor.{tokens_left};
+    ghost use Rattle.cw_text.specs.Lexemes.{rest_of};
+    ghost use Rattle.cw_text.specs.Text.{is_headed, items_of};
 
-    /// The first token of a text.
-    pub fn new(text: &'a [u8]) -> Cursor<'a>
+    /// The first token of a text in this language.
+    pub fn new(language: u32, text: &'a [u8]) -> Cursor<'a>
         requires { length text.now ≤ 2 ^ 20 }
-        ensures { tokens_left result ≡ lexemes keywords text.now }
+        ensures { tokens_left result ≡ lexemes (keywords_of language) text.now }
     {
-        Cursor::first_in(text, 1)
+        Cursor::first_in(language, text, 1)
+    }
+
+    /// The first token behind the line that says in which language a text is.
+    pub fn behind_heading(language: u32, text: &'a [u8]) -> Cursor<'a>
+        requires { length text.now ≤ 2 ^ 20 }
+        ensures { tokens_left result ≡ items_of (lexemes (keywords_of language) text.now) }
+    {
+        let mut cursor = Cursor::new(language, text);
+        if cursor.is_headed() {
+            cursor.advance();
+            cursor.advance();
+            cursor.advance();
+        }
+        cursor
+    }
+
+    /// Whether a line begins here that says in which language the text is.
+    pub fn is_headed(&self) -> bool
+        ensures { result ≡ is_headed (tokens_left self.now) }
+    {
+        match self.token {
+            Token::Name(letters) => letters.bytes == b"language".as_slice(),
+            _ => false,
+        }
     }
 
     /// Goes on to the next token. The end stays where it is.
@@ -42,24 +71,26 @@ impl<'a> Cursor<'a> {
         ensures { tokens_left self.new ≡ rest_of (tokens_left self.old) }
     {
         if !matches!(self.token, Token::End) {
-            *self = Cursor::first_in(self.rest, self.rest_line);
+            *self = Cursor::first_in(self.language, self.rest, self.rest_line);
         }
     }
 
     // The first token of a text that begins on this line.
     #[tactic(auto, using(crate::proofs::Fronts::front_width, crate::proofs::Passing::begun))]
-    fn first_in(text: &'a [u8], line: u32) -> Cursor<'a>
+    fn first_in(language: u32, text: &'a [u8], line: u32) -> Cursor<'a>
         requires { line + length text.now ≤ 2 ^ 20 + 1 }
-        ensures { tokens_left result ≡ lexemes_from keywords line 0 text.now }
+        ensures { tokens_left result ≡ lexemes_from (keywords_of language) line 0 text.now }
     {
+        let words = keywords_of(language);
         let (mut rest, mut rest_line) = (text, line);
         while !rest.is_empty() {
-            match read_front(&KEYWORDS, rest) {
+            match read_front(words, rest) {
                 Front::Gap(len) => (rest, rest_line) = pass(rest, rest_line, len),
                 Front::Found(token, len) => {
                     let line = rest_line;
                     let (rest, rest_line) = pass(rest, line, len);
                     return Cursor {
+                        language,
                         token,
                         line,
                         rest,
@@ -69,6 +100,7 @@ impl<'a> Cursor<'a> {
             }
         }
         Cursor {
+            language,
             token: Token::End,
             line: rest_line,
             rest,
@@ -83,7 +115,7 @@ fn pass(text: &[u8], line: u32, len: usize) -> (&[u8], u32)
     requires within { len ≤ length text.now }
     requires short { line + length text.now < 2 ^ 32 }
     ensures rest { result.0.now ≡ drop len text.now }
-    ensures line { lexemes_from keywords line len text.now ≡ lexemes_from keywords result.1 0 result.0.now }
+    ensures line { (words : List Terminal) → lexemes_from words line len text.now ≡ lexemes_from words result.1 0 result.0.now }
     ensures shorter { result.1 + length result.0.now ≤ line + length text.now }
 {
     let (passed, rest) = text.split_at(len);

@@ -1,5 +1,6 @@
 ghost use Rattle.std.specs.Prelude.{◌≡◌, ◌≤◌, ◌<◌, ◌∷◌, [], true, false, List, OnOk, IfSome, IfNone};
-ghost use Rattle.cw_text.specs.Cursor.{count_of, rest_of};
+ghost use Rattle.cw_text.specs.Cursor.{count_of};
+ghost use Rattle.cw_text.specs.Lexemes.{rest_of};
 ghost use Rattle.cw_text.specs.Grammar.{Symbol, Values, a_term, act, arg_done, args, brackets, call_done, closing, comparison, expr, index_done, join, lifted, more_args, operand, pending, products, push, read, read_from, some_terms, sums, word_at};
 ghost use Rattle.cw_text.specs.Lexemes.{Lexemes};
 ghost use Rattle.cw_text.specs.Parser.{Begins, GoesOn, Parses, Skips, ahead, taken};

@@ -1,5 +1,6 @@
 ghost use Rattle.std.specs.Prelude.{◌≡◌, ◌≤◌, ◌<◌, ◌++◌, ◌∷◌, [], List, OnOk, IfOk, OnSome, pos};
-ghost use Rattle.cw_text.specs.Cursor.{count_of, rest_of};
+ghost use Rattle.cw_text.specs.Cursor.{count_of};
+ghost use Rattle.cw_text.specs.Lexemes.{rest_of};
 ghost use Rattle.cw_text.specs.Grammar.{Symbol, Values, a_size, act, an_init, block, cell_done, cell_init, cell_size, closing, declared, exactly, func_done, init, items, negated, params, pending, push, read, size, some_words, word};
 ghost use Rattle.cw_text.specs.Parser.{GoesOn, ahead, item_read};
 ghost use Rattle.cw_text.specs.Syntax.{Declaration, declaration_of};

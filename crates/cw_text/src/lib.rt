@@ -1,27 +1,29 @@
 //! Texts of programs: the syntax tree, the reader that gives it, and the printer that writes it as a text again.
 //! A program is cells, plain ones and arrays, and functions, with the statements `let`, assignment, call, `out`, `if`,
-//! `while`, `atomic`, `spawn`, `sync` and `return`.
+//! `while`, `atomic`, `spawn`, `sync` and `return`, and in language 2 `cancel`.
 //! Stands on `cw_base`.
 //! Contracts cite `specs/Text.antt`, which says what a whole text reads as, over `specs/Lexemes.antt` (tokens),
 //! `specs/Grammar.antt` (which tokens are a program, and the first fault of those that are none) and `specs/Syntax.antt`
 //! (the tree without its places in memory). `specs/Written.antt` is the grammar alternative by alternative,
 //! `specs/Places.antt` says of the tokens where in the text they stand, `specs/Printed.antt` which tokens a tree is
-//! printed as, `specs/PrintedText.antt` as which text, and `specs/WithoutLines.antt` what is the same tree but for the lines.
+//! printed as, `specs/PrintedText.antt` as which text, `specs/WithoutLines.antt` what is the same tree but for the lines, and
+//! `specs/Cancels.antt` whether a `cancel` stands in a tree.
 #![tactic(auto)]
 
-ghost use Rattle.std.specs.Prelude.{ℕ, List, length, ◌≡◌, ◌≤◌};
+ghost use Rattle.std.specs.Prelude.{ℕ, List, length, false, Ok, ◌≡◌, ◌≤◌};
 ghost use Rattle.cw_text.specs.declared.terminal.Terminal.{Terminal};
-ghost use Rattle.cw_text.specs.Lexemes.{Lexemes, keywords, lexemes};
+ghost use Rattle.cw_text.specs.Cancels.{has_cancel};
+ghost use Rattle.cw_text.specs.Lexemes.{Lexemes, keywords, keywords_of, lexemes};
 ghost use Rattle.cw_text.specs.Places.{Follow};
 ghost use Rattle.cw_text.specs.Grammar.{program_of};
 ghost use Rattle.cw_text.specs.Printed.{HasSmallNumbers, IsReadable, only_tree_lines, printed, tokens};
 ghost use Rattle.cw_text.specs.PrintedRow.{Worked};
 ghost use Rattle.cw_text.specs.PrintedText.{AreSpellable, printed_text};
-ghost use Rattle.cw_text.specs.Syntax.{Declaration};
-ghost use Rattle.cw_text.specs.Text.{program, reading};
-ghost use Rattle.cw_text.specs.WithoutLines.{IsReadAs, tokens_without_lines, tree_without_lines};
-ghost use Rattle.cw_text.specs.Written.{IsProgram};
-ghost use Rattle.cw_text.specs.Worked.{Tokens, Programs, Arrays, Choices, Functions, Heights, Brackets, Indexes, Branches, Calls, Refusals};
+ghost use Rattle.cw_text.specs.Syntax.{Declaration, Source};
+ghost use Rattle.cw_text.specs.Text.{language_of, program, reading, source_in};
+ghost use Rattle.cw_text.specs.WithoutLines.{IsReadAs, IsSourceReadAs, tokens_without_lines, tree_without_lines};
+ghost use Rattle.cw_text.specs.Written.{IsHeading, IsProgram};
+ghost use Rattle.cw_text.specs.Worked.{Tokens, Programs, Arrays, Choices, Functions, Heights, Brackets, Indexes, Branches, Calls, Languages, Refusals};
 
 mod ast;
 mod cursor;
@@ -41,7 +43,7 @@ pub use ast::{Ast, Expr, Item, Op, Stmt, Word};
 pub use fault::{TextFault, TextKind, TextRefusal};
 pub use print::print_program;
 pub use terminal::Terminal;
-pub use text::read_program;
+pub use text::{read_language, read_program};
 
 /// Worked texts.
 pub fn worked_texts()
@@ -55,6 +57,7 @@ pub fn worked_texts()
     ensures indexes { Indexes }
     ensures branches { Branches }
     ensures calls { Calls }
+    ensures languages { Languages }
     ensures refusals { Refusals }
 {}
 
@@ -63,34 +66,53 @@ pub fn tokens_follow()
     ensures { (words : List Terminal) (text : List ℕ) → Follow words text 0 (lexemes words text) }
 {}
 
-/// Tokens are read as a tree exactly where they spell it, by the alternatives of the grammar.
+/// Tokens are read as a tree exactly where they spell it, by the alternatives of the grammar, and their language is the
+/// one that they name.
 pub fn read_is_written()
+    ensures heading { (newest n : ℕ) (xs : Lexemes) → language_of newest xs ≡ Ok n → IsHeading newest n xs }
+    ensures headed { (newest n : ℕ) (xs : Lexemes) → IsHeading newest n xs → language_of newest xs ≡ Ok n }
     ensures written { (xs : Lexemes) (ds : List Declaration) → program_of xs ≡ Ok ds → IsProgram ds xs }
     ensures read { (xs : Lexemes) (ds : List Declaration) → IsProgram ds xs → program_of xs ≡ Ok ds }
 {}
 
 /// Reading undoes printing: a tree's tokens read as that tree, with its lines, if it can be read at all. The tree of
-/// whatever was read can be. Of the lines of tokens only those of names and of `return` count.
+/// whatever was read can be. Of the lines of tokens only those of names, of `cancel` and of `return` count.
 pub fn printed_is_read()
     ensures read { (ds : List Declaration) → IsReadable ds → program_of (printed ds) ≡ Ok ds }
     ensures lines { (xs ys : Lexemes) (ds : List Declaration) → only_tree_lines xs ≡ only_tree_lines ys →
         program_of xs ≡ Ok ds → program_of ys ≡ Ok ds }
     ensures readable { (xs : Lexemes) (ds : List Declaration) →
         HasSmallNumbers xs → program_of xs ≡ Ok ds → IsReadable ds }
-    ensures texts { (text : List ℕ) (ds : List Declaration) →
-        program text ≡ Ok ds → program_of (printed ds) ≡ Ok ds }
+    ensures texts { (newest : ℕ) (text : List ℕ) (s : Source) → 1 ≤ newest →
+        program newest text ≡ Ok s → program_of (printed s.items) ≡ Ok s.items }
     ensures worked { Worked }
 {}
 
-/// Reading undoes printing, of whole texts: what a tree is printed as reads as that tree, but for its lines, if it is short
-/// enough and the tree can be read at all. The tree of whatever text was read can be. Lines have no part in what is printed,
-/// so a printed text is printed as itself again.
+/// Reading undoes printing, of whole texts: what a source is printed as reads as that source, but for its lines, if it is
+/// short enough and its tree can be read at all. That of whatever text was read can be. Lines have no part in what is
+/// printed, so a printed text is printed as itself again.
 pub fn reading_undoes_printing()
     ensures tokens { (xs ys : Lexemes) (ds : List Declaration) → tokens_without_lines xs ≡ tokens_without_lines ys →
         program_of xs ≡ Ok ds → IsReadAs (program_of ys) ds }
-    ensures trees { (most : ℕ) (ds : List Declaration) → IsReadable ds → AreSpellable (tokens ds) →
-        length (printed_text ds) ≤ most → IsReadAs (reading keywords most (printed_text ds)) ds }
-    ensures texts { (text : List ℕ) (ds : List Declaration) → program text ≡ Ok ds →
-        length (printed_text ds) ≤ 1048576 → IsReadAs (program (printed_text ds)) ds }
-    ensures again { (ds es : List Declaration) → tree_without_lines ds ≡ tree_without_lines es → printed_text ds ≡ printed_text es }
+    ensures trees { (newest most : ℕ) (s : Source) → 1 ≤ s.language → s.language ≤ newest → newest ≤ 2 →
+        IsReadable s.items → AreSpellable (keywords_of s.language) (tokens s.items) →
+        length (printed_text s) ≤ most → IsSourceReadAs (reading newest most (printed_text s)) s }
+    ensures texts { (newest : ℕ) (text : List ℕ) (s : Source) → 1 ≤ newest → newest ≤ 2 → program newest text ≡ Ok s →
+        length (printed_text s) ≤ 1048576 → IsSourceReadAs (program newest (printed_text s)) s }
+    ensures again { (s t : Source) → s.language ≡ t.language → tree_without_lines s.items ≡ tree_without_lines t.items →
+        printed_text s ≡ printed_text t }
+{}
+
+/// No text reads otherwise since texts can name their language: one whose tokens, with the keywords of language 1, are a program reads as
+/// that program, of language 1, up to whatever language is read.
+pub fn older_texts_stay()
+    ensures { (newest : ℕ) (text : List ℕ) (ds : List Declaration) → program_of (lexemes keywords text) ≡ Ok ds →
+        source_in (language_of newest (lexemes keywords text)) text ≡ Ok (record { language = 1; items = ds }) }
+{}
+
+/// In language 1 `cancel` is a name: no text of it has the statement.
+pub fn language_one_has_no_cancel()
+    ensures language { (newest : ℕ) (text : List ℕ) (s : Source) → 1 ≤ newest →
+        program newest text ≡ Ok s → s.language ≡ 1 → has_cancel s.items ≡ false }
+    ensures newest { (text : List ℕ) (s : Source) → program 1 text ≡ Ok s → has_cancel s.items ≡ false }
 {}

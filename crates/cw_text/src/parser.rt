@@ -1,12 +1,13 @@
-ghost use Rattle.std.specs.Prelude.{◌≡◌, ◌≤◌, ◌<◌, ◌+◌, List, ◌∷◌, IfOk, OnOk};
-ghost use Rattle.cw_text.specs.Cursor.{count_of, tokens_left, rest_of};
-ghost use Rattle.cw_text.specs.Grammar.{Symbol, Values, a_word, exactly, pending, program_of, read, word, word_at};
-ghost use Rattle.cw_text.specs.Parser.{GoesOn, ahead, fault_at, taken};
-ghost use Rattle.cw_text.specs.Text.{Reads};
+ghost use Rattle.std.specs.Prelude.{◌≡◌, ◌≤◌, ◌<◌, ◌+◌, ◌^◌, length, List, ◌∷◌, IfOk, OnOk};
+ghost use Rattle.cw_text.specs.Cursor.{count_of, tokens_left};
+ghost use Rattle.cw_text.specs.Lexemes.{keywords, lexemes, rest_of};
+ghost use Rattle.cw_text.specs.Grammar.{Symbol, Values, a_word, exactly, fault_at, pending, program_of, read, word, word_at};
+ghost use Rattle.cw_text.specs.Parser.{GoesOn, IsLanguage, ReadsItems, ahead, taken};
+ghost use Rattle.cw_text.specs.Text.{Reads, ended, language_of, numbered, source_in};
 
 use crate::cursor::{Cursor, Token};
 use crate::letters::Letters;
-use crate::{Ast, Terminal, TextFault, TextKind, TextRefusal, Word};
+use crate::{Ast, Item, Terminal, TextFault, TextKind, TextRefusal, Word};
 use cw_base::{OutOfMemory, Text};
 use std::alloc::Global;
 
@@ -28,11 +29,7 @@ impl<'a> Parser<'a> {
     pub(crate) fn unexpected(&self) -> TextRefusal
         ensures { result ≡ TextRefusal.Text (fault_at (ahead self.now)) }
     {
-        let kind = match self.cursor.token {
-            Token::Bad(kind) => kind,
-            _ => TextKind::Unexpected,
-        };
-        refusal(kind, self.cursor.line)
+        unexpected(&self.cursor)
     }
 
     /// Goes past the next token, which opens a bracket or is an operator of one operand.
@@ -98,9 +95,55 @@ impl<'a> Parser<'a> {
     }
 }
 
-/// Reads all that a cursor has left.
-pub(crate) fn program(alloc: Global, cursor: Cursor<'_>) -> Result<Ast, TextRefusal>
-    ensures { Reads result (program_of (tokens_left cursor.entry)) }
+// The end of the line that says in which language a text is.
+fn ended(cursor: &Cursor<'_>, language: u32) -> Result<u32, TextRefusal>
+    ensures { IsLanguage result (ended language (tokens_left cursor.now)) }
+{
+    match cursor.token {
+        Token::Terminal(Terminal::Semicolon) => Ok(language),
+        _ => Err(unexpected(cursor)),
+    }
+}
+
+// The number of the language of a text, and the end of its line.
+fn numbered(cursor: &mut Cursor<'_>, newest: u32) -> Result<u32, TextRefusal>
+    ensures { IsLanguage result (numbered newest (tokens_left cursor.old)) }
+{
+    match cursor.token {
+        Token::Number(number) if 1 <= number.value && number.value <= u64::from(newest) => {
+            cursor.advance();
+            ended(cursor, number.value as u32)
+        }
+        _ => Err(unexpected(cursor)),
+    }
+}
+
+// The language that a text says it is in, or 1.
+fn language_of(text: &[u8], newest: u32) -> Result<u32, TextRefusal>
+    requires { length text.now ≤ 2 ^ 20 }
+    ensures { IsLanguage result (language_of newest (lexemes keywords text.now)) }
+{
+    let mut cursor = Cursor::new(1, text);
+    if !cursor.is_headed() {
+        return Ok(1);
+    }
+    cursor.advance();
+    numbered(&mut cursor, newest)
+}
+
+/// Reads a text in a language up to this one.
+pub(crate) fn source(alloc: Global, text: &[u8], newest: u32) -> Result<Ast, TextRefusal>
+    requires { length text.now ≤ 2 ^ 20 }
+    ensures { Reads result (source_in (language_of newest (lexemes keywords text.now)) text.now) }
+{
+    let language = language_of(text, newest)?;
+    let items = items(alloc, Cursor::behind_heading(language, text))?;
+    Ok(Ast { language, items })
+}
+
+// Reads all that a cursor has left.
+fn items(alloc: Global, cursor: Cursor<'_>) -> Result<Vec<Item>, TextRefusal>
+    ensures { ReadsItems result (program_of (tokens_left cursor.entry)) }
 {
     let mut parser = Parser {
         alloc,
@@ -111,7 +154,18 @@ pub(crate) fn program(alloc: Global, cursor: Cursor<'_>) -> Result<Ast, TextRefu
     while let Some(item) = parser.item()? {
         items.push(item)?;
     }
-    Ok(Ast { items })
+    Ok(items)
+}
+
+// The fault of the token that is next, where it may not stand.
+fn unexpected(cursor: &Cursor<'_>) -> TextRefusal
+    ensures { result ≡ TextRefusal.Text (fault_at (tokens_left cursor.now)) }
+{
+    let kind = match cursor.token {
+        Token::Bad(kind) => kind,
+        _ => TextKind::Unexpected,
+    };
+    refusal(kind, cursor.line)
 }
 
 /// A fault on a line.

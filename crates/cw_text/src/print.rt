@@ -1,8 +1,8 @@
 ghost use Rattle.std.specs.Prelude.{◌≡◌, ◌∷◌, [], ◌++◌, if◌then◌else◌, IfOk, OnOk, pos};
 ghost use Rattle.cw_text.specs.Lexemes.{terminal as terminal_token};
-ghost use Rattle.cw_text.specs.Printed.{declaration_tokens, else_tokens, in_braces, in_parens, in_squares, init_tokens, named, number_tokens, of_left, of_right, sign, size_tokens, statement_tokens, statements_tokens, term_tokens, terms_tokens, terminal_of, tightness, value_tokens, word_tokens, words_tokens};
+ghost use Rattle.cw_text.specs.Printed.{declaration_tokens, else_tokens, heading_tokens, in_braces, in_parens, in_squares, init_tokens, named, number_tokens, of_left, of_right, sign, size_tokens, statement_tokens, statements_tokens, term_tokens, terms_tokens, terminal_of, tightness, value_tokens, word_tokens, words_tokens};
 ghost use Rattle.cw_text.specs.PrintedText.{blank_behind, printed_text, with_tokens};
-ghost use Rattle.cw_text.specs.Syntax.{block_of, declaration_of, statement_of, term_of, terms_of, tree_of, cell, func};
+ghost use Rattle.cw_text.specs.Syntax.{block_of, declaration_of, statement_of, term_of, terms_of, source_of, cell, func};
 ghost use Rattle.cw_text.specs.declared.terminal.Terminal.TheVariants as Terminal;
 
 use crate::spelling::spelling;
@@ -263,6 +263,10 @@ impl Printer {
                 self.sign(Terminal::Sync)?;
                 self.sign(Terminal::Semicolon)
             }
+            Stmt::Cancel { .. } => {
+                self.sign(Terminal::Cancel)?;
+                self.sign(Terminal::Semicolon)
+            }
             Stmt::Return { value, .. } => {
                 self.sign(Terminal::Return)?;
                 self.value_alone(value)
@@ -364,6 +368,18 @@ impl Printer {
         self.block(body)
     }
 
+    // The language, which is not written where it is 1.
+    fn heading(&mut self, language: u32) -> Result<(), OutOfMemory>
+        ensures { OnOk result (self.new ≡ with_tokens self.old (heading_tokens language)) }
+    {
+        if language != 2 {
+            return Ok(());
+        }
+        self.token(b"language".as_slice(), b' ')?;
+        self.digits(2)?;
+        self.sign(Terminal::Semicolon)
+    }
+
     fn item(&mut self, item: &Item) -> Result<(), OutOfMemory>
         ensures { OnOk result (self.new ≡ with_tokens self.old (declaration_tokens (declaration_of item.now))) }
     {
@@ -389,11 +405,12 @@ impl Printer {
 /// Brackets stand where the tree needs them, and nowhere else. An initial value 0 is not written, nor an `else` without statements.
 /// What `read_program` gave is read from its text again, but for the lines, if the text is not too long.
 pub fn print_program(alloc: Global, ast: &Ast) -> Result<Vec<u8>, OutOfMemory>
-    ensures { IfOk result (λ text. text.items ≡ printed_text (tree_of ast.now)) }
+    ensures { IfOk result (λ text. text.items ≡ printed_text (source_of ast.now)) }
 {
     let mut printer = Printer {
         text: Vec::new(alloc),
     };
+    printer.heading(ast.language)?;
     for item in &ast.items {
         printer.item(item)?;
     }

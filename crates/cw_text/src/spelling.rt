@@ -1,10 +1,10 @@
 ghost use Rattle.std.specs.Prelude.{◌≡◌};
-ghost use Rattle.cw_text.specs.Lexemes.{keywords, signs, spelling};
+ghost use Rattle.cw_text.specs.Lexemes.{keywords_of, signs, spelling};
 
 use crate::Terminal;
 
-/// The words that are no names.
-pub const KEYWORDS: [Terminal; 11] = [
+// The words that are no names in language 1.
+const KEYWORDS: [Terminal; 11] = [
     Terminal::Cell,
     Terminal::Fn,
     Terminal::Let,
@@ -17,6 +17,33 @@ pub const KEYWORDS: [Terminal; 11] = [
     Terminal::Sync,
     Terminal::Return,
 ];
+
+// Those of language 2.
+const NEWER_KEYWORDS: [Terminal; 12] = [
+    Terminal::Cancel,
+    Terminal::Cell,
+    Terminal::Fn,
+    Terminal::Let,
+    Terminal::Out,
+    Terminal::If,
+    Terminal::Else,
+    Terminal::While,
+    Terminal::Atomic,
+    Terminal::Spawn,
+    Terminal::Sync,
+    Terminal::Return,
+];
+
+/// The words that are no names in a language.
+pub fn keywords_of(language: u32) -> &'static [Terminal]
+    ensures { result.now ≡ keywords_of language }
+{
+    if language == 2 {
+        &NEWER_KEYWORDS
+    } else {
+        &KEYWORDS
+    }
+}
 
 /// The signs, a longer one before those that begin it.
 pub const SIGNS: [Terminal; 21] = [
@@ -58,6 +85,7 @@ pub fn spelling(terminal: Terminal) -> &'static [u8]
         Terminal::Atomic => b"atomic",
         Terminal::Spawn => b"spawn",
         Terminal::Sync => b"sync",
+        Terminal::Cancel => b"cancel",
         Terminal::Return => b"return",
         Terminal::BraceOpen => b"{",
         Terminal::BraceClose => b"}",

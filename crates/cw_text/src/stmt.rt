@@ -1,6 +1,7 @@
 ghost use Rattle.std.specs.Prelude.{◌≡◌, ◌≤◌, ◌<◌, ◌∷◌, [], List, OnOk, IfNone, IfOk, OnSome};
-ghost use Rattle.cw_text.specs.Cursor.{count_of, rest_of};
-ghost use Rattle.cw_text.specs.Grammar.{Symbol, Values, a_block, a_line, a_term, a_word, act, assignment, atomic_done, block, choose_done, exactly, expr, let_done, otherwise, out_done, pending, push, read, repeat_done, return_done, spawn_done, stated, stmts, sync_done, word, word_at};
+ghost use Rattle.cw_text.specs.Cursor.{count_of};
+ghost use Rattle.cw_text.specs.Lexemes.{rest_of};
+ghost use Rattle.cw_text.specs.Grammar.{Symbol, Values, a_block, a_line, a_term, a_word, act, assignment, atomic_done, block, choose_done, exactly, expr, let_done, otherwise, out_done, pending, push, read, repeat_done, return_done, cancel_done, spawn_done, stated, stmts, sync_done, word, word_at};
 ghost use Rattle.cw_text.specs.Parser.{GoesOn, Parses, ahead, statement_read};
 ghost use Rattle.cw_text.specs.Syntax.{block_of, empty, statement_of, term_of};
 ghost use Rattle.cw_text.specs.declared.terminal.Terminal.TheVariants as Terminal;
@@ -54,6 +55,7 @@ impl<'a> Parser<'a> {
             Token::Terminal(Terminal::Atomic) => Ok(Some(self.atomic_statement()?)),
             Token::Terminal(Terminal::Spawn) => Ok(Some(self.spawn_statement()?)),
             Token::Terminal(Terminal::Sync) => Ok(Some(self.sync_statement()?)),
+            Token::Terminal(Terminal::Cancel) => Ok(Some(self.cancel_statement()?)),
             Token::Terminal(Terminal::Return) => Ok(Some(self.return_statement()?)),
             Token::Name(letters) => Ok(Some(self.named_statement(letters)?)),
             _ => Ok(None),
@@ -184,6 +186,22 @@ impl<'a> Parser<'a> {
         self.cursor.advance();
         self.expect(Terminal::Semicolon)?;
         Ok(Stmt::Sync)
+    }
+
+    /// The end of a block that is given up, whose keyword is next.
+    #[tactic(auto, using(crate::proofs::Steps::steps))]
+    fn cancel_statement(&mut self) -> Result<Stmt, TextRefusal>
+        requires { self.old.depth ≤ 200 }
+        ensures same { OnOk result (self.new.depth ≡ self.old.depth) }
+        ensures shorter { OnOk result (count_of (ahead self.new) < count_of (rest_of (ahead self.old))) }
+        ensures read { Parses result self.old.depth
+            (act (push (a_line self.old.cursor.line)) ∷ exactly Terminal.Semicolon ∷ act cancel_done ∷ [])
+            (λ s. stated (statement_of s)) (rest_of (ahead self.old)) (ahead self.new) }
+    {
+        let line = self.cursor.line;
+        self.cursor.advance();
+        self.expect(Terminal::Semicolon)?;
+        Ok(Stmt::Cancel { line })
     }
 
     /// The end of a function with its value, whose keyword is next.

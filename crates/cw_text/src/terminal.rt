@@ -16,6 +16,7 @@ pub enum Terminal {
     Atomic,
     Spawn,
     Sync,
+    Cancel,
     Return,
     BraceOpen,
     BraceClose,

@@ -1,7 +1,6 @@
-ghost use Rattle.std.specs.Prelude.{◌≡◌, ◌≤◌, ◌<◌, ◌^◌, length};
+ghost use Rattle.std.specs.Prelude.{◌≡◌, ◌≤◌, ◌<◌, ◌^◌, length, ◌⊎◌};
 ghost use Rattle.cw_text.specs.Text.{line_of, program, Reads};
 
-use crate::cursor::Cursor;
 use crate::parser::{self, refusal};
 use crate::scan::newlines;
 use crate::{Ast, TextKind, TextRefusal};
@@ -24,16 +23,20 @@ fn line_of(text: &[u8], place: usize) -> u32
 ///
 /// A program is cells, plain ones and arrays, and functions, each with its parameters. Its statements are `let`,
 /// assignments to names and to elements of arrays, calls, `out`, `sync`, `return`, the choice `if` with its `else` or
-/// without, the loop `while`, and the blocks `atomic` and `spawn`. Blocks may stand in one another.
+/// without, the loop `while`, the blocks `atomic` and `spawn`, and in language 2 `cancel`. Blocks may stand in one another.
+///
+/// A text may begin with `language`, a number and `;`: its language, 1 or 2. Without them it is of language 1.
 ///
 /// A text has at most 1,048,576 bytes, or it is `TooLong`, on line 0. Then a byte that is in no whole UTF-8 character
 /// is `NotUtf8`, wherever it stands. Only then the tokens are read one by one, up to the first that is no token
 /// (`BadChar`, `BadNumber`), that may not stand in its place (`Unexpected`) or with which the text is `TooDeep`. An
 /// array length of 0 is a `BadNumber` too.
 /// Lines are counted from 1, and the end of the text stands on its last line. `OutOfMemory` says nothing of the text.
+/// `read_language` refuses a language after `newest` as `Unexpected`, at its number.
 #[tactic(auto, using(crate::proofs::Readings::reading_is))]
-pub fn read_program(alloc: Global, bytes: &[u8]) -> Result<Ast, TextRefusal>
-    ensures exact { Reads result (program bytes.now) }
+pub fn read_language(alloc: Global, bytes: &[u8], newest: u32) -> Result<Ast, TextRefusal>
+    requires newest { (newest ≡ 1) ⊎ (newest ≡ 2) }
+    ensures exact { Reads result (program newest bytes.now) }
 {
     if bytes.len() > MAX_LEN {
         return Err(refusal(TextKind::TooLong, 0));
@@ -41,5 +44,12 @@ pub fn read_program(alloc: Global, bytes: &[u8]) -> Result<Ast, TextRefusal>
     if let Err(error) = str::from_utf8(bytes) {
         return Err(refusal(TextKind::NotUtf8, line_of(bytes, error.valid_up_to())));
     }
-    parser::program(alloc, Cursor::new(bytes))
+    parser::source(alloc, bytes, newest)
+}
+
+/// `read_language` up to the newest one, which is 2.
+pub fn read_program(alloc: Global, bytes: &[u8]) -> Result<Ast, TextRefusal>
+    ensures exact { Reads result (program 2 bytes.now) }
+{
+    read_language(alloc, bytes, 2)
 }

@@ -15,6 +15,14 @@ returns-clause-verdicts c = record {
   from_behind = refl;
   growing = refl;
   to_the_next = refl;
+  outside = refl;
+  given_up = refl;
+  operand_left = refl;
+  in_fork = refl;
+  block_in_fork = refl;
+  from_under = refl;
+  nothing_behind = refl;
+  other_order = refl;
   no_function = refl;
   unknown = refl;
 }

@@ -1,11 +1,12 @@
 -- Going over statements and parameters one by one, where what was looked at so far has no fault.
-use Rattle.std.proofs.Common.{◌≡◌, ℕ, suc, ◌+◌, ◌<◌, Bool, List, [], ◌∷◌, ◌++◌, length, drop, get_or, None, refl, ap, sym, ◌∙◌, append_assoc}
+use Rattle.std.proofs.Common.{◌≡◌, ℕ, suc, ◌+◌, ◌<◌, List, [], ◌∷◌, ◌++◌, length, drop, get_or, None, refl, ap, sym, ◌∙◌, append_assoc}
 use Rattle.std.proofs.lemmas.List.{drop_more}
 use Rattle.cw_text.specs.declared.ast.Word.{Word}
 use Rattle.cw_text.specs.declared.ast.Expr.{Expr}
 use Rattle.cw_text.specs.declared.ast.Stmt.{Stmt}
-use Rattle.cw_text.specs.Syntax.{term_of, terms_of, statement_of, block_of}
-use Rattle.cw_strand.specs.Names.{Scope, find, a_local, declared_new, scope_after, count_of, in_term, in_terms, in_statement, in_block, in_params, scope_with_params}
+use Rattle.cw_text.specs.Syntax.{terms_of, statement_of, block_of}
+use Rattle.cw_strand.specs.declared.naming.Around.{Around}
+use Rattle.cw_strand.specs.Names.{Scope, find, a_local, declared_new, scope_after, count_of, in_statement, in_block, in_params, scope_with_params}
 use Rattle.cw_compile.specs.declared.naming.visible.Visible.{Visible}
 use Rattle.cw_compile.specs.NamingRules.Visible.{StaysVisible}
 
@@ -14,7 +15,7 @@ pub item_first : {X : Type 0} (xs : List X) (i : ℕ) (x : X) → i < length xs 
 item_first xs i x lt is = drop_more xs i x lt ∙ ap (λ y. y ∷ drop (i + 1) xs) (sym is)
 
 -- a statement without a fault: what is left is looked at with the names after it
-pub in_block_next : (g : Scope) (inside : Bool) (xs : List Stmt) (i : ℕ) (x : Stmt) → i < length xs → x ≡ get_or xs i x → in_statement g inside (statement_of x) ≡ None → in_block g inside (block_of (drop i xs)) ≡ in_block (scope_after (statement_of x) g) inside (block_of (drop (i + 1) xs))
+pub in_block_next : (g : Scope) (inside : Around) (xs : List Stmt) (i : ℕ) (x : Stmt) → i < length xs → x ≡ get_or xs i x → in_statement g inside (statement_of x) ≡ None → in_block g inside (block_of (drop i xs)) ≡ in_block (scope_after (statement_of x) g) inside (block_of (drop (i + 1) xs))
 in_block_next g inside xs i x lt is none = rw (item_first xs i x lt is, none) refl
 
 -- the arguments are as many as the expressions

@@ -3,7 +3,9 @@ use Rattle.std.proofs.Common.{◌≡◌, ℕ, ◌+◌, List, [], ◌∷◌, ◌+
 use Rattle.std.specs.Option.{option_or, option_map}
 use Rattle.cw_text.specs.declared.ast.Word.{Word}
 use Rattle.std.specs.Str.{bytes_eq}
-use Rattle.cw_text.specs.Syntax.{Term, number, name, at, call, unary, binary, Terms, none, more, Statement, declare, assign, assign_at, run, out, choose, repeat, atomic, spawn, sync, return, Block, empty, first, Declaration, cell, func}
+use Rattle.cw_text.specs.Syntax.{Term, number, name, at, call, unary, binary, Terms, none, more, Statement, declare, assign, assign_at, run, out, choose, repeat, atomic, spawn, sync, cancel, return, Block, empty, first, Declaration, cell, func}
+use Rattle.cw_strand.specs.declared.naming.Around.{Around}
+use Rattle.cw_strand.specs.declared.naming.Around.TheVariants as around
 use Rattle.cw_strand.specs.Names.{Thing, Scope, find, a_local, cell_thing, a_function, used, in_term, in_terms, scope_after, in_statement, in_block, in_params, scope_with_params, elements, in_items, in_functions}
 use Rattle.cw_compile.specs.declared.naming.visible.Visible.{Visible}
 use Rattle.cw_compile.specs.Named.{named}
@@ -56,7 +58,7 @@ scope_after_same same (declare w e) = same_cons (w.name, a_local) same
 scope_after_same same _ = same
 
 mutual
-  in_statement_same : {g h : Scope} → IsSame g h → (i : Bool) (s : Statement) → in_statement g i s ≡ in_statement h i s
+  in_statement_same : {g h : Scope} → IsSame g h → (i : Around) (s : Statement) → in_statement g i s ≡ in_statement h i s
   in_statement_same same i (declare w e) = rw (same.finds w.name, in_term_same same e) refl
   in_statement_same same i (assign w e) = rw (same.finds w.name, in_term_same same e) refl
   in_statement_same same i (assign_at w a e) = rw (same.finds w.name, in_term_same same a, in_term_same same e) refl
@@ -64,12 +66,13 @@ mutual
   in_statement_same same i (out e) = in_term_same same e
   in_statement_same same i (choose e a b) = rw (in_term_same same e, in_block_same same i a, in_block_same same i b) refl
   in_statement_same same i (repeat e b) = rw (in_term_same same e, in_block_same same i b) refl
-  in_statement_same same i (atomic b) = in_block_same same true b
-  in_statement_same same i (spawn b) = in_block_same same true b
+  in_statement_same same i (atomic b) = in_block_same same around.Atomic b
+  in_statement_same same i (spawn b) = in_block_same same around.Spawn b
   in_statement_same same i sync = refl
+  in_statement_same same i (cancel l) = refl
   in_statement_same same i (return l e) = rw (in_term_same same e) refl
 
-  in_block_same : {g h : Scope} → IsSame g h → (i : Bool) (b : Block) → in_block g i b ≡ in_block h i b
+  in_block_same : {g h : Scope} → IsSame g h → (i : Around) (b : Block) → in_block g i b ≡ in_block h i b
   in_block_same same i empty = refl
   in_block_same same i (first s b) = rw (in_statement_same same i s, in_block_same (scope_after_same same s) i b) refl
 
@@ -89,4 +92,4 @@ in_items_same same n (func x l ps b ∷ ds) = rw (same.finds x, in_items_same (s
 pub in_functions_same : {g h : Scope} → IsSame g h → (ds : List Declaration) → in_functions g ds ≡ in_functions h ds
 in_functions_same same [] = refl
 in_functions_same same (cell x l len i ∷ ds) = in_functions_same same ds
-in_functions_same same (func x l ps b ∷ ds) = rw (in_params_same same ps, in_block_same (with_params_same same ps) false b, in_functions_same same ds) refl
+in_functions_same same (func x l ps b ∷ ds) = rw (in_params_same same ps, in_block_same (with_params_same same ps) around.Neither b, in_functions_same same ds) refl

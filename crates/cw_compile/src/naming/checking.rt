@@ -1,8 +1,9 @@
-ghost use Rattle.std.specs.Prelude.{◌≡◌, map, OnOk, IfOk, Some, false};
+ghost use Rattle.std.specs.Prelude.{◌≡◌, map, OnOk, IfOk, Some};
 ghost use Rattle.std.specs.List.{position_from};
 ghost use Rattle.std.specs.Result.{result_err};
 ghost use Rattle.cw_text.specs.Syntax.{term_of, terms_of, statement_of, block_of, declaration_of};
-ghost use Rattle.cw_strand.specs.Names.{find, used, indexed, fault_of_call, count_of, returned_from, in_term, in_terms, in_statement, scope_after, in_block, in_params, scope_with_params, ◌then◌, in_functions, main_of, naming_fault, without_main};
+ghost use Rattle.cw_strand.specs.declared.naming.Around.TheVariants.{Neither};
+ghost use Rattle.cw_strand.specs.Names.{find, used, indexed, fault_of_call, count_of, returned_from, cancelled_in, in_term, in_terms, in_statement, scope_after, in_block, in_params, scope_with_params, ◌then◌, in_functions, main_of, naming_fault, without_main};
 ghost use Rattle.cw_compile.specs.NamingRules.Items.{IsAllOf, is_main};
 ghost use Rattle.cw_compile.specs.NamingRules.Scopes.{Finds};
 ghost use Rattle.cw_compile.specs.NamingRules.Visible.{StaysVisible, visible_in};
@@ -11,7 +12,7 @@ use super::items::{Declared, declared_new};
 use super::scope::{Scope, Thing};
 use super::visible::Visible;
 use crate::NameRefusal;
-use cw_strand::{NameFault, NameKind};
+use cw_strand::{Around, NameFault, NameKind};
 use cw_text::{Expr, Item, Stmt, Word};
 use std::alloc::Global;
 
@@ -61,17 +62,30 @@ fn called(visible: &Visible<'_>, word: &Word, args: usize) -> Result<(), NameFau
     })
 }
 
-/// The fault of a `return` that may stand inside an `atomic` or a `spawn` block of its function.
-fn returned_from(inside: bool, line: u32) -> Result<(), NameFault>
-    ensures { result_err result ≡ returned_from inside line }
+/// The fault of a `return` with this around it.
+fn returned_from(around: Around, line: u32) -> Result<(), NameFault>
+    ensures { result_err result ≡ returned_from around line }
 {
-    if inside {
-        return Err(NameFault {
+    match around {
+        Around::Neither => Ok(()),
+        Around::Atomic | Around::Spawn => Err(NameFault {
             kind: NameKind::ReturnInside,
             line,
-        });
+        }),
     }
-    Ok(())
+}
+
+/// The fault of a `cancel` with this around it.
+fn cancelled_in(around: Around, line: u32) -> Result<(), NameFault>
+    ensures { result_err result ≡ cancelled_in around line }
+{
+    match around {
+        Around::Atomic => Ok(()),
+        Around::Neither | Around::Spawn => Err(NameFault {
+            kind: NameKind::CancelOutside,
+            line,
+        }),
+    }
 }
 
 /// The first fault in an expression.
@@ -109,15 +123,14 @@ fn in_call(visible: &Visible<'_>, name: &Word, args: &[Expr]) -> Result<(), Name
     Ok(())
 }
 
-/// The first fault in a statement, which may stand inside an `atomic` or a `spawn` block of its function. What the statement declares is
-/// visible afterwards.
+/// The first fault in a statement with this around it. What the statement declares is visible afterwards.
 #[cycle(walk)]
 fn in_statement<'a>(
     visible: &mut Visible<'a>,
-    inside: bool,
+    around: Around,
     statement: &'a Stmt,
 ) -> Result<(), NameRefusal>
-    ensures exact { Finds result (in_statement (visible_in visible.old) inside (statement_of statement.now)) }
+    ensures exact { Finds result (in_statement (visible_in visible.old) around (statement_of statement.now)) }
     ensures visible { OnOk result (visible_in visible.new ≡ scope_after (statement_of statement.now) (visible_in visible.old)) }
     ensures outer { OnOk result (StaysVisible visible.old visible.new) }
 {
@@ -140,38 +153,38 @@ fn in_statement<'a>(
         Stmt::Out(value) => in_term(visible, value)?,
         Stmt::If { test, then, other } => {
             in_term(visible, test)?;
-            in_block(visible, inside, then.as_slice())?;
-            in_block(visible, inside, other.as_slice())?;
+            in_block(visible, around, then.as_slice())?;
+            in_block(visible, around, other.as_slice())?;
         }
         Stmt::While { test, body } => {
             in_term(visible, test)?;
-            in_block(visible, inside, body.as_slice())?;
+            in_block(visible, around, body.as_slice())?;
         }
-        Stmt::Atomic(body) => in_block(visible, true, body.as_slice())?,
-        Stmt::Spawn(body) => in_block(visible, true, body.as_slice())?,
+        Stmt::Atomic(body) => in_block(visible, Around::Atomic, body.as_slice())?,
+        Stmt::Spawn(body) => in_block(visible, Around::Spawn, body.as_slice())?,
         Stmt::Sync => {}
+        Stmt::Cancel { line } => cancelled_in(around, *line)?,
         Stmt::Return { line, value } => {
-            returned_from(inside, *line)?;
+            returned_from(around, *line)?;
             in_term(visible, value)?;
         }
     }
     Ok(())
 }
 
-/// The first fault in the statements of a block, which may stand inside an `atomic` or a `spawn` block of its function. What they declare is
-/// visible to the block's end.
+/// The first fault in the statements of a block with this around them. What they declare is visible to the block's end.
 #[cycle(walk)]
 fn in_block<'a>(
     visible: &mut Visible<'a>,
-    inside: bool,
+    around: Around,
     body: &'a [Stmt],
 ) -> Result<(), NameRefusal>
-    ensures exact { Finds result (in_block (visible_in visible.old) inside (block_of body.now)) }
+    ensures exact { Finds result (in_block (visible_in visible.old) around (block_of body.now)) }
     ensures outer { OnOk result (visible.new ≡ visible.old) }
 {
     let outer = visible.locals();
     for statement in body {
-        in_statement(visible, inside, statement)?;
+        in_statement(visible, around, statement)?;
     }
     visible.forget(outer)?;
     Ok(())
@@ -196,11 +209,11 @@ fn in_function<'a>(
     params: &'a [Word],
     body: &'a [Stmt],
 ) -> Result<(), NameRefusal>
-    ensures { Finds result (in_params names.now params.now then in_block (scope_with_params names.now params.now) false (block_of body.now)) }
+    ensures { Finds result (in_params names.now params.now then in_block (scope_with_params names.now params.now) Neither (block_of body.now)) }
 {
     let mut visible = Visible::new(alloc, names);
     in_params(&mut visible, params)?;
-    in_block(&mut visible, false, body)
+    in_block(&mut visible, Around::Neither, body)
 }
 
 /// The first fault in the functions among the items, of which these are the names.

@@ -1,5 +1,5 @@
 -- The code of a program without a naming fault breaks no rule.
-use Rattle.std.proofs.Common.{◌≡◌, ◌∙◌, ℕ, ◌+◌, ◌≤◌, true, false, not, List, [], ◌∷◌, ◌++◌, length, refl, sym, ap, subst, arith, None, pos, length-append, add-zero}
+use Rattle.std.proofs.Common.{◌≡◌, ◌∙◌, ℕ, ◌+◌, ◌≤◌, true, not, List, [], ◌∷◌, ◌++◌, length, refl, sym, ap, subst, arith, None, pos, length-append, add-zero}
 use Rattle.std.specs.Prelude.{if◌then◌else◌}
 use Rattle.std.proofs.lemmas.Bool.{eq-eqb, le-leb, le-ltb, lt-leb}
 use Rattle.cw_text.specs.declared.ast.Word.{Word}
@@ -12,6 +12,7 @@ use Rattle.cw_code.specs.Rules.{places, size_of, place_faults, is_laid, faults_f
 use Rattle.cw_code.proofs.Expected.{AllFit}
 use Rattle.cw_code.proofs.Passes.{no_fault, none_of_two, none_at_places}
 use Rattle.cw_code.proofs.Walk.{at, expected, at_first, Walks, further}
+use Rattle.cw_strand.specs.declared.naming.Around.TheVariants as around
 use Rattle.cw_strand.specs.Names.{◌then◌, globals, in_params, in_block, in_functions, in_items, without_main, main_of, cells_of}
 use Rattle.cw_strand.specs.Names as names
 use Rattle.cw_strand.specs.Compilation.{Slots, code_of, function_names, instrs_from, funcs_from, function_code, block_code, slots_with_params, most}
@@ -35,7 +36,7 @@ module _ (ds : List Declaration) (all_named : in_functions (globals ds) ds ≡ N
 
   -- ## A function
 
-  module _ (p : ℕ) (ps : List Word) (body : Block) (named : in_block (scope_of ds (slots_with_params ps [])) false body ≡ None) (has : HasAt code.instrs p (function_code cells function_list p ps body)) where
+  module _ (p : ℕ) (ps : List Word) (body : Block) (named : in_block (scope_of ds (slots_with_params ps [])) around.Neither body ≡ None) (has : HasAt code.instrs p (function_code cells function_list p ps body)) where
     abbrev here : List Instr
     here = function_code cells function_list p ps body
 
@@ -46,7 +47,7 @@ module _ (ds : List Declaration) (all_named : in_functions (globals ds) ds ≡ N
     g = slots_with_params ps []
 
     abbrev is : List Instr
-    is = block_code cells function_list g p body
+    is = block_code cells function_list g p 0 body
 
     -- the function gives 0 at its end
     abbrev ending : List Instr
@@ -55,7 +56,7 @@ module _ (ds : List Declaration) (all_named : in_functions (globals ds) ds ≡ N
     long : length here ≡ length is + 3
     long = length-append is ending
 
-    walks : Walks code f p (p + length here) (at 0 0 0)
+    walks : Walks code f p (p + length here) (at 0 [])
     walks =
         let count : length g ≡ length ps = count_of_params ps [] ∙ add-zero (length ps) in
         let least = most_from (length ps) body in
@@ -64,10 +65,10 @@ module _ (ds : List Declaration) (all_named : in_functions (globals ds) ds ≡ N
         let q = p + length is in
         let rest = behind code.instrs p is ending has in
         let ends : q + 1 + 1 + 1 ≡ p + length here = omega (arith, long) in
-        subst (λ r. Walks code f p r (at 0 0 0)) ends
-        (further code f p q (q + 1 + 1 + 1) (at 0 0 0) (at 0 0 0) (block_fits ds f all_named false body g p 0 0 (refl, refl) named visible room (omega arith) (front code.instrs p is ending has) (omega (arith, long)) (at_first code f)) (λ w.
-        further code f q (q + 1) (q + 1 + 1 + 1) (at 0 0 0) (at 0 0 0) (wait_fits ds f all_named 0 q 0 0 (omega arith) (omega (arith, long)) rest.0 w) (λ v.
-        further code f (q + 1) (q + 1 + 1) (q + 1 + 1 + 1) (at 1 0 0) (at 0 0 0) (push_fits ds f all_named g visible (q + 1) 0 0 0 (omega arith) (omega (arith, long)) (pos 0) rest.1.0 v) (λ u.
+        subst (λ r. Walks code f p r (at 0 [])) ends
+        (further code f p q (q + 1 + 1 + 1) (at 0 []) (at 0 []) ((block_fits ds f all_named around.Neither body g p 0 [] refl named visible room (omega arith) (front code.instrs p is ending has) (omega (arith, long)) (at_first code f)).fits tt) (λ w.
+        further code f q (q + 1) (q + 1 + 1 + 1) (at 0 []) (at 0 []) (wait_fits ds f all_named 0 q [] (omega arith) (omega (arith, long)) rest.0 w) (λ v.
+        further code f (q + 1) (q + 1 + 1) (q + 1 + 1 + 1) (at 1 []) (at 0 []) (push_fits ds f all_named g visible (q + 1) 0 [] (omega arith) (omega (arith, long)) (pos 0) rest.1.0 v) (λ u.
         ret_fits ds f all_named (q + 1 + 1) (omega arith) rest.1.1.0 u))))
 
     all_fit : AllFit code f (expected code f)
@@ -91,10 +92,10 @@ module _ (ds : List Declaration) (all_named : in_functions (globals ds) ds ≡ N
   functions_break_none (func x l ps b ∷ rest) p has ends named =
       let here = function_code cells function_list p ps b in
       let later = instrs_from cells function_list (p + length here) rest in
-      let in_body = in_block (names.scope_with_params (globals ds) ps) false b in
+      let in_body = in_block (names.scope_with_params (globals ds) ps) around.Neither b in
       let in_rest = in_functions (globals ds) rest in
       let parts = standing.no_fault in_body in_rest (standing.no_fault (in_params (globals ds) ps) (in_body then in_rest) named).1 in
-      let fine : in_block (scope_of ds (slots_with_params ps [])) false b ≡ None = subst (λ g. in_block g false b ≡ None) (scope_of_params ds ps []) parts.0 in
+      let fine : in_block (scope_of ds (slots_with_params ps [])) around.Neither b ≡ None = subst (λ g. in_block g around.Neither b ≡ None) (scope_of_params ds ps []) parts.0 in
       let long = length-append here later in
       func_breaks_none p ps b fine (front code.instrs p here later has) (funcs_from cells function_list (p + length here) rest) (omega (arith, long))
       (functions_break_none rest (p + length here) (behind code.instrs p here later has) (omega (arith, long)) parts.1)

@@ -1,27 +1,47 @@
-ghost use Rattle.std.specs.Prelude.{◌≡◌, [], IfOk, OnOk};
+ghost use Rattle.std.specs.Prelude.{◌≡◌, [], ◌∷◌, IfOk, MatchOption, OnOk, slice_get};
 ghost use Rattle.cw_code.specs.Rules.{faults};
-ghost use Rattle.cw_strand.specs.Coded.{with_value, step};
+ghost use Rattle.cw_strand.specs.Coded.{with_value, step, step_at};
 
 use super::Strand;
 use crate::led::Led;
 use crate::{Given, Want};
 use cw_base::OutOfMemory;
-use cw_code::{Code, Effect, FaultKind, Instr, effect_at};
+use cw_code::{Back, Code, Effect, FaultKind, Instr, effect_at};
 
 impl Strand {
     ghost use Rattle.cw_strand.specs.Acting.{Acts, Needs, led_to};
     ghost use Rattle.cw_strand.specs.Standing.{StandsIn};
 
-    /// A value takes the place of the operand that stands for it.
+    /// A value takes the place of the operand that stands for it; what is to be written back comes before all else.
     pub(crate) fn answer(&mut self, given: Given) -> Result<(), OutOfMemory>
         ensures { OnOk result (self.new ≡ with_value given self.old) }
     {
-        if let Given::Value(value) = given
-            && self.operands.pop().is_some()
-        {
-            self.operands.push(value)?;
+        match given {
+            Given::Nothing => {}
+            Given::Value(value) => {
+                if self.operands.pop().is_some() {
+                    self.operands.push(value)?;
+                }
+            }
+            Given::Back(back) => {
+                self.back = back;
+                self.written = 0;
+            }
         }
         Ok(())
+    }
+
+    /// The next of what is to be written back.
+    fn next_back(&mut self) -> Option<Back>
+        ensures { MatchOption result (self.old.back ≡ [] × (self.new ≡ self.old))
+            (λ b. (self.old.back ≡ b ∷ self.new.back) × (self.new ≡ record self.old { back = self.new.back })) }
+    {
+        if self.written >= self.back.len() {
+            return None;
+        }
+        let back = *self.back.at(self.written);
+        self.written += 1;
+        Some(back)
     }
 
     /// One step.
@@ -33,6 +53,18 @@ impl Strand {
         if self.size > u64::from(self.limits.size) {
             return Ok(Led::Wants(Want::Fault(FaultKind::Size)));
         }
+        match self.next_back() {
+            Some(back) => Ok(self.count(Want::Store(back.cell, back.value))),
+            None => self.instruction(code),
+        }
+    }
+
+    /// What the instruction does that stands at its place.
+    fn instruction(&mut self, code: &Code) -> Result<Led, OutOfMemory>
+        requires sound { faults code.now ≡ [] }
+        requires stands { StandsIn code.now self.old }
+        ensures { IfOk result (λ l. step_at code.now (slice_get code.now.instrs self.old.current.place) self.old ≡ led_to l self.new) }
+    {
         prove!(code.cells <= u32::MAX);
         prove!(self.place < code.instrs.len());
         let instr = *code.instrs.at(self.place);
@@ -75,6 +107,7 @@ impl Strand {
             Effect::Sync => self.wait(next),
             Effect::Done => Ok(self.finish()),
             Effect::Tick => Ok(self.tick(next)),
+            Effect::Cancel => Ok(self.cancel(next)),
         }
     }
 }

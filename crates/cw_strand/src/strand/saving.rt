@@ -2,7 +2,7 @@ ghost use Rattle.std.specs.Prelude.{◌≡◌, ◌<◌, [], ◌∷◌, length, I
 ghost use Rattle.cw_strand.specs.Saving.{kept_of, lowest, MayGoBack};
 
 use super::Strand;
-use cw_base::{OutOfMemory, Stack};
+use cw_base::{OutOfMemory, Seq, Stack};
 use std::marker::Model;
 
 /// What is kept of the begin of a block: what a strand needs to stand there again, and no more.
@@ -86,6 +86,7 @@ impl Strand {
           fuel = saved.now.fuel;
           size = saved.now.size;
           beside = saved.now.beside;
+          back = [];
           limits = self.old.limits;
         } }
     {
@@ -97,5 +98,7 @@ impl Strand {
         self.fuel = saved.fuel;
         self.size = saved.size;
         self.beside = saved.beside;
+        self.back = Seq::new(alloc);
+        self.written = 0;
     }
 }

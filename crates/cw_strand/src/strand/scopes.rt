@@ -1,7 +1,7 @@
 ghost use Rattle.std.specs.Prelude.{ℕ, IfOk};
 ghost use Rattle.cw_code.specs.declared.instruction.Code.{Code};
 ghost use Rattle.cw_code.specs.declared.instruction.Instr.{Instr};
-ghost use Rattle.cw_code.specs.declared.effects.Effect.TheVariants.{Begin as begin, End as end, Fork as fork, Sync as sync, Done as done};
+ghost use Rattle.cw_code.specs.declared.effects.Effect.TheVariants.{Begin as begin, End as end, Fork as fork, Sync as sync, Done as done, Cancel as cancel};
 
 use super::Strand;
 use super::operands::index;
@@ -31,6 +31,14 @@ impl Strand {
         let _ = self.scopes.pop();
         self.place = next;
         Led::Wants(Want::End)
+    }
+
+    /// A block is given up.
+    pub(crate) fn cancel(&mut self, next: usize) -> Led
+        ensures { (code : Code) (i : Instr) → Acts code cancel i next self.old result self.new }
+    {
+        self.place = next;
+        self.count(Want::Cancel)
     }
 
     /// A strand is to begin behind the fork; this one goes on at the fork's target, and the innermost scope has one fork more to wait for.

@@ -1,12 +1,12 @@
 use Rattle.cw_text.proofs.Forgotten.{same_but_lines}
-use Rattle.cw_text.proofs.PrintedTexts.{printed_again, text_undone, tree_undone}
+use Rattle.cw_text.proofs.PrintedTexts.{printed_again, source_undone, text_undone}
 use Rattle.cw_text.proofs.reading_undoes_printing.Goals as goal
 
 pub returns-clause-tokens : goal.returns-clause-tokens
 returns-clause-tokens c = same_but_lines
 
 pub returns-clause-trees : goal.returns-clause-trees
-returns-clause-trees c = tree_undone
+returns-clause-trees c = source_undone
 
 pub returns-clause-texts : goal.returns-clause-texts
 returns-clause-texts c = text_undone

@@ -24,3 +24,6 @@ returns-clause-branches c = (refl, refl, refl)
 
 pub returns-clause-calls : goal.returns-clause-calls
 returns-clause-calls c = (refl, refl, refl, refl)
+
+pub returns-clause-languages : goal.returns-clause-languages
+returns-clause-languages c = (refl, refl, refl, refl, refl, refl, refl, refl, refl, refl, refl, refl, refl, refl, refl, refl, refl, refl, refl, refl, refl, refl, refl, refl, refl, refl, refl)

@@ -19,7 +19,7 @@ struct Row {
     verdict: Verdict,
 }
 
-const ROWS: [Row; 8] = [
+const ROWS: [Row; 11] = [
     // add, ret
     Row {
         instrs: &[(8, 0, 0), (24, 0, 0)],
@@ -69,6 +69,35 @@ const ROWS: [Row; 8] = [
     Row {
         instrs: &[(32, 0, 0), (21, 0, 0)],
         verdict: Verdict::Sound,
+    },
+    // begin, cancel, end, push 0, ret
+    Row {
+        instrs: &[(27, 0, 0), (33, 0, 0), (28, 0, 0), (1, 0, 0), (24, 0, 0)],
+        verdict: Verdict::Sound,
+    },
+    // cancel, push 0, ret
+    Row {
+        instrs: &[(33, 0, 0), (1, 0, 0), (24, 0, 0)],
+        verdict: Verdict::Broken {
+            kind: CodeKind::Uneven,
+            at: 0,
+        },
+    },
+    // begin, fork 4, cancel, done, end, push 0, ret
+    Row {
+        instrs: &[
+            (27, 0, 0),
+            (29, 4, 0),
+            (33, 0, 0),
+            (31, 0, 0),
+            (28, 0, 0),
+            (1, 0, 0),
+            (24, 0, 0),
+        ],
+        verdict: Verdict::Broken {
+            kind: CodeKind::Uneven,
+            at: 2,
+        },
     },
     // loadx 0 4, ret
     Row {
@@ -184,8 +213,11 @@ fn text(alloc: Global, instrs: &[(u8, i64, u32)]) -> Result<Vec<u8>, Fail> {
 fn the_text_of_small_pieces_of_code(rt: HostRuntime) -> Result<(), Fail> {
     let first = text(rt.alloc(), &[(1, 1, 9), (24, 5, 5)])?;
     assert!(rt; first.as_slice() == b"0 push 1\n1 ret\n".as_slice());
-    let second = text(rt.alloc(), &[(5, -3, 4), (13, 0, 0), (29, 2, 0)])?;
-    assert!(rt; second.as_slice() == b"0 loadx -3 4\n1 neg\n2 fork 2\n".as_slice());
+    let second = text(
+        rt.alloc(),
+        &[(5, -3, 4), (13, 0, 0), (29, 2, 0), (33, 1, 1)],
+    )?;
+    assert!(rt; second.as_slice() == b"0 loadx -3 4\n1 neg\n2 fork 2\n3 cancel\n".as_slice());
     Ok(())
 }
 

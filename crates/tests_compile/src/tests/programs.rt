@@ -11,7 +11,7 @@ struct Row {
     locals: u32,
 }
 
-const ROWS: [Row; 5] = [
+const ROWS: [Row; 7] = [
     Row {
         source: "cell c; cell d; fn main() { d = c - 2; out !d; }",
         instrs: &[
@@ -129,9 +129,44 @@ const ROWS: [Row; 5] = [
         ],
         locals: 1,
     },
+    Row {
+        source: "language 2; cell c = 5; fn main() { atomic { c = 9; out c; cancel; out 1; } out c; }",
+        instrs: &[
+            (32, 0),
+            (27, 0),
+            (32, 0),
+            (1, 9),
+            (6, 0),
+            (32, 0),
+            (4, 0),
+            (26, 0),
+            (32, 0),
+            (30, 0),
+            (33, 0),
+            (21, 16),
+            (32, 0),
+            (1, 1),
+            (26, 0),
+            (30, 0),
+            (28, 0),
+            (32, 0),
+            (4, 0),
+            (26, 0),
+            (30, 0),
+            (1, 0),
+            (24, 0),
+        ],
+        locals: 0,
+    },
+    // in language 1 it is a name
+    Row {
+        source: "cell cancel; fn main() { cancel = 1; }",
+        instrs: &[(32, 0), (1, 1), (6, 0), (30, 0), (1, 0), (24, 0)],
+        locals: 0,
+    },
 ];
 
-const FAULTS: [(&str, NameKind, u32); 7] = [
+const FAULTS: [(&str, NameKind, u32); 15] = [
     ("fn main() {\n x = 1; }", NameKind::Unknown, 2),
     ("cell c;\ncell c; fn main() { out x; }", NameKind::Twice, 2),
     ("fn main() { out main; }", NameKind::NotALocal, 1),
@@ -147,6 +182,53 @@ const FAULTS: [(&str, NameKind, u32); 7] = [
     ),
     ("fn f(a,\n a) {} fn main() {}", NameKind::Twice, 2),
     ("cell main;", NameKind::NoMain, 0),
+    (
+        "language 2; fn main() {\n cancel; }",
+        NameKind::CancelOutside,
+        2,
+    ),
+    (
+        "language 2; fn main() { if 1 {\n cancel; } }",
+        NameKind::CancelOutside,
+        2,
+    ),
+    (
+        "language 2; fn main() { spawn {\n cancel; } }",
+        NameKind::CancelOutside,
+        2,
+    ),
+    (
+        "language 2; fn main() { atomic { spawn {\n cancel; } } }",
+        NameKind::CancelOutside,
+        2,
+    ),
+    (
+        "language 2; fn main() { atomic { atomic { spawn {\n cancel; } } } }",
+        NameKind::CancelOutside,
+        2,
+    ),
+    (
+        "language 2; fn f() {\n cancel; } fn main() { atomic { f(); } }",
+        NameKind::CancelOutside,
+        2,
+    ),
+    (
+        "language 2; fn main() { spawn { cancel;\n out x; } }",
+        NameKind::CancelOutside,
+        1,
+    ),
+    (
+        "language 2; fn main() { spawn {\n out x;\n cancel; } }",
+        NameKind::Unknown,
+        2,
+    ),
+];
+
+/// Blocks that are given up in other blocks, in strands and in loops.
+const GIVEN_UP: [&str; 3] = [
+    "language 2; fn main() { atomic { spawn { atomic { cancel; } } } }",
+    "language 2; fn main() { spawn { atomic { cancel; } } }",
+    "language 2; fn main() { atomic { if 1 { while 1 { cancel; } } } }",
 ];
 
 fn compiled(alloc: Global, source: &str) -> Result<Program, Fail> {
@@ -186,6 +268,16 @@ fn the_first_naming_fault_is_told(rt: HostRuntime) -> Result<(), Fail> {
             Err(NameRefusal::OutOfMemory) => return Err(Fail::new("no memory")),
             Ok(_) => panic!(rt; "{source}"),
         }
+    }
+    Ok(())
+}
+
+#[test]
+fn a_block_is_given_up_wherever_it_is_innermost(rt: HostRuntime) -> Result<(), Fail> {
+    for source in &GIVEN_UP {
+        let tree = read_program(rt.alloc(), source.as_bytes())?;
+        let program = compile(rt.alloc(), &tree);
+        assert!(rt; program.is_ok(), "{source}");
     }
     Ok(())
 }

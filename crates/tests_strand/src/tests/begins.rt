@@ -4,7 +4,8 @@ ghost use Rattle.cw_strand.specs.declared.want.Given.TheVariants.{Nothing};
 ghost use Rattle.cw_strand.specs.Standing.{StandsIn, StandsWanting, NextFrom};
 ghost use Rattle.cw_strand.specs.Saving.{Kept, kept_of, MayGoBack};
 
-use cw_code::{FaultKind, Limits, Program};
+use cw_base::Seq;
+use cw_code::{Back, FaultKind, Limits, Program};
 use cw_compile::compile;
 use cw_strand::{Given, Strand, Want};
 use cw_text::read_program;
@@ -18,6 +19,10 @@ const CHANGES: &str =
 
 // A block in which two strands write.
 const WRITES: &str = "cell c; fn main() { atomic { spawn { c = 1; } let x = 2; c = x; out x; } }";
+
+// A block that writes two elements and is given up.
+const CANCELS: &str = "language 2; cell c = 5; cell d; \
+    fn main() { let x = 1; atomic { d = 1; c = 9; x = 2; cancel; d = 3; } out x; }";
 
 const fn within(fuel: u64, size: u32) -> Limits {
     Limits {
@@ -127,4 +132,29 @@ fn given_up(alloc: Global) -> Result<(), Fail> {
 #[test]
 fn a_strand_that_was_given_up_goes_back(rt: HostRuntime) -> Result<(), Fail> {
     given_up(rt.alloc())
+}
+
+// The strand is told to write both elements back, and does: the block ends, and the local stays.
+fn written_back(alloc: Global) -> Result<(), Fail> {
+    let program = program(alloc, CANCELS)?;
+    let mut strand = strand_of(alloc, &program, within(9, 9))?;
+    wants(&mut strand, &program, Want::Begin)?;
+    wants(&mut strand, &program, Want::Store(1, 1))?;
+    wants(&mut strand, &program, Want::Store(0, 9))?;
+    wants(&mut strand, &program, Want::Cancel)?;
+    let mut back = Seq::new(alloc);
+    back.push(Back { cell: 0, value: 5 })?;
+    back.push(Back { cell: 1, value: 0 })?;
+    if strand.next(&program, Given::Back(back))? != Want::Store(0, 5) {
+        return Err("nothing is written back".into());
+    }
+    wants(&mut strand, &program, Want::Store(1, 0))?;
+    wants(&mut strand, &program, Want::End)?;
+    wants(&mut strand, &program, Want::Out(2))?;
+    wants(&mut strand, &program, Want::Done)
+}
+
+#[test]
+fn a_block_that_is_given_up_is_written_back(rt: HostRuntime) -> Result<(), Fail> {
+    written_back(rt.alloc())
 }

@@ -4,4 +4,4 @@ use Rattle.cw_compile.specs.Emitted.{IsLeft}
 use Rattle.cw_compile.proofs.emitter.Emitter.+walk.Given as goal
 
 abbrev pub invariant-block-loop-statement : goal.invariant-block-loop-statement
-invariant-block-loop-statement l = IsLeft (block_of l.body) l.initial.self (block_of (drop l.statement-index l.body)) l.self
+invariant-block-loop-statement l = IsLeft l.ending (block_of l.body) l.initial.self (block_of (drop l.statement-index l.body)) l.self

@@ -12,7 +12,7 @@ in_block-loop-statement-preserved t c =
     let before = c.loop-statement.invariant in
     let ok = c.in_ok-in_statement.ensures in
     record {
-      faults = rw ok.visible (before.faults ∙ in_block_next (visible_in c.loop-statement.visible) c.args.inside c.args.body.now c.loop-statement.statement-index c.statement-item.result c.loop-statement-test.true c.statement-item.is ok.exact);
+      faults = rw ok.visible (before.faults ∙ in_block_next (visible_in c.loop-statement.visible) c.args.around c.args.body.now c.loop-statement.statement-index c.statement-item.result c.loop-statement-test.true c.statement-item.is ok.exact);
       keeps = keeps_more c.args.visible.now c.loop-statement.visible c.in_statement.new.visible before.keeps ok.outer;
     }
 

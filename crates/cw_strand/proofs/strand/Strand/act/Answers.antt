@@ -60,3 +60,6 @@ returns-in-Done c = rw c.in-Done.is (c.finish.ensures c.args.code.now c.args.ins
 
 pub returns-in-Tick : goal.returns-in-Tick
 returns-in-Tick c = rw c.in-Tick.is (c.tick.ensures c.args.code.now c.args.instr)
+
+pub returns-in-Cancel : goal.returns-in-Cancel
+returns-in-Cancel c = rw c.in-Cancel.is (c.cancel.ensures c.args.code.now c.args.instr)

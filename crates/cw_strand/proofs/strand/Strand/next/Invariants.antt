@@ -1,6 +1,7 @@
 use Rattle.std.proofs.Common.{◌≡◌, ℕ, List, ℤ}
 use Rattle.cw_code.specs.declared.Limits.{Limits}
 use Rattle.cw_strand.specs.Running.{stand}
+use Rattle.cw_strand.specs.Meaning.{stores_and_steps_left}
 use Rattle.cw_strand.specs.Coded.{runs, steps_left, with_value}
 use Rattle.cw_strand.specs.Standing.{StandsIn}
 use Rattle.cw_strand.proofs.strand.Strand.next.Given as goal
@@ -13,4 +14,4 @@ invariant-steps l = record {
 }
 
 abbrev pub decreases-steps : goal.decreases-steps
-decreases-steps l = steps_left l.code l.self
+decreases-steps l = stores_and_steps_left l.self.limits (steps_left l.code l.self) l.self.size
