@@ -2,15 +2,15 @@
 use Rattle.std.proofs.Common.{◌≡◌, ◌==◌, ℕ, refl, ap, sym, ◌∙◌, Bool, true, false, cond, ◌⊎◌, inl, inr, Option, Some, None, List, [], ◌∷◌}
 use Rattle.std.proofs.lemmas.Bool.Decides.{eqb_tells}
 use Rattle.cw_strand.specs.declared.want.Want.{Want}
-use Rattle.cw_strand.specs.declared.want.Want.TheVariants.{Begin, End, Fork, Sync, Done, Fault}
+use Rattle.cw_strand.specs.declared.want.Want.TheVariants.{Begin, End, Cancel, Fork, Sync, Done, Fault}
 use Rattle.cw_tree.specs.declared.picks.Name.{Name}
 use Rattle.cw_tree.specs.declared.picks.Turn.{Turn}
-use Rattle.cw_serial.specs.declared.machine.Begun.{Begun as Block}
+use Rattle.cw_serial.specs.declared.undo.Begun.{Begun as Block}
 use Rattle.cw_serial.specs.declared.table.Row.{Row}
 use Rattle.cw_serial.specs.Wants.{blocks_after}
 use Rattle.cw_serial.specs.Machine.{Begun, same_name, steps_down}
 use Rattle.cw_serial.specs.TableInMemory.{IsFront, StrandsAreNumbered}
-use Rattle.cw_serial.specs.InMemory.{AreBegun, begun_after}
+use Rattle.cw_serial.specs.InMemory.{AreBegun}
 use Rattle.cw_serial.proofs.Numbers.{turns_more}
 use Rattle.cw_serial.proofs.Numbered.{turns_unique}
 use Rattle.cw_serial.proofs.Turns.{name_true, name_itself}
@@ -45,19 +45,27 @@ module _ {S : Type 0} (names : List Name) (rows : List (Row S)) (ok : StrandsAre
     by (inr (t, ne)) false f = t ∙ sym f
     by (inr (t, ne)) true f = absurd (ne (turns_unique names rows ok m n z uz (up ∙ ap (λ v. Some v) (sym (name_true z q f)))))
 
-  -- a want does the same to both
-  pub blocks_alike : (w : Want) (bs : List Block) (cs : List Begun) → AreBegun names bs cs → AreAlike names (begun_after w n bs) (blocks_after (record { strand = q }) (λ (c : Begun). same_name c.strand q) w cs)
-  blocks_alike Begin bs cs h = (up, h)
-  blocks_alike End [] [] h = tt
-  blocks_alike End (b ∷ bs) (c ∷ cs) h = by (b.strand == n) (same_name c.strand q) (same_strand b.strand c.strand h.0) where
+  -- where a block is the strand's own by its number, it is by its name
+  where_own : (b : Block) (c : Begun) → steps_down names b.strand ≡ Some c.strand → (bs : List Block) (cs : List Begun) → AreBegun names bs cs → AreAlike names (cond (b.strand == n) (Some bs) None) (cond (same_name c.strand q) (Some cs) None)
+  where_own b c up_to bs cs h = by (b.strand == n) (same_name c.strand q) (same_strand b.strand c.strand up_to) where
     by : (x y : Bool) → x ≡ y → AreAlike names (cond x (Some bs) None) (cond y (Some cs) None)
-    by true true e = h.1
+    by true true e = h
     by false false e = tt
     by true false e = absurd cc
     by false true e = absurd cc
-  blocks_alike End _ _ h = absurd h
-  blocks_alike Fork bs cs h = tt
-  blocks_alike Sync bs cs h = tt
-  blocks_alike Done bs cs h = tt
-  blocks_alike (Fault k) bs cs h = tt
-  blocks_alike _ bs cs h = h
+
+  -- a want does the same to both
+  pub blocks_alike : (place : ℕ) (w : Want) (bs : List Block) (cs : List Begun) → AreBegun names bs cs
+      → AreAlike names (blocks_after (record { strand = n; writes = place }) (λ (b : Block). b.strand == n) w bs) (blocks_after (record { strand = q }) (λ (c : Begun). same_name c.strand q) w cs)
+  blocks_alike place Begin bs cs h = (up, h)
+  blocks_alike place End [] [] h = tt
+  blocks_alike place End (b ∷ bs) (c ∷ cs) h = where_own b c h.0 bs cs h.1
+  blocks_alike place End _ _ h = absurd h
+  blocks_alike place Cancel [] [] h = tt
+  blocks_alike place Cancel (b ∷ bs) (c ∷ cs) h = where_own b c h.0 (b ∷ bs) (c ∷ cs) h
+  blocks_alike place Cancel _ _ h = absurd h
+  blocks_alike place Fork bs cs h = tt
+  blocks_alike place Sync bs cs h = tt
+  blocks_alike place Done bs cs h = tt
+  blocks_alike place (Fault k) bs cs h = tt
+  blocks_alike place _ bs cs h = h

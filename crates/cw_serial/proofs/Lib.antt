@@ -2,6 +2,10 @@ pub mod Deep
 pub mod Sides
 pub mod Turns
 pub mod Branches
+pub mod MapsInOrder
+pub mod HeldBefore
+pub mod Undone
+pub mod PuttingBack
 pub mod Working
 pub mod Settled
 pub mod Replaced

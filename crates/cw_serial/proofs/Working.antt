@@ -1,15 +1,17 @@
 -- One worker goes depth first: what it does in turn is what the machine does at picks of the leftmost strand.
-use Rattle.std.proofs.Common.{◌≡◌, ℕ, ℤ, zero, suc, List, [], ◌∷◌, refl, ap, sym, ◌∙◌, subst, true, false, cond, Some, None, append-nil}
-use Rattle.std.specs.Prelude.{option_map}
+use Rattle.std.proofs.Common.{◌≡◌, ◌≤◌, ℕ, ℤ, zero, suc, List, [], ◌∷◌, length, refl, ap, sym, ◌∙◌, subst, true, false, cond, Some, None, append-nil}
+use Rattle.std.specs.Prelude.{option_map, All}
 use Rattle.cw_strand.specs.declared.want.Want.{Want}
-use Rattle.cw_strand.specs.declared.want.Want.TheVariants.{Begin, End, Fork, Sync, Done, Fault}
+use Rattle.cw_strand.specs.declared.want.Want.TheVariants.{Begin, End, Cancel, Fork, Sync, Done, Fault}
 use Rattle.cw_strand.specs.Strands.{Strands, IsDeep, is_over, wants_fork, takes_answer, IsAnswer, own_after, MayWant, GoesTo, stays, answered, joins, Reached, of_main, of_left, of_right, Closes}
 use Rattle.cw_serial.specs.StrandTree.{stands, ended, meet, goes_on, at, put}
-use Rattle.cw_serial.specs.Wants.{answer_to, memory_after, outputs_after, blocks_after}
+use Rattle.cw_serial.specs.Wants.{Since, answer_to, memory_after, outputs_after, blocks_after, since_after}
 use Rattle.cw_serial.specs.Machine.{Begun, Machine, same_name, does, pick_at, pick}
 use Rattle.cw_serial.specs.DepthFirst.{leftmost}
 use Rattle.cw_serial.proofs.Deep.{meet_both, ended_stands, goes_nowhere, goes_over, goes_forking}
 use Rattle.cw_serial.proofs.Turns.{name_itself}
+use Rattle.std.proofs.lemmas.List.Elements.{All-nil}
+use Rattle.cw_serial.proofs.PuttingBack.{Fits, since_fits, given_up_there, memory_fits}
 use Rattle.cw_serial.proofs.Branches.{Branch, on_left, on_right, way, begun_in, may_pick_here, plugged, at_plugged, put_plugged, HasPassed, leftmost_plugged}
 
 -- ## What a worker holds
@@ -27,6 +29,8 @@ pub record Worker (A : Type 0) : Type 0 where
   pub branches : List (Branch A)
   pub forks : ℕ
   pub blocks : ℕ
+  -- what the begun blocks may put back, the innermost first
+  pub since : List Since
   pub strand : A
 
 -- the begun blocks of a strand after a want of it
@@ -36,17 +40,18 @@ blocks_in End (suc b) = b
 blocks_in w b = b
 
 -- what a want is answered with is what it takes
-pub is_answer : (w : Want) (memory : List ℤ) → takes_answer w ≡ true → IsAnswer w (answer_to w memory)
-is_answer Fork memory d = absurd (cc d)
-is_answer Sync memory d = absurd (cc d)
-is_answer Done memory d = absurd (cc d)
-is_answer (Fault k) memory d = absurd (cc d)
-is_answer _ memory d = tt
+pub is_answer : (n : ℕ) (w : Want) (memory : List ℤ) (since : List Since) → All (Fits n) since → takes_answer w ≡ true → IsAnswer n w (answer_to w memory since)
+is_answer n Fork memory since fits d = absurd (cc d)
+is_answer n Sync memory since fits d = absurd (cc d)
+is_answer n Done memory since fits d = absurd (cc d)
+is_answer n (Fault k) memory since fits d = absurd (cc d)
+is_answer n Cancel memory since fits d = given_up_there n since fits
+is_answer n _ memory since fits d = tt
 
 module _ {A : Type 0} (s : Strands A) where
   -- the machine that it stands for
   abbrev pub machine_at : Worker A → Machine A
-  machine_at w = record { memory = w.memory; outputs = w.outputs; strands = plugged s w.branches (goes_on s w.forks w.strand); begun = begun_in w.branches w.blocks }
+  machine_at w = record { memory = w.memory; outputs = w.outputs; strands = plugged s w.branches (goes_on s w.forks w.strand); begun = begun_in w.branches w.blocks; since = w.since }
 
   -- after the strand's want was done
   abbrev pub after_act : Worker A → Worker A
@@ -54,7 +59,8 @@ module _ {A : Type 0} (s : Strands A) where
     memory = memory_after (s.want w.strand) w.memory;
     outputs = outputs_after (s.want w.strand) w.outputs;
     blocks = blocks_in (s.want w.strand) w.blocks;
-    strand = s.answer w.strand (answer_to (s.want w.strand) w.memory);
+    since = since_after (s.want w.strand) w.memory w.since;
+    strand = s.answer w.strand (answer_to (s.want w.strand) w.memory w.since);
   }
 
   -- on the left strand of a new fork
@@ -69,8 +75,11 @@ module _ {A : Type 0} (s : Strands A) where
   IsBeneath (on_right k n m l ∷ c) own a =
       (f : A) × (beside : List ℕ) × IsBeneath c (own_in c n) f × (s.want f ≡ Fork) × GoesTo s (0 ∷ []) (s.left f) beside l × (is_over (s.want l) ≡ true) × GoesTo s (0 ∷ own_in c n) (s.right f) own a
 
+  -- It runs one, over a memory of no more elements than the cells have.
   pub record IsAtWork (w : Worker A) : Type 0 where
     pub runs : IsBeneath w.branches (own_in w.branches w.blocks) w.strand
+    pub there : length w.memory ≤ s.elements
+    pub fits : All (Fits s.elements) w.since
 
   has_passed : (c : List (Branch A)) (own : List ℕ) (a : A) → IsBeneath c own a → HasPassed s c
   has_passed [] own a h = tt
@@ -92,8 +101,8 @@ module _ {A : Type 0} (s : Strands A) where
   goes_beneath (on_left k n r ∷ c) own next a b more h = (h.0, h.1, h.2, h.3, more _ _ h.4)
   goes_beneath (on_right k n m l ∷ c) own next a b more h = (h.0, h.1, h.2, h.3, h.4, h.5, more _ _ h.6)
 
-  pub starts_work : (memory : List ℤ) → IsAtWork (record { memory = memory; outputs = []; branches = []; forks = 0; blocks = 0; strand = s.start })
-  starts_work memory = record { runs = stays }
+  pub starts_work : (memory : List ℤ) → length memory ≤ s.elements → IsAtWork (record { memory = memory; outputs = []; branches = []; forks = 0; blocks = 0; since = []; strand = s.start })
+  starts_work memory there = record { runs = stays; there = there; fits = All-nil (Fits s.elements) }
 
   -- ## A want
 
@@ -129,6 +138,12 @@ module _ {A : Type 0} (s : Strands A) where
     none [] m = m
     none (on_left k n r ∷ c) m = m
     none (on_right k n o l ∷ c) m = m
+  begun_after Cancel c (suc b) d m = ap (λ o. cond o (Some (begun_in c (suc b))) None) (name_itself (way c))
+  begun_after Cancel c zero d m = absurd (none c m) where
+    none : (c : List (Branch A)) → MayWant Cancel (own_in c zero) → ⊥
+    none [] m = m
+    none (on_left k n r ∷ c) m = m
+    none (on_right k n o l ∷ c) m = m
   begun_after Fork c b d m = absurd (cc d)
   begun_after Sync c b d m = absurd (cc d)
   begun_after Done c b d m = absurd (cc d)
@@ -139,8 +154,13 @@ module _ {A : Type 0} (s : Strands A) where
     pub acts : (w : Worker A) → IsAtWork w → takes_answer (s.want w.strand) ≡ true → IsAtWork (after_act w)
     acts w h d =
         let v : Want = s.want w.strand in
-        let P : List ℕ → Type 0 = λ own. IsBeneath w.branches own (s.answer w.strand (answer_to v w.memory)) in
-        record { runs = subst P (own_after_act v w.branches w.blocks d (closes _ _ (reached h))) (goes_beneath w.branches _ _ _ _ (λ from first g. answered g (answer_to v w.memory) (is_answer v w.memory d)) h.runs) }
+        let given = answer_to v w.memory w.since in
+        let P : List ℕ → Type 0 = λ own. IsBeneath w.branches own (s.answer w.strand given) in
+        record {
+          runs = subst P (own_after_act v w.branches w.blocks d (closes _ _ (reached h))) (goes_beneath w.branches _ _ _ _ (λ from first g. answered g given (is_answer s.elements v w.memory w.since h.fits d)) h.runs);
+          there = memory_fits s.elements v w.memory h.there;
+          fits = since_fits s.elements v w.memory w.since h.there h.fits;
+        }
 
     -- where the strand that is run stands
     stands_here : (w : Worker A) → wants_fork (s.want w.strand) ≡ false → is_over (s.want w.strand) ≡ false → ended s (goes_on s w.forks w.strand) ≡ None
@@ -167,7 +187,7 @@ module _ {A : Type 0} (s : Strands A) where
     does_act : (w : Worker A) → IsAtWork w → takes_answer (s.want w.strand) ≡ true → does s (machine_at w) (way w.branches) w.strand ≡ Some (machine_at (after_act w))
     does_act w h d =
         let (o, f) = stands_by (s.want w.strand) d in
-        let a : A = s.answer w.strand (answer_to (s.want w.strand) w.memory) in
+        let a : A = s.answer w.strand (answer_to (s.want w.strand) w.memory w.since) in
         ap (option_map (λ blocks. record (machine_at (after_act w)) { strands = put s (machine_at w).strands (way w.branches) a; begun = blocks })) (begun_after (s.want w.strand) w.branches w.blocks d (closes _ _ (reached h)))
         ∙ ap (λ t. Some (record (machine_at (after_act w)) { strands = t })) (put_here w a f o)
 
@@ -180,7 +200,7 @@ module _ {A : Type 0} (s : Strands A) where
     -- ## Forks and joins
 
     pub forks_off : (w : Worker A) → IsAtWork w → s.want w.strand ≡ Fork → IsAtWork (after_fork w)
-    forks_off w h f = record { runs = (w.strand, h.runs, f, refl, stays) }
+    forks_off w h f = record { runs = (w.strand, h.runs, f, refl, stays); there = h.there; fits = h.fits }
 
     -- a strand is at its end without a block of its own
     no_block : (w : Want) (b : ℕ) (bs : List ℕ) → is_over w ≡ true → MayWant w (b ∷ bs) → b ≡ 0
@@ -200,37 +220,40 @@ module _ {A : Type 0} (s : Strands A) where
 
     -- the machine is the same on the left strand of a fork
     pub fork_stays : (deep : IsDeep s) (w : Worker A) → s.want w.strand ≡ Fork → machine_at (after_fork w) ≡ machine_at w
-    fork_stays deep w f = ap (λ t. record { memory = w.memory; outputs = w.outputs; strands = plugged s w.branches t; begun = begun_in w.branches w.blocks }) (sym (goes_forking s deep w.forks w.strand f))
+    fork_stays deep w f = ap (λ t. record { memory = w.memory; outputs = w.outputs; strands = plugged s w.branches t; begun = begun_in w.branches w.blocks; since = w.since }) (sym (goes_forking s deep w.forks w.strand f))
 
-    module _ (memory outputs : List ℤ) (c : List (Branch A)) (k n : ℕ) (m b : ℕ) (a : A) (over : is_over (s.want a) ≡ true) where
+    module _ (memory outputs : List ℤ) (since : List Since) (c : List (Branch A)) (k n : ℕ) (m b : ℕ) (a : A) (over : is_over (s.want a) ≡ true) where
       -- at the end of a left strand, where the right one is to come
       abbrev pub at_left_end : A → Worker A
-      at_left_end r = record { memory = memory; outputs = outputs; branches = on_left k n r ∷ c; forks = m; blocks = b; strand = a }
+      at_left_end r = record { memory = memory; outputs = outputs; branches = on_left k n r ∷ c; forks = m; blocks = b; since = since; strand = a }
 
       abbrev pub after_turn : A → Worker A
-      after_turn r = record { memory = memory; outputs = outputs; branches = on_right k n m a ∷ c; forks = 0; blocks = 0; strand = r }
+      after_turn r = record { memory = memory; outputs = outputs; branches = on_right k n m a ∷ c; forks = 0; blocks = 0; since = since; strand = r }
 
       pub turns_right : (r : A) → IsAtWork (at_left_end r) → IsAtWork (after_turn r)
-      turns_right r h = record { runs = (h.runs.0, b ∷ [], h.runs.1, h.runs.2, h.runs.4, over, let P : A → Type 0 = λ x. GoesTo s (0 ∷ own_in c n) x (0 ∷ own_in c n) r in subst P h.runs.3 stays) }
+      turns_right r h =
+          let P : A → Type 0 = λ x. GoesTo s (0 ∷ own_in c n) x (0 ∷ own_in c n) r in
+          record { runs = (h.runs.0, b ∷ [], h.runs.1, h.runs.2, h.runs.4, over, subst P h.runs.3 stays); there = h.there; fits = h.fits }
 
       pub turn_stays : (r : A) → IsAtWork (at_left_end r) → machine_at (after_turn r) ≡ machine_at (at_left_end r)
       turn_stays r h =
-          ap (λ t. record { memory = memory; outputs = outputs; strands = plugged s c (meet s (goes_on s) k t (goes_on s 0 r)); begun = begun_in c n }) (sym (goes_over s m a over))
-          ∙ ap (λ x. record { memory = memory; outputs = outputs; strands = plugged s c (meet s (goes_on s) k (goes_on s m a) (goes_on s 0 r)); begun = begun_in (on_left k n r ∷ c) x }) (sym (no_block (s.want a) b [] over (closes _ _ (reached h))))
+          ap (λ t. record { memory = memory; outputs = outputs; strands = plugged s c (meet s (goes_on s) k t (goes_on s 0 r)); begun = begun_in c n; since = since }) (sym (goes_over s m a over))
+          ∙ ap (λ x. record { memory = memory; outputs = outputs; strands = plugged s c (meet s (goes_on s) k (goes_on s m a) (goes_on s 0 r)); begun = begun_in (on_left k n r ∷ c) x; since = since }) (sym (no_block (s.want a) b [] over (closes _ _ (reached h))))
 
       -- at the end of a right strand, where the left one has ended
       abbrev pub at_right_end : ℕ → A → Worker A
-      at_right_end o l = record { memory = memory; outputs = outputs; branches = on_right k n o l ∷ c; forks = m; blocks = b; strand = a }
+      at_right_end o l = record { memory = memory; outputs = outputs; branches = on_right k n o l ∷ c; forks = m; blocks = b; since = since; strand = a }
 
       abbrev pub after_join : A → Worker A
-      after_join l = record { memory = memory; outputs = outputs; branches = c; forks = k; blocks = n; strand = s.joined a l }
+      after_join l = record { memory = memory; outputs = outputs; branches = c; forks = k; blocks = n; since = since; strand = s.joined a l }
 
       pub joins_up : (o : ℕ) (l : A) → IsAtWork (at_right_end o l) → IsAtWork (after_join l)
-      joins_up o l h = record { runs = goes_beneath c _ _ _ _ (λ from first g. joins g h.runs.3 h.runs.4 h.runs.5 h.runs.6 over) h.runs.2 }
+      joins_up o l h =
+          record { runs = goes_beneath c _ _ _ _ (λ from first g. joins g h.runs.3 h.runs.4 h.runs.5 h.runs.6 over) h.runs.2; there = h.there; fits = h.fits }
 
       pub join_stays : (o : ℕ) (l : A) → IsAtWork (at_right_end o l) → machine_at (after_join l) ≡ machine_at (at_right_end o l)
       join_stays o l h =
           let none : b ≡ 0 = no_block (s.want a) b (own_in c n) over (closes _ _ (reached h)) in
-          ap (λ t. record { memory = memory; outputs = outputs; strands = plugged s c t; begun = begun_in c n }) (sym (meet_both s (goes_on s) k (stands o l) (stands m a) l a (ended_stands s o l h.runs.5) (ended_stands s m a over)))
-          ∙ (ap (λ t. record { memory = memory; outputs = outputs; strands = plugged s c (meet s (goes_on s) k (stands o l) t); begun = begun_in c n }) (sym (goes_over s m a over))
-          ∙ ap (λ y. record { memory = memory; outputs = outputs; strands = plugged s c (meet s (goes_on s) k (stands o l) (goes_on s m a)); begun = begun_in (on_right k n o l ∷ c) y }) (sym none))
+          ap (λ t. record { memory = memory; outputs = outputs; strands = plugged s c t; begun = begun_in c n; since = since }) (sym (meet_both s (goes_on s) k (stands o l) (stands m a) l a (ended_stands s o l h.runs.5) (ended_stands s m a over)))
+          ∙ (ap (λ t. record { memory = memory; outputs = outputs; strands = plugged s c (meet s (goes_on s) k (stands o l) t); begun = begun_in c n; since = since }) (sym (goes_over s m a over))
+          ∙ ap (λ y. record { memory = memory; outputs = outputs; strands = plugged s c (meet s (goes_on s) k (stands o l) (goes_on s m a)); begun = begun_in (on_right k n o l ∷ c) y; since = since }) (sym none))

@@ -1,5 +1,5 @@
 -- The machine with one memory, driven by picks. It does one want of a strand at each pick. While a block is begun, only strands inside
--- the innermost begun one may be picked, and only the strand that began it ends it: so each block is done without a break.
+-- the innermost begun one may be picked, and only the strand that began it ends it or gives it up: so each block is done without a break.
 use Rattle.std.specs.Prelude.{ℕ, ℤ, zero, suc, ◌==◌, ◌&&◌, Bool, true, false, not, List, [], ◌∷◌, ◌++◌, slice_get, nat_lt, Option, Some, None, option_map, is_some, unwrap_or, if◌then◌else◌}
 use Rattle.cw_strand.specs.declared.want.Want.{Want}
 use Rattle.cw_strand.specs.declared.want.Want.TheVariants.{Sync, Done, Fault}
@@ -10,7 +10,7 @@ use Rattle.cw_tree.specs.declared.picks.Picks.{Picks}
 use Rattle.cw_serial.specs.declared.ends.SerialEnd.{SerialEnd}
 use Rattle.cw_serial.specs.declared.ends.SerialEnd.TheVariants as last
 use Rattle.cw_serial.specs.StrandTree.{StrandTree, at, put, goes_on, ended}
-use Rattle.cw_serial.specs.Wants.{answer_to, memory_after, outputs_after, blocks_after}
+use Rattle.cw_serial.specs.Wants.{Since, answer_to, memory_after, outputs_after, blocks_after, since_after}
 
 -- a begun block, by the name of the strand that began it
 pub record Begun : Type 0 where
@@ -22,6 +22,8 @@ pub record Machine (A : Type 0) : Type 0 where
   pub strands : StrandTree A
   -- the begun blocks, the innermost first
   pub begun : List Begun
+  -- what was before each of them, and was written since, the innermost first
+  pub since : List Since
 
 abbrev pub same_side : Bool → Bool → Bool
 same_side true b = b
@@ -54,8 +56,9 @@ module _ {A : Type 0} (s : Strands A) where
       option_map (λ blocks. record {
         memory = memory_after (s.want a) m.memory;
         outputs = outputs_after (s.want a) m.outputs;
-        strands = put s m.strands p (s.answer a (answer_to (s.want a) m.memory));
+        strands = put s m.strands p (s.answer a (answer_to (s.want a) m.memory m.since));
         begun = blocks;
+        since = since_after (s.want a) m.memory m.since;
       }) (blocks_after (record { strand = p }) (λ b. same_name b.strand p) (s.want a) m.begun)
 
   abbrev pub pick_at : Machine A → List Turn → Option A → Option (Machine A)
@@ -67,7 +70,7 @@ module _ {A : Type 0} (s : Strands A) where
 
   -- before the first pick
   abbrev pub initial : List ℤ → Machine A
-  initial memory = record { memory = memory; outputs = []; strands = goes_on s 0 s.start; begun = [] }
+  initial memory = record { memory = memory; outputs = []; strands = goes_on s 0 s.start; begun = []; since = [] }
 
   abbrev pub has_ended : Machine A → Bool
   has_ended m = is_some (ended s m.strands)

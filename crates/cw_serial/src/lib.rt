@@ -10,13 +10,14 @@ ghost use Rattle.cw_serial.specs.Forks.{ForksAreMade};
 ghost use Rattle.cw_job.specs.Jobs.{Job};
 ghost use Rattle.cw_job.specs.Room.Strands.{strands_of_job};
 ghost use Rattle.cw_serial.specs.Worked.{CrossingEnds};
-ghost use Rattle.cw_serial.specs.WorkedPrograms.{Ends, StrandEnds};
+ghost use Rattle.cw_serial.specs.WorkedPrograms.{Ends, StrandEnds, CancelEnds, CancelLists};
 
 mod ends;
 mod machine;
 mod orders;
 mod play;
 mod table;
+mod undo;
 
 pub use cw_code::{CellInfo, FaultKind, Limits, Program};
 pub use cw_job::{Standing, first_memory, takes_words, value_at};
@@ -30,6 +31,8 @@ pub use play::{Play, serial};
 pub fn worked_runs()
     ensures main { Ends }
     ensures strands { StrandEnds }
+    ensures cancels { CancelEnds }
+    ensures lists { CancelLists }
     ensures crossing { CrossingEnds }
 {}
 

@@ -4,16 +4,11 @@ ghost use Rattle.cw_serial.specs.InMemory.{before_end};
 ghost use Rattle.cw_serial.specs.Orders.{end_from};
 
 use crate::table::Table;
+use crate::undo::Undo;
 use crate::{Limits, Name, Program, SerialEnd, Standing, first_memory, value_at};
-use cw_base::{OutOfMemory, Seq, Stack};
+use cw_base::{OutOfMemory, Seq};
 use cw_strand::{Given, Want};
 use std::alloc::Global;
-
-/// A begun block: the number of the strand that began it.
-#[derive(Clone, Copy)]
-pub struct Begun {
-    pub strand: u32,
-}
 
 /// The machine with one memory, of a program with the words of its command and its limits. A strand is named by its number among the strands that were started.
 #[derive(Drop)]
@@ -22,7 +17,7 @@ pub struct Machine {
     memory: Vec<i64>,
     outputs: Vec<i64>,
     strands: Table<Standing>,
-    begun: Stack<Begun>,
+    undo: Undo,
 }
 
 impl Machine {
@@ -57,7 +52,7 @@ impl Machine {
             memory,
             outputs: Vec::new(alloc),
             strands,
-            begun: Stack::new(alloc),
+            undo: Undo::new(alloc),
         })
     }
 
@@ -161,7 +156,7 @@ impl Machine {
         ensures { (job : Job) (m : State_of StrandState) (q : List Turn) → IsMachine job self.now m →
             steps_down (names_in self.now) strand ≡ Some q → result ≡ may_pick m.begun q }
     {
-        match self.begun.newest() {
+        match self.undo.begun.newest() {
             None => true,
             Some(block) => self.strands.is_beneath(block.strand, strand),
         }
@@ -178,10 +173,17 @@ impl Machine {
     fn do_want(&mut self, strand: u32, want: Want) -> Result<Option<Given>, OutOfMemory>
         ensures { IfOk result (λ given. DoesWant want strand self.old given self.new) }
     {
+        if !self.undo.follow(strand, want, &self.memory)? {
+            return Ok(None);
+        }
         match want {
             Want::Load(element) => {
                 let value = value_at(&self.memory, element as usize);
                 return Ok(Some(Given::Value(value)));
+            }
+            Want::Cancel => {
+                let list = self.undo.given_up(self.alloc, &self.memory)?;
+                return Ok(Some(Given::Back(list)));
             }
             Want::Store(element, value) => {
                 if let Some(held) = self.memory.get_mut(element as usize) {
@@ -189,18 +191,7 @@ impl Machine {
                 }
             }
             Want::Out(value) => self.outputs.push(value)?,
-            Want::Begin => self.begun.push(Begun { strand })?,
-            Want::End => {
-                if !self
-                    .begun
-                    .newest()
-                    .is_some_and(|block| block.strand == strand)
-                {
-                    return Ok(None);
-                }
-                self.begun.pop();
-            }
-            Want::Fork | Want::Sync | Want::Done | Want::Fault(_) => return Ok(None),
+            _ => {}
         }
         Ok(Some(Given::Nothing))
     }

@@ -50,10 +50,12 @@ fn picks_of(alloc: Global, list: &[u32]) -> Result<Picks, Fail> {
 
 fn shown(alloc: Global, end: &SerialEnd) -> Result<String, Fail> {
     Ok(match end {
-        SerialEnd::Finished { memory, .. } => {
+        SerialEnd::Finished { memory, outputs } => {
             let memory = memory.as_slice();
-            format!(in alloc; "Finished {memory:?}")?
+            let outputs = outputs.as_slice();
+            format!(in alloc; "Finished {memory:?} {outputs:?}")?
         }
+        SerialEnd::Fault { kind, .. } => format!(in alloc; "Fault {kind:?}")?,
         SerialEnd::Stuck { place } => format!(in alloc; "Stuck {place}")?,
         _ => String::new(alloc),
     })
@@ -64,12 +66,79 @@ fn picks_lead_to_ends(rt: HostRuntime) -> Result<(), Fail> {
     let alloc = rt.alloc();
     let program = program(alloc, BOTH)?;
     let table: [(&[u32], &str); 3] = [
-        (&[0, 1, 2, 1, 2, 0], "Finished [1]"),
-        (&[0, 1, 1, 2, 2, 0], "Finished [2]"),
+        (&[0, 1, 2, 1, 2, 0], "Finished [1] []"),
+        (&[0, 1, 1, 2, 2, 0], "Finished [2] []"),
         (&[0, 1, 0], "Stuck 2"),
     ];
     for (list, wanted) in table {
         let end = serial(alloc, &program, &[], LIMITS, &picks_of(alloc, list)?)?;
+        assert_eq!(rt; shown(alloc, &end)?.as_str(), wanted);
+    }
+    Ok(())
+}
+
+const SPAWNED: &str =
+    "language 2; cell c; cell d; fn main() { atomic { spawn { c = 1; } d = 2; cancel; } }";
+
+// Programs that give up a block, with their size and the picks that bring each to its end.
+const CANCELS: [(&str, u32, &[u32], &str); 9] = [
+    (
+        "language 2; cell c = 5; fn main() { atomic { c = 9; out c; cancel; out 1; } out c; }",
+        9,
+        &[0; 9],
+        "Finished [5] [9, 5]",
+    ),
+    (
+        "language 2; cell c; fn main() { atomic { c = 1; atomic { c = 2; cancel; } out c; } }",
+        99,
+        &[0; 10],
+        "Finished [1] [1]",
+    ),
+    (
+        "language 2; cell c; cell d; fn main() { atomic { c = 1; atomic { d = 2; cancel; } cancel; } }",
+        99,
+        &[0; 11],
+        "Finished [0, 0] []",
+    ),
+    (
+        "language 2; cell a[3] = 4; cell b; fn main() { atomic { b = 1; a[2] = 7; a[0] = a[2]; a[2] = 8; let x = a[1]; cancel; } }",
+        99,
+        &[0; 12],
+        "Finished [4, 4, 4, 0] []",
+    ),
+    (
+        "language 2; cell c; fn main() { atomic { let x = c; cancel; } }",
+        99,
+        &[0; 4],
+        "Finished [0] []",
+    ),
+    (
+        "language 2; cell c; fn main() { let x = 3; atomic { let y = 1; x = x + y; c = 7; if x { let z = 9; x = z; cancel; } x = 0; } out x; let y = 2; out y; }",
+        99,
+        &[0; 7],
+        "Finished [0] [9, 2]",
+    ),
+    (
+        "language 2; cell c; fn main() { let i = 0; atomic { while 1 { i = i + 1; c = i; if i == 3 { cancel; } } } out i; }",
+        99,
+        &[0; 8],
+        "Finished [0] [3]",
+    ),
+    (SPAWNED, 7, &[0, 1, 2, 0, 0, 0, 0], "Finished [0, 0] []"),
+    (SPAWNED, 6, &[0, 1, 2, 0, 0], "Fault Size"),
+];
+
+#[test]
+fn blocks_are_given_up(rt: HostRuntime) -> Result<(), Fail> {
+    let alloc = rt.alloc();
+    for (source, size, list, wanted) in CANCELS {
+        let program = program(alloc, source)?;
+        let limits = Limits {
+            fuel: 99,
+            size,
+            ..LIMITS
+        };
+        let end = serial(alloc, &program, &[], limits, &picks_of(alloc, list)?)?;
         assert_eq!(rt; shown(alloc, &end)?.as_str(), wanted);
     }
     Ok(())

@@ -117,9 +117,13 @@ fn printed(alloc: Global, text: &[u8]) -> Result<Vec<u8>, TextRefusal> {
 
 #[test]
 fn programs_are_printed_and_their_texts_as_themselves(rt: HostRuntime) -> Result<(), Fail> {
-    let table: [(&[u8], &[u8]); 4] = [
+    let table: [(&[u8], &[u8]); 5] = [
         (b"", b""),
         (b"fn main(){}", b"fn main ( ) {\n}\n"),
+        (
+            b"language 2; cell c=-5; fn main() { atomic { cancel; } }",
+            b"language 2 ;\ncell c = - 5 ;\nfn main ( ) {\natomic {\ncancel ;\n}\n}\n",
+        ),
         (
             b"fn main(){if 1{}else{sync;}}",
             b"fn main ( ) {\nif 1 {\n}\nelse {\nsync ;\n}\n}\n",
