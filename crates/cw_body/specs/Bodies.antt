@@ -31,13 +31,17 @@ strands_of_program program = strands_of_job (bare program)
 abbrev pub want_of : InBlocks → Want
 want_of b = (strands_of_program b.program).want b.state
 
+-- how many elements the cells of its program have
+abbrev pub elements_of : InBlocks → ℕ
+elements_of b = (strands_of_program b.program).elements
+
 -- ## What calls ask
 
--- this answers an access or an output
-abbrev pub AnswersAct : Want → Given → Type 0
-AnswersAct Begin given = ⊥
-AnswersAct End given = ⊥
-AnswersAct w given = IsAnswer w given
+-- this answers an access, an output or a cancel, where the cells have so many elements
+abbrev pub AnswersAct : (elements : ℕ) → Want → Given → Type 0
+AnswersAct n Begin given = ⊥
+AnswersAct n End given = ⊥
+AnswersAct n w given = IsAnswer n w given
 
 -- each pending block around it was begun before the fork of which it is the right strand
 abbrev pub HasNoBlock : InBlocks → Type 0

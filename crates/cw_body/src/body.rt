@@ -5,7 +5,7 @@ ghost use Rattle.cw_job.specs.Jobs.{Job, TakesWords};
 ghost use Rattle.cw_job.specs.Room.Strands.{strands_of_job};
 ghost use Rattle.cw_job.specs.Room.Saves.{IsSavedOf};
 ghost use Rattle.cw_body.specs.declared.stage.Stage.TheVariants.{Goes, GaveUp, Lost};
-ghost use Rattle.cw_body.specs.Bodies.{AnswersAct, HasNoBlock, IsLost, answered, begun, ended, forgot, gave_up, goes_from, joined, left_of, right_of, want_of, went_back};
+ghost use Rattle.cw_body.specs.Bodies.{AnswersAct, HasNoBlock, IsLost, answered, begun, elements_of, ended, forgot, gave_up, goes_from, joined, left_of, right_of, want_of, went_back};
 
 use crate::Stage;
 use crate::begin::Begin;
@@ -69,11 +69,11 @@ impl Body {
         self.standing.want()
     }
 
-    /// Goes on from an access or an output to its next want.
+    /// Goes on from an access, an output or a cancel to its next want.
     pub fn answer(&mut self, given: Given, program: &Program) -> Result<(), OutOfMemory>
         requires goes { self.old.stage ≡ Goes }
         requires program { program.now ≡ self.old.program }
-        requires answers { AnswersAct (want_of self.old) given }
+        requires answers { AnswersAct (elements_of self.old) (want_of self.old) given }
         ensures ok { OnOk result ((job : Job) → job.program ≡ program.now → self.new ≡ answered (strands_of_job job) given self.old) }
         ensures err { OnErr result (IsLost self.old self.new) }
     {

@@ -44,7 +44,7 @@ reader_next reads (Value v) = shows v
 reader_next x given = over
 
 abbrev pub reader : Strands Reader
-reader = record { start = reads; want = reader_wants; answer = reader_next; left = λ x. x; right = λ x. x; joined = λ r l. r; depth = λ x. 0 }
+reader = record { elements = 1; start = reads; want = reader_wants; answer = reader_next; left = λ x. x; right = λ x. x; joined = λ r l. r; depth = λ x. 0 }
 
 -- this value was read, and 5 shown
 abbrev pub showed : (read : ℕ) → Course

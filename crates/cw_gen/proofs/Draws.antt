@@ -1,9 +1,9 @@
 -- Transfers that are drawn one after another, and their groups.
-use Rattle.std.proofs.Common.{◌≡◌, ℕ, zero, suc, ◌+◌, ◌-◌, ◌*◌, ◌<◌, ◌≤◌, List, [], ◌∷◌, ◌++◌, map, refl, ap, sym, ◌∙◌, arith, append_assoc}
+use Rattle.std.proofs.Common.{◌≡◌, ℕ, zero, suc, ◌+◌, ◌-◌, ◌*◌, ◌<◌, List, [], ◌∷◌, ◌++◌, map, ap, ◌∙◌, arith, append_assoc}
 use Rattle.std.specs.Prelude.{min, take, drop}
 use Rattle.std.specs.List.{range_with_len}
 use Rattle.std.proofs.lemmas.List.{map-append}
-use Rattle.cw_gen.specs.Load.{after_transfer, group, spawned_transfer, state_after, transfer_from, transfers}
+use Rattle.cw_gen.specs.Load.{after_transfer, group, state_after, transfer_from, transfers}
 
 -- One more of a list that is made from both.
 pub map_more : {X Y : Type 0} (f : X → Y) (old new : List X) (x : X) (y : Y) (rest : List Y) → new ≡ old ++ x ∷ [] → f x ≡ y → map f new ++ rest ≡ map f old ++ y ∷ rest

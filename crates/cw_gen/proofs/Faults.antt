@@ -1,5 +1,5 @@
 -- No load has a naming fault: each name is declared once, and each that is used is declared.
-use Rattle.std.proofs.Common.{◌≡◌, ℕ, zero, suc, ◌+◌, ◌<◌, ◌≤◌, ◌^◌, List, [], ◌∷◌, ◌++◌, map, refl, ap, sym, ◌∙◌, subst, arith, Bool, true, false, cond, Option, Some, None}
+use Rattle.std.proofs.Common.{◌≡◌, ℕ, zero, suc, ◌+◌, ◌<◌, ◌≤◌, ◌^◌, List, [], ◌∷◌, ◌++◌, map, refl, ap, sym, ◌∙◌, arith, Bool, true, false, cond, Some, None}
 use Rattle.std.specs.Prelude.{codes}
 use Rattle.std.specs.Fmt.{decimal}
 use Rattle.std.specs.List.{range_with_len}
@@ -9,9 +9,9 @@ use Rattle.std.specs.Bool.{Decides}
 use Rattle.std.proofs.lemmas.Slice.Eq.{bytes_eq-Decides}
 use Rattle.std.proofs.Math.Numerals.{lt_of_le_of_ne}
 use Rattle.cw_text.specs.Syntax.{Declaration, Statement, sync}
-use Rattle.cw_strand.specs.declared.naming.NameFault.{NameFault}
-use Rattle.cw_strand.specs.Names.{Thing, an_array, a_function, Scope, find, Fault, ◌then◌, declared_new, fault_of_call, in_statement, in_block, in_items, in_functions, in_params, globals, main_from, main_of, naming_fault, without_main}
-use Rattle.cw_gen.specs.Load.{Transfer, transfers, group, group_count, group_name, group_function, transfer_function, spawned_transfer, spawned_group, accounts, main_function, summed, block, word, load_tree}
+use Rattle.cw_strand.specs.declared.naming.Around.TheVariants.{Neither}
+use Rattle.cw_strand.specs.Names.{an_array, a_function, Scope, find, Fault, ◌then◌, declared_new, fault_of_call, in_statement, in_block, in_items, in_functions, in_params, globals, main_from, naming_fault, without_main}
+use Rattle.cw_gen.specs.Load.{Transfer, transfers, group, group_count, group_name, group_function, transfer_function, spawned_transfer, spawned_group, main_function, summed, block, word, load_tree}
 
 both : (f g : Fault) → f ≡ None → g ≡ None → (f then g) ≡ None
 both f g e h = ap (λ x. x then g) e ∙ h
@@ -101,7 +101,7 @@ module _ (n : ℕ) where
       (both (declared_new (find (codes "x") rest) 1) None (ap (λ t. declared_new t 1) (hidden (codes "x") (λ k. refl) refl)) refl)))
       e
 
-  calls_are_right : (ts : List Transfer) → in_block scope false (block (map spawned_transfer ts)) ≡ None
+  calls_are_right : (ts : List Transfer) → in_block scope Neither (block (map spawned_transfer ts)) ≡ None
   calls_are_right [] = refl
   calls_are_right (t ∷ ts) = calls_are_right ts
 
@@ -109,22 +109,22 @@ module _ (n : ℕ) where
   groups_have_none : (a len : ℕ) (ds : List Declaration) → in_functions scope ds ≡ None → in_functions scope (functions a len ++ ds) ≡ None
   groups_have_none a zero ds e = e
   groups_have_none a (suc len) ds e =
-      both (in_block scope false (block (map spawned_transfer (group a (transfers n n))))) _ (calls_are_right (group a (transfers n n))) (groups_have_none (a + 1) len ds e)
+      both (in_block scope Neither (block (map spawned_transfer (group a (transfers n n))))) _ (calls_are_right (group a (transfers n n))) (groups_have_none (a + 1) len ds e)
 
-  spawns_are_right : (a len : ℕ) (ss : List Statement) → a + len ≤ group_count n → in_block scope false (block ss) ≡ None → in_block scope false (block (map spawned_group (range_with_len a len) ++ ss)) ≡ None
+  spawns_are_right : (a len : ℕ) (ss : List Statement) → a + len ≤ group_count n → in_block scope Neither (block ss) ≡ None → in_block scope Neither (block (map spawned_group (range_with_len a len) ++ ss)) ≡ None
   spawns_are_right a zero ss low e = e
   spawns_are_right a (suc len) ss low e =
-      both (in_statement scope false (spawned_group a)) _
+      both (in_statement scope Neither (spawned_group a)) _
       (ap (λ t. ((fault_of_call t 0 1 then None) then None)) (find_group a 0 (group_count n) (globals (main_function (group_count n) ∷ [])) (omega arith) (omega (arith, low))))
       (spawns_are_right (a + 1) len ss (omega (arith, low)) e)
 
-  sum_is_right : in_block scope false (block (sync ∷ summed)) ≡ None
+  sum_is_right : in_block scope Neither (block (sync ∷ summed)) ≡ None
   sum_is_right =
       both (declared_new (find (codes "k") rest) 1 then None) _ (both (declared_new (find (codes "k") rest) 1) None (ap (λ t. declared_new t 1) (hidden (codes "k") (λ k. refl) refl)) refl)
       (both (declared_new (find (codes "s") rest) 1 then None) _ (both (declared_new (find (codes "s") rest) 1) None (ap (λ t. declared_new t 1) (hidden (codes "s") (λ k. refl) refl)) refl) refl)
 
   main_has_none : in_functions scope (main_function (group_count n) ∷ []) ≡ None
-  main_has_none = both (in_block scope false (block (map spawned_group (range_with_len 0 (group_count n)) ++ sync ∷ summed))) None (spawns_are_right 0 (group_count n) (sync ∷ summed) (omega arith) sum_is_right) refl
+  main_has_none = both (in_block scope Neither (block (map spawned_group (range_with_len 0 (group_count n)) ++ sync ∷ summed))) None (spawns_are_right 0 (group_count n) (sync ∷ summed) (omega arith) sum_is_right) refl
 
   functions_have_none : in_functions (globals (load_tree n)) (load_tree n) ≡ None
   functions_have_none =

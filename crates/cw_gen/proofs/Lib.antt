@@ -1,4 +1,5 @@
 pub mod Blocks
+pub mod Cancels
 pub mod Draws
 pub mod Faults
 pub mod Names

@@ -1,6 +1,6 @@
 -- The program of a load, as a tree all of whose lines are 1: so many transfers between 64 accounts, in groups of 16, each transfer in a
 -- strand of its own beneath the strand of its group.
-use Rattle.std.specs.Prelude.{◌≡◌, ℕ, zero, suc, ◌+◌, ◌*◌, ◌/◌, ◌%◌, ℤ, pos, List, [], ◌∷◌, ◌++◌, map, codes, take, drop}
+use Rattle.std.specs.Prelude.{ℕ, zero, suc, ◌+◌, ◌*◌, ◌/◌, ◌%◌, pos, List, [], ◌∷◌, ◌++◌, map, codes, take, drop}
 use Rattle.std.specs.List.{range_with_len}
 use Rattle.std.specs.Fmt.{decimal}
 use Rattle.cw_io.specs.Lcg.{drawn, next_state}

@@ -1,5 +1,5 @@
 -- What small loads draw, and how they are grouped.
-use Rattle.std.specs.Prelude.{◌≡◌, List, [], ◌∷◌, map, length}
+use Rattle.std.specs.Prelude.{◌≡◌, [], ◌∷◌, map, length}
 use Rattle.cw_gen.specs.Load.{transfers, group, group_count}
 
 pub record Loads : Type 0 where

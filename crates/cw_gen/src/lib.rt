@@ -3,7 +3,8 @@
 //! Contracts cite `specs/Load.antt` (the tree of a load) and `specs/Worked.antt` (what a few draw, and how they are grouped).
 #![tactic(auto)]
 
-ghost use Rattle.std.specs.Prelude.{◌≡◌, ◌≤◌, ℕ, None};
+ghost use Rattle.std.specs.Prelude.{◌≡◌, ◌≤◌, ℕ, None, false};
+ghost use Rattle.cw_text.specs.Cancels.{has_cancel};
 ghost use Rattle.cw_strand.specs.Meaning.{MainTakes};
 ghost use Rattle.cw_strand.specs.Names.{naming_fault};
 ghost use Rattle.cw_gen.specs.Load.{load_tree};
@@ -24,6 +25,11 @@ pub fn worked_loads()
 /// No load has a naming fault.
 pub fn loads_have_no_fault()
     ensures { (n : ℕ) → n ≤ 20000 → naming_fault (load_tree n) ≡ None }
+{}
+
+/// No load has a cancel.
+pub fn loads_have_no_cancel()
+    ensures { (n : ℕ) → has_cancel (load_tree n) ≡ false }
 {}
 
 /// Main of a load has no parameters.

@@ -219,16 +219,17 @@ fn main_function(alloc: Global, groups: u32) -> Result<Item, OutOfMemory>
 /// The program of so many transfers between 64 accounts of 1,000 each, from 1 to 20,000 of them. A transfer is drawn by three draws of a
 /// generator that begins with their number: the account that it is from and the one that it is to, each modulo 64, and the amount modulo
 /// 100. Each 16 of them, and what is left, are a function that spawns them; main spawns these functions, waits, and puts out the sum of all
-/// accounts. Every line is 1. The only error is want of memory.
+/// accounts. Every line is 1, and so is the language. The only error is want of memory.
 pub fn load_program(alloc: Global, count: u32) -> Result<Ast, OutOfMemory>
     requires some { 1 ≤ count }
     requires most { count ≤ 20000 }
-    ensures { IfOk result (λ ast. tree_of ast ≡ load_tree count) }
+    ensures tree { IfOk result (λ ast. tree_of ast ≡ load_tree count) }
+    ensures language { IfOk result (λ ast. ast.language ≡ 1) }
 {
     let mut items = Vec::new(alloc);
     items.push(accounts(alloc)?)?;
     items.push(transfer_function(alloc)?)?;
     push_groups(alloc, &mut items, count)?;
     items.push(main_function(alloc, group_count(count))?)?;
-    Ok(Ast { items })
+    Ok(Ast { language: 1, items })
 }

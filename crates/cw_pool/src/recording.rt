@@ -2,6 +2,7 @@
 ghost use Rattle.std.specs.Prelude.{◌≡◌, ◌<◌, IfOk, IsTrue, None, false, length};
 ghost use Rattle.cw_tree.specs.Nodes.{is_strand};
 ghost use Rattle.cw_strand.specs.Names.{first_memory};
+ghost use Rattle.cw_code.specs.Programs.{cancels};
 ghost use Rattle.cw_strand.specs.Programs.{IsCompiled};
 ghost use Rattle.cw_job.specs.Jobs.{TakesWords};
 ghost use Rattle.cw_log.specs.declared.token.Token.{Token};
@@ -82,6 +83,7 @@ fn run_named<N: Naming, G: Gate, R: Threads + Wait + Sync>(
     gate: &G,
 ) -> Result<Record, OutOfMemory>
     requires compiled { IsCompiled program }
+    requires cancels { cancels program.code ≡ false }
     requires words { TakesWords program (length words) }
     requires of { IsOf board root }
     requires root { token_of root ≡ root_token }
@@ -115,7 +117,7 @@ fn run_named<N: Naming, G: Gate, R: Threads + Wait + Sync>(
 }
 
 /// Runs a program by so many workers, each on a thread of its own, the first one on the caller's; one worker goes depth first, with neither
-/// board nor deque. The record has the program, words and limits that are handed in.
+/// board nor deque. The program gives up no block: its code has no cancel. The record has the program, words and limits that are handed in.
 ///
 /// With more than one worker the record is that of what a board gave whose rule is small yet: whether it replays has to be checked. The only
 /// error is want of memory; where one stops a strand there is no record.
@@ -129,6 +131,7 @@ pub fn run<G: Gate, R: Threads + Wait + Sync>(
     gate: &G,
 ) -> Result<Record, OutOfMemory>
     requires compiled { IsCompiled program }
+    requires cancels { cancels program.code ≡ false }
     requires words { TakesWords program (length words) }
     requires strands { 0 < limits.strands }
     ensures program { IfOk result (λ r. r.program ≡ program) }

@@ -48,6 +48,9 @@ pub(crate) fn acts<B: SharedBoard, J: Naming, G: Gate, R: Threads + Wait + Sync>
     worker: u32,
     now: &mut Running<B, J>,
 ) {
+    let Mode::Goes = now.mode else {
+        return;
+    };
     match now.body.want() {
         Want::Begin => {
             gate.at(rt, worker, Point::Begin);
@@ -64,6 +67,7 @@ pub(crate) fn acts<B: SharedBoard, J: Naming, G: Gate, R: Threads + Wait + Sync>
         }
         Want::Out(_) => puts_out(scene, now),
         Want::Fault(_) => faults(scene, now),
+        Want::Cancel => unreachable!(),
         Want::Fork | Want::Sync | Want::Done => {}
     }
 }

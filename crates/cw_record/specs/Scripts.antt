@@ -46,6 +46,7 @@ size_of (fork l r) = 1 + size_of l + size_of r
 -- the strands of a main with this script
 abbrev pub scripted : Script → Strands Script
 scripted main = record {
+  elements = 0;
   start = main;
   want = wants_of;
   answer = λ x given. after_answer x;

@@ -52,6 +52,7 @@ left_over both = 0
 
 abbrev pub writers : Strands Writer
 writers = record {
+  elements = 1;
   start = whole;
   want = wants;
   answer = λ w given. next w;

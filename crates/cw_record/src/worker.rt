@@ -1,14 +1,15 @@
-ghost use Rattle.std.specs.Prelude.{◌≡◌, ◌<◌, ◌++◌, [], ◌∷◌, true, All, IfOk, IsTrue, OnOk, length, map};
+ghost use Rattle.std.specs.Prelude.{◌≡◌, ◌<◌, ◌++◌, List, [], ◌∷◌, true, false, All, IfOk, IsTrue, OnOk, length, map};
 ghost use Rattle.cw_strand.specs.Names.{first_memory};
 ghost use Rattle.cw_strand.specs.Strands.{takes_answer};
 ghost use Rattle.cw_strand.specs.declared.want.Want.TheVariants as Want;
 ghost use Rattle.cw_tree.specs.Nodes.{fresh_node, is_block};
 ghost use Rattle.cw_tree.specs.Series.{strand_of};
 ghost use Rattle.cw_tree.specs.declared.node.Kind.TheVariants.{Strand as AStrand};
+ghost use Rattle.cw_code.specs.Programs.{cancels};
 ghost use Rattle.cw_strand.specs.Programs.{IsCompiled};
 ghost use Rattle.cw_job.specs.Jobs.{TakesWords, job_of_task};
 ghost use Rattle.cw_job.specs.Room.Strands.{IsOf, state_of};
-ghost use Rattle.cw_serial.specs.Wants.{answer_to};
+ghost use Rattle.cw_serial.specs.Wants.{Since, answer_to};
 ghost use Rattle.cw_record.specs.Drawn.{after_fork, after_join, after_start, blank, drawn};
 ghost use Rattle.cw_record.specs.Records.{IsWorkerRun};
 ghost use Rattle.cw_record.specs.OneWorker.{Acts, AllBranchesStand, AllStand, SwitchesStrand, WaitsOnLeft, law_of, unstarted, want_of};
@@ -94,6 +95,7 @@ impl<'a> Worker<'a> {
         limits: Limits,
     ) -> Result<Run, OutOfMemory>
         requires compiled { IsCompiled program.now }
+        requires cancels { cancels program.now.code ≡ false }
         requires words { TakesWords program.now (length words.now) }
         ensures { IfOk result (λ r. IsWorkerRun (record { program = program.now; words = words.now; limits = limits })
             r.drawing.tree r.drawing.journals.items r.end) }
@@ -111,6 +113,7 @@ impl<'a> Worker<'a> {
                 Want::Load(_) | Want::Store(..) | Want::Out(_) | Want::Begin | Want::End => {
                     worker.act()?;
                 }
+                Want::Cancel => unreachable!(),
             }
         }
     }
@@ -119,12 +122,13 @@ impl<'a> Worker<'a> {
     fn act(&mut self) -> Result<(), OutOfMemory>
         requires there { self.old.drawing.place < length self.old.drawing.tree }
         requires answered { takes_answer (want_of self.old) ≡ true }
+        requires keeps { want_of self.old ≡ Want.Cancel → ⊥ }
         requires block { want_of self.old ≡ Want.End → IsTrue (is_block self.old.drawing.tree self.old.drawing.place) }
         requires stands { IsOf self.old.task.program.now self.old.strand }
         ensures acts { OnOk result (Acts self.old self.new) }
         ensures stands { OnOk result (IsOf self.old.task.program.now self.new.strand) }
-        ensures strand { OnOk result (state_of self.new.strand
-            ≡ (law_of self.old).answer (state_of self.old.strand) (answer_to (want_of self.old) self.old.memory.items)) }
+        ensures strand { OnOk result ((since : List Since) → state_of self.new.strand
+            ≡ (law_of self.old).answer (state_of self.old.strand) (answer_to (want_of self.old) self.old.memory.items since)) }
     {
         let given = self.do_want()?;
         self.strand.answer(given, self.task.program)
@@ -134,8 +138,9 @@ impl<'a> Worker<'a> {
     fn do_want(&mut self) -> Result<Given, OutOfMemory>
         requires there { self.old.drawing.place < length self.old.drawing.tree }
         requires answered { takes_answer (want_of self.old) ≡ true }
+        requires keeps { want_of self.old ≡ Want.Cancel → ⊥ }
         requires block { want_of self.old ≡ Want.End → IsTrue (is_block self.old.drawing.tree self.old.drawing.place) }
-        ensures given { IfOk result (λ g. g ≡ answer_to (want_of self.old) self.old.memory.items) }
+        ensures given { IfOk result (λ g. (since : List Since) → g ≡ answer_to (want_of self.old) self.old.memory.items since) }
         ensures acts { OnOk result (Acts self.old self.new) }
         ensures strand { OnOk result (self.new.strand ≡ self.old.strand) }
     {
@@ -158,7 +163,7 @@ impl<'a> Worker<'a> {
             }
             Want::Begin => self.drawing.begins()?,
             Want::End => self.drawing.ends()?,
-            Want::Fork | Want::Sync | Want::Done | Want::Fault(_) => unreachable!(),
+            Want::Cancel | Want::Fork | Want::Sync | Want::Done | Want::Fault(_) => unreachable!(),
         }
         Ok(Given::Nothing)
     }

@@ -1,5 +1,5 @@
 -- Two laws of strands that want the same: what the machine with one memory does over the one, and what it does over the other.
-use Rattle.std.specs.Prelude.{◌≡◌, ◌↔◌, ℕ, ℤ, List, [], ◌∷◌, Option, Some, None, option_map, option_and_then}
+use Rattle.std.specs.Prelude.{◌≡◌, ◌↔◌, ◌≤◌, ℕ, ℤ, List, [], ◌∷◌, length, Option, Some, None, option_map, option_and_then}
 use Rattle.cw_strand.specs.declared.want.Want.{Want}
 use Rattle.cw_strand.specs.Strands.{Strands}
 use Rattle.cw_tree.specs.declared.node.Node.{Node}
@@ -33,20 +33,22 @@ module _ {A B : Type 0} (s : Strands A) (t : Strands B) where
     pub memory : m.memory ≡ n.memory
     pub outputs : m.outputs ≡ n.outputs
     pub begun : m.begun ≡ n.begun
+    pub since : m.since ≡ n.since
     -- in both or in neither a strand of that name stands, and it wants the same
     pub wants : (p : List Turn) → wanted s m p ≡ wanted t n p
     pub ended : has_ended s m ≡ has_ended t n
 
-  -- From the same first memory, the same picks can be made of both, and lead to machines that are the same.
+  -- From the same first memory, of no more elements than the cells have, the same picks can be made of both, and lead to machines that are
+  -- the same.
   abbrev pub SameMachines : Type 0
-  SameMachines = (first : List ℤ) (ps : List (List Turn)) → BothOrNeither AreTheSame (after_picks s (initial s first) ps) (after_picks t (initial t first) ps)
+  SameMachines = (first : List ℤ) (ps : List (List Turn)) → length first ≤ s.elements → BothOrNeither AreTheSame (after_picks s (initial s first) ps) (after_picks t (initial t first) ps)
 
   -- Under the same picks both come to the same end.
   abbrev pub SameEnds : Type 0
-  SameEnds = (first : List ℤ) (picks : Picks) → serial_end s first picks ≡ serial_end t first picks
+  SameEnds = (first : List ℤ) (picks : Picks) → length first ≤ s.elements → serial_end s first picks ≡ serial_end t first picks
 
   -- A record replays over the one exactly where it replays over the other.
   abbrev pub SameReplays : Type 0
   SameReplays =
-      (first : List ℤ) (budget : ℕ) (nodes : List Node) (cs : List Conflict) (picks : Picks) (e : RecordEnd)
+      (first : List ℤ) (budget : ℕ) (nodes : List Node) (cs : List Conflict) (picks : Picks) (e : RecordEnd) → length first ≤ s.elements
       → Replays s first budget nodes cs picks e ↔ Replays t first budget nodes cs picks e

@@ -61,14 +61,15 @@ pub fn attempts_are_recorded()
     ensures { AttemptsAreRecorded }
 {}
 
-/// Over any two laws of strands that are deep and want the same, the machine with one memory does the same under the same picks, and
-/// comes to the same end.
+/// Over any two laws of strands that are deep and want the same, from a first memory of no more elements than the cells have, the machine
+/// with one memory does the same under the same picks, and comes to the same end.
 pub fn same_wants_same_machine<A, B>()
     ensures machines { (s : Strands A) (t : Strands B) → IsDeep s → IsDeep t → WantTheSame s t → SameMachines s t }
     ensures ends { (s : Strands A) (t : Strands B) → IsDeep s → IsDeep t → WantTheSame s t → SameEnds s t }
 {}
 
-/// Over any two laws of strands that are deep and want the same, a record replays over the one exactly where it replays over the other.
+/// Over any two laws of strands that are deep and want the same, from such a first memory, a record replays over the one exactly where it
+/// replays over the other.
 pub fn same_wants_replay<A, B>()
     ensures { (s : Strands A) (t : Strands B) → IsDeep s → IsDeep t → WantTheSame s t → SameReplays s t }
 {}

@@ -6,7 +6,8 @@ use Rattle.cw_open.specs.Machine.{in_block, is_free}
 use Rattle.cw_sim.specs.Workers.{Simulation}
 use Rattle.cw_sim.specs.Laws.{NamesCell}
 
--- It ends a block only where one of its own is pending, comes to its end only where none is, and names only cells that are there.
+-- It ends a block only where one of its own is pending, comes to its end only where none is, gives up no block, and names only cells that
+-- are there.
 pub record HasWants {A : Type 0} (s : Strands A) (cells : ℕ) (m : Simulation A) : Type 0 where
   pub ends : (x : ℕ) → is_free m.core.machine x ≡ true → s.want (m.at x) ≡ End → in_block m.core.machine x ≡ true
   pub over : (x : ℕ) → is_free m.core.machine x ≡ true → is_over (s.want (m.at x)) ≡ true → in_block m.core.machine x ≡ false

@@ -1,7 +1,7 @@
--- What holds of the moves of every simulation, over any lawful strands.
+-- What holds of the moves of every simulation, over any lawful strands that give up no block.
 use Rattle.std.specs.Prelude.{◌≡◌, ℕ, ℤ, ◌<◌, true, false, IsTrue, List, [], ◌∷◌, ◌++◌, length, Some, None}
 use Rattle.cw_strand.specs.declared.want.Want.{Want}
-use Rattle.cw_strand.specs.declared.want.Want.TheVariants.{Load, Store}
+use Rattle.cw_strand.specs.declared.want.Want.TheVariants.{Load, Store, Cancel}
 use Rattle.cw_strand.specs.Strands.{Strands, Reached, IsLawful}
 use Rattle.cw_core.specs.declared.event.Event.{Event}
 use Rattle.cw_core.specs.State.{CoreState, is_split}
@@ -11,13 +11,14 @@ use Rattle.cw_sim.specs.Workers.{Worker, Simulation, waiting, left_node, tree, w
 use Rattle.cw_sim.specs.Moves.{is_run_over, move}
 use Rattle.cw_sim.specs.Kept.{IsKept}
 
--- a want names only cells that are there
+-- a want names only cells that are there, and is none to give up a block
 abbrev pub NamesCell : ℕ → Want → Type 0
 NamesCell cells (Load c) = c < cells
 NamesCell cells (Store c v) = c < cells
+NamesCell cells Cancel = ⊥
 NamesCell cells w = Unit {0}
 
--- Strands that keep the law, over so many cells.
+-- Strands that keep the law and give up no block, over so many cells.
 pub record AreStrands {A : Type 0} (s : Strands A) (cells : ℕ) : Type 0 where
   pub lawful : IsLawful s
   pub named : (own : List ℕ) (a : A) → Reached s own a → NamesCell cells (s.want a)

@@ -129,6 +129,8 @@ module _ {A : Type 0} where
     acts w x want.Begin m = begins x m
     acts w x want.End m = answers x Nothing (does (event.Commit x) m)
     acts w x want.Fork m = forks w x m
+    -- no strand of a simulation gives up a block
+    acts w x want.Cancel m = m
     acts w x want.Sync m = finishes w x false m
     acts w x want.Done m = finishes w x false m
     acts w x (want.Fault kind) m = does (event.Stop (halt.Fault x kind)) m

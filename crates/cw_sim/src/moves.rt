@@ -1,6 +1,7 @@
-ghost use Rattle.std.specs.Prelude.{◌≡◌, ◌<◌, ◌^◌, ◌∷◌, ℕ, List, ◌&&◌, true, not, None, IfOk, OnOk, length};
+ghost use Rattle.std.specs.Prelude.{◌≡◌, ◌<◌, ◌^◌, ◌∷◌, ℕ, List, ◌&&◌, true, false, not, None, IfOk, OnOk, length};
 ghost use Rattle.cw_strand.specs.declared.want.Want.TheVariants as Want;
 ghost use Rattle.cw_strand.specs.declared.want.Given.TheVariants as given;
+ghost use Rattle.cw_code.specs.Programs.{cancels};
 ghost use Rattle.cw_strand.specs.Programs.{IsCompiled};
 ghost use Rattle.cw_job.specs.Jobs.{TakesWords, job_of_task};
 ghost use Rattle.cw_sim.specs.Workers.{left_node, right_node, tree, with_strand, worker};
@@ -331,6 +332,7 @@ impl<'a> Driver<'a> {
             Want::Out(value) => self.puts_out(strand, value),
             Want::Begin => self.begins(strand),
             Want::End => self.ends(strand),
+            Want::Cancel => unreachable!(),
             Want::Fork => self.forks(w, strand),
             Want::Sync | Want::Done => self.finishes(w, strand, false),
             Want::Fault(kind) => self.stops(Halt::Fault { strand, kind }),
@@ -355,6 +357,7 @@ impl<'a> Driver<'a> {
     /// Moves are made until the run is over, at most as many as the limit says.
     fn runs(&mut self, turns: &mut Turns) -> Result<(), OutOfMemory>
         requires compiled { IsCompiled self.old.task.program.now }
+        requires cancels { cancels self.old.task.program.now.code ≡ false }
         requires words { TakesWords self.old.task.program.now (length self.old.task.words.now) }
         requires strands { 0 < self.old.task.limits.strands }
         requires stands { StandsFor self.old (opened (job_of_task self.old.task) turns.old.workers) }
@@ -380,6 +383,7 @@ pub(crate) fn moved(
     schedule: &Schedule,
 ) -> Result<(Closed, bool), OutOfMemory>
     requires compiled { IsCompiled task.program.now }
+    requires cancels { cancels task.program.now.code ≡ false }
     requires words { TakesWords task.program.now (length task.words.now) }
     requires strands { 0 < task.limits.strands }
     requires workers { 0 < workers }

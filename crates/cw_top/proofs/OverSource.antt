@@ -32,7 +32,7 @@ of_tree co left ds r is run same =
     }
 
 of_syntax : (co : Command) (bytes : List ℕ) (r : Record) → Spells bytes r.program → IsRunBy co (Some bytes) r → IsReplayed r → IsRunOfSyntax (words_of co) (limits_of co) bytes r
-of_syntax co bytes r (ds, (spelled, is)) run same = (ds, spelled, of_tree co (Some bytes) ds r is run same)
+of_syntax co bytes r (source, (spelled, is)) run same = (source, spelled, of_tree co (Some bytes) source.items r is run same)
 
 pub of_source : (command : Option Command) (left : Option (List ℕ)) (kept : Option Record) → IfSome kept (IsRunOf command left) → IfSome kept IsReplayed → IfSome kept (IsRunOfSource command left)
 of_source command left None run same = tt

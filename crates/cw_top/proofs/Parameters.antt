@@ -2,7 +2,7 @@
 use Rattle.std.proofs.Common.{◌≡◌, ◌∙◌, ℕ, ℤ, List, length, Option, Some, None, IfSome, IsSomeAnd, ap, subst, sym}
 use Rattle.std.specs.Result.{result_ok}
 use Rattle.std.proofs.lemmas.Option.{same_Some}
-use Rattle.cw_text.specs.Syntax.{Declaration}
+use Rattle.cw_text.specs.Syntax.{Declaration, Source}
 use Rattle.cw_code.specs.declared.instruction.Code.{Code}
 use Rattle.cw_code.specs.declared.program.Program.{Program}
 use Rattle.cw_strand.specs.Coded as coded
@@ -36,10 +36,10 @@ module _ (n : ℕ) (bytes : List ℕ) (p : Program) (spells : Spells bytes p) wh
   pub takes : AsksFor bytes n → TakesWords p n
   takes asks =
       let same : asks.0 ≡ spells.0 = same_Some asks.0 spells.0 (sym (ap result_ok asks.1.0) ∙ ap result_ok spells.1.0) in
-      code_takes spells.0 p spells.1.1 n (subst (λ (ds : List Declaration). MainTakes ds n) same asks.1.1)
+      code_takes spells.0.items p spells.1.1 n (subst (λ (source : Source). MainTakes source.items n) same asks.1.1)
 
   pub asks : TakesWords p n → AsksFor bytes n
-  asks t = (spells.0, (spells.1.0, source_takes spells.0 p spells.1.1 n t))
+  asks t = (spells.0, (spells.1.0, source_takes spells.0.items p spells.1.1 n t))
 
 -- bytes that spell a program are not refused
 pub spelled_accepted : (bytes : List ℕ) (p : Program) → Spells bytes p → refusal bytes ≡ None

@@ -18,7 +18,7 @@ of_source None r spelled coherent spent = tt
 of_source (Some bytes) r spells coherent spent =
     let (source, (spelled, is)) = spells in
     let (f, fork) = spent.forks in
-    (source, spelled, forks_need_spawns source r is coherent f fork)
+    (source, spelled, forks_need_spawns source.items r is coherent f fork)
 
 by_kept : (command : Option Command) (left : Option (List ℕ)) (kept : Option Record) → IfSome kept (IsRunOf command left) → IfSome kept (IsDoneAs command) → IsSomeAnd kept (IsSpentBy command) → IsSpentOn command left
 by_kept command left None run done spent = absurd spent

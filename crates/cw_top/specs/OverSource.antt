@@ -1,7 +1,7 @@
 -- The run of a source, over its syntax. What this file cites is the grammar, the names, the meaning over the syntax, the machine with one
 -- memory, and the order of a run: no instructions, no rules of code, no compilation.
 use Rattle.std.specs.Prelude.{◌≡◌, ℕ, ℤ, List, [], length, Option, Some, None, Ok, IfSome, IsTrue}
-use Rattle.cw_text.specs.Syntax.{Declaration}
+use Rattle.cw_text.specs.Syntax.{Declaration, Source}
 use Rattle.cw_text.specs.Text.{program}
 use Rattle.cw_code.specs.declared.Limits.{Limits}
 use Rattle.cw_strand.specs.Names.{naming_fault, cells_of, first_memory}
@@ -13,6 +13,7 @@ use Rattle.cw_gen.specs.Load.{load_tree}
 use Rattle.cw_words.specs.declared.command.Command.{Command}
 use Rattle.cw_words.specs.declared.command.Command.TheVariants.{Load}
 use Rattle.cw_words.specs.Words.{default_limits, words_of, limits_of}
+use Rattle.cw_top.specs.Refusals.{newest}
 
 -- A run of these declarations, with these words and limits: one memory that runs their strands, in the order that is kept, does at
 -- each step what the run's tree has there, each atomic block without a break, and comes to the end of the run.
@@ -26,7 +27,7 @@ pub record IsRunOfDeclarations (words : List ℤ) (limits : Limits) (source : Li
 
 -- a run of the syntax tree that these bytes spell
 abbrev pub IsRunOfSyntax : (words : List ℤ) (limits : Limits) (bytes : List ℕ) → Record → Type 0
-IsRunOfSyntax words limits bytes r = (source : List Declaration) × (program bytes ≡ Ok source) × IsRunOfDeclarations words limits source r
+IsRunOfSyntax words limits bytes r = (source : Source) × (program newest bytes ≡ Ok source) × IsRunOfDeclarations words limits source.items r
 
 -- What is kept is, over the syntax: of `run` and `sim`, where the source's bytes are told, a run of what they spell; of a load one of its
 -- own tree. Words that are no command leave none.
@@ -37,4 +38,4 @@ IsRunOfSource (Some c) left r = IfSome left (λ bytes. IsRunOfSyntax (words_of c
 
 -- The tree that these bytes spell has a `spawn` somewhere in a function.
 abbrev pub Spawns : List ℕ → Type 0
-Spawns bytes = (source : List Declaration) × (program bytes ≡ Ok source) × IsTrue (any_spawns source)
+Spawns bytes = (source : Source) × (program newest bytes ≡ Ok source) × IsTrue (any_spawns source.items)

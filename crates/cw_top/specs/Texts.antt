@@ -26,6 +26,7 @@ name_fault_name naming.ReturnInside = codes "ReturnInside"
 name_fault_name naming.TooManyCells = codes "TooManyCells"
 name_fault_name naming.NotACell = codes "NotACell"
 name_fault_name naming.NotALocal = codes "NotALocal"
+name_fault_name naming.CancelOutside = codes "CancelOutside"
 
 abbrev pub at_line : ℕ → List ℕ → List ℕ
 at_line l kind = line (codes "cwstm: line " ++ decimal l ++ codes ": " ++ kind)

@@ -1,4 +1,5 @@
-ghost use Rattle.std.specs.Prelude.{◌≤◌, ◌≡◌, IfOk, string_bytes};
+ghost use Rattle.std.specs.Prelude.{◌≤◌, ◌≡◌, false, IfOk, string_bytes};
+ghost use Rattle.cw_code.specs.Programs.{cancels};
 ghost use Rattle.cw_strand.specs.Programs.{IsProgramOf};
 ghost use Rattle.cw_gen.specs.Load.{load_tree};
 ghost use Rattle.cw_words.specs.Words.{most_transfers};
@@ -14,7 +15,8 @@ use std::alloc::Global;
 pub fn compiled_load(alloc: Global, transfers: u32) -> Result<Program, OutOfMemory>
     requires some { 1 ≤ transfers }
     requires most { transfers ≤ most_transfers }
-    ensures { IfOk result (IsProgramOf (load_tree transfers)) }
+    ensures program { IfOk result (IsProgramOf (load_tree transfers)) }
+    ensures cancels { IfOk result (λ p. cancels p.code ≡ false) }
 {
     let ast = load_program(alloc, transfers)?;
     // a hint to the prover: no name is at fault

@@ -1,5 +1,6 @@
-ghost use Rattle.std.specs.Prelude.{◌≡◌, ◌-◌, ◌<◌, ◌≤◌, length, Ok, IfOk, IfErr, IfSome, OnOk};
+ghost use Rattle.std.specs.Prelude.{◌≡◌, ◌-◌, ◌<◌, ◌≤◌, length, false, Ok, IfOk, IfErr, IfSome, OnOk};
 ghost use Rattle.cw_io.specs.Outside.{IsDry, Rose, RunsDry, Takes};
+ghost use Rattle.cw_code.specs.Programs.{cancels};
 ghost use Rattle.cw_strand.specs.Programs.{IsCompiled};
 ghost use Rattle.cw_top.specs.Taken.{GivesOn, RisesAtMost, TakesAtMost, most_bytes};
 ghost use Rattle.cw_top.specs.Reasons.{WhyNoRun, WhyRefused, WhyStopped};
@@ -9,11 +10,14 @@ use crate::reasons::{NoRun, Refusal, Stop};
 use cw_code::Program;
 use cw_compile::compile;
 use cw_io::Source;
-use cw_text::read_program;
+use cw_text::read_language;
 use std::alloc::Global;
 
 // One more than a text may have.
 const MOST_BYTES: usize = 1_048_577;
+
+// The newest language in which sources are read.
+const NEWEST: u32 = 1;
 
 // So many bytes are asked for at most in one read.
 const ROOM: usize = 8_192;
@@ -60,9 +64,10 @@ fn read_all<S: Source>(alloc: Global, source: &mut S) -> Result<Vec<u8>, Stop>
 fn program_of(alloc: Global, bytes: &[u8]) -> Result<Program, Refusal>
     ensures spelled { IfOk result (λ p. Spells bytes.now p) }
     ensures compiled { IfOk result (λ p. IsCompiled p) }
+    ensures cancels { IfOk result (λ p. cancels p.code ≡ false) }
     ensures why { IfErr result (λ r. WhyRefused r bytes.now) }
 {
-    let ast = read_program(alloc, bytes)?;
+    let ast = read_language(alloc, bytes, NEWEST)?;
     Ok(compile(alloc, &ast)?)
 }
 
@@ -75,6 +80,7 @@ pub fn program_from<S: Source>(alloc: Global, source: &mut S) -> Result<Program,
     ensures once { RisesAtMost 1 (S.ends source.old) (S.ends source.new) }
     ensures spelled { IfOk result (λ p. IfSome (S.left source.old) (λ bytes. Spells bytes p)) }
     ensures compiled { IfOk result (λ p. IsCompiled p) }
+    ensures cancels { IfOk result (λ p. cancels p.code ≡ false) }
 {
     let bytes = read_all(alloc, source)?;
     Ok(program_of(alloc, bytes.as_slice())?)

@@ -1,5 +1,6 @@
-ghost use Rattle.std.specs.Prelude.{◌≡◌, ◌≢◌, ◌≤◌, ◌<◌, ◌↔◌, None, Some, length, IfOk, IfErr, IfSome, IsErrOf, IsTrue, OnOk};
+ghost use Rattle.std.specs.Prelude.{◌≡◌, ◌≢◌, ◌≤◌, ◌<◌, ◌↔◌, false, None, Some, length, IfOk, IfErr, IfSome, IsErrOf, IsTrue, OnOk};
 ghost use Rattle.cw_io.specs.Outside.{Rose};
+ghost use Rattle.cw_code.specs.Programs.{cancels};
 ghost use Rattle.cw_strand.specs.Programs.{IsCompiled};
 ghost use Rattle.cw_tree.specs.Walks.{IsNumbered};
 ghost use Rattle.cw_job.specs.Jobs.{TakesWords};
@@ -47,6 +48,7 @@ fn run_on_threads<R: Threads + Wait + Sync, G: Gate>(
     gate: &G,
 ) -> Result<Record, OutOfMemory>
     requires compiled { IsCompiled program }
+    requires cancels { cancels program.code ≡ false }
     requires takes { TakesWords program (length words) }
     requires strands { 0 < limits.strands }
     ensures program { IfOk result (λ r. r.program ≡ program) }
@@ -72,6 +74,7 @@ fn done_by<R: Threads + Wait + Sync, G: Gate>(
     gate: &G,
 ) -> Result<Record, OutOfMemory>
     requires compiled { IsCompiled program }
+    requires cancels { cancels program.code ≡ false }
     requires takes { TakesWords program (length (words_of command)) }
     requires ready { IsReady command }
     ensures program { IfOk result (λ r. r.program ≡ program) }
@@ -111,6 +114,7 @@ fn done<R: Threads + Wait + Sync, G: Gate>(
     gate: &G,
 ) -> Result<Record, OutOfMemory>
     requires compiled { IsCompiled program }
+    requires cancels { cancels program.code ≡ false }
     requires takes { TakesWords program (length (words_of command)) }
     requires ready { IsReady command }
     ensures program { IfOk result (λ r. r.program ≡ program) }
@@ -138,6 +142,7 @@ fn program_by<S: Source>(alloc: Global, command: &Command, source: &mut S) -> Re
     ensures once { RisesAtMost (most_ends (Some command.now)) (S.ends source.old) (S.ends source.new) }
     ensures its { IfOk result (IsItsProgram command.now (S.left source.old)) }
     ensures compiled { IfOk result (λ p. IsCompiled p) }
+    ensures cancels { IfOk result (λ p. cancels p.code ≡ false) }
 {
     match command {
         Command::Load { transfers, .. } => Ok(compiled_load(alloc, *transfers)?),

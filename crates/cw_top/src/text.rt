@@ -32,6 +32,7 @@ fn name_fault_name(kind: NameKind) -> &'static str
         NameKind::TooManyCells => "TooManyCells",
         NameKind::NotACell => "NotACell",
         NameKind::NotALocal => "NotALocal",
+        NameKind::CancelOutside => "CancelOutside",
     }
 }
 

@@ -1,5 +1,5 @@
 //! A strand that is walked: it goes where a log tells.
-ghost use Rattle.std.specs.Prelude.{◌≡◌, IfOk, IfSome, IsTrue, length, true};
+ghost use Rattle.std.specs.Prelude.{◌≡◌, ℕ, IfOk, IfSome, IsTrue, length, true};
 ghost use Rattle.cw_body.specs.declared.stage.Stage.TheVariants.{Goes, GaveUp};
 ghost use Rattle.cw_body.specs.Bodies.{AnswersAct, want_of};
 ghost use Rattle.cw_strand.specs.Strands.{is_over};
@@ -81,7 +81,7 @@ fn is_out(kind: &Kind, wanted: i64) -> bool {
 
 /// What a node that an act made answers, where the strand wants that act.
 fn given(want: Want, kind: &Kind) -> Option<Given>
-    ensures { IfSome result (λ given. AnswersAct want given) }
+    ensures { IfSome result (λ given. (elements : ℕ) → AnswersAct elements want given) }
 {
     match want {
         Want::Load(cell) => {

@@ -44,7 +44,7 @@ module _ (program : Program) where
   gives_up_so Lost st level x bs off e h = absurd (off refl)
 
   module _ (before st : Stage) (level : ℕ) (x y : Standing) (going_on : before ≡ Goes) (goes : st ≡ Goes) (is : IsOf program y) where
-    pub answered_so : (given : Given) (bs : List Begin) → AnswersAct (s.want (state_of x)) given → state_of y ≡ s.answer (state_of x) given → StandsSo program before level x bs → StandsSo program st level y bs
+    pub answered_so : (given : Given) (bs : List Begin) → AnswersAct s.elements (s.want (state_of x)) given → state_of y ≡ s.answer (state_of x) given → StandsSo program before level x bs → StandsSo program st level y bs
     answered_so given bs act at h = goes_so st level y (s.answer (state_of x) given) bs goes is at (act_each s level (state_of x) given act 0 bs (going before level x bs going_on h).1)
 
     pub begun_so : (b : Begin) (bs : List Begin) → s.want (state_of x) ≡ want.Begin → b.level ≡ level → b.at.value ≡ x → state_of y ≡ s.answer (state_of x) Nothing → StandsSo program before level x bs → StandsSo program st level y (b ∷ bs)

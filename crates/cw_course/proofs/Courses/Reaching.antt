@@ -18,9 +18,9 @@ module _ {A : Type 0} (s : Strands A) where
   further g (joins h e l lo r ro) = joins (further g h) e l lo r ro
 
   -- and an answer behind it
-  next : (from own : List ℕ) (a b : A) (w : Want) (given : Given) → GoesTo s from a own b → s.want b ≡ w → IsAnswer w given → GoesTo s from a (own_after w own) (s.answer b given)
+  next : (from own : List ℕ) (a b : A) (w : Want) (given : Given) → GoesTo s from a own b → s.want b ≡ w → IsAnswer s.elements w given → GoesTo s from a (own_after w own) (s.answer b given)
   next from own a b w given g e is =
-      subst (λ (to : List ℕ). GoesTo s from a to (s.answer b given)) (ap (λ z. own_after z own) e) (answered g given (subst (λ z. IsAnswer z given) (sym e) is))
+      subst (λ (to : List ℕ). GoesTo s from a to (s.answer b given)) (ap (λ z. own_after z own) e) (answered g given (subst (λ z. IsAnswer s.elements z given) (sym e) is))
 
   act_goes : (own : List ℕ) (a b c : A) (kind : Kind) → GoesTo s own a own b → Acts s b kind c → GoesTo s own a own c
   act_goes own a b c (Read k v) g d = subst (GoesTo s own a own) (sym d.1) (next own own a b (want.Load k) (Value v) g d.0 tt)

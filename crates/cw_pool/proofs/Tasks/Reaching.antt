@@ -36,7 +36,7 @@ module _ {A : Type 0} (s : Strands A) where
 
   begun : (n : ℕ) (outer : List ℕ) (a : A) → s.want a ≡ want.Begin → Reached s (n ∷ outer) a → Reached s (suc n ∷ outer) (s.answer a Nothing)
   begun n outer a e r = subst (λ (own : List ℕ). Reached s own (s.answer a Nothing)) (ap (λ w. own_after w (n ∷ outer)) e)
-      (reached_on r (answered stays Nothing (subst (λ (w : Want). IsAnswer w Nothing) (sym e) tt)))
+      (reached_on r (answered stays Nothing (subst (λ (w : Want). IsAnswer s.elements w Nothing) (sym e) tt)))
 
   pub reached_entry : (a : A) (t : Trail A) → IsReached s a → Leads s a t → ReachedAt t (entry s a t)
   reached_entry a opens r l = r
@@ -68,7 +68,7 @@ module _ (job : Job) (run : IsRun job) where
   may_want t now (outer, r) = (outer, closes_of job run.compiled run.takes (blocks_in s t ∷ outer) now r)
 
   pub names_there : (t : Trail StrandState) (now : StrandState) → ReachedAt s t now → NamesThere (length (first_memory job.program.cells)) (s.want now)
-  names_there t now (outer, r) = wants_there job run.compiled (blocks_in s t ∷ outer) now r
+  names_there t now (outer, r) = wants_there job run.compiled run.cancels (blocks_in s t ∷ outer) now r
 
   none_ends : (outer : List ℕ) → MayWant want.End (0 ∷ outer) → ⊥
   none_ends outer h = h

@@ -138,6 +138,16 @@ module _ {T J : Type 0} (job : Job) (of : T → Token) where
       (subst (λ (w : Want). NamesThere (length (first_memory job.program.cells)) w) here
       (names_there job r.run r.trail s.now (reached_now (strands_of_job job) r.start.state r.trail r.course s.now r.reached s.stands)))
 
+  -- a strand that goes on gives up no block
+  pub gives_up_none : (x : Token) (how : Mode) (body : InBlocks) (bs : List (Below T J)) (b : Base T J) → how ≡ mode.Goes → IsRunning job of x body how bs b
+      → (strands_of_job job).want body.state ≡ want.Cancel → ⊥
+  gives_up_none x how body bs b is r0 e =
+      let r = going job of is r0 in
+      let s = r.stands in
+      let here : (strands_of_job job).want s.now ≡ want.Cancel = sym (ap (λ (w : InBlocks). (strands_of_job job).want w.state) s.there) ∙ e in
+      subst (λ (w : Want). NamesThere (length (first_memory job.program.cells)) w) here
+      (names_there job r.run r.trail s.now (reached_now (strands_of_job job) r.start.state r.trail r.course s.now r.reached s.stands))
+
   -- the victim of a refused access is a block around it, or 0
   pub victim_there : (x z : Token) (how : Mode) (body : InBlocks) (bs : List (Below T J)) (b : Base T J) (k : Conflict) → IsRunning job of x body how bs b → IsAround x k.victim → z ≡ refused x k → MayFell z k
   victim_there x z how body bs b k r around e = subst (λ (w : Token). MayFell w k) (sym e) (may_fell x k r.written.falling around)
@@ -181,6 +191,6 @@ module _ {T J : Type 0} (job : Job) (of : T → Token) where
   made_last x z u how body next bs b cell write v stamp is r e w made_now halted_so =
       acts_last job of x z u how body next bs b (access_kind cell write v) stamp (given_for write v) is r (is_made job cell write v body.state w e) made_now halted_so
 
-pub answers_act : (cell : ℕ) (write : Option ℤ) (v : ℤ) → AnswersAct (access_want cell write) (given_for write v)
-answers_act cell None v = tt
-answers_act cell (Some w) v = tt
+pub answers_act : (elements cell : ℕ) (write : Option ℤ) (v : ℤ) → AnswersAct elements (access_want cell write) (given_for write v)
+answers_act elements cell None v = tt
+answers_act elements cell (Some w) v = tt

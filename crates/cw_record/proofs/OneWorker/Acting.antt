@@ -17,7 +17,7 @@ use Rattle.cw_job.specs.Jobs.{Job, job_of_task}
 use Rattle.cw_job.specs.Room.Strands.{StrandState, state_of, strands_of_job}
 use Rattle.cw_serial.specs.MachineOf.{machine_of}
 use Rattle.cw_job.specs.Memory.{value_at}
-use Rattle.cw_serial.specs.Wants.{answer_to, memory_after, outputs_after}
+use Rattle.cw_serial.specs.Wants.{Since, answer_to, memory_after, outputs_after, since_after}
 use Rattle.cw_serial.proofs.Branches.{Branch, on_left, on_right}
 use Rattle.cw_job.proofs.Room.Elements.{NamesThere, WantsThere}
 use Rattle.cw_serial.proofs.Working.{Worker as Working, machine_at, after_act, IsAtWork, reached, acts, own_in, blocks_in}
@@ -54,7 +54,7 @@ end_blocks (on_right k n o l ∷ c) zero m = absurd m
 -- what a want that is done makes of a worker in memory
 pub record Acted (code new : Worker) : Type 0 where
   pub done : Acts code new
-  pub strand : state_of new.strand ≡ (law_of code).answer (state_of code.strand) (answer_to (want_of code) code.memory.items)
+  pub strand : (since : List Since) → state_of new.strand ≡ (law_of code).answer (state_of code.strand) (answer_to (want_of code) code.memory.items since)
 
 module _ (job : Job) (closes : Closes (strands_of_job job)) (there : WantsThere job) where
   -- after a want, whatever it is
@@ -63,7 +63,8 @@ module _ (job : Job) (closes : Closes (strands_of_job job)) (there : WantsThere 
     memory = memory_after x w.memory;
     outputs = outputs_after x w.outputs;
     blocks = blocks_in x w.blocks;
-    strand = (strands_of_job job).answer w.strand (answer_to x w.memory);
+    since = since_after x w.memory w.since;
+    strand = (strands_of_job job).answer w.strand (answer_to x w.memory w.since);
   }
 
   module _ (code : Worker) (w : Working StrandState) (r : Runs job code w) where
@@ -92,7 +93,7 @@ module _ (job : Job) (closes : Closes (strands_of_job job)) (there : WantsThere 
 
       -- an access or an output
       leaf : (k : Kind) (kept : List (List Entry)) → is_act_kind k ≡ true → is_strand_kind k ≡ false → is_fork_kind k ≡ false → is_tried_kind k ≡ false → (is_strand_kind k || is_tried_kind k) ≡ false → fits_cells (length (first_memory job.program.cells)) k ≡ true → blocks_in x w.blocks ≡ w.blocks
-          → ((d : StrandState) → DoesAs (strands_of_job job) w.strand ((strands_of_job job).answer w.strand (answer_to x w.memory)) d k (first_state k)) → (is_strand_kind k || is_fork_kind k) ≡ false
+          → ((d : StrandState) → DoesAs (strands_of_job job) w.strand ((strands_of_job job).answer w.strand (answer_to x w.memory w.since)) d k (first_state k)) → (is_strand_kind k || is_fork_kind k) ≡ false
           → IsAct w.memory ((strands_of_job job).want w.strand) k → HasJournals (added t at k (code.drawing.clock + 1)) (first_memory job.program.cells) (memory_after x w.memory) kept
           → Draws job (record { tree = added t at k (code.drawing.clock + 1); place = at; clock = code.drawing.clock + 1; journals = kept }) code.branches (after_by x w)
       leaf k kept act strand fork tried stamped fits blocks does plain is journals =
@@ -106,7 +107,7 @@ module _ (job : Job) (closes : Closes (strands_of_job job)) (there : WantsThere 
             branches = r.draws.branches;
             place = subst D (sym blocks) (way_leaf t at code.drawing.clock r.draws.built k (code.drawing.clock + 1) act (crossings code.branches w.branches) w.blocks w.forks r.draws.place);
             journals = journals;
-            states = states_leaf (strands_of_job job) t at code.drawing.clock r.draws.built code.branches w.strand r.draws.states.0 r.draws.states.1 k (code.drawing.clock + 1) ((strands_of_job job).answer w.strand (answer_to x w.memory)) plain does;
+            states = states_leaf (strands_of_job job) t at code.drawing.clock r.draws.built code.branches w.strand r.draws.states.0 r.draws.states.1 k (code.drawing.clock + 1) ((strands_of_job job).answer w.strand (answer_to x w.memory w.since)) plain does;
             played = same_after (added t at k (code.drawing.clock + 1)) at (leaf_played (strands_of_job job) closes t at code.drawing.clock r.draws.built (machine_of job) w r.work done (runs_name job code w r) r.draws.played k (code.drawing.clock + 1) next act is);
           }
 
@@ -168,6 +169,7 @@ module _ (job : Job) (closes : Closes (strands_of_job job)) (there : WantsThere 
           states = states_end (strands_of_job job) t at clock r.draws.built code.branches w.strand r.draws.states.0 r.draws.states.1 st block e;
           played = same_after want.End e d (closed t at Committed st) (parent_of t at) (end_played (strands_of_job job) closes t at clock r.draws.built (machine_of job) w r.work (done want.End e d) (runs_name job code w r) r.draws.played st later block e);
         }
+    draws_after want.Cancel e d = absurd (subst (NamesThere (length (first_memory job.program.cells))) e wanted_there)
     draws_after _ e d = absurd (cc d)
 
   -- the worker in memory after a want
@@ -177,14 +179,15 @@ module _ (job : Job) (closes : Closes (strands_of_job job)) (there : WantsThere 
       let e = is_wanted code w r in
       let done : takes_answer ((strands_of_job job).want w.strand) ≡ true = ap takes_answer e ∙ d in
       let R : Want → Type 0 = λ v. Runs job new (after_by v w) in
-      let goes_on : state_of new.strand ≡ (strands_of_job job).answer w.strand (answer_to x code.memory.items) =
-      acted.strand ∙ (ap (λ l. l.answer (state_of code.strand) (answer_to x code.memory.items)) (law_same job code w r) ∙ ap (λ a. (strands_of_job job).answer a (answer_to x code.memory.items)) r.strand) in
+      let given = answer_to x code.memory.items w.since in
+      let goes_on : state_of new.strand ≡ (strands_of_job job).answer w.strand given =
+      acted.strand w.since ∙ (ap (λ l. l.answer (state_of code.strand) given) (law_same job code w r) ∙ ap (λ a. (strands_of_job job).answer a given) r.strand) in
       subst R (sym e)
       (record {
         job_is = ap job_of_task acted.done.task ∙ r.job_is;
         memory = acted.done.memory ∙ ap (memory_after x) r.memory;
         outputs = acted.done.outputs ∙ ap (outputs_after x) r.outputs;
-        strand = goes_on ∙ ap (λ m. (strands_of_job job).answer w.strand (answer_to x m)) r.memory;
+        strand = goes_on ∙ ap (λ m. (strands_of_job job).answer w.strand (answer_to x m w.since)) r.memory;
         work = (let P : Want → Type 0 = λ v. IsAtWork (strands_of_job job) (after_by v w) in subst P e (acts (strands_of_job job) closes w r.work done));
         draws = draws_by (acted.done.drawing ∙ ap (λ m. drawn_after x m (drawn code.drawing)) r.memory) acted.done.branches (draws_after code w r x e d);
       })
@@ -193,9 +196,9 @@ module _ (job : Job) (closes : Closes (strands_of_job job)) (there : WantsThere 
   act_leaves_less deep code new w r d acted =
       let l = law_of code in
       let same : law_of new ≡ l = ap (λ i. strands_of_job (job_of_task i)) acted.done.task in
-      let given = answer_to (want_of code) code.memory.items in
+      let given = answer_to (want_of code) code.memory.items [] in
       let D : Strands StrandState → Type 0 = λ s. IsDeep s in
       let falls : l.depth (l.answer (state_of code.strand) given) < l.depth (state_of code.strand) = (subst D (sym (law_same job code w r)) deep).answer (state_of code.strand) given d in
       let less = weight_falls _ _ _ falls falls in
-      let todo : left_to_do new ≡ weight (l.depth (l.answer (state_of code.strand) given)) + weights l code.branches = (rw (same, acted.strand, acted.done.branches) refl) in
+      let todo : left_to_do new ≡ weight (l.depth (l.answer (state_of code.strand) given)) + weights l code.branches = (rw (same, acted.strand [], acted.done.branches) refl) in
       omega arith

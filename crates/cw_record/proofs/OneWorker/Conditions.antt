@@ -2,7 +2,7 @@
 use Rattle.std.proofs.Common.{◌≡◌, ℕ, ℤ, ap, sym, ◌∙◌, true, inl, inr}
 use Rattle.std.specs.Prelude.{◌⊎◌}
 use Rattle.cw_strand.specs.declared.want.Want.{Want}
-use Rattle.cw_strand.specs.declared.want.Want.TheVariants.{Load, Store, Out, Begin, End, Sync, Done}
+use Rattle.cw_strand.specs.declared.want.Want.TheVariants.{Load, Store, Out, Begin, End, Cancel, Sync, Done}
 use Rattle.cw_strand.specs.Strands.{is_over, takes_answer}
 use Rattle.cw_job.specs.Jobs.{Job, job_of_task}
 use Rattle.cw_job.specs.Room.Strands.{state_of, strands_of_job}
@@ -23,3 +23,10 @@ module _ (code : Worker) {w : Want} (says : (job : Job) → w ≡ (strands_of_jo
   answered_by (inr (inr (inl (v, e)))) = ap takes_answer (wanted_by e)
   answered_by (inr (inr (inr (inl e)))) = ap takes_answer (wanted_by e)
   answered_by (inr (inr (inr (inr e)))) = ap takes_answer (wanted_by e)
+
+  pub keeps_by : ((c : ℕ) × (w ≡ Load c)) ⊎ (((c : ℕ) × (v : ℤ) × (w ≡ Store c v)) ⊎ (((v : ℤ) × (w ≡ Out v)) ⊎ ((w ≡ Begin) ⊎ (w ≡ End)))) → want_of code ≡ Cancel → ⊥
+  keeps_by (inl (c, e)) is = cc (wanted_by e, is)
+  keeps_by (inr (inl (c, v, e))) is = cc (wanted_by e, is)
+  keeps_by (inr (inr (inl (v, e)))) is = cc (wanted_by e, is)
+  keeps_by (inr (inr (inr (inl e)))) is = cc (wanted_by e, is)
+  keeps_by (inr (inr (inr (inr e)))) is = cc (wanted_by e, is)

@@ -14,6 +14,7 @@ use Rattle.cw_job.specs.Room.Strands.{StrandState, state_of, strands_of_job}
 use Rattle.cw_serial.specs.MachineOf.{machine_of}
 use Rattle.cw_serial.proofs.Branches.{Branch, on_left, on_right}
 use Rattle.cw_serial.proofs.Weights.{weight, weight_falls, weight_le}
+use Rattle.cw_serial.specs.Wants.{Since}
 use Rattle.cw_serial.proofs.Working.{Worker as Working, machine_at, IsAtWork, after_fork as worker_after_fork, forks_off, fork_stays, none_begun, after_turn, turns_right, turn_stays, after_join as worker_after_join, joins_up, join_stays}
 use Rattle.cw_record.specs.declared.items.OrderItem.{OrderItem}
 use Rattle.cw_record.specs.declared.worker.Branch.{Branch as Held}
@@ -113,7 +114,7 @@ module _ (job : Job) where
 
     -- ## The end of a strand
 
-    module _ (code new : Worker) (memory outputs : List ℤ) (c : List (Branch StrandState)) (k n m b : ℕ) (a : StrandState) (over : is_over (want_of code) ≡ true) (stays : SwitchesStrand code new) (f : ℕ) (rest : List Held) where
+    module _ (code new : Worker) (memory outputs : List ℤ) (since : List Since) (c : List (Branch StrandState)) (k n m b : ℕ) (a : StrandState) (over : is_over (want_of code) ≡ true) (stays : SwitchesStrand code new) (f : ℕ) (rest : List Held) where
       is_at_end : (w : Working StrandState) → Runs job code w → is_over ((strands_of_job job).want w.strand) ≡ true
       is_at_end w r = ap is_over (sym (wants_same job code w r)) ∙ over
 
@@ -121,15 +122,15 @@ module _ (job : Job) where
       now_law w r = ap (λ i. strands_of_job (job_of_task i)) stays.task ∙ law_same job code w r
 
       pub turns_on : (right : Written) (r : StrandState) → code.branches ≡ Left f right ∷ rest
-          → Runs job code (let w : Working StrandState = record { memory = memory; outputs = outputs; branches = on_left k n r ∷ c; forks = m; blocks = b; strand = a } in w)
+          → Runs job code (let w : Working StrandState = record { memory = memory; outputs = outputs; branches = on_left k n r ∷ c; forks = m; blocks = b; since = since; strand = a } in w)
           → drawn new.drawing ≡ after_start f (drawn code.drawing) → new.strand ≡ right → new.branches ≡ Right f code.strand ∷ rest
           → ((w : Working StrandState) × Runs job new w) × (left_to_do new < left_to_do code)
       turns_on right r was h drawing strand branches =
           let t = code.drawing.tree in
           let at = code.drawing.place in
-          let x : Working StrandState = record { memory = memory; outputs = outputs; branches = on_left k n r ∷ c; forks = m; blocks = b; strand = a } in
+          let x : Working StrandState = record { memory = memory; outputs = outputs; branches = on_left k n r ∷ c; forks = m; blocks = b; since = since; strand = a } in
           let o = is_at_end x h in
-          let u = after_turn (strands_of_job job) closes memory outputs c k n m b a o r in
+          let u = after_turn (strands_of_job job) closes memory outputs since c k n m b a o r in
           let cross : Crossing = record { node = f; turn = record { fork = k; right = false }; blocks = n } in
           let held : HoldsBranches (Left f right ∷ rest) (on_left k n r ∷ c) = (let P : List Held → Type 0 = λ xs. HoldsBranches xs (on_left k n r ∷ c) in subst P was h.draws.branches) in
           let none : b ≡ 0 = none_begun (strands_of_job job) closes x h.work o in
@@ -158,7 +159,7 @@ module _ (job : Job) where
             journals = has_beside t at code.drawing.clock h.draws.built (first_memory job.program.cells) memory code.drawing.journals.items h.draws.journals f Strand 0 (λ e. refl);
             states = subst KT held.0 (states_turn (strands_of_job job) t at code.drawing.clock h.draws.built f rest a known.0 on_strand (ap (is_fork t) (sym up) ∙ at_fork) (crossed_some t at code.drawing.clock h.draws.built cross (crossings rest c) m down) up o right code.strand known.1 h.strand);
             played = same_played t (added t f Strand 0) (machine_at (strands_of_job job) x) (machine_at (strands_of_job job) u) (open_items t at) (open_items (added t f Strand 0) (length t)) (doers_beside t h.draws.built.rooted f Strand 0 there refl)
-                (subst O up (turn_items t at code.drawing.clock h.draws.built on_strand at_fork)) (turn_stays (strands_of_job job) closes memory outputs c k n m b a o r h.work) h.draws.played;
+                (subst O up (turn_items t at code.drawing.clock h.draws.built on_strand at_fork)) (turn_stays (strands_of_job job) closes memory outputs since c k n m b a o r h.work) h.draws.played;
           } in
           let same = law_same job code x h in
           let now = now_law x h in
@@ -167,23 +168,23 @@ module _ (job : Job) where
           let left : left_to_do code ≡ weight (s.depth (state_of code.strand)) + (weight (s.depth (state_of right)) + 2 + weights s rest) = (rw (same, was) refl) in (
             (
               u,
-              runs_from code new x u h stays refl refl (turns_right (strands_of_job job) closes memory outputs c k n m b a o r h.work) (ap state_of strand ∙ held.0)
+              runs_from code new x u h stays refl refl (turns_right (strands_of_job job) closes memory outputs since c k n m b a o r h.work) (ap state_of strand ∙ held.0)
                   (draws_by drawing branches draws),
             ),
             omega arith,
           )
 
       pub joins_on : (left : Written) (o : ℕ) (l : StrandState) → code.branches ≡ Right f left ∷ rest
-          → Runs job code (let w : Working StrandState = record { memory = memory; outputs = outputs; branches = on_right k n o l ∷ c; forks = m; blocks = b; strand = a } in w)
+          → Runs job code (let w : Working StrandState = record { memory = memory; outputs = outputs; branches = on_right k n o l ∷ c; forks = m; blocks = b; since = since; strand = a } in w)
           → drawn new.drawing ≡ after_join f (drawn code.drawing) → new.branches ≡ rest
           → state_of new.strand ≡ (law_of code).joined (state_of code.strand) (state_of left)
           → ((w : Working StrandState) × Runs job new w) × (left_to_do new < left_to_do code)
       joins_on left o l was h drawing branches strand =
           let t = code.drawing.tree in
           let at = code.drawing.place in
-          let x : Working StrandState = record { memory = memory; outputs = outputs; branches = on_right k n o l ∷ c; forks = m; blocks = b; strand = a } in
+          let x : Working StrandState = record { memory = memory; outputs = outputs; branches = on_right k n o l ∷ c; forks = m; blocks = b; since = since; strand = a } in
           let v = is_at_end x h in
-          let u = worker_after_join (strands_of_job job) closes memory outputs c k n m b a v l in
+          let u = worker_after_join (strands_of_job job) closes memory outputs since c k n m b a v l in
           let cross : Crossing = record { node = f; turn = record { fork = k; right = true }; blocks = n } in
           let held : HoldsBranches (Right f left ∷ rest) (on_right k n o l ∷ c) = (let P : List Held → Type 0 = λ xs. HoldsBranches xs (on_right k n o l ∷ c) in subst P was h.draws.branches) in
           let none : b ≡ 0 = none_begun (strands_of_job job) closes x h.work v in
@@ -220,11 +221,11 @@ module _ (job : Job) where
             journals = h.draws.journals;
             states = subst KJ held.0 (states_join (strands_of_job job) t at code.drawing.clock h.draws.built f rest a known.0 on_strand (ap (is_fork t) (sym up) ∙ at_fork) (crossed_some t at code.drawing.clock h.draws.built cross (crossings rest c) m down) up v left known.1 (few f (ap (is_fork t) (sym up) ∙ at_fork)));
             played = same_played t t (machine_at (strands_of_job job) x) (machine_at (strands_of_job job) u) (open_items t at) (open_items t (parent_of t f)) (record { longer = omega arith; doers = λ i j. refl; kinds = λ i j. refl })
-                (subst O up (join_items t at code.drawing.clock h.draws.built on_strand at_fork)) (join_stays (strands_of_job job) closes memory outputs c k n m b a v o l h.work) h.draws.played;
+                (subst O up (join_items t at code.drawing.clock h.draws.built on_strand at_fork)) (join_stays (strands_of_job job) closes memory outputs since c k n m b a v o l h.work) h.draws.played;
           } in (
             (
               u,
-              runs_from code new x u h stays refl refl (joins_up (strands_of_job job) closes memory outputs c k n m b a v o l h.work) becomes
+              runs_from code new x u h stays refl refl (joins_up (strands_of_job job) closes memory outputs since c k n m b a v o l h.work) becomes
                   (draws_by drawing branches draws),
             ),
             omega arith,

@@ -22,6 +22,9 @@ use Rattle.cw_job.specs.Room.Strands.{StrandState, state_of, strands_of_job}
 use Rattle.cw_serial.specs.MachineOf.{machine_of}
 use Rattle.cw_serial.proofs.Branches.{Branch, way, plugged}
 use Rattle.cw_serial.proofs.Deep.{goes_over, ended_stands}
+use Rattle.cw_job.proofs.Room.Elements.{elements_of}
+use Rattle.cw_serial.specs.Wants.{Since}
+use Rattle.cw_strand.specs.Programs.{IsCompiled}
 use Rattle.cw_serial.proofs.Working.{Worker as Working, machine_at, starts_work, none_begun, at_here, leftmost_here}
 use Rattle.cw_record.specs.declared.items.OrderItem.{OrderItem}
 use Rattle.cw_record.specs.declared.record_end.RecordEnd.TheVariants.{Finished, Fault}
@@ -68,13 +71,13 @@ all_empty (suc n) (suc c) es h = all_empty n c es h
 
 module _ (job : Job) where
   -- the worker at the first want of main
-  pub runs_first : (code : Worker) → job_of_task code.task ≡ job → code.memory.items ≡ first_memory job.program.cells → code.outputs.items ≡ [] → drawn code.drawing ≡ blank (length code.memory.items)
+  pub runs_first : (code : Worker) → IsCompiled job.program → job_of_task code.task ≡ job → code.memory.items ≡ first_memory job.program.cells → code.outputs.items ≡ [] → drawn code.drawing ≡ blank (length code.memory.items)
       → state_of code.strand ≡ (law_of code).start → code.branches ≡ [] → (w : Working StrandState) × Runs job code w
-  runs_first code is memory outputs drawing strand branches =
+  runs_first code compiled is memory outputs drawing strand branches =
       let first = first_memory job.program.cells in
       let root = fresh_node 0 Strand 0 ∷ [] in
       let empty = replicate (length first) [] in
-      let w : Working StrandState = record { memory = first; outputs = []; branches = []; forks = 0; blocks = 0; strand = (strands_of_job job).start } in
+      let w : Working StrandState = record { memory = first; outputs = []; branches = []; forks = 0; blocks = 0; since = []; strand = (strands_of_job job).start } in
       let I : List OrderItem → Type 0 = λ is. Plays (strands_of_job job) root (machine_of job) is (machine_at (strands_of_job job) w) in
       let draws : Draws job (blank (length first)) [] w = record {
         built = built_root;
@@ -94,7 +97,7 @@ module _ (job : Job) where
           memory = memory;
           outputs = outputs;
           strand = strand ∙ ap (λ j. (strands_of_job j).start) is;
-          work = starts_work (strands_of_job job) first;
+          work = starts_work (strands_of_job job) first (omega (arith, elements_of job compiled));
           draws = draws_by (drawing ∙ ap (λ m. blank (length m)) memory) branches draws;
         },
       )
@@ -107,12 +110,12 @@ module _ (job : Job) where
     no_branches [] (y ∷ c) e h = absurd h
     no_branches (x ∷ xs) c e h = absurd (cc e)
 
-    pub finished_run : (code : Worker) (memory outputs : List ℤ) (branches : List (Branch StrandState)) (forks blocks : ℕ) (a : StrandState)
-        → Runs job code (let w : Working StrandState = record { memory = memory; outputs = outputs; branches = branches; forks = forks; blocks = blocks; strand = a } in w)
+    pub finished_run : (code : Worker) (memory outputs : List ℤ) (branches : List (Branch StrandState)) (forks blocks : ℕ) (since : List Since) (a : StrandState)
+        → Runs job code (let w : Working StrandState = record { memory = memory; outputs = outputs; branches = branches; forks = forks; blocks = blocks; since = since; strand = a } in w)
         → is_over (want_of code) ≡ true → code.branches ≡ [] → IsWorkerRun job code.drawing.tree code.drawing.journals.items (Finished code.memory.items code.outputs.items)
-    finished_run code memory outputs branches forks blocks a r over none =
+    finished_run code memory outputs branches forks blocks since a r over none =
         let t = code.drawing.tree in
-        let w : Working StrandState = record { memory = memory; outputs = outputs; branches = branches; forks = forks; blocks = blocks; strand = a } in
+        let w : Working StrandState = record { memory = memory; outputs = outputs; branches = branches; forks = forks; blocks = blocks; since = since; strand = a } in
         let o : is_over ((strands_of_job job).want a) ≡ true = ap is_over (sym (wants_same job code w r)) ∙ over in
         let empty : branches ≡ [] = no_branches code.branches branches none r.draws.branches in
         let zeroed : blocks ≡ 0 = none_begun (strands_of_job job) closes w r.work o in

@@ -15,7 +15,8 @@ use Rattle.cw_job.specs.declared.standing.Standing.{Standing as Written}
 use Rattle.cw_job.specs.Room.Strands.{StrandState, state_of, strands_of_job}
 use Rattle.cw_serial.proofs.Branches.{Branch, on_left, on_right}
 use Rattle.cw_job.proofs.Room.Lawful.{deep_of}
-use Rattle.cw_job.proofs.Room.Elements.{WantsThere}
+use Rattle.cw_job.proofs.Room.Elements.{NamesThere, WantsThere}
+use Rattle.cw_strand.specs.Names.{first_memory}
 use Rattle.cw_serial.proofs.Working.{Worker as Working, own_in, reached, after_act, after_fork as worker_after_fork}
 use Rattle.cw_record.specs.declared.worker.Branch.{Branch as Held}
 use Rattle.cw_record.specs.declared.worker.Branch.TheVariants.{Left, Right}
@@ -42,7 +43,7 @@ StillRuns job code new = ((v : Working StrandState) × Runs job new v) × (left_
 module _ {job : Job} {code : Worker} {w : Working StrandState} (r : Runs job code w) where
   -- the same with other branches
   abbrev RunsWith : List (Branch StrandState) → Type 0
-  RunsWith bs = Runs job code (let v : Working StrandState = record { memory = w.memory; outputs = w.outputs; branches = bs; forks = w.forks; blocks = w.blocks; strand = w.strand } in v)
+  RunsWith bs = Runs job code (let v : Working StrandState = record { memory = w.memory; outputs = w.outputs; branches = bs; forks = w.forks; blocks = w.blocks; since = w.since; strand = w.strand } in v)
 
   held : (x : Held) (rest : List Held) → code.branches ≡ x ∷ rest → HoldsBranches (x ∷ rest) w.branches
   held x rest was = let P : List Held → Type 0 = λ xs. HoldsBranches xs w.branches in subst P was r.draws.branches
@@ -69,6 +70,11 @@ module _ {job : Job} {code : Worker} {w : Working StrandState} (r : Runs job cod
     deep : IsDeep (strands_of_job job)
     deep = deep_of job
 
+    -- the strand gives up no block
+    pub none_given_up : want_of code ≡ want.Cancel → ⊥
+    none_given_up e =
+        subst (NamesThere (length (first_memory job.program.cells))) (sym (wants_same job code w r) ∙ e) (there _ _ (reached (strands_of_job job) r.work))
+
     -- ## A step
 
     pub act_run : (new : Worker) → takes_answer (want_of code) ≡ true → Acted code new → StillRuns job code new
@@ -91,7 +97,7 @@ module _ {job : Job} {code : Worker} {w : Working StrandState} (r : Runs job cod
         was = taken ∙ ap (λ b. b ∷ rest) is
 
         by : (c : List (Branch StrandState)) → w.branches ≡ c → HoldsBranches (Left f right ∷ rest) c → StillRuns job code new
-        by (on_left k n s ∷ c) e h = turns_on job deep closes code new w.memory w.outputs c k n w.forks w.blocks w.strand over stays f rest right s was (subst RunsWith e r) drawing strand branches
+        by (on_left k n s ∷ c) e h = turns_on job deep closes code new w.memory w.outputs w.since c k n w.forks w.blocks w.strand over stays f rest right s was (subst RunsWith e r) drawing strand branches
         by _ e h = absurd h
 
       pub join_run : {f : ℕ} {left : Written} → x ≡ Right f left → drawn new.drawing ≡ after_join f (drawn code.drawing) → new.branches ≡ rest
@@ -101,7 +107,7 @@ module _ {job : Job} {code : Worker} {w : Working StrandState} (r : Runs job cod
         was = taken ∙ ap (λ b. b ∷ rest) is
 
         by : (c : List (Branch StrandState)) → w.branches ≡ c → HoldsBranches (Right f left ∷ rest) c → StillRuns job code new
-        by (on_right k n o l ∷ c) e h = joins_on job deep closes code new w.memory w.outputs c k n w.forks w.blocks w.strand over stays f rest left o l was (subst RunsWith e r) drawing branches strand
+        by (on_right k n o l ∷ c) e h = joins_on job deep closes code new w.memory w.outputs w.since c k n w.forks w.blocks w.strand over stays f rest left o l was (subst RunsWith e r) drawing branches strand
         by _ e h = absurd h
 
     -- a block is ended where the place is in it
@@ -117,7 +123,7 @@ module _ {job : Job} {code : Worker} {w : Working StrandState} (r : Runs job cod
     pub finish_answer : is_over (want_of code) ≡ true → code.branches ≡ [] → (run : Run) → run.drawing ≡ code.drawing → run.end ≡ Finished code.memory.items code.outputs.items
         → IsWorkerRun job run.drawing.tree run.drawing.journals.items run.end
     finish_answer over none run drawing end =
-        let all = finished_run job closes code w.memory w.outputs w.branches w.forks w.blocks w.strand r over none in
+        let all = finished_run job closes code w.memory w.outputs w.branches w.forks w.blocks w.since w.strand r over none in
         let D : Drawing → Type 0 = λ d. IsWorkerRun job d.tree d.journals.items (Finished code.memory.items code.outputs.items) in
         let E : RecordEnd → Type 0 = λ e. IsWorkerRun job run.drawing.tree run.drawing.journals.items e in
         subst E (sym end) (subst D (sym drawing) all)

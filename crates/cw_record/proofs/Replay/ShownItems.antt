@@ -17,7 +17,7 @@ use Rattle.cw_tree.specs.Accesses.{by_key}
 use Rattle.cw_tree.proofs.NodeKinds.{pending_block}
 use Rattle.cw_serial.specs.StrandTree.{at, put}
 use Rattle.cw_serial.specs.Machine.{Machine, Begun, may_pick, same_name, pick_at, pick}
-use Rattle.cw_serial.specs.Wants.{answer_to, memory_after, outputs_after, blocks_after}
+use Rattle.cw_serial.specs.Wants.{answer_to, memory_after, outputs_after, blocks_after, since_after}
 use Rattle.cw_record.specs.declared.items.OrderItem.{OrderItem}
 use Rattle.cw_record.specs.declared.items.OrderItem.TheVariants.{Begins, Does, Ends}
 use Rattle.cw_record.specs.Coherent.{outputs_shown, shown_kind, shown_node}
@@ -83,7 +83,7 @@ module _ {A : Type 0} (s : Strands A) where
   picked_outputs m n p a stands picked =
       by (may_pick m.begun p) (blocks_after (record { strand = p }) (λ (b : Begun). same_name b.strand p) (s.want a) m.begun) (sym (ap (pick_at s m p) stands) ∙ picked) where
         after : List Begun → Machine A
-        after blocks = record { memory = memory_after (s.want a) m.memory; outputs = outputs_after (s.want a) m.outputs; strands = put s m.strands p (s.answer a (answer_to (s.want a) m.memory)); begun = blocks }
+        after blocks = record { memory = memory_after (s.want a) m.memory; outputs = outputs_after (s.want a) m.outputs; strands = put s m.strands p (s.answer a (answer_to (s.want a) m.memory m.since)); begun = blocks; since = since_after (s.want a) m.memory m.since }
 
         by : (b : Bool) (o : Option (List Begun)) → (if b then option_map after o else None) ≡ Some n → n.outputs ≡ outputs_after (s.want a) m.outputs
         by false o e = absurd (cc e)

@@ -28,7 +28,7 @@ blocks_of (right n) = in_right n ∷ 0 ∷ []
 blocks_of both = 0 ∷ []
 
 -- an answer changes them as it should
-answer_keeps : (w : Writer) (given : Given) → IsAnswer (wants w) given → own_after (wants w) (blocks_of w) ≡ blocks_of (next w)
+answer_keeps : (w : Writer) (given : Given) → IsAnswer 1 (wants w) given → own_after (wants w) (blocks_of w) ≡ blocks_of (next w)
 answer_keeps whole given is = absurd is
 answer_keeps both given is = absurd is
 answer_keeps (left zero) given is = refl

@@ -8,7 +8,7 @@ use Rattle.cw_tree.specs.declared.node.Node.{Node}
 use Rattle.cw_tree.specs.declared.picks.Turn.{Turn}
 use Rattle.cw_tree.specs.Names.{name_of}
 use Rattle.cw_serial.specs.StrandTree.{at, put, ended}
-use Rattle.cw_serial.specs.Wants.{answer_to, memory_after, outputs_after, blocks_after}
+use Rattle.cw_serial.specs.Wants.{answer_to, memory_after, outputs_after, blocks_after, since_after}
 use Rattle.cw_serial.specs.Machine.{Begun, Machine, same_name, may_pick, does, pick_at, pick, has_ended}
 use Rattle.cw_serial.specs.DepthFirst.{leftmost, GoesDepthFirst, here, picks}
 use Rattle.cw_job.specs.Jobs.{Job}
@@ -28,7 +28,7 @@ module _ {A : Type 0} (s : Strands A) where
   fault_no_pick : (m : Machine A) (p : List Turn) (a : A) (kind : FaultKind) → at s m.strands p ≡ Some a → s.want a ≡ AFault kind → pick s m p ≡ None
   fault_no_pick m p a kind stood wants = ap (pick_at s m p) stood ∙ by (may_pick m.begun p) where
     next : List Begun → Machine A
-    next bs = record { memory = memory_after (s.want a) m.memory; outputs = outputs_after (s.want a) m.outputs; strands = put s m.strands p (s.answer a (answer_to (s.want a) m.memory)); begun = bs }
+    next bs = record { memory = memory_after (s.want a) m.memory; outputs = outputs_after (s.want a) m.outputs; strands = put s m.strands p (s.answer a (answer_to (s.want a) m.memory m.since)); begun = bs; since = since_after (s.want a) m.memory m.since }
 
     none : does s m p a ≡ None
     none = ap (λ w. option_map next (blocks_after (record { strand = p }) (λ (b : Begun). same_name b.strand p) w m.begun)) wants

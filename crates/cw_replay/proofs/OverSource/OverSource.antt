@@ -1,5 +1,5 @@
 -- A record of a compiled program replays over the syntax of its source exactly where it replays over the code.
-use Rattle.std.proofs.Common.{◌≡◌, ℕ, List, sym, subst}
+use Rattle.std.proofs.Common.{◌≡◌, ℕ, List, sym, subst, arith}
 use Rattle.cw_code.specs.declared.CellInfo.{CellInfo}
 use Rattle.cw_code.specs.declared.instruction.Code.{Code}
 use Rattle.cw_strand.specs.Names.{cells_of, first_memory}
@@ -30,7 +30,7 @@ over_source ds r is takes =
     let p = r.program in
     let faultless : IsFaultless ds r.words = record { named = is.named; takes = takes } in
     let (to_code, to_source) = same_replays (meaning.strands_of_syntax ds r.words r.limits) (compiled ds r.words r.limits) (lawful ds r.words r.limits faultless).deep (code_is_lawful ds r.words r.limits faultless).deep
-    (wants_of_the_source ds r.words r.limits faultless) (first_memory (cells_of ds)) r.limits.aborts r.tree r.conflicts r.order r.end in (
+    (wants_of_the_source ds r.words r.limits faultless) (first_memory (cells_of ds)) r.limits.aborts r.tree r.conflicts r.order r.end (omega arith) in (
       λ h. to_source (same_code r p.code (code_of ds) p.main (main_function ds) p.cells (cells_of ds) is.code is.main is.cells h),
       λ h. same_code r (code_of ds) p.code (main_function ds) p.main (cells_of ds) p.cells (sym is.code) (sym is.main) (sym is.cells) (to_code h),
     )

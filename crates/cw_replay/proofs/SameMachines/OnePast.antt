@@ -33,10 +33,10 @@ module _ {A B : Type 0} (s : Strands A) (t : Strands B) where
     pub one : a ≡ became s past
     pub other : b ≡ became t past
 
-  pub answered_so : (a : A) (b : B) (given : Given) → HaveOnePast a b → IsAnswer (s.want a) given → HaveOnePast (s.answer a given) (t.answer b given)
+  pub answered_so : (a : A) (b : B) (given : Given) → HaveOnePast a b → IsAnswer s.elements (s.want a) given → HaveOnePast (s.answer a given) (t.answer b given)
   answered_so a b given h takes = record {
     past = answered h.past given;
-    can = (h.can, subst (λ x. IsAnswer (s.want x) given) h.one takes);
+    can = (h.can, subst (λ x. IsAnswer s.elements (s.want x) given) h.one takes);
     one = ap (λ x. s.answer x given) h.one;
     other = ap (λ x. t.answer x given) h.other;
   }
@@ -92,7 +92,7 @@ module _ {A B : Type 0} (s : Strands A) (t : Strands B) where
 
   module _ (same : WantTheSame s t) where
     pub want_same : (a : A) (b : B) → HaveOnePast a b → s.want a ≡ t.want b
-    want_same a b h = ap s.want h.one ∙ same h.past h.can ∙ sym (ap t.want h.other)
+    want_same a b h = ap s.want h.one ∙ same.wants h.past h.can ∙ sym (ap t.want h.other)
 
     pub ended_alike : (x : StrandTree A) (y : StrandTree B) → AreAlike x y → BothOrNeither HaveOneEnd (ended s x) (ended t y)
     ended_alike (stands k a) (stands j b) h =

@@ -1,6 +1,7 @@
 -- Over two laws of strands that want the same, the machine with one memory does the same, and a record replays over both or over neither.
-use Rattle.std.proofs.Common.{◌≡◌, ℕ, ℤ, suc, List, [], ◌∷◌, length, refl, ap, sym, ◌∙◌, subst, Bool, true, cond, Option, Some, None}
-use Rattle.std.specs.Prelude.{slice_get, option_map, option_and_then, is_some, unwrap_or}
+use Rattle.std.proofs.Common.{◌≡◌, ◌≤◌, ℕ, ℤ, suc, List, [], ◌∷◌, length, refl, ap, sym, ◌∙◌, subst, arith, Bool, true, cond, Option, Some, None}
+use Rattle.std.specs.Prelude.{All, slice_get, option_map, option_and_then, is_some, unwrap_or}
+use Rattle.std.proofs.lemmas.List.Elements.{All-nil}
 use Rattle.cw_strand.specs.declared.want.Want.{Want}
 use Rattle.cw_strand.specs.declared.want.Want.TheVariants.{Fork, Sync, Done, Fault as AFault}
 use Rattle.cw_strand.specs.Strands.{Strands, IsDeep, takes_answer}
@@ -15,8 +16,9 @@ use Rattle.cw_tree.specs.Names.{name_of}
 use Rattle.cw_tree.specs.Refusals.{telling}
 use Rattle.cw_serial.specs.declared.ends.SerialEnd.TheVariants as last
 use Rattle.cw_serial.specs.StrandTree.{at, put, ended}
-use Rattle.cw_serial.specs.Wants.{answer_to, memory_after, outputs_after, blocks_after}
+use Rattle.cw_serial.specs.Wants.{answer_to, memory_after, outputs_after, blocks_after, since_after}
 use Rattle.cw_serial.specs.Machine.{Begun, Machine, same_name, may_pick, does, pick_at, pick, initial, has_ended, steps_down, stands_at, end_of_strand, end_of_named, machine_shows, play}
+use Rattle.cw_serial.proofs.PuttingBack.{Fits, memory_fits, since_fits}
 use Rattle.cw_serial.proofs.Working.{is_answer}
 use Rattle.cw_record.specs.declared.record_end.RecordEnd.{RecordEnd}
 use Rattle.cw_record.specs.declared.record_end.RecordEnd.TheVariants.{Finished, Fault, Budget, Moves}
@@ -41,27 +43,35 @@ module _ {A : Type 0} (s : Strands A) where
   made m p a blocks = record {
     memory = memory_after (s.want a) m.memory;
     outputs = outputs_after (s.want a) m.outputs;
-    strands = put s m.strands p (s.answer a (answer_to (s.want a) m.memory));
+    strands = put s m.strands p (s.answer a (answer_to (s.want a) m.memory m.since));
     begun = blocks;
+    since = since_after (s.want a) m.memory m.since;
   }
 
   abbrev blocks : Machine A → List Turn → A → Option (List Begun)
   blocks m p a = blocks_after (record { strand = p }) (λ b. same_name b.strand p) (s.want a) m.begun
 
 module _ {A B : Type 0} (s : Strands A) (t : Strands B) (same : WantTheSame s t) (deep : IsDeep s) (other_deep : IsDeep t) where
-  -- they have the same memory, outputs and begun blocks, and their strands have one past, place by place
+  -- they have the same memory, outputs and begun blocks, which may put back the same, and their strands have one past, place by place; and
+  -- the memory has no more elements than the cells
   pub record HoldTheSame (m : Machine A) (n : Machine B) : Type 0 where
     pub memory : m.memory ≡ n.memory
     pub outputs : m.outputs ≡ n.outputs
     pub begun : m.begun ≡ n.begun
+    pub since : m.since ≡ n.since
     pub strands : AreAlike s t m.strands n.strands
+    pub there : length m.memory ≤ s.elements
+    pub fits : All (Fits s.elements) m.since
 
-  holds_first : (first : List ℤ) → HoldTheSame (initial s first) (initial t first)
-  holds_first first = record {
+  holds_first : (first : List ℤ) → length first ≤ s.elements → HoldTheSame (initial s first) (initial t first)
+  holds_first first there = record {
     memory = refl;
     outputs = refl;
     begun = refl;
+    since = refl;
     strands = goes_alike s t same deep other_deep 0 s.start t.start (record { past = start; can = tt; one = refl; other = refl });
+    there = there;
+    fits = All-nil (Fits s.elements);
   }
 
   -- ## Picks
@@ -73,15 +83,21 @@ module _ {A B : Type 0} (s : Strands A) (t : Strands B) (same : WantTheSame s t)
 
       made_alike : (cs : List Begun) → blocks s m p a ≡ Some cs → HoldTheSame (made s m p a cs) (made t n p b cs)
       made_alike cs e =
-          let answers = is_answer (s.want a) m.memory (takes (s.want a) (record { strand = p }) (λ b. same_name b.strand p) m.begun cs e) in
-          let given : answer_to (s.want a) m.memory ≡ answer_to (t.want b) n.memory = ap (λ x. answer_to x m.memory) w ∙ ap (answer_to (t.want b)) h.memory in
-          let before = answered_so s t a b (answer_to (s.want a) m.memory) one answers in
-          let behind = subst (λ g. HaveOnePast s t (s.answer a (answer_to (s.want a) m.memory)) (t.answer b g)) given before in
+          let one_given = answer_to (s.want a) m.memory m.since in
+          let other_given = answer_to (t.want b) n.memory n.since in
+          let answers = is_answer s.elements (s.want a) m.memory m.since h.fits (takes (s.want a) (record { strand = p }) (λ b. same_name b.strand p) m.begun cs e) in
+          let given : one_given ≡ other_given =
+          ap (λ x. answer_to x m.memory m.since) w ∙ (ap (λ x. answer_to (t.want b) x m.since) h.memory ∙ ap (answer_to (t.want b) n.memory) h.since) in
+          let before = answered_so s t a b one_given one answers in
+          let behind = subst (λ g. HaveOnePast s t (s.answer a one_given) (t.answer b g)) given before in
           record {
             memory = ap (λ x. memory_after x m.memory) w ∙ ap (memory_after (t.want b)) h.memory;
             outputs = ap (λ x. outputs_after x m.outputs) w ∙ ap (outputs_after (t.want b)) h.outputs;
             begun = refl;
-            strands = put_alike s t same deep other_deep m.strands n.strands h.strands p (s.answer a (answer_to (s.want a) m.memory)) (t.answer b (answer_to (t.want b) n.memory)) behind;
+            since = ap (λ x. since_after x m.memory m.since) w ∙ (ap (λ x. since_after (t.want b) x m.since) h.memory ∙ ap (since_after (t.want b) n.memory) h.since);
+            strands = put_alike s t same deep other_deep m.strands n.strands h.strands p (s.answer a one_given) (t.answer b other_given) behind;
+            there = memory_fits s.elements (s.want a) m.memory h.there;
+            fits = since_fits s.elements (s.want a) m.memory m.since h.there h.fits;
           }
 
       same_blocks : blocks s m p a ≡ blocks t n p b
@@ -126,7 +142,7 @@ module _ {A B : Type 0} (s : Strands A) (t : Strands B) (same : WantTheSame s t)
     by Is (Some a) None one = absurd one
 
   are_the_same : (m : Machine A) (n : Machine B) → HoldTheSame m n → AreTheSame s t m n
-  are_the_same m n h = record { memory = h.memory; outputs = h.outputs; begun = h.begun; wants = same_wanted m n h; ended = same_ended m n h }
+  are_the_same m n h = record { memory = h.memory; outputs = h.outputs; begun = h.begun; since = h.since; wants = same_wanted m n h; ended = same_ended m n h }
 
   after_alike : (ps : List (List Turn)) (m : Machine A) (n : Machine B) → HoldTheSame m n → BothOrNeither (AreTheSame s t) (after_picks s m ps) (after_picks t n ps)
   after_alike [] m n h = are_the_same m n h
@@ -140,7 +156,7 @@ module _ {A B : Type 0} (s : Strands A) (t : Strands B) (same : WantTheSame s t)
     by (Some x) None one more = absurd one
 
   pub same_machines : SameMachines s t
-  same_machines first ps = after_alike ps (initial s first) (initial t first) (holds_first first)
+  same_machines first ps there = after_alike ps (initial s first) (initial t first) (holds_first first there)
 
   -- ## Ends
 
@@ -187,7 +203,7 @@ module _ {A B : Type 0} (s : Strands A) (t : Strands B) (same : WantTheSame s t)
     play_alike (x ∷ ns) m n h place = next_play x ns (play_alike ns) m n h place
 
   pub same_ends : SameEnds s t
-  same_ends first picks = play_alike picks.names picks.last picks.list (initial s first) (initial t first) (holds_first first) 0
+  same_ends first picks there = play_alike picks.names picks.last picks.list (initial s first) (initial t first) (holds_first first there) 0
 
   -- ## Records
 
@@ -220,9 +236,9 @@ module _ {A B : Type 0} (s : Strands A) (t : Strands B) (same : WantTheSame s t)
     spent_alike m n h cs budget Moves r = tt
 
   -- what replays over the one replays over the other
-  pub replays_over : (first : List ℤ) (budget : ℕ) (nodes : List Node) (cs : List Conflict) (picks : Picks) (e : RecordEnd) → Replays s first budget nodes cs picks e → Replays t first budget nodes cs picks e
-  replays_over first budget nodes cs picks e r =
-      let (u, acts, held) = does_all_alike nodes (items nodes cs budget e) (initial s first) r.machine (initial t first) (holds_first first) r.acts in
+  pub replays_over : (first : List ℤ) (budget : ℕ) (nodes : List Node) (cs : List Conflict) (picks : Picks) (e : RecordEnd) → length first ≤ s.elements → Replays s first budget nodes cs picks e → Replays t first budget nodes cs picks e
+  replays_over first budget nodes cs picks e there r =
+      let (u, acts, held) = does_all_alike nodes (items nodes cs budget e) (initial s first) r.machine (initial t first) (holds_first first there) r.acts in
       record {
         strand = r.strand;
         order = r.order;
@@ -233,5 +249,7 @@ module _ {A B : Type 0} (s : Strands A) (t : Strands B) (same : WantTheSame s t)
       }
 
 pub same_replays : {A B : Type 0} (s : Strands A) (t : Strands B) → IsDeep s → IsDeep t → WantTheSame s t → SameReplays s t
-same_replays s t deep other_deep same first budget nodes cs picks e =
-    (replays_over s t same deep other_deep first budget nodes cs picks e, replays_over t s (want_back s t same) other_deep deep first budget nodes cs picks e)
+same_replays s t deep other_deep same first budget nodes cs picks e there = (
+  replays_over s t same deep other_deep first budget nodes cs picks e there,
+  replays_over t s (want_back s t same) other_deep deep first budget nodes cs picks e (omega (arith, there, same.elements)),
+)

@@ -3,7 +3,7 @@ use Rattle.std.proofs.Common.{◌≡◌, ℕ, zero, suc, Bool, true, false, List
 use Rattle.std.specs.Prelude.{slice_get}
 use Rattle.std.proofs.lemmas.Bool.{or_parts}
 use Rattle.cw_text.specs.declared.ast.Word.{Word}
-use Rattle.cw_text.specs.Syntax.{Term, number, name, at, call as call_of, unary, binary, Terms, none, more, Statement, declare, assign, assign_at, run, out, choose, repeat, atomic, spawn, sync, return, Block, empty, first, Declaration, cell, func}
+use Rattle.cw_text.specs.Syntax.{Term, number, name, at, call as call_of, unary, binary, Terms, none, more, Statement, declare, assign, assign_at, run, out, choose, repeat, atomic, spawn, sync, cancel, return, Block, empty, first, Declaration, cell, func}
 use Rattle.cw_code.specs.declared.CellInfo.{CellInfo}
 use Rattle.cw_code.specs.declared.instruction.Instr.{Instr}
 use Rattle.cw_code.specs.declared.effects.Effect.{Effect}
@@ -92,31 +92,32 @@ module _ (cells : List CellInfo) (functions : List (List ℕ)) where
   -- ## Statements
 
   mutual
-    statement_none : (g : Slots) (p : ℕ) (s : Statement) → statement_spawns s ≡ false → NoFork (statement_code cells functions g p s)
-    statement_none g p (declare w e) h = (refl, both (term_code cells functions g e) _ (term_none g e) (refl, tt))
-    statement_none g p (assign w e) h = (refl, both (term_code cells functions g e) _ (term_none g e) (writes_none (slot_of g w.name) w.name, tt))
-    statement_none g p (assign_at w i e) h = (refl, both (term_code cells functions g i) _ (term_none g i) (both (term_code cells functions g e) _ (term_none g e) (stores_none (cell_of cells w.name), tt)))
-    statement_none g p (run w es) h = (refl, both (terms_code cells functions g es) _ (terms_none g es) (refl, (refl, tt)))
-    statement_none g p (out e) h = (refl, both (term_code cells functions g e) _ (term_none g e) (refl, tt))
-    statement_none g p (choose e a b) h =
+    statement_none : (g : Slots) (p q : ℕ) (s : Statement) → statement_spawns s ≡ false → NoFork (statement_code cells functions g p q s)
+    statement_none g p q (declare w e) h = (refl, both (term_code cells functions g e) _ (term_none g e) (refl, tt))
+    statement_none g p q (assign w e) h = (refl, both (term_code cells functions g e) _ (term_none g e) (writes_none (slot_of g w.name) w.name, tt))
+    statement_none g p q (assign_at w i e) h = (refl, both (term_code cells functions g i) _ (term_none g i) (both (term_code cells functions g e) _ (term_none g e) (stores_none (cell_of cells w.name), tt)))
+    statement_none g p q (run w es) h = (refl, both (terms_code cells functions g es) _ (terms_none g es) (refl, (refl, tt)))
+    statement_none g p q (out e) h = (refl, both (term_code cells functions g e) _ (term_none g e) (refl, tt))
+    statement_none g p q (choose e a b) h =
         let parts = or_parts (block_spawns a) (block_spawns b) h in
-        (refl, both (term_code cells functions g e) _ (term_none g e) (refl, both _ _ (block_none g _ a parts.0) (refl, block_none g _ b parts.1)))
-    statement_none g p (repeat e b) h = (refl, both (term_code cells functions g e) _ (term_none g e) (refl, both _ _ (block_none g _ b h) (refl, tt)))
-    statement_none g p (atomic b) h = (refl, (refl, both _ _ (block_none g _ b h) (refl, (refl, tt))))
-    statement_none g p (spawn b) h = absurd (cc h)
-    statement_none g p sync h = (refl, (refl, tt))
-    statement_none g p (return l e) h = (refl, both (term_code cells functions g e) _ (term_none g e) (refl, (refl, tt)))
+        (refl, both (term_code cells functions g e) _ (term_none g e) (refl, both _ _ (block_none g _ q a parts.0) (refl, block_none g _ q b parts.1)))
+    statement_none g p q (repeat e b) h = (refl, both (term_code cells functions g e) _ (term_none g e) (refl, both _ _ (block_none g _ q b h) (refl, tt)))
+    statement_none g p q (atomic b) h = (refl, (refl, both _ _ (block_none g _ _ b h) (refl, (refl, tt))))
+    statement_none g p q (spawn b) h = absurd (cc h)
+    statement_none g p q sync h = (refl, (refl, tt))
+    statement_none g p q (cancel l) h = (refl, (refl, (refl, (refl, tt))))
+    statement_none g p q (return l e) h = (refl, both (term_code cells functions g e) _ (term_none g e) (refl, (refl, tt)))
 
-    block_none : (g : Slots) (p : ℕ) (b : Block) → block_spawns b ≡ false → NoFork (block_code cells functions g p b)
-    block_none g p empty h = tt
-    block_none g p (first s b) h =
+    block_none : (g : Slots) (p q : ℕ) (b : Block) → block_spawns b ≡ false → NoFork (block_code cells functions g p q b)
+    block_none g p q empty h = tt
+    block_none g p q (first s b) h =
         let parts = or_parts (statement_spawns s) (block_spawns b) h in
-        both _ _ (statement_none g p s parts.0) (block_none (slots_after s g) _ b parts.1)
+        both _ _ (statement_none g p q s parts.0) (block_none (slots_after s g) _ q b parts.1)
 
   -- ## Programs
 
   function_none : (p : ℕ) (params : List Word) (b : Block) → block_spawns b ≡ false → NoFork (function_code cells functions p params b)
-  function_none p params b h = both _ _ (block_none (slots_with_params params []) p b h) (refl, (refl, (refl, tt)))
+  function_none p params b h = both _ _ (block_none (slots_with_params params []) p 0 b h) (refl, (refl, (refl, tt)))
 
   instrs_none : (ds : List Declaration) (p : ℕ) → any_spawns ds ≡ false → NoFork (instrs_from cells functions p ds)
   instrs_none [] p h = tt

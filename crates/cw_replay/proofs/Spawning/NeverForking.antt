@@ -1,6 +1,7 @@
 -- Strands that never want a fork: those of code that has none; and what a record of such strands keeps has no fork.
 use Rattle.std.proofs.Common.{◌≡◌, ℕ, zero, suc, ◌+◌, ℤ, Bool, true, false, List, [], ◌∷◌, length, Option, Some, None, Result, Ok, Err, refl, nat_lt, nat_le}
 use Rattle.std.specs.Prelude.{if◌then◌else◌, slice_get, negsuc, pos}
+use Rattle.cw_code.specs.declared.Back.{Back}
 use Rattle.cw_code.specs.declared.FaultKind.{FaultKind}
 use Rattle.cw_code.specs.declared.Limits.{Limits}
 use Rattle.cw_code.specs.declared.instruction.Instr.{Instr}
@@ -113,6 +114,7 @@ module _ (code : Code) where
   act_plain effect.Fork i p vs s h = absurd (cc h)
   act_plain effect.Sync i p vs s h = wait_plain s.scopes p vs s
   act_plain effect.Done i p vs s h = refl
+  act_plain effect.Cancel i p vs s h = counts_plain want.Cancel (coded.goes_to p vs s) refl
   act_plain effect.Tick i p vs s h = spends_plain s (λ t. on (coded.goes_to p vs t)) (λ t. tt)
 
   module _ (none : NoFork code.instrs) where
@@ -121,11 +123,15 @@ module _ (code : Code) where
     effect_plain i (Some e) s h = act_plain e i (s.current.place + 1) s.current.operands s h
 
     step_plain : (s : State) → Plain (coded.step code s)
-    step_plain s = by_test (nat_lt s.limits.size s.size) _ _ refl (at_plain (slice_get code.instrs s.current.place) refl)
+    step_plain s = by_test (nat_lt s.limits.size s.size) _ _ refl (back_plain s.back)
       where
         at_plain : (o : Option Instr) → slice_get code.instrs s.current.place ≡ o → Plain (coded.step_at code o s)
         at_plain None e = tt
         at_plain (Some i) e = effect_plain i (effect_at i.op) s (no_fork_at code.instrs s.current.place i none e)
+
+        back_plain : (bs : List Back) → Plain (coded.writes_back code bs s)
+        back_plain [] = at_plain (slice_get code.instrs s.current.place) refl
+        back_plain (b ∷ bs) = counts_plain (want.Store b.cell b.value) (record s { back = bs }) refl
 
     -- ## Strands
 

@@ -46,9 +46,9 @@ names_cell : (cells cell : ℕ) (write : Option ℤ) → NamesCell cells (access
 names_cell cells cell None low = low
 names_cell cells cell (Some v) low = low
 
-is_answer : (cell : ℕ) (write : Option ℤ) (v : ℤ) → IsAnswer (access_of cell write) (given_for write v)
-is_answer cell None v = tt
-is_answer cell (Some w) v = tt
+is_answer : (elements cell : ℕ) (write : Option ℤ) (v : ℤ) → IsAnswer elements (access_of cell write) (given_for write v)
+is_answer elements cell None v = tt
+is_answer elements cell (Some w) v = tt
 
 no_end : (cell : ℕ) (write : Option ℤ) → access_of cell write ≡ End → ⊥
 no_end cell None e = cc
@@ -152,13 +152,13 @@ module _ (c : Driver) (x cell : ℕ) (write : Option ℤ) (z : Seen) (may : MayD
     access_comes given is d stands =
         let P : Reply → Type 0 = λ r. Comes d z (meets_cell (law_of z) x write r (does e z.m)) in
         let Q : Given → Type 0 = λ g. StandsFor d (answered x g (record z { m = does e z.m })) in
-        let R : Want → Type 0 = λ w. IsAnswer w (given_for write v) in
+        let R : Want → Type 0 = λ w. IsAnswer (law_of z).elements w (given_for write v) in
         subst P (sym replied) (
           changed x ((law_of z).answer (z.m.at x) (given_for write v)) z.there,
           (
             subst Q is stands,
             access_inside (law_of z) k.machine.first z.m on z.there may.step.steady.inside x may.step.running may.step.ready cell write (given_for write v) fit unmet conflicts may.alive
-                (subst R (sym may.wanted) (is_answer cell write v)) off_end,
+                (subst R (sym may.wanted) (is_answer (law_of z).elements cell write v)) off_end,
           ),
         )
 

@@ -82,7 +82,7 @@ module _ (c : Driver) (x : ℕ) (v : ℤ) (z : Seen) (may : MayDo c x (want.Out 
   pub out_comes : (d : Driver) → StandsFor d (answered x Nothing (record z { m = does (event.Out x v) z.m })) → Comes d z (answers (law_of z) x Nothing (does (event.Out x v) z.m))
   out_comes d stands =
       let on = may.step.steady.core in
-      let P : Want → Type 0 = λ w. IsAnswer w Nothing in
+      let P : Want → Type 0 = λ w. IsAnswer (law_of z).elements w Nothing in
       let wanted = may.wanted in (
         changed x ((law_of z).answer (z.m.at x) Nothing) z.there,
         (

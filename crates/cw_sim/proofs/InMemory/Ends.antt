@@ -74,7 +74,7 @@ module _ (c : Driver) (x : ℕ) (z : Seen) (may : MayDo c x End z) where
   -- and it stands for the move once it is
   pub end_comes : (d : Driver) → StandsFor d (answered x Nothing (record z { m = does (event.Commit x) z.m })) → Comes d z (answers (law_of z) x Nothing (does (event.Commit x) z.m))
   end_comes d stands =
-      let P : Want → Type 0 = λ w. IsAnswer w Nothing in (
+      let P : Want → Type 0 = λ w. IsAnswer (law_of z).elements w Nothing in (
         changed x ((law_of z).answer (z.m.at x) Nothing) z.there,
         (
           stands,

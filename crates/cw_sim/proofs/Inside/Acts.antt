@@ -185,7 +185,7 @@ module _ {A : Type 0} (s : Strands A) (first : List ℤ) (k z : CoreState) (on :
           lives = λ b n e pending w right. elim w [
             | inl was ↦
                 (let (inner, inside) = old_inside b n was right in
-                let P : Rattle.cw_strand.specs.declared.want.Want.Want → Type 0 = λ v. IsAnswer v Nothing in
+                let P : Rattle.cw_strand.specs.declared.want.Want.Want → Type 0 = λ v. IsAnswer s.elements v Nothing in
                 inside_to s (after b) (after b) n a (changed x a at x) refl (changed_here x a at)
                 (goes_on s (after b) n inner (at x) Nothing inside (subst P (sym begins) tt) (λ end. cc (end, begins))))
             | inr new ↦

@@ -31,13 +31,13 @@ inner_within w n i h = refl
 
 module _ {A : Type 0} (s : Strands A) where
   -- an answer to an access, an output or a begin leaves a strand inside
-  pub goes_on : (begin : A) (forks inner : ℕ) (a : A) (given : Given) → Inside s begin forks inner a → IsAnswer (s.want a) given → (s.want a ≡ End → ⊥) → (inner : ℕ) × Inside s begin forks inner (s.answer a given)
+  pub goes_on : (begin : A) (forks inner : ℕ) (a : A) (given : Given) → Inside s begin forks inner a → IsAnswer s.elements (s.want a) given → (s.want a ≡ End → ⊥) → (inner : ℕ) × Inside s begin forks inner (s.answer a given)
   goes_on begin forks inner a given h is off = (inner_after (s.want a) inner, answered h given is (stays_other (s.want a) inner off))
 
   -- the begin of a block is inside, and so is what it goes on to
   pub goes_in : (outer begin : A) (forks inner : ℕ) → Inside s outer forks inner begin → s.want begin ≡ Begin → Inside s outer forks (suc inner) (s.answer begin Nothing)
   goes_in outer begin forks inner h w =
-      let P : Want → Type 0 = λ v. IsAnswer v Nothing in
+      let P : Want → Type 0 = λ v. IsAnswer s.elements v Nothing in
       let Q : ℕ → Type 0 = λ k. Inside s outer forks k (s.answer begin Nothing) in
       subst Q (ap (λ v. inner_after v inner) w) (answered h Nothing (subst P (sym w) tt) (stays_other (s.want begin) inner (λ e. cc (w, e))))
 
@@ -63,7 +63,7 @@ module _ {A : Type 0} (s : Strands A) where
         subst P (inner_within (s.want right) j i stays) (joins (subst Q at (within h)) (stays_within (s.want right) j i stays) left)
 
     -- it may end the inner one
-    pub goes_out : (j : ℕ) (a : A) (given : Given) → Inside s begin 0 j a → IsAnswer (s.want a) given → s.want a ≡ End → (inner : ℕ) × Inside s outer f inner (s.answer a given)
+    pub goes_out : (j : ℕ) (a : A) (given : Given) → Inside s begin 0 j a → IsAnswer s.elements (s.want a) given → s.want a ≡ End → (inner : ℕ) × Inside s outer f inner (s.answer a given)
     goes_out j a given h is end =
         let P : Want → Type 0 = λ v. StaysIn v (j + suc i) in
         let Q : ℕ → Type 0 = λ k. Inside s outer k (inner_after (s.want a) (j + suc i)) (s.answer a given) in

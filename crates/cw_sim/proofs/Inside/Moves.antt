@@ -104,7 +104,7 @@ module _ {A : Type 0} (s : Strands A) (first : List ℤ) (m : Simulation A) (on 
         fewer : (b : ℕ) → is_pending z.machine.tree b ≡ true → is_pending mm.tree b ≡ true
         fewer b f = elim (pending_more k z node is b f) [ inl w ↦ w.1 | inr w ↦ absurd (let q = w.1 in cc (q, plain)) ]
 
-        pub leaf : z.machine.conflicts ≡ mm.conflicts → is_dying mm x ≡ false → (given : Given) → IsAnswer (s.want (m.at x)) given → (s.want (m.at x) ≡ End → ⊥)
+        pub leaf : z.machine.conflicts ≡ mm.conflicts → is_dying mm x ≡ false → (given : Given) → IsAnswer s.elements (s.want (m.at x)) given → (s.want (m.at x) ≡ End → ⊥)
             → AreInside s z.machine (changed x (s.answer (m.at x) given) m.at) m.saved (changed x (s.answer (m.at x) given) there)
         leaf conflicts free given answer off =
             let same : (y : ℕ) → is_dying z.machine y ≡ is_dying mm y = λ y. dying_same first mm z.machine told now left.stays (λ b low f. fewer b f) y (λ c b t among d. more_pending k z node is b d.pending) conflicts in
@@ -113,7 +113,7 @@ module _ {A : Type 0} (s : Strands A) (first : List ℤ) (m : Simulation A) (on 
             goes_on s (m.saved b) n h.0 (m.at x) given h.1 answer off))
 
     -- an output
-    pub out_inside : (v : ℤ) → fits k (event.Out x v) ≡ true → is_dying mm x ≡ false → IsAnswer (s.want (m.at x)) Nothing → (s.want (m.at x) ≡ End → ⊥)
+    pub out_inside : (v : ℤ) → fits k (event.Out x v) ≡ true → is_dying mm x ≡ false → IsAnswer s.elements (s.want (m.at x)) Nothing → (s.want (m.at x) ≡ End → ⊥)
         → HasInside s (answers s x Nothing (does (event.Out x v) m)) (changed x (s.answer (m.at x) Nothing) there)
     out_inside v fit free answer off = leaf (event.Out x v) fit (fresh_node p (Out v) (next k)) (out_more first k on x running ready v) refl refl free Nothing answer off
 
@@ -123,7 +123,7 @@ module _ {A : Type 0} (s : Strands A) (first : List ℤ) (m : Simulation A) (on 
 
     -- an access that is made
     pub access_inside : (c : ℕ) (w : Option ℤ) (given : Given) → fits k (event.Access x c w) ≡ true → is_met k x c ≡ false → (after_event k (event.Access x c w)).machine.conflicts ≡ mm.conflicts
-        → is_dying mm x ≡ false → IsAnswer (s.want (m.at x)) given → (s.want (m.at x) ≡ End → ⊥)
+        → is_dying mm x ≡ false → IsAnswer s.elements (s.want (m.at x)) given → (s.want (m.at x) ≡ End → ⊥)
         → HasInside s (answers s x given (does (event.Access x c w) m)) (changed x (s.answer (m.at x) given) there)
     access_inside c w given fit met conflicts free answer off =
         leaf (event.Access x c w) fit (fresh_node p (access_kind c w (live_value mm c)) (next k)) (access_more first k on x running ready c w met)
@@ -191,7 +191,7 @@ module _ {A : Type 0} (s : Strands A) (first : List ℤ) (m : Simulation A) (on 
           (λ c b t among d. shut_more b (off c b t among d) d.pending) conflicts
 
     -- the end of its block
-    pub commit_inside : fits k (event.Commit x) ≡ true → is_dying mm x ≡ false → in_block mm x ≡ true → s.want (m.at x) ≡ End → IsAnswer (s.want (m.at x)) Nothing
+    pub commit_inside : fits k (event.Commit x) ≡ true → is_dying mm x ≡ false → in_block mm x ≡ true → s.want (m.at x) ≡ End → IsAnswer s.elements (s.want (m.at x)) Nothing
         → HasInside s (answers s x Nothing (does (event.Commit x) m)) (changed x (s.answer (m.at x) Nothing) there)
     commit_inside fit free within wants answer =
         let e = event.Commit x in

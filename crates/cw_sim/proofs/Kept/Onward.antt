@@ -18,9 +18,9 @@ module _ {A : Type 0} (s : Strands A) where
   reached_on (of_right above fork way) more = of_right above fork (goes_on way more)
 
   -- a want is answered
-  pub answers : (w : Want) (own : List ℕ) (a b : A) (given : Given) → s.want a ≡ w → IsAnswer w given → b ≡ s.answer a given → GoesTo s own a (own_after w own) b
+  pub answers : (w : Want) (own : List ℕ) (a b : A) (given : Given) → s.want a ≡ w → IsAnswer s.elements w given → b ≡ s.answer a given → GoesTo s own a (own_after w own) b
   answers w own a b given is takes e =
-      let P : Want → Type 0 = λ v. IsAnswer v given in
+      let P : Want → Type 0 = λ v. IsAnswer s.elements v given in
       let Q : Want → Type 0 = λ v. GoesTo s own a (own_after v own) b in
       let R : A → Type 0 = λ c. GoesTo s own a (own_after (s.want a) own) c in
       subst Q is (subst R (sym e) (answered stays given (subst P (sym is) takes)))

@@ -38,6 +38,7 @@ module _ {A : Type 0} (s : Strands A) (first : List ℤ) (m : Simulation A) (kep
     act_states (want.Out v) e = out_states s first m kept.core kept.states o at.running at.ready v e
     act_states want.Begin e = begin_states s first m kept.core kept.states o at.running at.ready e
     act_states want.End e = commit_states s first m kept.core kept.states o at.running at.ready (wants.ends o is_free_here e) e
+    act_states want.Cancel e = kept.states
     act_states want.Fork e = fork_states s first m kept.core kept.states o at.running at.ready w e
     act_states want.Sync e = over_states (ap is_over e)
     act_states want.Done e = over_states (ap is_over e)

@@ -5,7 +5,7 @@ use Rattle.std.specs.Option.{option_map_or}
 use Rattle.cw_tree.specs.declared.closed.Halt.TheVariants as halt
 use Rattle.cw_tree.specs.Series.{place}
 use Rattle.cw_strand.specs.declared.want.Want.{Want}
-use Rattle.cw_strand.specs.declared.want.Want.TheVariants.{Load, Store, Out, Begin, End, Fork, Sync, Done, Fault}
+use Rattle.cw_strand.specs.declared.want.Want.TheVariants.{Load, Store, Out, Begin, End, Cancel, Fork, Sync, Done, Fault}
 use Rattle.cw_strand.specs.Strands.{Strands, is_over}
 use Rattle.cw_open.specs.Machine.{live_value, in_block, is_dying, is_free}
 use Rattle.cw_open.specs.Steps.{refusal}
@@ -107,6 +107,7 @@ module _ {A : Type 0} (s : Strands A) (first : List ℤ) (n : Simulation A) (w :
           let fit = commit_fits_here first k on ws old w x run alive (wants.ends x free e) in
           let kept = keeps_commit first k on x at.running at.ready ws old fit in
           by_event first o k (event.Commit x) fit (goes_on_there first o kept.goes kept.workers)
+      acts_to Cancel e = absurd (names Cancel e)
       acts_to Fork e =
           let o = acts s w x Fork n in
           let fit = fork_fits_here first k on ws old w x run alive in

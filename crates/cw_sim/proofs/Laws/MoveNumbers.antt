@@ -7,7 +7,7 @@ use Rattle.cw_tree.specs.declared.closed.Halt.TheVariants as halt
 use Rattle.cw_tree.specs.Nodes.{parent_of}
 use Rattle.cw_tree.specs.Series.{place}
 use Rattle.cw_strand.specs.declared.want.Want.{Want}
-use Rattle.cw_strand.specs.declared.want.Want.TheVariants.{Load, Store, Out, Begin, End, Fork, Sync, Done, Fault}
+use Rattle.cw_strand.specs.declared.want.Want.TheVariants.{Load, Store, Out, Begin, End, Cancel, Fork, Sync, Done, Fault}
 use Rattle.cw_strand.specs.Strands.{Strands}
 use Rattle.cw_open.specs.Machine.{has_finished, in_block, is_dying}
 use Rattle.cw_core.specs.declared.event.Event.TheVariants as event
@@ -72,6 +72,7 @@ module _ {A : Type 0} (s : Strands A) (w : ℕ) where
   acts_number x (Out v) m = refl
   acts_number x Begin m = refl
   acts_number x End m = refl
+  acts_number x Cancel m = refl
   acts_number x Fork m = length-set m.workers w _
   acts_number x Sync m = follows_number x false (does (event.Finish x false) m)
   acts_number x Done m = follows_number x false (does (event.Finish x false) m)

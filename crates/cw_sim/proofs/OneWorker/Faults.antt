@@ -9,7 +9,7 @@ use Rattle.cw_tree.specs.declared.closed.Halt.TheVariants as halt
 use Rattle.cw_tree.specs.Nodes.{parent_of}
 use Rattle.cw_tree.specs.Series.{place}
 use Rattle.cw_strand.specs.declared.want.Want.{Want}
-use Rattle.cw_strand.specs.declared.want.Want.TheVariants.{Load, Store, Out, Begin, End, Fork, Sync, Done, Fault}
+use Rattle.cw_strand.specs.declared.want.Want.TheVariants.{Load, Store, Out, Begin, End, Cancel, Fork, Sync, Done, Fault}
 use Rattle.cw_strand.specs.Strands.{Strands}
 use Rattle.cw_open.specs.Machine.{has_finished, in_block, is_dying}
 use Rattle.cw_open.specs.LeftFirst.{lefts_have_finished}
@@ -98,6 +98,7 @@ module _ {A : Type 0} (s : Strands A) where
     acts_fault w x (Out v) q e = absurd (cc (on, e))
     acts_fault w x Begin q e = absurd (cc (on, e))
     acts_fault w x End q e = absurd (cc (on, e))
+    acts_fault w x Cancel q e = absurd (cc (on, e))
     acts_fault w x Fork q e = absurd (cc (on, e))
     acts_fault w x Sync q e = absurd (goes_on (acts s w x Sync m) (follows_on w x false (does (event.Finish x false) m)) e)
     acts_fault w x Done q e = absurd (goes_on (acts s w x Done m) (follows_on w x false (does (event.Finish x false) m)) e)

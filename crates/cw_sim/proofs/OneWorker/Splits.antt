@@ -6,7 +6,7 @@ use Rattle.cw_tree.specs.declared.closed.Halt.TheVariants as halt
 use Rattle.cw_tree.specs.Nodes.{parent_of, below}
 use Rattle.cw_tree.specs.Series.{place}
 use Rattle.cw_strand.specs.declared.want.Want.{Want}
-use Rattle.cw_strand.specs.declared.want.Want.TheVariants.{Load, Store, Out, Begin, End, Fork, Sync, Done, Fault}
+use Rattle.cw_strand.specs.declared.want.Want.TheVariants.{Load, Store, Out, Begin, End, Cancel, Fork, Sync, Done, Fault}
 use Rattle.cw_strand.specs.Strands.{Strands}
 use Rattle.cw_open.specs.Machine.{has_finished, in_block, is_dying}
 use Rattle.cw_core.specs.declared.event.Event.TheVariants as event
@@ -66,6 +66,7 @@ module _ {A : Type 0} (s : Strands A) where
   acts_splits w x (Out v) m = refl
   acts_splits w x Begin m = refl
   acts_splits w x End m = refl
+  acts_splits w x Cancel m = refl
   acts_splits w x Fork m = refl
   acts_splits w x Sync m = follows_splits w x false (does (event.Finish x false) m)
   acts_splits w x Done m = follows_splits w x false (does (event.Finish x false) m)

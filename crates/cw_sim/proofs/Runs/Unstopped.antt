@@ -95,6 +95,7 @@ module _ {A : Type 0} where
     acts_goes w x (want.Out v) m g = g
     acts_goes w x want.Begin m g = g
     acts_goes w x want.End m g = g
+    acts_goes w x want.Cancel m g = g
     acts_goes w x want.Fork m g = g
     acts_goes w x want.Sync m g = follows_goes w x false (does (event.Finish x false) m) g
     acts_goes w x want.Done m g = follows_goes w x false (does (event.Finish x false) m) g

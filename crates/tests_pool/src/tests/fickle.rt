@@ -1,3 +1,5 @@
+ghost use Rattle.std.specs.Prelude.{◌≡◌, false};
+ghost use Rattle.cw_code.specs.Programs.{cancels};
 ghost use Rattle.cw_job.specs.Jobs.{TakesWords};
 ghost use Rattle.cw_strand.specs.Programs.{IsCompiled};
 
@@ -77,6 +79,7 @@ fn worked<R: Threads + Wait + Sync>(
     seed: u64,
 ) -> Result<StrandToken, Fail>
     requires compiled { IsCompiled program.now }
+    requires cancels { cancels program.now.code ≡ false }
     requires words { TakesWords program.now 0 }
 {
     let memory = first_memory(alloc, program.cells.as_slice())?;
@@ -106,6 +109,7 @@ fn ended<R: Threads + Wait + Sync>(
     seed: u64,
 ) -> Result<Ending, Fail>
     requires compiled { IsCompiled program.now }
+    requires cancels { cancels program.now.code ≡ false }
     requires words { TakesWords program.now 0 }
 {
     let token = worked(rt, alloc, program, trial, workers, seed)?;

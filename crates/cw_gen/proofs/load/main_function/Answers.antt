@@ -1,9 +1,9 @@
-use Rattle.std.proofs.Common.{◌≡◌, List, [], ◌∷◌, ◌++◌, ap, sym, ◌∙◌, map, append_assoc}
+use Rattle.std.proofs.Common.{◌≡◌, List, [], ◌∷◌, ◌++◌, ap, ◌∙◌, map, append_assoc}
 use Rattle.std.specs.List.{range_with_len}
 use Rattle.std.proofs.lemmas.List.{map-append}
 use Rattle.std.specs.Prelude.{codes}
 use Rattle.cw_text.specs.declared.ast.Word.{Word}
-use Rattle.cw_text.specs.Syntax.{Declaration, Statement, block_of, func, statement_of, sync}
+use Rattle.cw_text.specs.Syntax.{block_of, func, statement_of, sync}
 use Rattle.cw_gen.specs.Load.{block, spawned_group, summed}
 use Rattle.cw_gen.proofs.Blocks.{block_is}
 use Rattle.cw_gen.proofs.load.main_function.Goals as goal

@@ -1,4 +1,4 @@
-use Rattle.std.proofs.Common.{◌≡◌, ◌+◌, ◌-◌, [], ◌∷◌, ◌++◌, ap, sym, ◌∙◌, map}
+use Rattle.std.proofs.Common.{◌+◌, ◌-◌, [], ◌∷◌, ◌++◌, ap, sym, ◌∙◌, map}
 use Rattle.std.specs.List.{range_with_len}
 use Rattle.cw_text.specs.Syntax.{none, run, spawn, statement_of, terms_of}
 use Rattle.cw_gen.specs.Load.{block, spawned_group, word}

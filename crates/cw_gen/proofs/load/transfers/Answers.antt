@@ -1,4 +1,4 @@
-use Rattle.std.proofs.Common.{◌≡◌, ◌+◌, ◌-◌, ◌∷◌, ◌++◌, ap, sym, ◌∙◌, map}
+use Rattle.std.proofs.Common.{◌+◌, ◌-◌, ◌∷◌, ◌++◌, ap, sym, ◌∙◌, map}
 use Rattle.cw_text.specs.Syntax.{statement_of}
 use Rattle.cw_gen.specs.Load.{spawned_transfer, state_after, transfer_from, transfers}
 use Rattle.cw_gen.proofs.Draws.{map_more, state_more, transfers_more}

@@ -6,7 +6,7 @@ use Rattle.cw_strand.specs.declared.want.Given.{Given}
 use Rattle.cw_job.specs.Jobs.{bare}
 use Rattle.cw_log.specs.declared.board.Access.{Access}
 use Rattle.cw_log.specs.Answers.{Meets}
-use Rattle.cw_body.specs.Bodies.{AnswersAct}
+use Rattle.cw_body.specs.Bodies.{AnswersAct, elements_of}
 use Rattle.cw_pool.specs.Accesses.{access_want, given_for}
 use Rattle.cw_pool.proofs.Tasks.Refusing.{cell_there, answers_act, made_so, made_last, refused_so, victim_there}
 use Rattle.cw_pool.proofs.access.accesses.Goals as goal
@@ -18,8 +18,9 @@ access-requires-clause-cell g c =
 
 pub answer-requires-clause-answers : goal.answer-requires-clause-answers
 answer-requires-clause-answers g c =
-    subst (λ (w : Want). AnswersAct w c.given_for.result) (sym (sym (c.want.ensures (bare c.now.inside.body.program)) ∙ c.in-Some.ensures))
-    (subst (λ (y : Given). AnswersAct (access_want c.in-Some.cell c.in-Some.write) y) (sym c.given_for.ensures) (answers_act c.in-Some.cell c.in-Some.write _))
+    let n = elements_of c.now.inside.body in
+    subst (λ (w : Want). AnswersAct n w c.given_for.result) (sym (sym (c.want.ensures (bare c.now.inside.body.program)) ∙ c.in-Some.ensures))
+    (subst (λ (y : Given). AnswersAct n (access_want c.in-Some.cell c.in-Some.write) y) (sym c.given_for.ensures) (answers_act n c.in-Some.cell c.in-Some.write _))
 
 pub refused-now-inside-requires-clause-victim : goal.refused-now-inside-requires-clause-victim
 refused-now-inside-requires-clause-victim g c lives within =

@@ -14,7 +14,7 @@ use Rattle.cw_tree.specs.Names.{name_of}
 use Rattle.cw_tree.specs.Series.{strand_of}
 use Rattle.cw_serial.specs.StrandTree.{at, put}
 use Rattle.cw_job.specs.Memory.{value_at}
-use Rattle.cw_serial.specs.Wants.{answer_to, memory_after, outputs_after, blocks_after}
+use Rattle.cw_serial.specs.Wants.{Since, answer_to, memory_after, outputs_after, blocks_after, since_after}
 use Rattle.cw_serial.specs.Machine.{Machine, Begun, same_name, may_pick, does, pick, pick_at}
 use Rattle.cw_record.specs.declared.items.OrderItem.{OrderItem}
 use Rattle.cw_record.specs.declared.items.OrderItem.TheVariants.{Begins, Does, Ends}
@@ -119,11 +119,11 @@ Picks t bs (i ∷ is) = (may_pick bs (doer t i) ≡ true) × (cs : List Begun) �
 
 -- ## One item
 
-answers_kind : (memory : List ℤ) (k : Kind) → HasKind memory k → answer_to (wanted_kind k) memory ≡ given_kind k
-answers_kind memory (Read c v) h = ap Value h
-answers_kind memory (Write c v) h = refl
-answers_kind memory (Out v) h = refl
-answers_kind memory _ h = absurd h
+answers_kind : (memory : List ℤ) (since : List Since) (k : Kind) → HasKind memory k → answer_to (wanted_kind k) memory since ≡ given_kind k
+answers_kind memory since (Read c v) h = ap Value h
+answers_kind memory since (Write c v) h = refl
+answers_kind memory since (Out v) h = refl
+answers_kind memory since _ h = absurd h
 
 stops_kind : {A : Type 0} (s : Strands A) (memory : List ℤ) (k : Kind) → HasKind memory k → Stops s (wanted_kind k)
 stops_kind s memory (Read c v) h = (refl, refl)
@@ -138,13 +138,13 @@ act_of_kind memory w (Out v) h e = e
 act_of_kind memory w _ h e = absurd h
 
 module _ (t : List Node) (memory : List ℤ) where
-  answers : (i : OrderItem) → HasItem t memory i → answer_to (wanted_item t i) memory ≡ given_item t i
-  answers (Begins n) h = refl
-  answers (Does n) h = by (slice_get t n) h where
-    by : (o : Option Node) → HasNode memory o → answer_to (wanted_node o) memory ≡ given_node o
+  answers : (since : List Since) (i : OrderItem) → HasItem t memory i → answer_to (wanted_item t i) memory since ≡ given_item t i
+  answers since (Begins n) h = refl
+  answers since (Does n) h = by (slice_get t n) h where
+    by : (o : Option Node) → HasNode memory o → answer_to (wanted_node o) memory since ≡ given_node o
     by None h = absurd h
-    by (Some x) h = answers_kind memory x.kind h
-  answers (Ends n) h = refl
+    by (Some x) h = answers_kind memory since x.kind h
+  answers since (Ends n) h = refl
 
   pub stops_item : {A : Type 0} (s : Strands A) (i : OrderItem) → HasItem t memory i → Stops s (wanted_item t i)
   stops_item s (Begins n) h = (refl, refl)
@@ -174,6 +174,7 @@ module _ {A : Type 0} (s : Strands A) (deep : IsDeep s) (t : List Node) (at_stop
     outputs = outputs_after w m.outputs;
     strands = put s m.strands (doer t i) (s.answer b g);
     begun = cs;
+    since = since_after w m.memory m.since;
   }
 
   abbrev pub next_machine : Machine A → OrderItem → A → List Begun → Machine A
@@ -184,9 +185,9 @@ module _ {A : Type 0} (s : Strands A) (deep : IsDeep s) (t : List Node) (at_stop
   picks_item m i b cs here may wants begun has =
       ap (pick_at s m (doer t i)) here
       ∙ ap (λ c. cond c (does s m (doer t i) b) None) may
-      ∙ ap (λ (w : Want). option_map (made m i b w (answer_to w m.memory)) (blocks_after (record { strand = doer t i }) (λ c. same_name c.strand (doer t i)) w m.begun)) wants
-      ∙ ap (option_map (made m i b (wanted_item t i) (answer_to (wanted_item t i) m.memory))) begun
-      ∙ ap (λ (g : Given). Some (made m i b (wanted_item t i) g cs)) (answers t m.memory i has)
+      ∙ ap (λ (w : Want). option_map (made m i b w (answer_to w m.memory m.since)) (blocks_after (record { strand = doer t i }) (λ c. same_name c.strand (doer t i)) w m.begun)) wants
+      ∙ ap (option_map (made m i b (wanted_item t i) (answer_to (wanted_item t i) m.memory m.since))) begun
+      ∙ ap (λ (g : Given). Some (made m i b (wanted_item t i) g cs)) (answers t m.memory m.since i has)
 
   -- where an act is next, its strand stands at it
   pub here_at : (c : Way Act A) (i : Act) (z : Next u [] c i) → Stops s (act_wanted t at_stop i) → at s (threads u c) (act_name t i) ≡ Some z.state

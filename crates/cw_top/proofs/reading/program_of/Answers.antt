@@ -1,5 +1,15 @@
-use Rattle.cw_text.specs.Syntax.{tree_of}
+use Rattle.std.proofs.Common.{ap, ◌∙◌}
+use Rattle.cw_text.specs.Syntax.{source_of}
+use Rattle.cw_text.proofs.Cancels.{newest_one_has_none}
+use Rattle.cw_code.specs.Programs.{cancels}
+use Rattle.cw_code.specs.declared.instruction.Code.{Code}
+use Rattle.cw_strand.proofs.CompiledCancels.{code_has_its_cancels}
 use Rattle.cw_top.proofs.reading.program_of.Goals as goal
 
 pub returns-clause-spelled : goal.returns-clause-spelled
-returns-clause-spelled c = (tree_of c.in_ok-ast.ast, (c.in_ok-ast.ensures.exact, c.in_ok-compile.ensures.compiled))
+returns-clause-spelled c = (source_of c.in_ok-ast.ast, (c.in_ok-ast.ensures.exact, c.in_ok-compile.ensures.compiled))
+
+pub returns-clause-cancels : goal.returns-clause-cancels
+returns-clause-cancels c =
+    let source = source_of c.in_ok-ast.ast in
+    ap (λ (x : Code). cancels x) c.in_ok-compile.ensures.compiled.code ∙ (code_has_its_cancels source.items ∙ newest_one_has_none c.args.bytes.now source c.in_ok-ast.ensures.exact)

@@ -3,7 +3,7 @@ use Rattle.cw_code.specs.declared.program.Program.{Program}
 use Rattle.cw_job.specs.Jobs.{bare}
 use Rattle.cw_job.specs.Room.Strands.{IsOf}
 use Rattle.cw_body.specs.declared.stage.Stage.TheVariants.{Goes}
-use Rattle.cw_body.specs.Bodies.{AnswersAct, InBlocks, want_of}
+use Rattle.cw_body.specs.Bodies.{AnswersAct, InBlocks, elements_of, want_of}
 use Rattle.cw_body.proofs.InMemory.Calls.{answered_so}
 use Rattle.cw_body.proofs.body.Body.answer.Goals as goal
 
@@ -13,7 +13,7 @@ invariant_of-self-2 c =
     let going : x.stage.value ≡ Goes = ap (λ (v : InBlocks). v.stage) c.self.view_is ∙ c.requires.goes in
     let same : c.args.program.now ≡ x.program.value = c.requires.program ∙ sym (ap (λ (v : InBlocks). v.program) c.self.view_is) in
     let P : Program → Type 0 = λ p. IsOf p c.answer.new.self in
-    let Q : InBlocks → Type 0 = λ v. AnswersAct (want_of v) c.args.given in
+    let Q : InBlocks → Type 0 = λ v. AnswersAct (elements_of v) (want_of v) c.args.given in
     record {
       kept = c.self.invariant.kept;
       stands = answered_so x.program.value x.stage.value c.of-2.result.value x.level x.standing c.answer.new.self going c.of-2.ensures (subst P same c.in_ok-answer.ensures.stands) c.args.given x.begins
