@@ -133,6 +133,19 @@ try 'a text that is no UTF-8' 5 '' $'cwstm: line 1: NotUtf8\n' run
 printf 'fn main() {' > source
 try 'a text that stops short' 5 '' $'cwstm: line 1: Unexpected\n' run
 
+# ## Languages
+
+printf 'cell cancel; fn main() { cancel = 1; }' > source
+try 'a cell of that name' 0 $'cancel = 1\nend\n' '' run
+printf '// c\nlanguage 01\n; cell language; fn main() { language = 2; }' > source
+try 'the first language' 0 $'language = 2\nend\n' '' run
+try 'the first language, simulated' 0 $'language = 2\nend\n' '' sim
+printf 'language\n2; cell c; fn main() { atomic { c = 1; cancel; } }' > source
+try 'the second language is not run yet' 5 '' $'cwstm: line 2: Unexpected\n' run
+try 'nor simulated' 5 '' $'cwstm: line 2: Unexpected\n' sim
+printf 'language 1; fn main() { atomic { cancel; } }' > source
+try 'a block is not given up in the first language' 5 '' $'cwstm: line 1: Unexpected\n' run
+
 printf 'fn main() { out 9223372036854775807 + 1; }' > source
 try 'a fault of main' 6 $'fault Overflow in 0\n' '' run
 printf 'fn main() { spawn { out 9223372036854775807 * 2; } }' > source
