@@ -1,4 +1,4 @@
-ghost use Rattle.std.specs.Prelude.{◌≡◌, ℕ, ℤ, List, [], IfOk, if◌then◌else◌, None, nat_lt};
+ghost use Rattle.std.specs.Prelude.{◌≡◌, ℕ, ℤ, List, [], IfOk, OnOk, if◌then◌else◌, None, nat_lt};
 ghost use Rattle.std.specs.BTreeMap.{get};
 ghost use Rattle.std.specs.Ordering.{nat_cmp};
 ghost use Rattle.cw_strand.specs.declared.want.Want.TheVariants as Want;
@@ -40,6 +40,7 @@ impl Undo {
 
     pub fn new(alloc: Global) -> Undo
         ensures begun { result.begun ≡ [] }
+        ensures few { result.writes.items ≡ [] }
         ensures since { (memory : List ℤ) → AreSince result memory [] }
     {
         Undo {
@@ -60,7 +61,8 @@ impl Undo {
     /// Follows a want of that strand, before it is done in the memory: a block begins or ends, and while one is begun, what a write replaces
     /// is kept. Answers false where the want cannot be done, with nothing changed.
     pub fn follow(&mut self, strand: u32, want: Want, memory: &[i64]) -> Result<bool, OutOfMemory>
-        ensures { IfOk result (λ done. Follows want strand memory.now self.old done self.new) }
+        ensures follows { IfOk result (λ done. Follows want strand memory.now self.old done self.new) }
+        ensures few { OnOk result ((self.old.begun ≡ [] → self.old.writes.items ≡ []) → self.new.begun ≡ [] → self.new.writes.items ≡ []) }
     {
         match want {
             Want::Load(_) | Want::Out(_) => Ok(true),
@@ -84,7 +86,8 @@ impl Undo {
 
     /// Ends the innermost block, where it is that strand's own. Once the outermost one has ended no write is kept.
     fn end(&mut self, strand: u32) -> bool
-        ensures { (memory : List ℤ) → Follows Want.End strand memory self.old result self.new }
+        ensures follows { (memory : List ℤ) → Follows Want.End strand memory self.old result self.new }
+        ensures few { (self.old.begun ≡ [] → self.old.writes.items ≡ []) → self.new.begun ≡ [] → self.new.writes.items ≡ [] }
     {
         if !self.is_own(strand) {
             return false;

@@ -9,8 +9,8 @@ use Rattle.cw_serial.specs.InMemory.{IsSince}
 use Rattle.cw_serial.proofs.Undone.{since_writes}
 use Rattle.cw_serial.proofs.undo.Undo.follow.Goals as goal
 
-pub returns-in_ok-push-in-Store : goal.returns-in_ok-push-in-Store
-returns-in_ok-push-in-Store c = rw c.in-Store.is (record {
+pub returns-in_ok-push-in-Store-clause-follows : goal.returns-in_ok-push-in-Store-clause-follows
+returns-in_ok-push-in-Store-clause-follows c = rw c.in-Store.is (record {
   begun = refl;
   since = λ since are.
       let old = c.args.self.now in
