@@ -1,4 +1,5 @@
 pub mod Access
+pub mod Cancel
 pub mod Fork
 pub mod Join
 pub mod Out

@@ -10,6 +10,7 @@ pub mod FirstCells
 pub mod ForkParts
 pub mod ForkRows
 pub mod ForkTails
+pub mod Leaves
 pub mod Outputs
 pub mod PartsClose
 pub mod PartsGrow

@@ -3,4 +3,5 @@ pub mod Fits
 pub mod InMemory
 pub mod Kept
 pub mod Laws
+mod Touched
 mod Undone

@@ -16,7 +16,7 @@ use Rattle.cw_trace.specs.Columns.{ColumnTable, used, forked, split_at, merged, 
 use Rattle.cw_trace.specs.Stands.{fork_column}
 use Rattle.cw_trace.specs.Query.{verdict}
 use Rattle.cw_open.specs.Machine.{live, live_value, has_finished, is_running, in_block, is_dying, is_free, rolls_back}
-use Rattle.cw_open.specs.Steps.{Met, Step, forks, begins, accesses, refuses, outputs, commits, undoes, aborts, finishes, joins, stops, refusal, after_all}
+use Rattle.cw_open.specs.Steps.{Met, Step, forks, begins, accesses, refuses, outputs, cancels, commits, undoes, aborts, finishes, joins, stops, refusal, puts_back, after_all}
 use Rattle.cw_open.specs.Runs.{meets, left_died}
 use Rattle.cw_core.specs.declared.event.Event.{Event}
 use Rattle.cw_core.specs.declared.event.Event.TheVariants as event
@@ -42,6 +42,7 @@ fits_now k (event.Fork s) = is_free k.machine s && not (waits_for_left k s)
 fits_now k (event.Begin s) = is_free k.machine s && not (waits_for_left k s)
 fits_now k (event.Access s c w) = is_free k.machine s && not (waits_for_left k s) && nat_lt c (length k.machine.lists)
 fits_now k (event.Out s v) = is_free k.machine s && not (waits_for_left k s)
+fits_now k (event.Cancel s) = is_free k.machine s && not (waits_for_left k s) && in_block k.machine s
 fits_now k (event.Commit s) = is_free k.machine s && not (waits_for_left k s) && in_block k.machine s && not (is_victim k.machine.tree k.machine.conflicts (place k.machine.tree s))
 fits_now k (event.Roll s) = rolls_back k.machine s && not (waits_for_left k s)
 fits_now k (event.Finish s dead) = is_running k.machine s && not (waits_for_left k s) && not (in_block k.machine s) && (if is_dying k.machine s then dead else (not dead || left_died k.machine s))
@@ -103,6 +104,7 @@ steps_of k (event.Fork s) = forks s (next k) ∷ []
 steps_of k (event.Begin s) = begins s (next k) ∷ []
 steps_of k (event.Access s c w) = (if is_met k s c then refuses s c w (met_by k s c) else accesses s c w (next k)) ∷ []
 steps_of k (event.Out s v) = outputs s v (next k) ∷ []
+steps_of k (event.Cancel s) = cancels s (next k) ∷ []
 steps_of k (event.Commit s) = commits s (next k) ∷ []
 steps_of k (event.Roll s) = map (undoes s) (touched k s) ++ aborts s (next k) ∷ []
 steps_of k (event.Finish s dead) = finishes s dead ∷ []
@@ -151,6 +153,7 @@ fork_at k c = unwrap_or (find (λ n. is_fork k.machine.tree n && (fork_column k.
 abbrev pub reply_to : CoreState → Event → Reply
 reply_to k (event.Fork s) = let n = length k.machine.tree in if may_fork k then reply.Forked (n + 1) (n + 2) n else reply.Inline (n + 1) (n + 2)
 reply_to k (event.Access s c w) = if is_met k s c then reply.Conflict (refusal k.machine (place k.machine.tree s) c (met_by k s c)) else reply.Value (unwrap_or w (live_value k.machine c))
+reply_to k (event.Cancel s) = reply.Back (puts_back k.machine s (next k))
 reply_to k (event.Split f) = option_map_or (λ c. reply.Early (fork_at k c)) (is_early k f) reply.Done
 reply_to k _ = reply.Done
 

@@ -6,4 +6,5 @@ pub mod Kept
 pub mod InMemory
 pub mod Links
 pub mod Undone
+pub mod Touched
 pub mod Closing

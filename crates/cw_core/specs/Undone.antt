@@ -1,12 +1,20 @@
 -- What is undone of cells' entries.
-use Rattle.std.specs.Prelude.{◌≡◌, ◌⊎◌, ℕ, ◌≤◌, Bool, true, false, not, nat_lt, List, [], ◌∷◌, length, filter, slice_get, Some, Contains, if◌then◌else◌}
+use Rattle.std.specs.Prelude.{◌≡◌, ◌⊎◌, ℕ, ◌≤◌, Bool, true, false, not, nat_lt, List, [], ◌∷◌, length, filter, slice_get, Option, Some, None, Contains, if◌then◌else◌}
 use Rattle.cw_tree.specs.declared.node.Node.{Node}
+use Rattle.cw_tree.specs.declared.node.Kind.{Kind}
+use Rattle.cw_tree.specs.declared.node.Kind.TheVariants.{Read, Write}
 use Rattle.cw_tree.specs.declared.access.Entry.{Entry}
 use Rattle.cw_tree.specs.Nodes.{stamp_of, touches, is_pending}
 use Rattle.cw_tree.specs.Walks.{is_above}
 use Rattle.cw_tree.specs.Accesses.{is_live}
 use Rattle.cw_tree.specs.AccessStacks.{stamps, access_at}
 use Rattle.cw_stack.specs.Cells.{CellParts}
+
+-- the cell that a node of a kind reads or writes
+abbrev pub accessed : Kind → Option ℕ
+accessed (Read c v) = Some c
+accessed (Write c v) = Some c
+accessed _ = None
 
 -- the entries before a stamp
 abbrev pub before_stamp : ℕ → List Entry → List Entry

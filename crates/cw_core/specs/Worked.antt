@@ -1,5 +1,6 @@
 -- Lists of events, and what the definitions say of them.
 use Rattle.std.specs.Prelude.{◌≡◌, List, [], ◌∷◌, Some, None, true, false, pos, map}
+use Rattle.cw_code.specs.declared.Back.{Back}
 use Rattle.cw_tree.specs.declared.closed.Halt.TheVariants.{Budget, Memory}
 use Rattle.cw_open.specs.Machine.{live_value}
 use Rattle.cw_core.specs.declared.event.Event.{Event}
@@ -69,6 +70,52 @@ pub record Joins : Type 0 where
   pub before_fit : all_fit two_cells joined_before ≡ true
   pub before : replies two_cells joined_before
       ≡ reply.Forked 2 3 1 ∷ reply.Done ∷ reply.Forked 5 6 4 ∷ reply.Done ∷ reply.Value (pos 1) ∷ reply.Value (pos 5) ∷ reply.Done ∷ reply.Done ∷ reply.Done ∷ reply.Done ∷ reply.Value (pos 2) ∷ []
+
+-- ## Blocks that are given up: what a joined strand wrote is put back, too, and again as long as the block is pending
+
+abbrev pub wrote_beneath : List Event
+wrote_beneath =
+    event.Begin 0 ∷ event.Fork 0 ∷ event.Split 2 ∷ event.Begin 4 ∷ event.Access 4 1
+    (Some (pos 8)) ∷ event.Commit 4 ∷ event.Finish 4 false ∷ event.Access 3 0
+    (Some (pos 7)) ∷ event.Finish 3 false ∷ event.Join 2 ∷ event.Cancel 0 ∷ event.Cancel 0
+    ∷ event.Access 0 0 (Some (pos 1)) ∷ event.Cancel 0 ∷ []
+
+abbrev pub one_and_two : CoreState
+one_and_two = start (pos 1 ∷ pos 2 ∷ []) 5 9
+
+-- what was rolled back is not put back, nor what is only read; the first access beneath a block may be a read
+
+abbrev pub rolled_beneath : List Event
+rolled_beneath =
+    event.Access 0 1 (Some (pos 6)) ∷ event.Fork 0 ∷ event.Split 2 ∷ event.Begin 3 ∷ event.Access 3 0
+    (Some (pos 9)) ∷ event.Begin 4 ∷ event.Begin 4 ∷ event.Access 4 1 None ∷ event.Access 4 1
+    (Some (pos 5)) ∷ event.Cancel 4 ∷ event.Access 4 1 (Some (pos 6)) ∷ event.Commit 4
+    ∷ event.Access 4 0 (Some (pos 1)) ∷ event.Roll 4 ∷ event.Begin 4 ∷ event.Access 4 1 None ∷ event.Cancel 4 ∷ []
+
+abbrev pub back_one : Back
+back_one = record { cell = 0; value = pos 1 }
+
+abbrev pub back_two : Back
+back_two = record { cell = 1; value = pos 2 }
+
+pub record Cancels : Type 0 where
+  pub fit : all_fit one_and_two wrote_beneath ≡ true
+  pub answers : replies one_and_two wrote_beneath
+      ≡ reply.Done ∷ reply.Forked 3 4 2 ∷ reply.Done ∷ reply.Done ∷ reply.Value (pos 8) ∷ reply.Done ∷ reply.Done ∷ reply.Value
+      (pos 7) ∷ reply.Done ∷ reply.Done
+      ∷ reply.Back (back_one ∷ back_two ∷ []) ∷ reply.Back (back_one ∷ back_two ∷ []) ∷ reply.Value (pos 1) ∷ reply.Back (back_one ∷ back_two ∷ []) ∷ []
+  pub clock : (after_events one_and_two wrote_beneath).machine.clock ≡ 10
+  pub rolled_fit : all_fit one_and_two rolled_beneath ≡ true
+  pub rolled : replies one_and_two rolled_beneath
+      ≡ reply.Value (pos 6) ∷ reply.Forked 3 4 2 ∷ reply.Done ∷ reply.Done ∷ reply.Value (pos 9) ∷ reply.Done ∷ reply.Done ∷ reply.Value
+      (pos 6) ∷ reply.Value (pos 5)
+      ∷ reply.Back (record { cell = 1; value = pos 6 } ∷ []) ∷ reply.Value (pos 6) ∷ reply.Done
+      ∷ reply.Conflict (record { cell = 0; last = 4; asker = 13; block = 3; victim = 5; attempt = 1; chain = 4 ∷ [] })
+      ∷ reply.Done ∷ reply.Done ∷ reply.Value (pos 6) ∷ reply.Back [] ∷ []
+  -- before any begin, by a strand in its parent's block, and by one that waits
+  pub no_block : fits one_and_two (event.Cancel 0) ≡ false
+  pub not_its : fits (after_events one_and_two (event.Begin 0 ∷ event.Fork 0 ∷ [])) (event.Cancel 3) ≡ false
+  pub waits : fits (after_events one_and_two (event.Begin 0 ∷ event.Fork 0 ∷ [])) (event.Cancel 0) ≡ false
 
 -- ## A budget is spent beneath a strand that waits; with another attempt left the strands die, and their parent rolls back
 

@@ -17,6 +17,7 @@ mod fits;
 mod reads;
 mod steps;
 
+use crate::beneath::{backs, touched_beneath};
 use crate::held::{Barrier, Refused, access_kind, conflict_with, put_entry, reserve_entry};
 use crate::linked::Linked;
 use crate::row::{
@@ -355,6 +356,26 @@ impl Core {
         self.clock = stamp;
         put_leaf(&mut self.rows, strand, 0, place, PLAIN, place);
         Ok(Reply::Done)
+    }
+
+    /// The block in which the strand stands is given up: a leaf tells what is to be put back, and so does the answer.
+    fn cancel(&mut self, strand: u32) -> Result<Reply, OutOfMemory>
+        requires { IsTrue (fits self.old (event.Cancel strand)) }
+        ensures ok { OnOk result (self.new ≡ after_event self.old (event.Cancel strand)) }
+        ensures reply { IfOk result (λ r. r ≡ reply_to self.old (event.Cancel strand)) }
+        ensures err { OnErr result (self.new ≡ self.old) }
+    {
+        let block = self.row(strand).now.place;
+        let alloc = *self.rows.allocator();
+        let touched = touched_beneath(alloc, &self.tree, block)?;
+        let back = backs(alloc, &self.cells, &touched)?;
+        let answer = backs(alloc, &self.cells, &touched)?;
+        self.rows.reserve(1)?;
+        let stamp = self.clock + 1;
+        self.tree.add(block, Kind::Cancel { back }, stamp)?;
+        self.clock = stamp;
+        put_leaf(&mut self.rows, strand, 0, block, PLAIN, block);
+        Ok(Reply::Back(answer))
     }
 
     /// An access that conflicts with none is made.

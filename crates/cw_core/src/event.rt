@@ -1,3 +1,5 @@
+use cw_base::Seq;
+use cw_code::Back;
 use cw_tree::{Conflict, Halt};
 
 /// What a strand does, or what is done to its fork. Strands and forks are named by their nodes.
@@ -18,6 +20,10 @@ pub enum Event {
     Out {
         strand: u32,
         value: i64,
+    },
+    /// The innermost pending block of the strand is given up: what it wrote is to be put back, by writes. It stays pending.
+    Cancel {
+        strand: u32,
     },
     /// The innermost pending block of the strand ends.
     Commit {
@@ -50,6 +56,8 @@ pub enum Reply {
     Done,
     Value(i64),
     Conflict(Conflict),
+    /// The cells that the block wrote, by rising number, each with its value from before the block came to it.
+    Back(Seq<Back>),
     Forked { left: u32, right: u32, fork: u32 },
     /// A fork that cannot be split.
     Inline { left: u32, right: u32 },

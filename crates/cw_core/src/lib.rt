@@ -7,8 +7,9 @@
 #![tactic(auto)]
 
 ghost use Rattle.cw_core.specs.Laws.{AlikeAnswer, AlikeStay, CellsAreChains, EventsAreRuns, ListsAreRuns, SplitsAreAnswered, SplitsChangeNoAnswer, SplitsChangeNothing, StartsAreCores, StrandsGoOn};
-ghost use Rattle.cw_core.specs.Worked.{Budgets, Joins, Rolls, Splits};
+ghost use Rattle.cw_core.specs.Worked.{Budgets, Cancels, Joins, Rolls, Splits};
 
+mod beneath;
 mod cores;
 mod event;
 mod held;
@@ -53,5 +54,6 @@ pub fn worked_events()
     ensures splits { Splits }
     ensures rolls { Rolls }
     ensures joins { Joins }
+    ensures cancels { Cancels }
     ensures budgets { Budgets }
 {}

@@ -1,11 +1,11 @@
 ghost use Rattle.std.specs.Prelude.{◌≡◌, ◌<◌, length, IsTrue};
 ghost use Rattle.cw_tree.specs.Nodes.{is_block, closed};
 ghost use Rattle.cw_tree.specs.declared.node.BlockState.TheVariants.{Aborted};
-ghost use Rattle.cw_core.specs.Undone.{before_stamp, HasIfLater, MayCut, AreCut, MayUndo, AreUndone, NoneBeneath};
+ghost use Rattle.cw_core.specs.Undone.{accessed, before_stamp, HasIfLater, MayCut, AreCut, MayUndo, AreUndone, NoneBeneath};
 
 use crate::linked::Linked;
 use cw_stack::Cell;
-use cw_tree::{BlockState, Kind};
+use cw_tree::{BlockState, Kind, Node};
 
 /// An access with a stamp is undone, with all that came after it, if it was not yet.
 fn cut(cell: &mut Cell, stamp: u64)
@@ -24,6 +24,16 @@ fn cut(cell: &mut Cell, stamp: u64)
     }
 }
 
+/// The cell that a node reads or writes, if it is an access.
+fn accessed(node: &Node) -> Option<u32>
+    ensures { result ≡ accessed node.now.kind }
+{
+    match node.kind {
+        Kind::Read { cell, .. } | Kind::Write { cell, .. } => Some(cell),
+        _ => None,
+    }
+}
+
 /// An access is undone in its cell, with all accesses after it, if it was not yet.
 fn undo_access(tree: &Linked, cells: &mut Vec<Cell>, node: u32)
     requires node { node < length tree.now }
@@ -31,9 +41,8 @@ fn undo_access(tree: &Linked, cells: &mut Vec<Cell>, node: u32)
     ensures { AreCut tree.now node cells.old.items cells.new.items }
 {
     let access = tree.node(node);
-    let stamp = access.stamp;
-    if let Kind::Read { cell, .. } | Kind::Write { cell, .. } = access.kind {
-        cut(&mut cells[cell as usize], stamp);
+    if let Some(cell) = accessed(access) {
+        cut(&mut cells[cell as usize], access.stamp);
     }
 }
 

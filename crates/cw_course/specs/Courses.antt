@@ -3,11 +3,11 @@
 use Rattle.std.specs.Prelude.{◌≡◌, ℕ, ◌+◌, IsTrue, List, [], ◌∷◌, ◌++◌, Option, Some, None}
 use Rattle.cw_code.specs.declared.FaultKind.{FaultKind}
 use Rattle.cw_strand.specs.declared.want.Want.TheVariants as want
-use Rattle.cw_strand.specs.declared.want.Given.TheVariants.{Nothing, Value}
-use Rattle.cw_strand.specs.Strands.{Strands, is_over, GoesTo}
+use Rattle.cw_strand.specs.declared.want.Given.TheVariants.{Nothing, Value, Back as Wrote}
+use Rattle.cw_strand.specs.Strands.{Strands, is_over, AreElements, GoesTo}
 use Rattle.cw_tree.specs.declared.node.Node.{Node}
 use Rattle.cw_tree.specs.declared.node.Kind.{Kind}
-use Rattle.cw_tree.specs.declared.node.Kind.TheVariants.{Strand, Fork, Block, Read, Write, Out, Tried}
+use Rattle.cw_tree.specs.declared.node.Kind.TheVariants.{Strand, Fork, Block, Read, Write, Out, Tried, Cancel}
 use Rattle.cw_tree.specs.declared.node.BlockState.{BlockState}
 use Rattle.cw_tree.specs.declared.node.BlockState.TheVariants.{Pending, Committed, Aborted}
 use Rattle.cw_tree.specs.Nodes.{fresh_node}
@@ -16,7 +16,7 @@ use Rattle.cw_log.specs.declared.log.Log.{Log}
 
 pub data Course : Type 0 where
   nothing : Course
-  -- an access, a refused one, or an output
+  -- an access, a refused one, an output, or a cancel
   act : Course → Kind → (stamp : ℕ) → Course
   block : Course → BlockState → (stamp end : ℕ) → (inside : Course) → Course
   -- both strands of a fork; the right one has a log of its own, with this column, or is inline and has none
@@ -32,6 +32,7 @@ module _ {A : Type 0} (s : Strands A) where
   Acts a (Read c v) b = (s.want a ≡ want.Load c) × (b ≡ s.answer a (Value v))
   Acts a (Write c v) b = (s.want a ≡ want.Store c v) × (b ≡ s.answer a Nothing)
   Acts a (Out v) b = (s.want a ≡ want.Out v) × (b ≡ s.answer a Nothing)
+  Acts a (Cancel back) b = (s.want a ≡ want.Cancel) × AreElements s.elements back × (b ≡ s.answer a (Wrote back))
   Acts a (Tried c) b = IsAccessOf c (s.want a) × (b ≡ a)
   Acts a kind b = ⊥
 

@@ -1,12 +1,13 @@
 -- Small programs and what their strands did, as courses. Each is one, and is none where one thing is changed.
 use Rattle.std.specs.Prelude.{◌≡◌, ℕ, ℤ, pos, List, [], ◌∷◌, Some, None}
+use Rattle.cw_code.specs.declared.Back.{Back}
 use Rattle.cw_strand.specs.declared.want.Want.{Want}
-use Rattle.cw_strand.specs.declared.want.Want.TheVariants.{Load, Store, Out as Shows, Begin, End, Done}
+use Rattle.cw_strand.specs.declared.want.Want.TheVariants.{Load, Store, Out as Shows, Begin, End, Cancel as GivesUp, Done}
 use Rattle.cw_strand.specs.declared.want.Given.{Given}
-use Rattle.cw_strand.specs.declared.want.Given.TheVariants.{Value}
+use Rattle.cw_strand.specs.declared.want.Given.TheVariants.{Value, Back as Wrote}
 use Rattle.cw_strand.specs.Strands.{Strands}
 use Rattle.cw_tree.specs.declared.node.Node.{Node}
-use Rattle.cw_tree.specs.declared.node.Kind.TheVariants.{Strand, Fork, Read, Write, Out, Tried}
+use Rattle.cw_tree.specs.declared.node.Kind.TheVariants.{Strand, Fork, Read, Write, Out, Tried, Cancel}
 use Rattle.cw_tree.specs.declared.node.BlockState.TheVariants.{Pending, Committed, Aborted}
 use Rattle.cw_tree.specs.declared.closed.Closed.{Closed}
 use Rattle.cw_tree.specs.declared.closed.Halt.TheVariants.{Budget}
@@ -91,6 +92,49 @@ pub record Blocks : Type 0 where
   pub again : Goes (scripted shows_in_block) shows_in_block (block (block nothing Aborted 1 2 nothing) Committed 3 5 (shown 1 4)) script.done
   -- but is not committed where it broke off
   pub broken : Stops (scripted shows_in_block) shows_in_block (block nothing Committed 1 2 nothing) → ⊥
+
+-- ## A block that is given up
+--
+-- cell c; fn main() { atomic { c = 1; cancel; } }
+
+pub data Quitter : Type 0 where
+  begins : Quitter
+  writes : Quitter
+  gives_up : Quitter
+  -- this is left to be written back
+  puts_back : List Back → Quitter
+  ended : Quitter
+
+abbrev pub quitter_wants : Quitter → Want
+quitter_wants begins = Begin
+quitter_wants writes = Store 0 (pos 1)
+quitter_wants gives_up = GivesUp
+quitter_wants (puts_back []) = End
+quitter_wants (puts_back (b ∷ bs)) = Store b.cell b.value
+quitter_wants ended = Done
+
+abbrev pub quitter_next : Quitter → Given → Quitter
+quitter_next begins given = writes
+quitter_next writes given = gives_up
+quitter_next gives_up (Wrote bs) = puts_back bs
+quitter_next (puts_back (b ∷ bs)) given = puts_back bs
+quitter_next x given = ended
+
+abbrev pub quitter : Strands Quitter
+quitter = record { elements = 1; start = begins; want = quitter_wants; answer = quitter_next; left = λ x. x; right = λ x. x; joined = λ r l. r; depth = λ x. 0 }
+
+-- it was answered this cell with the value 0, and wrote this back
+abbrev pub quit : (cell written : ℕ) → Course
+quit c v =
+    block nothing Committed 1 5
+    (act (act (act nothing (Write 0 (pos 1)) 2) (Cancel (record { cell = c; value = pos 0 } ∷ [])) 3) (Write 0 (pos v)) 4)
+
+pub record Cancels : Type 0 where
+  pub goes : Goes quitter begins (quit 0 0) ended
+  -- not where another value was written back
+  pub other : Stops quitter begins (quit 0 4) → ⊥
+  -- nor where it was answered a cell that is not there
+  pub there : Stops quitter begins (quit 1 0) → ⊥
 
 -- ## One of two sums is lost
 --
@@ -225,6 +269,7 @@ pub record WorkedCourses : Type 0 where
   pub reads : Reads
   pub forks : Forks
   pub blocks : Blocks
+  pub cancels : Cancels
   pub sums : Sums
   pub nests : Nests
   pub finishes : Finishes

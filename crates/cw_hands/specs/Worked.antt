@@ -8,7 +8,7 @@ use Rattle.cw_trace.specs.OrderedRuns.{GoesOnAt}
 use Rattle.cw_trace.specs.Running.{IsUnstarted}
 use Rattle.cw_trace.specs.Stands.{fork_column}
 use Rattle.cw_open.specs.Machine.{is_running}
-use Rattle.cw_open.specs.Steps.{Step, forks, begins, commits, finishes, joins}
+use Rattle.cw_open.specs.Steps.{Step, forks, begins, cancels, commits, finishes, joins}
 use Rattle.cw_open.specs.Runs.{Rules, at_any_time}
 use Rattle.cw_hands.specs.Shared.{SharedMoment, has_columns, is_whole, is_owed, is_open_yet, moment_of, waits_for_left, waits_for_merge, goes_on, place_at, after_shared, after_split, after_merge, first_shared, RunsTogether}
 use Rattle.cw_hands.specs.Laws.{OfEachMoment}
@@ -40,6 +40,10 @@ stolen = after_split forked_once 1
 abbrev pub in_blocks : SharedMoment
 in_blocks = after_these stolen (begins 2 2 ∷ begins 3 3 ∷ [])
 
+-- the left strand gives its block up
+abbrev pub given_up : SharedMoment
+given_up = after_shared in_blocks (cancels 2 4)
+
 -- both end their blocks and finish, and the fork is joined
 abbrev pub joined_once : SharedMoment
 joined_once = after_these in_blocks (commits 3 4 ∷ commits 2 5 ∷ finishes 2 false ∷ finishes 3 false ∷ joins 1 ∷ [])
@@ -60,6 +64,10 @@ pub record TwoStrands : Type 0 where
   pub drawn : IsLater stolen.columns stolen.machine.tree 3 3
   pub still : IsLater (after_shared stolen (begins 2 2)).columns (after_shared stolen (begins 2 2)).machine.tree 3 3
   pub words : in_blocks.words ≡ 2 ∷ 0 ∷ 3 ∷ 0 ∷ 0 ∷ []
+  -- where the left one gives its block up, both go on in their blocks
+  pub cancelled : RunsTogether any_rules [] given_up
+  pub still_hands : (goes_on given_up 2 ≡ true) × (goes_on given_up 3 ≡ true)
+  pub still_words : given_up.words ≡ in_blocks.words
   -- once the fork is joined main runs, and does not go on: the merge is owed, and the fork is open yet
   pub joined : RunsTogether any_rules [] joined_once
   pub owed : (is_owed joined_once 1 ≡ true) × (is_open_yet joined_once 1 ≡ true)

@@ -1,3 +1,7 @@
+pub mod Cancelling
+pub mod CancelStates
+pub mod CancelSteps
+pub mod CancelsKept
 pub mod ChainStates
 pub mod ChainSteps
 pub mod Chained
@@ -6,4 +10,6 @@ pub mod ListSteps
 pub mod Listing
 pub mod Lists
 pub mod Named
+pub mod Naming
+pub mod OwnAccesses
 pub mod Reading

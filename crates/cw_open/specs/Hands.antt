@@ -8,7 +8,7 @@ use Rattle.cw_tree.specs.Series.{strand_of, children, place, parallel}
 use Rattle.cw_tree.specs.AccessStacks.{conflict_at}
 use Rattle.cw_tree.specs.NextNodes.{IsNextStamp, IsEndStamp}
 use Rattle.cw_open.specs.Machine.{OpenMachine, is_running, in_block, is_dying, is_free, rolls_back}
-use Rattle.cw_open.specs.Steps.{Met, Step, forks, begins, accesses, refuses, outputs, commits, undoes, aborts, finishes, joins, stops, after_open_step, after_all, first_machine}
+use Rattle.cw_open.specs.Steps.{Met, Step, forks, begins, accesses, refuses, outputs, cancels, commits, undoes, aborts, finishes, joins, stops, after_open_step, after_all, first_machine}
 use Rattle.cw_open.specs.Runs.{Rules, IsMet, IsRefused, Allowed, IsRun, IsReachedBy, at_any_time}
 use Rattle.cw_open.specs.Laws.{OfEachState}
 use Rattle.cw_open.specs.Times.{times_after, IsDrawn, IsMetInTime, IsTimely, AreTimely, ReachedInTime}
@@ -23,6 +23,7 @@ is_step_of s (begins u stamp) = u == s
 is_step_of s (accesses u c w stamp) = u == s
 is_step_of s (refuses u c w met) = u == s
 is_step_of s (outputs u v stamp) = u == s
+is_step_of s (cancels u stamp) = u == s
 is_step_of s (commits u stamp) = u == s
 is_step_of s (undoes u c) = u == s
 is_step_of s (aborts u stamp) = u == s
@@ -36,6 +37,7 @@ brought (forks u stamp) = stamp
 brought (begins u stamp) = stamp
 brought (accesses u c w stamp) = stamp
 brought (outputs u v stamp) = stamp
+brought (cancels u stamp) = stamp
 brought (commits u stamp) = stamp
 brought (aborts u stamp) = stamp
 brought _ = 0

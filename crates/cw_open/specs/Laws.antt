@@ -7,14 +7,16 @@ use Rattle.cw_tree.specs.Nodes.{stamp_of, end_of, is_block, is_pending, touches}
 use Rattle.cw_tree.specs.Walks.{has, is_above}
 use Rattle.cw_tree.specs.Series.{place}
 use Rattle.cw_tree.specs.Accesses.{is_live, live_accesses, IsChainOf}
+use Rattle.cw_tree.specs.Cancels.{NamesCells}
 use Rattle.cw_tree.specs.Journals.{FitsCells, AllEndedBetween}
+use Rattle.cw_tree.specs.Cancels.{AreCancels}
 use Rattle.cw_tree.specs.AccessStacks.{access_at}
 use Rattle.cw_tree.specs.Refusals.{is_victim}
 use Rattle.cw_tree.specs.Newest.{newest}
 use Rattle.cw_tree.specs.NextNodes.{IsSound, IsPlace}
 use Rattle.cw_open.specs.Machine.{OpenMachine, live, is_running, in_block, is_dying, is_free, rolls_back}
 use Rattle.cw_open.specs.Steps.{Met, refuses}
-use Rattle.cw_open.specs.Runs.{IsMet, Allowed, IsReachedBy, at_once, at_any_time}
+use Rattle.cw_open.specs.Runs.{IsMet, Allowed, IsReachedBy, meets, at_once, at_any_time}
 use Rattle.cw_open.specs.Open.{is_open, AreNested}
 
 -- what holds of every state to which a run over these first values leads, whichever accesses one may conflict with
@@ -49,6 +51,10 @@ ClocksAreLatest = OfEachState (λ first m. (n : ℕ) → n < length m.tree → (
 abbrev pub CellsFit : Type 0
 CellsFit = OfEachState (λ first m. (m.first ≡ first) × (length m.lists ≡ length first) × FitsCells m.tree (length first))
 
+-- each cancel puts back cells that are there, rolled back or not
+abbrev pub CancelsNameCells : Type 0
+CancelsNameCells = OfEachState (λ first m. NamesCells m.tree (length first))
+
 abbrev pub ListsRise : Type 0
 ListsRise = OfEachState (λ first m. (c : ℕ) → IsStrictlyIncreasing (live m c))
 
@@ -68,9 +74,18 @@ ListsHaveAll = OfEachState (λ first m. NoneUndone m → (c : ℕ) → live m c 
 abbrev pub ListsAreChains : Type 0
 ListsAreChains = OfEachWithNewest (λ first m. (c : ℕ) → IsChainOf m.tree c (live m c))
 
+-- an access by a strand that stands in a block of its own conflicts with none, where the cell has an access beneath that block
+abbrev pub OwnAccessesAreFree : Type 0
+OwnAccessesAreFree =
+    OfEachWithNewest (λ first m. (s c u : ℕ) → IsTrue (is_running m s && in_block m s) → IsTrue (has (live m c) u) → IsTrue (is_above m.tree (place m.tree s) (access_at m.tree u)) → meets m.tree (newest (live m c)) (place m.tree s) ≡ false)
+
 -- each block above an access and not above the next one of its list is committed, and ended before it
 abbrev pub BlocksHaveEnded : Type 0
 BlocksHaveEnded = OfEachWithNewest (λ first m. (c : ℕ) → AllEndedBetween m.tree (map (access_at m.tree) (live m c)))
+
+-- where no undo is under way, the list of each live cancel is right
+abbrev pub CancelsAreRight : Type 0
+CancelsAreRight = OfEachWithNewest (λ first m. NoneUndone m → AreCancels m.tree first)
 
 -- ## Victims
 

@@ -1,4 +1,4 @@
--- What a run leaves in its tree, journals and conflicts, where an access may conflict with the newest one alone.
+-- What a run leaves in its tree, journals, cancels and conflicts, where an access may conflict with the newest one alone.
 use Rattle.std.specs.Prelude.{◌≡◌, ℕ, ℤ, false, IsTrue, is_some, All, List, [], ◌∷◌, length, map, filter, slice_get, Some, unwrap_or}
 use Rattle.std.specs.List.{list_any}
 use Rattle.cw_tree.specs.declared.node.Node.{Node}
@@ -9,6 +9,7 @@ use Rattle.cw_tree.specs.Walks.{IsNumbered, path}
 use Rattle.cw_tree.specs.Accesses.{written}
 use Rattle.cw_tree.specs.AccessStacks.{access_at}
 use Rattle.cw_tree.specs.Journals.{FitsCells, AreJournals, JournalsEnded}
+use Rattle.cw_tree.specs.Cancels.{AreCancels}
 use Rattle.cw_tree.specs.Refusals.{IsRecorded, is_victim, RollsBack}
 use Rattle.cw_tree.specs.Newest.{newest}
 use Rattle.cw_tree.specs.NextNodes.{IsSound}
@@ -52,6 +53,7 @@ pub record IsHistoryAsMade (t : List Node) (first : List ℤ) (kept : List (List
   pub cells : FitsCells t (length first)
   pub journals : AreJournals t first kept
   pub ended : JournalsEnded t (length first)
+  pub cancels : AreCancels t first
   pub refusals : AreMade t cs
   pub rolls_back : RollsBack t cs
 

@@ -8,7 +8,7 @@ use Rattle.cw_tree.specs.Series.{children, place}
 use Rattle.cw_tree.specs.Names.{strands_on}
 use Rattle.cw_tree.specs.Newest.{newest}
 use Rattle.cw_open.specs.Machine.{OpenMachine, has_finished}
-use Rattle.cw_open.specs.Steps.{Step, forks, begins, accesses, refuses, outputs, commits, undoes, aborts, finishes, joins, stops, after_open_step, after_all, first_machine}
+use Rattle.cw_open.specs.Steps.{Step, forks, begins, accesses, refuses, outputs, cancels, commits, undoes, aborts, finishes, joins, stops, after_open_step, after_all, first_machine}
 use Rattle.cw_open.specs.Runs.{Rules, IsRun, at_once, at_any_time}
 use Rattle.cw_open.specs.Times.{AreAhead}
 
@@ -21,6 +21,7 @@ makers (begins s stamp) = s ∷ []
 makers (accesses s c w stamp) = s ∷ []
 makers (refuses s c w met) = s ∷ []
 makers (outputs s v stamp) = s ∷ []
+makers (cancels s stamp) = s ∷ []
 makers (commits s stamp) = s ∷ []
 makers (undoes s c) = s ∷ []
 makers (aborts s stamp) = s ∷ []

@@ -1,5 +1,5 @@
--- What is true of the tree, the journals and the conflicts that a run leaves is true of them in depth-first order. That the tree is sound
--- still is a law of `cw_tree`.
+-- What is true of the tree, the journals, the cancels and the conflicts that a run leaves is true of them in depth-first order. That the
+-- tree is sound still is a law of `cw_tree`.
 use Rattle.std.specs.Prelude.{ℕ, ℤ, List, Option}
 use Rattle.cw_tree.specs.declared.node.Node.{Node}
 use Rattle.cw_tree.specs.declared.access.Entry.{Entry}
@@ -8,6 +8,7 @@ use Rattle.cw_tree.specs.declared.closed.Halt.{Halt}
 use Rattle.cw_tree.specs.Walks.{IsNumbered}
 use Rattle.cw_tree.specs.NextNodes.{IsSound}
 use Rattle.cw_tree.specs.Journals.{FitsCells, AreJournals, JournalsEnded}
+use Rattle.cw_tree.specs.Cancels.{AreCancels}
 use Rattle.cw_tree.specs.Refusals.{AreRefusals, RollsBack, MayFault}
 use Rattle.cw_tree.specs.InOrder.{in_order, conflicts_in_order, halt_in_order}
 use Rattle.cw_open.specs.Left.{AreMade}
@@ -23,6 +24,10 @@ JournalsStay = (t : List Node) (first : List ℤ) (kept : List (List Entry)) →
 -- each block above an access and not above the next one of its cell is committed, and ended before it
 abbrev pub EndsStay : Type 0
 EndsStay = (t : List Node) (k : ℕ) → IsNumbered t → IsSound t → JournalsEnded t k → JournalsEnded (in_order t) k
+
+-- each live cancel puts back what it did
+abbrev pub CancelsStay : Type 0
+CancelsStay = (t : List Node) (first : List ℤ) → IsNumbered t → IsSound t → AreCancels t first → AreCancels (in_order t) first
 
 -- in the new order they tell of the refused accesses of the new tree, in its depth-first order
 abbrev pub RefusalsStay : Type 0

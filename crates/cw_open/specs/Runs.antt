@@ -11,7 +11,7 @@ use Rattle.cw_tree.specs.Refusals.{is_victim}
 use Rattle.cw_tree.specs.NextNodes.{IsNextStamp, IsEndStamp}
 use Rattle.cw_tree.specs.Newest.{newest, last_eight}
 use Rattle.cw_open.specs.Machine.{OpenMachine, live, has_finished, finished_dead, is_running, in_block, is_dying, is_free, rolls_back}
-use Rattle.cw_open.specs.Steps.{Met, Step, forks, begins, accesses, refuses, outputs, commits, undoes, aborts, finishes, joins, stops, after_open_step, after_all, first_machine}
+use Rattle.cw_open.specs.Steps.{Met, Step, forks, begins, accesses, refuses, outputs, cancels, commits, undoes, aborts, finishes, joins, stops, after_open_step, after_all, first_machine}
 
 -- ## What machines may do differently
 
@@ -71,6 +71,7 @@ Allowed r m (accesses s c w stamp) =
     × ComesLast m.tree (live m c) (r.asked m.tree (live m c) w) (place m.tree s) stamp
 Allowed r m (refuses s c w met) = IsTrue (is_free m s && nat_lt c (length m.lists)) × r.MayRefuse m s c w met
 Allowed r m (outputs s v stamp) = IsTrue (is_free m s) × IsNextStamp m.tree (place m.tree s) stamp
+Allowed r m (cancels s stamp) = IsTrue (is_free m s && in_block m s) × IsNextStamp m.tree (place m.tree s) stamp
 Allowed r m (commits s stamp) = IsTrue (is_free m s && in_block m s && not (is_victim m.tree m.conflicts (place m.tree s))) × IsEndStamp m.tree (place m.tree s) stamp
 Allowed r m (undoes s c) = IsTrue (rolls_back m s && nat_lt c (length m.lists))
 Allowed r m (aborts s stamp) = IsTrue (rolls_back m s && is_undone m (place m.tree s)) × IsEndStamp m.tree (place m.tree s) stamp

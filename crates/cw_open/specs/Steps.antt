@@ -1,8 +1,9 @@
 -- The steps of the open machine, and what each does. A step carries its stamp, so a draw of a number from the clock is none.
+use Rattle.cw_code.specs.declared.Back.{Back}
 use Rattle.std.specs.Prelude.{ℕ, ℤ, Bool, not, max, List, [], ◌∷◌, ◌++◌, length, map, filter, slice_set, Option}
 use Rattle.std.specs.Option.{option_map_or}
 use Rattle.cw_tree.specs.declared.node.Node.{Node}
-use Rattle.cw_tree.specs.declared.node.Kind.TheVariants.{Strand, Block, Out, Tried}
+use Rattle.cw_tree.specs.declared.node.Kind.TheVariants.{Strand, Block, Out, Tried, Cancel}
 use Rattle.cw_tree.specs.declared.node.BlockState.{BlockState}
 use Rattle.cw_tree.specs.declared.node.BlockState.TheVariants.{Committed, Aborted}
 use Rattle.cw_tree.specs.declared.conflict.Conflict.{Conflict}
@@ -10,6 +11,7 @@ use Rattle.cw_tree.specs.Nodes.{stamp_of, fresh_node, closed}
 use Rattle.cw_tree.specs.Walks.{is_above}
 use Rattle.cw_tree.specs.Series.{place}
 use Rattle.cw_tree.specs.Attempts.{attempt_of}
+use Rattle.cw_tree.specs.Cancels.{put_back}
 use Rattle.cw_tree.specs.AccessStacks.{access_kind, access_at}
 use Rattle.cw_tree.specs.VictimsAt.{victim_at}
 use Rattle.cw_tree.specs.NextNodes.{fork_nodes}
@@ -28,6 +30,8 @@ pub data Step : Type 0 where
   -- an access is refused
   refuses : (strand cell : ℕ) → (write : Option ℤ) → (met : Met) → Step
   outputs : (strand : ℕ) → (value : ℤ) → (stamp : ℕ) → Step
+  -- the strand's innermost pending block is given up: a leaf tells what is to be put back, and the block stays pending
+  cancels : (strand stamp : ℕ) → Step
   commits : (strand stamp : ℕ) → Step
   -- what the strand's innermost pending block did to a cell is undone
   undoes : (strand cell : ℕ) → Step
@@ -62,6 +66,10 @@ refusal m p c met =
 abbrev pub live_beside : OpenMachine → ℕ → ℕ → List ℕ
 live_beside m b c = filter (λ s. not (is_above m.tree b (access_at m.tree s))) (live m c)
 
+-- what the block in which strand s stands puts back, where it is given up at a stamp
+abbrev pub puts_back : OpenMachine → (s stamp : ℕ) → List Back
+puts_back m s stamp = put_back m.tree m.first (λ c. map (access_at m.tree) (live m c)) (place m.tree s) stamp
+
 -- the state after a step
 abbrev pub after_open_step : OpenMachine → Step → OpenMachine
 after_open_step m (forks s stamp) = adds m (fork_nodes (length m.tree) (place m.tree s) stamp) stamp
@@ -71,6 +79,7 @@ after_open_step m (accesses s c w stamp) =
 after_open_step m (refuses s c w met) =
     record m { tree = m.tree ++ fresh_node (place m.tree s) (Tried c) 0 ∷ []; conflicts = m.conflicts ++ refusal m (place m.tree s) c met ∷ [] }
 after_open_step m (outputs s v stamp) = adds m (fresh_node (place m.tree s) (Out v) stamp ∷ []) stamp
+after_open_step m (cancels s stamp) = adds m (fresh_node (place m.tree s) (Cancel (puts_back m s stamp)) stamp ∷ []) stamp
 after_open_step m (commits s stamp) = closes m s Committed stamp
 after_open_step m (undoes s c) = record m { lists = slice_set m.lists c (live_beside m (place m.tree s) c) }
 after_open_step m (aborts s stamp) = closes m s Aborted stamp

@@ -7,7 +7,7 @@ use Rattle.cw_tree.specs.Walks.{is_ancestor}
 use Rattle.cw_tree.specs.Series.{place}
 use Rattle.cw_tree.specs.NextNodes.{is_before_at}
 use Rattle.cw_open.specs.Machine.{OpenMachine}
-use Rattle.cw_open.specs.Steps.{Met, Step, forks, begins, accesses, refuses, outputs, commits, aborts, after_open_step, after_all, first_machine}
+use Rattle.cw_open.specs.Steps.{Met, Step, forks, begins, accesses, refuses, outputs, cancels, commits, aborts, after_open_step, after_all, first_machine}
 use Rattle.cw_open.specs.Runs.{Rules, IsRun}
 
 -- node n comes with this step, or is closed by it
@@ -37,6 +37,7 @@ IsTimely times m (begins s stamp) = IsDrawn times m.tree (place m.tree s) stamp
 IsTimely times m (accesses s c w stamp) = IsDrawn times m.tree (place m.tree s) stamp
 IsTimely times m (refuses s c w met) = IsMetInTime times m.tree (place m.tree s) met
 IsTimely times m (outputs s v stamp) = IsDrawn times m.tree (place m.tree s) stamp
+IsTimely times m (cancels s stamp) = IsDrawn times m.tree (place m.tree s) stamp
 IsTimely times m _ = Unit {0}
 
 abbrev pub AreTimely : (ℕ → ℕ) → OpenMachine → List Step → Type 0
@@ -58,6 +59,7 @@ IsAhead m (forks s stamp) = m.clock < stamp
 IsAhead m (begins s stamp) = m.clock < stamp
 IsAhead m (accesses s c w stamp) = m.clock < stamp
 IsAhead m (outputs s v stamp) = m.clock < stamp
+IsAhead m (cancels s stamp) = m.clock < stamp
 IsAhead m (commits s stamp) = m.clock < stamp
 IsAhead m (aborts s stamp) = m.clock < stamp
 IsAhead m _ = Unit {0}

@@ -1,11 +1,15 @@
 -- Small runs, and what the definitions say of the states that they lead to.
-use Rattle.std.specs.Prelude.{◌≡◌, List, [], ◌∷◌, ◌++◌, length, Some, None, true, false, pos}
+use Rattle.std.specs.Prelude.{◌≡◌, ◌&&◌, List, [], ◌∷◌, ◌++◌, length, drop, Some, None, true, false, pos}
 use Rattle.std.specs.List.{list_any}
+use Rattle.cw_tree.specs.declared.node.Kind.TheVariants.{Strand, Fork, Read, Write, Tried, Cancel}
 use Rattle.cw_tree.specs.Nodes.{is_pending, all_nodes}
 use Rattle.cw_tree.specs.Series.{place}
-use Rattle.cw_open.specs.Machine.{OpenMachine, live, live_value, waits, is_running, is_dying, is_free, rolls_back}
-use Rattle.cw_open.specs.Steps.{Met, Step, forks, begins, accesses, refuses, outputs, commits, undoes, aborts, finishes, joins, stops, after_all, first_machine}
-use Rattle.cw_open.specs.Runs.{IsMet, left_died, is_undone}
+use Rattle.cw_tree.specs.Newest.{newest}
+use Rattle.cw_tree.specs.Worked.{plain, committed, aborted}
+use Rattle.cw_tree.specs.WorkedRun.{had}
+use Rattle.cw_open.specs.Machine.{OpenMachine, live, live_value, waits, is_running, in_block, is_dying, is_free, rolls_back}
+use Rattle.cw_open.specs.Steps.{Met, Step, forks, begins, accesses, refuses, outputs, cancels, commits, undoes, aborts, finishes, joins, stops, puts_back, after_all, first_machine}
+use Rattle.cw_open.specs.Runs.{IsMet, meets, left_died, is_undone}
 use Rattle.cw_open.specs.LeftFirst.{go_left_first, IsLeftOf, IsOlder}
 
 -- ## A block forks; a block of the left strand writes, and the right strand is refused
@@ -117,6 +121,47 @@ pub record Twice : Type 0 where
       ∷ []
   pub listed : live refused_twice 0 ≡ 3 ∷ 4 ∷ []
   pub stopped : refused_twice.stopped ≡ 0 ∷ []
+
+-- ## A block is given up
+
+-- Cell 1 is written before the block, read in it and written again. A strand in it writes cell 0 in a block; another writes cell 2 in a block
+-- that is rolled back, and cell 0, which it is refused at first, when it does the block again, and reads cell 3.
+abbrev pub to_give_up : OpenMachine
+to_give_up =
+    after_all (first_machine (pos 1 ∷ pos 2 ∷ pos 3 ∷ pos 4 ∷ []))
+    (accesses 0 1 (Some (pos 5)) 1 ∷ begins 0 2 ∷ accesses 0 1 None 3 ∷ forks 0 4 ∷ begins 5 5 ∷ accesses 5 0 (Some (pos 6)) 6 ∷ begins 6 7
+    ∷ accesses 6 2 (Some (pos 7)) 8 ∷ refuses 6 0 (Some (pos 8)) (record { last = 6; block = 5; chain = 6 ∷ [] }) ∷ commits 5 9 ∷ finishes 5 false
+    ∷ undoes 6 2 ∷ aborts 6 10 ∷ begins 6 11 ∷ accesses 6 0 (Some (pos 8)) 12 ∷ accesses 6 3 None 13 ∷ commits 6 14 ∷ finishes 6 false ∷ joins 4
+    ∷ accesses 0 1 (Some (pos 9)) 15 ∷ [])
+
+abbrev pub given_up_now : OpenMachine
+given_up_now = after_all to_give_up (cancels 0 16 ∷ [])
+
+-- its strand puts back what the list has, and goes on after it
+abbrev pub put_back_all : OpenMachine
+put_back_all = after_all given_up_now (accesses 0 0 (Some (pos 1)) 17 ∷ accesses 0 1 (Some (pos 5)) 18 ∷ commits 0 19 ∷ finishes 0 false ∷ [])
+
+pub record GivenUp : Type 0 where
+  pub stands : place to_give_up.tree 0 ≡ 2
+  pub free : is_free to_give_up 0 && in_block to_give_up 0 ≡ true
+  pub list : puts_back to_give_up 0 16 ≡ had 0 (pos 1) ∷ had 1 (pos 5) ∷ []
+  pub leaf : drop 16 given_up_now.tree ≡ plain 2 (Cancel (had 0 (pos 1) ∷ had 1 (pos 5) ∷ [])) 16 ∷ []
+  -- the cells are as they were, and the block is still pending
+  pub lists : given_up_now.lists ≡ to_give_up.lists
+  pub pending : is_pending given_up_now.tree 2 ≡ true
+  pub clock : given_up_now.clock ≡ 16
+  -- to put back is refused nowhere
+  pub first_put : meets given_up_now.tree (newest (live given_up_now 0)) 2 ≡ false
+  pub second_put : meets given_up_now.tree (newest (live given_up_now 1)) 2 ≡ false
+  -- and gives what stood there before the block
+  pub first : live_value put_back_all 0 ≡ pos 1
+  pub second : live_value put_back_all 1 ≡ pos 5
+  pub third : live_value put_back_all 2 ≡ pos 3
+  pub tree : put_back_all.tree
+      ≡ plain 0 Strand 0 ∷ plain 0 (Write 1 (pos 5)) 1 ∷ committed 0 2 19 ∷ plain 2 (Read 1 (pos 5)) 3 ∷ plain 2 Fork 4 ∷ plain 4 Strand 0
+      ∷ plain 4 Strand 0 ∷ committed 5 5 9 ∷ plain 7 (Write 0 (pos 6)) 6 ∷ aborted 6 7 10 ∷ plain 9 (Write 2 (pos 7)) 8 ∷ plain 9 (Tried 0) 0
+      ∷ committed 6 11 14 ∷ plain 12 (Write 0 (pos 8)) 12 ∷ plain 12 (Read 3 (pos 4)) 13 ∷ plain 2 (Write 1 (pos 9)) 15
+      ∷ plain 2 (Cancel (had 0 (pos 1) ∷ had 1 (pos 5) ∷ [])) 16 ∷ plain 2 (Write 0 (pos 1)) 17 ∷ plain 2 (Write 1 (pos 5)) 18 ∷ []
 
 -- ## A block of the left strand writes, and the right strand reads
 

@@ -11,14 +11,14 @@
 #![tactic(auto)]
 
 ghost use Rattle.cw_open.specs.Hands.{AheadIsNext, AllowedAtAnyTime, BeneathIsOwn, ConflictsAreTold, DrawnStay, EndStampsStay, ForkersRunAgain, JoinsLeaveAlone, MetInTimeStays, MetStays, NewestStay, NextStampsStay, NoneConflictsMore, OthersLeaveAlone, PlacesPart, RunsAreInTime, RunsBegin, RunsGoOn, StrandsMayJoin, TimesAreLow};
-ghost use Rattle.cw_open.specs.Laws.{AtOnceIsAtAnyTime, BlocksHaveEnded, CellsFit, ClocksAreLatest, DyingRollBack, FreeAreSafe, ListsAreChains, ListsAreLive, ListsHaveAll, ListsRise, OpenAreNested, RefusalsAreTold, StrandsStandAtPlaces, TreesAreSound, VictimsAreAbove};
+ghost use Rattle.cw_open.specs.Laws.{AtOnceIsAtAnyTime, BlocksHaveEnded, CancelsAreRight, CancelsNameCells, CellsFit, ClocksAreLatest, DyingRollBack, FreeAreSafe, ListsAreChains, ListsAreLive, ListsHaveAll, ListsRise, OpenAreNested, OwnAccessesAreFree, RefusalsAreTold, StrandsStandAtPlaces, TreesAreSound, VictimsAreAbove};
 ghost use Rattle.cw_open.specs.Left.{HistoriesAreInOrder, HistoriesAreLeft};
 ghost use Rattle.cw_open.specs.LeftFirst.{AtOnceIsWhilePending, LeftFirstAreOlder, LeftFirstHaveFinished, LeftFirstIsUnrefused};
 ghost use Rattle.cw_open.specs.Reads.{ReadsAreMet};
-ghost use Rattle.cw_open.specs.Reordered.{CellsStay, EndsStay, FaultsStay, JournalsStay, RefusalsStay, RollsBackStays};
+ghost use Rattle.cw_open.specs.Reordered.{CancelsStay, CellsStay, EndsStay, FaultsStay, JournalsStay, RefusalsStay, RollsBackStays};
 ghost use Rattle.cw_open.specs.Refused.{AbortedAreVictims, AheadIsTimely, AskersAreTried, AtOnceIsTold, CommittedAreSafe, ConflictsAreRecorded, DeadGoBack, DyingGoBack, StopsAreLeftOut, ToldIsAtAnyTime};
 ghost use Rattle.cw_open.specs.Spent.{SpentAreInOrder};
-ghost use Rattle.cw_open.specs.Worked.{Beneath, Inside, InnerCommitted, LeftStrands, Outer, Twice};
+ghost use Rattle.cw_open.specs.Worked.{Beneath, GivenUp, Inside, InnerCommitted, LeftStrands, Outer, Twice};
 ghost use Rattle.cw_open.specs.WorkedHands.{BroughtByOther, TwoHands};
 ghost use Rattle.cw_open.specs.WorkedTimes.{DrawnEarly, RefusedLate};
 
@@ -36,6 +36,7 @@ pub fn trees_of_runs()
 /// The lists of every state: they rise, and have live accesses of their cells alone; where no undo is under way, they have all of them.
 pub fn lists_of_runs()
     ensures cells { CellsFit }
+    ensures cancels { CancelsNameCells }
     ensures rise { ListsRise }
     ensures live { ListsAreLive }
     ensures all { ListsHaveAll }
@@ -50,6 +51,14 @@ pub fn reads_of_runs()
 pub fn chains_of_runs()
     ensures chains { ListsAreChains }
     ensures ended { BlocksHaveEnded }
+{}
+
+/// Where an access may conflict with the newest one alone and no undo is under way, each live cancel lists what its block puts back: the cells
+/// that the block wrote before it, and what each had before the block came to it. An access by a strand that stands in a block of its own
+/// conflicts with none, where the cell has an access beneath that block: so to put back is not refused.
+pub fn cancels_of_runs()
+    ensures right { CancelsAreRight }
+    ensures own { OwnAccessesAreFree }
 {}
 
 /// Victims are above those for whom they fall: a running strand that is dying rolls back the block in which it stands, if it stands in one,
@@ -104,19 +113,21 @@ pub fn left_strands_are_older()
     ensures finished { LeftFirstHaveFinished }
 {}
 
-/// What a run leaves where no undo is under way: its journals, conflicts and rolled-back blocks are as they have to be, and in depth-first
-/// order they are a history.
+/// What a run leaves where no undo is under way: its journals, cancels, conflicts and rolled-back blocks are as they have to be, and in
+/// depth-first order they are a history.
 pub fn histories_of_runs()
     ensures left { HistoriesAreLeft }
     ensures in_order { HistoriesAreInOrder }
     ensures any_time { ToldIsAtAnyTime }
 {}
 
-/// What is true of the tree, the journals and the conflicts that a run leaves is true of them in depth-first order, each for itself.
+/// What is true of the tree, the journals, the cancels and the conflicts that a run leaves is true of them in depth-first order, each for
+/// itself.
 pub fn closed_in_order()
     ensures cells { CellsStay }
     ensures journals { JournalsStay }
     ensures ends { EndsStay }
+    ensures cancels { CancelsStay }
     ensures refusals { RefusalsStay }
     ensures rolls_back { RollsBackStays }
     ensures faults { FaultsStay }
@@ -207,6 +218,7 @@ pub fn worked_runs()
     ensures inner_committed { InnerCommitted }
     ensures beneath { Beneath }
     ensures twice { Twice }
+    ensures given_up { GivenUp }
     ensures left_strands { LeftStrands }
 {}
 

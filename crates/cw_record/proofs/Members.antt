@@ -1,4 +1,4 @@
--- What is a member: accesses and outputs are, and no open block is.
+-- What is a member: accesses, outputs and cancels are, and no open block is.
 use Rattle.std.proofs.Common.{◌≡◌, ℕ, List, refl, true, false, Option, Some, None}
 use Rattle.std.specs.Prelude.{◌&&◌, ◌||◌, slice_get}
 use Rattle.cw_tree.specs.declared.node.Node.{Node}
@@ -23,12 +23,12 @@ pending_no_member t n =
       by None e = absurd (cc e)
       by (Some x) e = open_kind x.kind x.state e
 
--- an access or output is no block
+-- an access, output or cancel is no block
 pub act_no_block : (k : Kind) → is_act_kind k ≡ true → is_block_kind k ≡ false
 act_no_block Block e = absurd (cc e)
 act_no_block _ e = refl
 
--- of new nodes accesses and outputs are members
+-- of new nodes accesses, outputs and cancels are members
 pub new_member : (k : Kind) → (is_act_kind k || (is_block_kind k && is_committed_state (first_state k))) ≡ is_act_kind k
 new_member Block = refl
 new_member _ = refl

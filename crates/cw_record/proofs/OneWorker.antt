@@ -1,3 +1,4 @@
+pub mod AccessesThere
 pub mod Acting
 pub mod Behind
 pub mod Building
@@ -11,10 +12,12 @@ pub mod Ending
 pub mod Faults
 pub mod FollowedStates
 pub mod Going
+pub mod GrowingCancels
 pub mod GrowingItems
 pub mod GrowingJournals
 pub mod GrowingNames
 pub mod GrowingWays
+pub mod Grown
 pub mod InSeries
 pub mod KeptCells
 pub mod KnownStates
@@ -30,6 +33,7 @@ pub mod OpenBlocks
 pub mod PendingLast
 pub mod Placing
 pub mod Playing
+pub mod PuttingBack
 pub mod ReachedStates
 pub mod RunSteps
 pub mod Running

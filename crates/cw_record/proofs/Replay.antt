@@ -1,3 +1,4 @@
 pub mod OneRun
 pub mod Replayed
+pub mod SameBacks
 pub mod ShownItems

@@ -5,11 +5,11 @@
 use Rattle.std.specs.Prelude.{◌≡◌, ℕ, ℤ, ◌<◌, ◌&&◌, ◌||◌, not, IsTrue, List, [], ◌∷◌, map, length, slice_get, Option, Some, None, if◌then◌else◌}
 use Rattle.std.specs.List.{flat_map}
 use Rattle.cw_strand.specs.declared.want.Want.TheVariants as want
-use Rattle.cw_strand.specs.declared.want.Given.TheVariants.{Nothing, Value}
+use Rattle.cw_strand.specs.declared.want.Given.TheVariants.{Nothing, Value, Back as Wrote}
 use Rattle.cw_strand.specs.Strands.{Strands, is_over}
 use Rattle.cw_tree.specs.declared.node.Node.{Node}
 use Rattle.cw_tree.specs.declared.node.Kind.{Kind}
-use Rattle.cw_tree.specs.declared.node.Kind.TheVariants.{Strand, Fork, Block, Read, Write, Out, Tried}
+use Rattle.cw_tree.specs.declared.node.Kind.TheVariants.{Strand, Fork, Block, Read, Write, Out, Tried, Cancel}
 use Rattle.cw_tree.specs.declared.node.BlockState.{BlockState}
 use Rattle.cw_tree.specs.declared.node.BlockState.TheVariants.{Committed}
 use Rattle.cw_tree.specs.declared.access.Entry.{Entry}
@@ -60,6 +60,7 @@ module _ {A : Type 0} (s : Strands A) (t : List Node) (before after reached : �
   IsWanted n (Read c v) state = (s.want (before n) ≡ want.Load c) × (after n ≡ s.answer (before n) (Value v))
   IsWanted n (Write c v) state = (s.want (before n) ≡ want.Store c v) × (after n ≡ s.answer (before n) Nothing)
   IsWanted n (Out v) state = (s.want (before n) ≡ want.Out v) × (after n ≡ s.answer (before n) Nothing)
+  IsWanted n (Cancel back) state = (s.want (before n) ≡ want.Cancel) × (after n ≡ s.answer (before n) (Wrote back))
   IsWanted n (Tried c) state = IsAccessOf c (s.want (before n)) × (after n ≡ before n)
 
   -- Strand x has come to its end: it is over, and where a fork is the last in it, both strands of that have come to theirs, and behind it

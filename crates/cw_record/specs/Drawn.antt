@@ -2,13 +2,14 @@
 use Rattle.std.specs.Prelude.{ℕ, ℤ, ◌+◌, Bool, true, false, List, [], ◌∷◌, ◌++◌, length, replicate, slice_get, slice_set, Option, Some, None}
 use Rattle.cw_tree.specs.declared.node.Node.{Node}
 use Rattle.cw_tree.specs.declared.node.Kind.{Kind}
-use Rattle.cw_tree.specs.declared.node.Kind.TheVariants.{Strand, Fork, Block, Read, Write, Out}
+use Rattle.cw_tree.specs.declared.node.Kind.TheVariants.{Strand, Fork, Block, Read, Write, Out, Cancel}
 use Rattle.cw_tree.specs.declared.node.BlockState.TheVariants.{Committed}
 use Rattle.cw_tree.specs.declared.access.Entry.{Entry}
 use Rattle.cw_tree.specs.Nodes.{parent_of, closed, fresh_node}
 use Rattle.cw_strand.specs.declared.want.Want.{Want}
 use Rattle.cw_strand.specs.declared.want.Want.TheVariants as want
 use Rattle.cw_job.specs.Memory.{value_at}
+use Rattle.cw_serial.specs.Wants.{Since, given_up}
 use Rattle.cw_record.specs.declared.drawing.Drawing.{Drawing}
 
 -- a run as it is drawn: its tree, the place where the next node goes, the last stamp, and the journal of each element
@@ -72,14 +73,15 @@ after_begin d = record (after_node Block d) { place = length d.tree }
 abbrev pub after_end : Drawn → Drawn
 after_end d = record d { tree = closed d.tree d.place Committed (d.clock + 1); place = parent_of d.tree d.place; clock = d.clock + 1 }
 
--- what is drawn of a want that is done, where memory was this
-abbrev pub drawn_after : Want → (memory : List ℤ) → Drawn → Drawn
-drawn_after (want.Load c) memory d = after_read c (value_at memory c) d
-drawn_after (want.Store c v) memory d = after_write c v (value_at memory c) d
-drawn_after (want.Out v) memory d = after_node (Out v) d
-drawn_after want.Begin memory d = after_begin d
-drawn_after want.End memory d = after_end d
-drawn_after w memory d = d
+-- what is drawn of a want that is done, where memory was this, and the begun blocks may put this back
+abbrev pub drawn_after : Want → (memory : List ℤ) → List Since → Drawn → Drawn
+drawn_after (want.Load c) memory since d = after_read c (value_at memory c) d
+drawn_after (want.Store c v) memory since d = after_write c v (value_at memory c) d
+drawn_after (want.Out v) memory since d = after_node (Out v) d
+drawn_after want.Cancel memory since d = after_node (Cancel (given_up since)) d
+drawn_after want.Begin memory since d = after_begin d
+drawn_after want.End memory since d = after_end d
+drawn_after w memory since d = d
 
 -- ## From strand to strand
 

@@ -1,14 +1,14 @@
 -- What stands in the order of a record, one thing after another.
 --
--- At the root and in each block its members are listed: the accesses and outputs right in it by their stamps, the committed blocks right
--- in it by the stamps of their ends. A block stands there as its begin, its members and its end. What was rolled back is left out. Where
+-- At the root and in each block its members are listed: the accesses, outputs and cancels right in it by their stamps, the committed blocks
+-- right in it by the stamps of their ends. A block stands there as its begin, its members and its end. What was rolled back is left out. Where
 -- the run did not finish, the pending blocks above the place of its end are there too: each is the last at its level, and has no end.
 use Rattle.std.specs.Prelude.{ℕ, zero, suc, ◌==◌, ◌&&◌, ◌||◌, Bool, true, false, List, [], ◌∷◌, ◌++◌, length, filter, find, Option, Some, None, is_some, if◌then◌else◌}
 use Rattle.std.specs.List.{flat_map}
 use Rattle.std.specs.Option.{option_map_or}
 use Rattle.cw_tree.specs.declared.node.Node.{Node}
 use Rattle.cw_tree.specs.declared.node.Kind.{Kind}
-use Rattle.cw_tree.specs.declared.node.Kind.TheVariants.{Read, Write, Out}
+use Rattle.cw_tree.specs.declared.node.Kind.TheVariants.{Read, Write, Out, Cancel}
 use Rattle.cw_tree.specs.declared.conflict.Conflict.{Conflict}
 use Rattle.cw_tree.specs.Nodes.{parent_of, stamp_of, end_of, is_node, is_block, is_pending, is_committed, all_nodes}
 use Rattle.cw_tree.specs.Walks.{path, xparent}
@@ -24,9 +24,10 @@ abbrev pub is_act_kind : Kind → Bool
 is_act_kind (Read c v) = true
 is_act_kind (Write c v) = true
 is_act_kind (Out v) = true
+is_act_kind (Cancel back) = true
 is_act_kind _ = false
 
--- node n is an access that was made, or an output
+-- node n is an access that was made, an output or a cancel
 abbrev pub is_act : List Node → ℕ → Bool
 is_act = is_node (λ x. is_act_kind x.kind)
 
@@ -39,11 +40,11 @@ same_block _ _ = false
 abbrev pub is_right_in : List Node → Option ℕ → ℕ → Bool
 is_right_in t b n = same_block (xparent t n) b
 
--- where a member stands: a block by the stamp of its end, an access or output by its own
+-- where a member stands: a block by the stamp of its end, an access, output or cancel by its own
 abbrev pub key : List Node → ℕ → ℕ
 key t n = if is_block t n then end_of t n else stamp_of t n
 
--- the accesses, outputs and committed blocks right in a block, or at the root
+-- the accesses, outputs, cancels and committed blocks right in a block, or at the root
 abbrev pub members : List Node → Option ℕ → List ℕ
 members t b = filter (λ n. (is_act t n || is_committed t n) && is_right_in t b n) (all_nodes t)
 

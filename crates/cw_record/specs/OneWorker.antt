@@ -1,8 +1,10 @@
 -- What one worker holds in memory, and what its steps do to it.
 use Rattle.std.specs.Prelude.{◌≡◌, ℕ, List, [], ◌∷◌, All}
 use Rattle.cw_strand.specs.declared.want.Want.{Want}
+use Rattle.cw_strand.specs.declared.want.Want.TheVariants.{Cancel}
 use Rattle.cw_strand.specs.Strands.{Strands}
-use Rattle.cw_serial.specs.Wants.{memory_after, outputs_after}
+use Rattle.cw_serial.specs.Wants.{Since, memory_after, outputs_after}
+use Rattle.cw_serial.specs.InMemory.{AreSince, BlocksFollow}
 use Rattle.cw_job.specs.Jobs.{job_of_task}
 use Rattle.cw_job.specs.Room.Strands.{StrandState, IsOf, state_of, strands_of_job}
 use Rattle.cw_code.specs.declared.program.Program.{Program}
@@ -24,14 +26,29 @@ pub record SwitchesStrand (old new : Worker) : Type 0 where
   pub task : new.task ≡ old.task
   pub memory : new.memory ≡ old.memory
   pub outputs : new.outputs ≡ old.outputs
+  pub undo : new.undo ≡ old.undo
 
--- It did what its strand wants, in memory, outputs and drawing: what it runs by and the waiting strands stay.
+-- its begun blocks may put this back
+abbrev pub MayPutBack : Worker → List Since → Type 0
+MayPutBack w since = AreSince w.undo w.memory.items since
+
+-- they may where its strand gives up its block: no other want looks at it
+abbrev pub LooksRight : Worker → List Since → Type 0
+LooksRight w since = want_of w ≡ Cancel → MayPutBack w since
+
+-- Only its begun blocks, with what they may put back, are others: those after what its strand wants, each the block of one strand, number 0.
+pub record FollowsBlocks (old new : Worker) : Type 0 where
+  pub same : new ≡ record old { undo = new.undo }
+  pub blocks : BlocksFollow (want_of old) 0 old.memory.items old.undo new.undo
+
+-- It did what its strand wants, in memory, outputs and drawing: what it runs by, its begun blocks and the waiting strands stay.
 pub record Acts (old new : Worker) : Type 0 where
   pub task : new.task ≡ old.task
   pub branches : new.branches ≡ old.branches
   pub memory : new.memory.items ≡ memory_after (want_of old) old.memory.items
   pub outputs : new.outputs.items ≡ outputs_after (want_of old) old.outputs.items
-  pub drawing : drawn new.drawing ≡ drawn_after (want_of old) old.memory.items (drawn old.drawing)
+  pub undo : new.undo ≡ old.undo
+  pub drawing : (since : List Since) → LooksRight old since → drawn new.drawing ≡ drawn_after (want_of old) old.memory.items since (drawn old.drawing)
 
 -- One fork more, with this node, whose right strand, in this state, is to come.
 abbrev pub WaitsOnLeft : (old new : List Branch) → (node : ℕ) → StrandState → Type 0

@@ -5,7 +5,7 @@ use Rattle.cw_strand.specs.declared.want.Want.TheVariants as want
 use Rattle.cw_strand.specs.Strands.{Strands}
 use Rattle.cw_tree.specs.declared.node.Node.{Node}
 use Rattle.cw_tree.specs.declared.node.Kind.{Kind}
-use Rattle.cw_tree.specs.declared.node.Kind.TheVariants.{Read, Write, Out}
+use Rattle.cw_tree.specs.declared.node.Kind.TheVariants.{Read, Write, Out, Cancel}
 use Rattle.cw_tree.specs.declared.picks.Turn.{Turn}
 use Rattle.cw_tree.specs.declared.picks.Picks.{Picks}
 use Rattle.cw_tree.specs.declared.conflict.Conflict.{Conflict}
@@ -17,6 +17,7 @@ use Rattle.cw_serial.specs.declared.ends.SerialEnd.{SerialEnd}
 use Rattle.cw_serial.specs.declared.ends.SerialEnd.TheVariants as last
 use Rattle.cw_serial.specs.StrandTree.{at}
 use Rattle.cw_serial.specs.Machine.{Machine, pick, machine_shows, initial}
+use Rattle.cw_serial.specs.Wants.{Since, given_up}
 use Rattle.cw_job.specs.Memory.{value_at}
 use Rattle.cw_record.specs.declared.record_end.RecordEnd.{RecordEnd}
 use Rattle.cw_record.specs.declared.record_end.RecordEnd.TheVariants.{Finished, Fault, Budget, Moves}
@@ -29,21 +30,23 @@ use Rattle.cw_record.specs.Order.{order_of, node_of, ending_strand}
 abbrev pub doer : List Node → OrderItem → List Turn
 doer t i = name_of t (strand_of t (node_of i))
 
--- a want that is answered from this memory is this node of the tree: the same cell, value and kind
-abbrev pub IsAct : List ℤ → Want → Kind → Type 0
-IsAct memory w (Read c v) = (w ≡ want.Load c) × (value_at memory c ≡ v)
-IsAct memory w (Write c v) = w ≡ want.Store c v
-IsAct memory w (Out v) = w ≡ want.Out v
-IsAct memory w k = ⊥
+-- a want that is answered from this memory, where the begun blocks may put this back, is this node of the tree: the same cell, value, kind
+-- and list
+abbrev pub IsAct : List ℤ → List Since → Want → Kind → Type 0
+IsAct memory since w (Read c v) = (w ≡ want.Load c) × (value_at memory c ≡ v)
+IsAct memory since w (Write c v) = w ≡ want.Store c v
+IsAct memory since w (Out v) = w ≡ want.Out v
+IsAct memory since w (Cancel back) = (w ≡ want.Cancel) × (given_up since ≡ back)
+IsAct memory since w k = ⊥
 
-abbrev pub IsActOf : List ℤ → Want → Option Node → Type 0
-IsActOf memory w None = ⊥
-IsActOf memory w (Some x) = IsAct memory w x.kind
+abbrev pub IsActOf : List ℤ → List Since → Want → Option Node → Type 0
+IsActOf memory since w None = ⊥
+IsActOf memory since w (Some x) = IsAct memory since w x.kind
 
 -- the want, which this machine answers, is what the tree has there
 abbrev pub IsItemDone : {A : Type 0} → List Node → Machine A → Want → OrderItem → Type 0
 IsItemDone t m w (Begins b) = w ≡ want.Begin
-IsItemDone t m w (Does n) = IsActOf m.memory w (slice_get t n)
+IsItemDone t m w (Does n) = IsActOf m.memory m.since w (slice_get t n)
 IsItemDone t m w (Ends b) = w ≡ want.End
 
 -- the want is a load or a store of cell c

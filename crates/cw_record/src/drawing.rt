@@ -1,9 +1,10 @@
 ghost use Rattle.std.specs.Prelude.{◌≡◌, ◌+◌, ◌<◌, IfOk, IsTrue, OnOk, length};
 ghost use Rattle.cw_tree.specs.Nodes.{is_block};
-ghost use Rattle.cw_tree.specs.declared.node.Kind.TheVariants.{Out};
+ghost use Rattle.cw_tree.specs.declared.node.Kind.TheVariants.{Cancel, Out};
 ghost use Rattle.cw_record.specs.Drawn.{after_begin, after_end, after_entry, after_fork, after_join, after_node, after_read, after_start, after_write, blank, drawn};
 
 use cw_base::{OutOfMemory, Seq};
+use cw_code::Back;
 use cw_tree::{BlockState, Entry, Kind, Mark, Tree};
 use std::alloc::Global;
 
@@ -98,6 +99,16 @@ impl Drawing {
         ensures { OnOk result (drawn self.new ≡ after_node (Out value) (drawn self.old)) }
     {
         self.add(Kind::Out { value })?;
+        Ok(())
+    }
+
+    /// A block is given up, and this is what is put back.
+    pub(crate) fn cancels(&mut self, alloc: Global, back: &Seq<Back>) -> Result<(), OutOfMemory>
+        requires { self.old.place < length self.old.tree }
+        ensures { OnOk result (drawn self.new ≡ after_node (Cancel back.now) (drawn self.old)) }
+    {
+        let back = Seq::from_vec(Vec::from_slice(alloc, back.as_slice())?);
+        self.add(Kind::Cancel { back })?;
         Ok(())
     }
 

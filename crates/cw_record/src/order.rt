@@ -11,8 +11,8 @@ use cw_base::{OutOfMemory, Seq};
 use cw_tree::{Conflict, Picks, Tree};
 use std::alloc::Global;
 
-/// The order of a run, whose budget is `aborts` attempts: at the root and in each block its accesses and outputs by their stamps, its
-/// committed blocks by the stamps of their ends, each as its begin, what is in it, and its end; at the place where an unfinished run
+/// The order of a run, whose budget is `aborts` attempts: at the root and in each block its accesses, outputs and cancels by their
+/// stamps, its committed blocks by the stamps of their ends, each as its begin, what is in it, and its end; at the place where an unfinished run
 /// ended, the pending blocks last. Each is a pick of the strand that did it. Strands have the same name as in an attempt that was
 /// rolled back. Nodes with equal stamps stand by their numbers.
 pub fn order_of(

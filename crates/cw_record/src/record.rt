@@ -1,5 +1,4 @@
-ghost use Rattle.std.specs.Prelude.{◌≡◌, [], false, IfOk, length, List, Option};
-ghost use Rattle.cw_code.specs.Programs.{cancels};
+ghost use Rattle.std.specs.Prelude.{◌≡◌, [], IfOk, length, List, Option};
 ghost use Rattle.cw_strand.specs.Programs.{IsCompiled};
 ghost use Rattle.cw_strand.specs.Names.{first_memory};
 ghost use Rattle.cw_tree.specs.declared.node.Node.{Node};
@@ -38,7 +37,7 @@ pub struct Record {
 }
 
 /// The run of one worker: depth first, the left strand of each fork before the right one. It ends by itself or at the first
-/// fault. The program gives up no block: its code has no cancel.
+/// fault.
 pub fn depth_first(
     alloc: Global,
     program: Program,
@@ -46,7 +45,6 @@ pub fn depth_first(
     limits: Limits,
 ) -> Result<Record, OutOfMemory>
     requires compiled { IsCompiled program }
-    requires cancels { cancels program.code ≡ false }
     requires words { TakesWords program (length words) }
     ensures program { IfOk result (λ r. r.program ≡ program) }
     ensures words { IfOk result (λ r. r.words ≡ words) }

@@ -1,7 +1,11 @@
-ghost use Rattle.std.specs.Prelude.{◌≡◌, ◌↔◌, ◌<◌, IfOk, IsSomeAnd, IsTrue, length};
+ghost use Rattle.std.specs.Prelude.{◌≡◌, ◌↔◌, ◌<◌, IfOk, IsSomeAnd, IsTrue, List, Some, length};
 ghost use Rattle.cw_tree.specs.Nodes.{is_strand};
-ghost use Rattle.cw_job.specs.Jobs.{TakesWords};
+ghost use Rattle.cw_strand.specs.declared.want.Want.TheVariants.{Cancel};
+ghost use Rattle.cw_tree.specs.declared.picks.Name.{Name};
+ghost use Rattle.cw_job.specs.Jobs.{Job, TakesWords};
 ghost use Rattle.cw_serial.specs.Machine.{Machine};
+ghost use Rattle.cw_serial.specs.Orders.{IsPlay};
+ghost use Rattle.cw_serial.specs.Wants.{Since, given_up};
 ghost use Rattle.cw_job.specs.Room.Strands.{StrandState};
 ghost use Rattle.cw_record.specs.Order.{ending_strand, node_of, order_of};
 ghost use Rattle.cw_record.specs.Replay.{IsAct, IsItemDone, WantsAgain};
@@ -11,6 +15,7 @@ use crate::items::{OrderItem, items};
 use crate::place::telling;
 use crate::{Record, RecordEnd};
 use cw_base::{OutOfMemory, Seq};
+use cw_code::Back;
 use cw_job::value_at;
 use cw_serial::Play;
 use cw_strand::Want;
@@ -40,7 +45,8 @@ pub(crate) fn does_all(alloc: Global, kept: &Record) -> Result<bool, OutOfMemory
     for place in 0..items.len() {
         let name = *kept.order.list.at(place);
         let want = play.at(name)?;
-        if !is_item(tree, play.memory(), want, *items.at(place)) {
+        let back = put_back(alloc, &play, want)?;
+        if !is_item(tree, play.memory(), &back, want, *items.at(place)) {
             return Ok(false);
         }
         if !play.pick(&kept.program, name)? {
@@ -51,21 +57,40 @@ pub(crate) fn does_all(alloc: Global, kept: &Record) -> Result<bool, OutOfMemory
     is_spent(alloc, kept, want)
 }
 
-/// Whether a want is what the tree has at an item, where the machine has this memory.
-fn is_item(tree: &Tree, memory: &[i64], want: Option<Want>, item: OrderItem) -> bool
+/// What the machine puts back where a strand wants to give up its block; nothing where it wants anything else.
+fn put_back(alloc: Global, play: &Play, want: Option<Want>) -> Result<Seq<Back>, OutOfMemory>
+    ensures { IfOk result (λ list. (job : Job) (names : List Name) (m : Machine StrandState) → IsPlay job names play.now m →
+        want ≡ Some Cancel → given_up m.since ≡ list) }
+{
+    match want {
+        Some(Want::Cancel) => play.given_up(),
+        _ => Ok(Seq::new(alloc)),
+    }
+}
+
+/// Whether a want is what the tree has at an item, where the machine has this memory, and a block that is given up puts this back.
+fn is_item(
+    tree: &Tree,
+    memory: &[i64],
+    back: &Seq<Back>,
+    want: Option<Want>,
+    item: OrderItem,
+) -> bool
     requires { node_of item < length tree.now }
-    ensures { (m : Machine StrandState) → m.memory ≡ memory.now → IsTrue result ↔ IsSomeAnd want (λ w. IsItemDone tree.now m w item) }
+    ensures { (m : Machine StrandState) → m.memory ≡ memory.now → (want ≡ Some Cancel → given_up m.since ≡ back.now) →
+        IsTrue result ↔ IsSomeAnd want (λ w. IsItemDone tree.now m w item) }
 {
     match item {
         OrderItem::Begins(_) => want == Some(Want::Begin),
         OrderItem::Ends(_) => want == Some(Want::End),
-        OrderItem::Does(node) => is_act(memory, want, &tree.node(node).kind),
+        OrderItem::Does(node) => is_act(memory, back, want, &tree.node(node).kind),
     }
 }
 
-/// Whether a want that is answered from this memory is a node of this kind.
-fn is_act(memory: &[i64], want: Option<Want>, kind: &Kind) -> bool
-    ensures { IsTrue result ↔ IsSomeAnd want (λ w. IsAct memory.now w kind.now) }
+/// Whether a want that is answered from this memory, or by this list, is a node of this kind.
+fn is_act(memory: &[i64], back: &Seq<Back>, want: Option<Want>, kind: &Kind) -> bool
+    ensures { (since : List Since) → (want ≡ Some Cancel → given_up since ≡ back.now) →
+        IsTrue result ↔ IsSomeAnd want (λ w. IsAct memory.now since w kind.now) }
 {
     match (want, kind) {
         (Some(Want::Load(element)), Kind::Read { cell, value }) => {
@@ -75,8 +100,18 @@ fn is_act(memory: &[i64], want: Option<Want>, kind: &Kind) -> bool
             element == *cell && stored == *value
         }
         (Some(Want::Out(shown)), Kind::Out { value }) => shown == *value,
+        (Some(Want::Cancel), Kind::Cancel { back: kept }) => same_backs(
+            back.as_slice(),
+            kept.as_slice(),
+        ),
         _ => false,
     }
+}
+
+fn same_backs(a: &[Back], b: &[Back]) -> bool
+    ensures { IsTrue result ↔ (a.now ≡ b.now) }
+{
+    a == b
 }
 
 /// Whether the last strand, which wants this, stands at what was refused, where it has spent its budget.

@@ -1,18 +1,19 @@
-ghost use Rattle.std.specs.Prelude.{◌≡◌, ◌<◌, ◌++◌, List, [], ◌∷◌, true, false, All, IfOk, IsTrue, OnOk, length, map};
+ghost use Rattle.std.specs.Prelude.{◌≡◌, ◌<◌, ◌++◌, List, [], ◌∷◌, true, All, IfOk, IsTrue, OnOk, length, map};
+ghost use Rattle.std.specs.Option.{IsSome};
 ghost use Rattle.cw_strand.specs.Names.{first_memory};
 ghost use Rattle.cw_strand.specs.Strands.{takes_answer};
 ghost use Rattle.cw_strand.specs.declared.want.Want.TheVariants as Want;
 ghost use Rattle.cw_tree.specs.Nodes.{fresh_node, is_block};
 ghost use Rattle.cw_tree.specs.Series.{strand_of};
 ghost use Rattle.cw_tree.specs.declared.node.Kind.TheVariants.{Strand as AStrand};
-ghost use Rattle.cw_code.specs.Programs.{cancels};
 ghost use Rattle.cw_strand.specs.Programs.{IsCompiled};
 ghost use Rattle.cw_job.specs.Jobs.{TakesWords, job_of_task};
 ghost use Rattle.cw_job.specs.Room.Strands.{IsOf, state_of};
+ghost use Rattle.cw_serial.specs.InMemory.{begun_after};
 ghost use Rattle.cw_serial.specs.Wants.{Since, answer_to};
 ghost use Rattle.cw_record.specs.Drawn.{after_fork, after_join, after_start, blank, drawn};
 ghost use Rattle.cw_record.specs.Records.{IsWorkerRun};
-ghost use Rattle.cw_record.specs.OneWorker.{Acts, AllBranchesStand, AllStand, SwitchesStrand, WaitsOnLeft, law_of, unstarted, want_of};
+ghost use Rattle.cw_record.specs.OneWorker.{Acts, AllBranchesStand, AllStand, FollowsBlocks, LooksRight, SwitchesStrand, WaitsOnLeft, law_of, unstarted, want_of};
 ghost use Rattle.cw_record.specs.declared.worker.Branch.TheVariants.{Right as OnRight};
 ghost use Rattle.cw_record.specs.declared.record_end.RecordEnd.TheVariants as ending;
 
@@ -21,6 +22,7 @@ use crate::drawing::Drawing;
 use cw_base::{OutOfMemory, Seq, Stack};
 use cw_code::{FaultKind, Limits, Program};
 use cw_job::{Standing, Task, first_memory, value_at};
+use cw_serial::Undo;
 use cw_strand::{Given, Want};
 use cw_tree::Tree;
 use std::alloc::Global;
@@ -40,6 +42,7 @@ pub(crate) struct Worker<'a> {
     pub(crate) task: Task<'a>,
     pub(crate) memory: Vec<i64>,
     pub(crate) outputs: Vec<i64>,
+    pub(crate) undo: Undo,
     pub(crate) drawing: Drawing,
     pub(crate) strand: Standing,
     pub(crate) branches: Stack<Branch>,
@@ -64,6 +67,7 @@ impl<'a> Worker<'a> {
         ensures job { IfOk result (λ w. job_of_task w.task ≡ record { program = program.now; words = words.now; limits = limits }) }
         ensures memory { IfOk result (λ w. w.memory.items ≡ first_memory program.now.cells) }
         ensures outputs { IfOk result (λ w. w.outputs.items ≡ []) }
+        ensures undo { IfOk result (λ w. w.undo.begun ≡ []) }
         ensures drawing { IfOk result (λ w. drawn w.drawing ≡ blank (length w.memory.items)) }
         ensures strand { IfOk result (λ w. state_of w.strand ≡ (law_of w).start) }
         ensures branches { IfOk result (λ w. w.branches ≡ []) }
@@ -81,6 +85,7 @@ impl<'a> Worker<'a> {
             task,
             memory,
             outputs: Vec::new(alloc),
+            undo: Undo::new(alloc),
             drawing,
             strand,
             branches: Stack::new(alloc),
@@ -95,7 +100,6 @@ impl<'a> Worker<'a> {
         limits: Limits,
     ) -> Result<Run, OutOfMemory>
         requires compiled { IsCompiled program.now }
-        requires cancels { cancels program.now.code ≡ false }
         requires words { TakesWords program.now (length words.now) }
         ensures { IfOk result (λ r. IsWorkerRun (record { program = program.now; words = words.now; limits = limits })
             r.drawing.tree r.drawing.journals.items r.end) }
@@ -110,37 +114,52 @@ impl<'a> Worker<'a> {
                     Some(Branch::Right { fork, left }) => worker.join(fork, left)?,
                 },
                 Want::Fault(kind) => return worker.faulted(kind),
-                Want::Load(_) | Want::Store(..) | Want::Out(_) | Want::Begin | Want::End => {
-                    worker.act()?;
+                Want::Load(_)
+                | Want::Store(..)
+                | Want::Out(_)
+                | Want::Cancel
+                | Want::Begin
+                | Want::End => {
+                    worker.follow()?;
+                    worker.act(alloc)?;
                 }
-                Want::Cancel => unreachable!(),
             }
         }
     }
 
-    /// Does what the strand stands at, and goes on to its next want.
-    fn act(&mut self) -> Result<(), OutOfMemory>
+    /// Begins or ends the block that the strand wants to begin or to end, or keeps what its write will replace. All blocks are told as those
+    /// of strand 0, for the innermost one that is begun is always that of the strand that is run.
+    fn follow(&mut self) -> Result<(), OutOfMemory>
+        requires done { IsSome (begun_after (want_of self.old) 0 self.old.undo) }
+        ensures { OnOk result (FollowsBlocks self.old self.new) }
+    {
+        if !self.undo.follow(0, self.strand.want(), &self.memory)? {
+            unreachable!();
+        }
+        Ok(())
+    }
+
+    /// Does what the strand stands at, and goes on to its next want. The blocks were followed before.
+    fn act(&mut self, alloc: Global) -> Result<(), OutOfMemory>
         requires there { self.old.drawing.place < length self.old.drawing.tree }
         requires answered { takes_answer (want_of self.old) ≡ true }
-        requires keeps { want_of self.old ≡ Want.Cancel → ⊥ }
         requires block { want_of self.old ≡ Want.End → IsTrue (is_block self.old.drawing.tree self.old.drawing.place) }
         requires stands { IsOf self.old.task.program.now self.old.strand }
         ensures acts { OnOk result (Acts self.old self.new) }
         ensures stands { OnOk result (IsOf self.old.task.program.now self.new.strand) }
-        ensures strand { OnOk result ((since : List Since) → state_of self.new.strand
+        ensures strand { OnOk result ((since : List Since) → LooksRight self.old since → state_of self.new.strand
             ≡ (law_of self.old).answer (state_of self.old.strand) (answer_to (want_of self.old) self.old.memory.items since)) }
     {
-        let given = self.do_want()?;
+        let given = self.do_want(alloc)?;
         self.strand.answer(given, self.task.program)
     }
 
     /// Does what the strand wants in memory and outputs, and draws it.
-    fn do_want(&mut self) -> Result<Given, OutOfMemory>
+    fn do_want(&mut self, alloc: Global) -> Result<Given, OutOfMemory>
         requires there { self.old.drawing.place < length self.old.drawing.tree }
         requires answered { takes_answer (want_of self.old) ≡ true }
-        requires keeps { want_of self.old ≡ Want.Cancel → ⊥ }
         requires block { want_of self.old ≡ Want.End → IsTrue (is_block self.old.drawing.tree self.old.drawing.place) }
-        ensures given { IfOk result (λ g. (since : List Since) → g ≡ answer_to (want_of self.old) self.old.memory.items since) }
+        ensures given { IfOk result (λ g. (since : List Since) → LooksRight self.old since → g ≡ answer_to (want_of self.old) self.old.memory.items since) }
         ensures acts { OnOk result (Acts self.old self.new) }
         ensures strand { OnOk result (self.new.strand ≡ self.old.strand) }
     {
@@ -161,9 +180,14 @@ impl<'a> Worker<'a> {
                 self.outputs.push(value)?;
                 self.drawing.outputs(value)?;
             }
+            Want::Cancel => {
+                let back = self.undo.given_up(alloc, &self.memory)?;
+                self.drawing.cancels(alloc, &back)?;
+                return Ok(Given::Back(back));
+            }
             Want::Begin => self.drawing.begins()?,
             Want::End => self.drawing.ends()?,
-            Want::Cancel | Want::Fork | Want::Sync | Want::Done | Want::Fault(_) => unreachable!(),
+            Want::Fork | Want::Sync | Want::Done | Want::Fault(_) => unreachable!(),
         }
         Ok(Given::Nothing)
     }

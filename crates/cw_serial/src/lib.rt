@@ -26,6 +26,7 @@ pub use cw_tree::{Name, Picks};
 pub use ends::SerialEnd;
 pub use machine::Machine;
 pub use play::{Play, serial};
+pub use undo::Undo;
 
 /// Worked runs of the machine.
 pub fn worked_runs()

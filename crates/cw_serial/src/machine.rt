@@ -7,6 +7,7 @@ use crate::table::Table;
 use crate::undo::Undo;
 use crate::{Limits, Name, Program, SerialEnd, Standing, first_memory, value_at};
 use cw_base::{OutOfMemory, Seq};
+use cw_code::Back;
 use cw_strand::{Given, Want};
 use std::alloc::Global;
 
@@ -28,6 +29,7 @@ impl Machine {
     ghost use Rattle.cw_serial.specs.StrandTree.{at};
     ghost use Rattle.cw_serial.specs.Machine.{Machine as State_of, steps_down, pick, may_pick, has_ended, end_of_named};
     ghost use Rattle.cw_serial.specs.MachineOf.{machine_of};
+    ghost use Rattle.cw_serial.specs.Wants.{given_up};
     ghost use Rattle.cw_serial.specs.TableInMemory.{IsFront, started_at};
     ghost use Rattle.cw_serial.specs.Orders.{IsNamed, at_named};
     ghost use Rattle.cw_serial.specs.InMemory.{IsMachine, Runs, names_in, AreNames, Picks, DoesWant, want_before_end};
@@ -81,6 +83,13 @@ impl Machine {
         ensures { (job : Job) (m : State_of StrandState) → IsMachine job self.now m → m.memory ≡ result.now }
     {
         self.memory.as_slice()
+    }
+
+    /// What the innermost begun block puts back where it is given up now.
+    pub fn given_up(&self) -> Result<Seq<Back>, OutOfMemory>
+        ensures { IfOk result (λ list. (job : Job) (m : State_of StrandState) → IsMachine job self.now m → list ≡ given_up m.since) }
+    {
+        self.undo.given_up(self.alloc, &self.memory)
     }
 
     /// What was shown so far.

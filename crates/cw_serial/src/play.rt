@@ -7,7 +7,8 @@ ghost use Rattle.cw_serial.specs.Orders.{IsPlay};
 use crate::machine::Machine;
 use crate::orders::Known;
 use crate::{Limits, Name, Picks, Program, SerialEnd};
-use cw_base::OutOfMemory;
+use cw_base::{OutOfMemory, Seq};
+use cw_code::Back;
 use cw_strand::Want;
 use std::alloc::Global;
 
@@ -24,6 +25,7 @@ impl<'n> Play<'n> {
     ghost use Rattle.cw_tree.specs.declared.picks.Name.{Name as Named};
     ghost use Rattle.cw_serial.specs.Machine.{Machine as State_of, pick_named, machine_shows, steps_down};
     ghost use Rattle.cw_serial.specs.InMemory.{want_before_end};
+    ghost use Rattle.cw_serial.specs.Wants.{given_up};
     ghost use Rattle.cw_serial.specs.Orders.{at_named, Plays};
     ghost use Rattle.cw_job.specs.Room.Strands.{StrandState, strands_of_job};
 
@@ -54,6 +56,14 @@ impl<'n> Play<'n> {
         ensures { (job : Job) (names : List Named) (m : State_of StrandState) → IsPlay job names self.now m → m.memory ≡ result.now }
     {
         self.machine.memory()
+    }
+
+    /// What the innermost begun block puts back where it is given up now.
+    pub fn given_up(&self) -> Result<Seq<Back>, OutOfMemory>
+        ensures { IfOk result (λ list. (job : Job) (names : List Named) (m : State_of StrandState) → IsPlay job names self.now m →
+            list ≡ given_up m.since) }
+    {
+        self.machine.given_up()
     }
 
     /// What the strand of a name wants. Nothing where it waits for its fork, has come to its end or was not started, or where the

@@ -1,5 +1,6 @@
 pub mod After
 pub mod Around
+pub mod Elements
 pub mod Finishing
 pub mod Forking
 pub mod Going

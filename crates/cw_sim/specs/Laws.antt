@@ -1,7 +1,7 @@
--- What holds of the moves of every simulation, over any lawful strands that give up no block.
-use Rattle.std.specs.Prelude.{◌≡◌, ℕ, ℤ, ◌<◌, true, false, IsTrue, List, [], ◌∷◌, ◌++◌, length, Some, None}
+-- What holds of the moves of every simulation, over any lawful strands.
+use Rattle.std.specs.Prelude.{◌≡◌, ℕ, ℤ, ◌<◌, ◌≤◌, true, false, IsTrue, List, [], ◌∷◌, ◌++◌, length, Some, None}
 use Rattle.cw_strand.specs.declared.want.Want.{Want}
-use Rattle.cw_strand.specs.declared.want.Want.TheVariants.{Load, Store, Cancel}
+use Rattle.cw_strand.specs.declared.want.Want.TheVariants.{Load, Store}
 use Rattle.cw_strand.specs.Strands.{Strands, Reached, IsLawful}
 use Rattle.cw_core.specs.declared.event.Event.{Event}
 use Rattle.cw_core.specs.State.{CoreState, is_split}
@@ -11,16 +11,16 @@ use Rattle.cw_sim.specs.Workers.{Worker, Simulation, waiting, left_node, tree, w
 use Rattle.cw_sim.specs.Moves.{is_run_over, move}
 use Rattle.cw_sim.specs.Kept.{IsKept}
 
--- a want names only cells that are there, and is none to give up a block
+-- a want names only cells that are there
 abbrev pub NamesCell : ℕ → Want → Type 0
 NamesCell cells (Load c) = c < cells
 NamesCell cells (Store c v) = c < cells
-NamesCell cells Cancel = ⊥
 NamesCell cells w = Unit {0}
 
--- Strands that keep the law and give up no block, over so many cells.
+-- Strands that keep the law, over so many cells. Each of these is an element of the strands, so that a strand may be told to put it back.
 pub record AreStrands {A : Type 0} (s : Strands A) (cells : ℕ) : Type 0 where
   pub lawful : IsLawful s
+  pub there : cells ≤ s.elements
   pub named : (own : List ℕ) (a : A) → Reached s own a → NamesCell cells (s.want a)
 
 -- one state of the core comes of another by events, each of which fits where it comes

@@ -7,7 +7,7 @@ use Rattle.cw_tree.specs.Series.{strand_of, place}
 use Rattle.cw_strand.specs.declared.want.Want.{Want}
 use Rattle.cw_strand.specs.declared.want.Want.TheVariants as want
 use Rattle.cw_strand.specs.declared.want.Given.{Given}
-use Rattle.cw_strand.specs.declared.want.Given.TheVariants.{Nothing, Value}
+use Rattle.cw_strand.specs.declared.want.Given.TheVariants.{Nothing, Value, Back}
 use Rattle.cw_strand.specs.Strands.{Strands}
 use Rattle.cw_open.specs.Machine.{has_finished, is_dying, in_block}
 use Rattle.cw_core.specs.declared.event.Event.{Event}
@@ -15,7 +15,8 @@ use Rattle.cw_core.specs.declared.event.Event.TheVariants as event
 use Rattle.cw_core.specs.declared.event.Reply.{Reply}
 use Rattle.cw_core.specs.declared.event.Reply.TheVariants as reply
 use Rattle.cw_core.specs.State.{is_split, spent}
-use Rattle.cw_core.specs.Events.{after_event, reply_to, may_fork}
+use Rattle.cw_open.specs.Steps.{puts_back}
+use Rattle.cw_core.specs.Events.{after_event, reply_to, may_fork, next}
 use Rattle.cw_sim.specs.Workers.{Simulation, left_node, right_node, changed, with_fork, tree, worker, with_strand, with_worker, with_run}
 
 -- a read is given the value, a write nothing
@@ -115,6 +116,10 @@ module _ {A : Type 0} where
     abbrev pub begins : ℕ → Simulation A → Simulation A
     begins x m = answers x Nothing (record (does (event.Begin x) m) { saved = changed (length (tree m)) (m.at x) m.saved })
 
+    -- the block is given up: the strand is told what to put back, which it wants next, each as a write of its own, and then the block's end
+    abbrev pub gives_up : ℕ → Simulation A → Simulation A
+    gives_up x m = answers x (Back (puts_back m.core.machine x (next m.core))) (does (event.Cancel x) m)
+
     -- the fork is the next node; worker w goes on with its left strand
     abbrev pub forks : (w x : ℕ) → Simulation A → Simulation A
     forks w x m =
@@ -129,8 +134,7 @@ module _ {A : Type 0} where
     acts w x want.Begin m = begins x m
     acts w x want.End m = answers x Nothing (does (event.Commit x) m)
     acts w x want.Fork m = forks w x m
-    -- no strand of a simulation gives up a block
-    acts w x want.Cancel m = m
+    acts w x want.Cancel m = gives_up x m
     acts w x want.Sync m = finishes w x false m
     acts w x want.Done m = finishes w x false m
     acts w x (want.Fault kind) m = does (event.Stop (halt.Fault x kind)) m

@@ -2,7 +2,6 @@
 use Rattle.std.specs.Prelude.{◌≡◌, ℕ, ℤ, ◌<◌, ◌^◌, false, not, List, length}
 use Rattle.cw_io.specs.declared.schedule.Schedule.{Schedule}
 use Rattle.cw_strand.specs.Names.{first_memory}
-use Rattle.cw_code.specs.Programs.{cancels}
 use Rattle.cw_strand.specs.Programs.{IsCompiled}
 use Rattle.cw_strand.specs.Strands.{Strands}
 use Rattle.cw_tree.specs.declared.closed.Closed.{Closed}
@@ -48,9 +47,9 @@ RunsAreClosed s =
     (first : List ℤ) (room budget workers limit : ℕ) (turn : ℕ → ℕ) → AreStrands s (length first) → 0 < room → ((n : ℕ) → turn n < workers)
     → (let m = after_moves s turn limit 0 (first_simulation first room budget workers s.start) in IsClosedRun s first budget m.core.machine (journals_of m.core) m.core.halt (not (is_run_over m)))
 
--- The record of the moves of any workers, of a compiled program without a cancel, with its words, is coherent for the program's strands; its
+-- The record of the moves of any workers, of a compiled program, with its words, is coherent for the program's strands; its
 -- outputs are those of its output nodes, in its order; and its nodes are numbered depth first.
 abbrev pub RecordsAreCoherent : Type 0
 RecordsAreCoherent =
-    (r : Record) (workers : ℕ) (schedule : Schedule) → IsCompiled r.program → cancels r.program.code ≡ false → TakesWords r.program (length r.words) → 0 < r.limits.strands → 0 < workers → ListsWorkers schedule workers
+    (r : Record) (workers : ℕ) (schedule : Schedule) → IsCompiled r.program → TakesWords r.program (length r.words) → 0 < r.limits.strands → 0 < workers → ListsWorkers schedule workers
     → (let m = simulation_of (job_of_record r) workers schedule in length m.core.machine.tree < 2 ^ 32 → IsRecordOf m r → IsCoherentRun r × (HasItsOutputs r × IsNumberedDepthFirst r.tree))

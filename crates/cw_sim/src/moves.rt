@@ -1,11 +1,10 @@
 ghost use Rattle.std.specs.Prelude.{◌≡◌, ◌<◌, ◌^◌, ◌∷◌, ℕ, List, ◌&&◌, true, false, not, None, IfOk, OnOk, length};
 ghost use Rattle.cw_strand.specs.declared.want.Want.TheVariants as Want;
 ghost use Rattle.cw_strand.specs.declared.want.Given.TheVariants as given;
-ghost use Rattle.cw_code.specs.Programs.{cancels};
 ghost use Rattle.cw_strand.specs.Programs.{IsCompiled};
 ghost use Rattle.cw_job.specs.Jobs.{TakesWords, job_of_task};
 ghost use Rattle.cw_sim.specs.Workers.{left_node, right_node, tree, with_strand, worker};
-ghost use Rattle.cw_sim.specs.Moves.{accesses, acts, answers, begins, dies, does, finishes, follows, forks, given_for, is_run_over, joins, meets, move, others, steals, stops_if_spent, takes, goes_to_right};
+ghost use Rattle.cw_sim.specs.Moves.{accesses, acts, answers, begins, dies, does, finishes, follows, forks, gives_up, given_for, is_run_over, joins, meets, move, others, steals, stops_if_spent, takes, goes_to_right};
 ghost use Rattle.cw_sim.specs.Runs.{closed_of, simulation_of};
 ghost use Rattle.cw_sim.specs.Turns.{ListsWorkers};
 ghost use Rattle.cw_open.specs.Machine.{has_finished};
@@ -303,6 +302,17 @@ impl<'a> Driver<'a> {
         self.answers(strand, Given::Nothing)
     }
 
+    /// The innermost block of a strand is given up, and the strand is told what to put back.
+    fn gives_up(&mut self, strand: u32) -> Result<(), OutOfMemory>
+        requires { (z : Seen) × MayDo self.old strand Want.Cancel z }
+        ensures { OnOk result ((z : Seen) → MayDo self.old strand Want.Cancel z → Comes self.new z (gives_up (law_of z) strand z.m)) }
+    {
+        match self.core.step(Event::Cancel { strand })? {
+            Reply::Back(back) => self.answers(strand, Given::Back(back)),
+            _ => unreachable!(),
+        }
+    }
+
     /// A strand of worker w forks, and w goes on with the left strand.
     fn forks(&mut self, w: u32, strand: u32) -> Result<(), OutOfMemory>
         requires { (z : Seen) × MayFork self.old w strand z }
@@ -332,7 +342,7 @@ impl<'a> Driver<'a> {
             Want::Out(value) => self.puts_out(strand, value),
             Want::Begin => self.begins(strand),
             Want::End => self.ends(strand),
-            Want::Cancel => unreachable!(),
+            Want::Cancel => self.gives_up(strand),
             Want::Fork => self.forks(w, strand),
             Want::Sync | Want::Done => self.finishes(w, strand, false),
             Want::Fault(kind) => self.stops(Halt::Fault { strand, kind }),
@@ -357,7 +367,6 @@ impl<'a> Driver<'a> {
     /// Moves are made until the run is over, at most as many as the limit says.
     fn runs(&mut self, turns: &mut Turns) -> Result<(), OutOfMemory>
         requires compiled { IsCompiled self.old.task.program.now }
-        requires cancels { cancels self.old.task.program.now.code ≡ false }
         requires words { TakesWords self.old.task.program.now (length self.old.task.words.now) }
         requires strands { 0 < self.old.task.limits.strands }
         requires stands { StandsFor self.old (opened (job_of_task self.old.task) turns.old.workers) }
@@ -383,7 +392,6 @@ pub(crate) fn moved(
     schedule: &Schedule,
 ) -> Result<(Closed, bool), OutOfMemory>
     requires compiled { IsCompiled task.program.now }
-    requires cancels { cancels task.program.now.code ≡ false }
     requires words { TakesWords task.program.now (length task.words.now) }
     requires strands { 0 < task.limits.strands }
     requires workers { 0 < workers }

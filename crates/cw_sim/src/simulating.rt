@@ -1,5 +1,4 @@
 ghost use Rattle.std.specs.Prelude.{◌≡◌, ◌<◌, ◌↔◌, false, IfOk, length};
-ghost use Rattle.cw_code.specs.Programs.{cancels};
 ghost use Rattle.cw_strand.specs.Programs.{IsCompiled};
 ghost use Rattle.cw_job.specs.Jobs.{TakesWords};
 ghost use Rattle.cw_record.specs.Records.{HasEnded, HasItsOutputs, IsCoherentRun, IsDepthFirst, IsNumberedDepthFirst, IsReplayed, job_of_record};
@@ -19,8 +18,8 @@ use std::alloc::Global;
 
 /// The run of so many virtual workers over one core, each of which makes a move when its turn comes, by a schedule. It ends by itself, at the
 /// first fault, where the last attempt that a block or an access may have was refused, or once its moves are used up. One worker is refused
-/// nothing, and goes depth first, as `depth_first` does, to its end or to the first fault, unless its moves are used up before. The program
-/// gives up no block: its code has no cancel. The only error is want of memory.
+/// nothing, and goes depth first, as `depth_first` does, to its end or to the first fault, unless its moves are used up before. The only
+/// error is want of memory.
 pub fn simulate(
     alloc: Global,
     program: Program,
@@ -30,7 +29,6 @@ pub fn simulate(
     limits: Limits,
 ) -> Result<Record, OutOfMemory>
     requires compiled { IsCompiled program }
-    requires cancels { cancels program.code ≡ false }
     requires words { TakesWords program (length words) }
     requires workers { 0 < workers }
     requires listed { ListsWorkers schedule.now workers }

@@ -1,6 +1,7 @@
 -- What a roll leaves and takes: by stamps, and in a tree.
-use Rattle.std.proofs.Common.{◌≡◌, ℕ, ◌+◌, ◌-◌, ◌<◌, ◌≤◌, ℤ, List, [], ◌∷◌, ◌++◌, length, map, take, drop, get_or, refl, ap, sym, ◌∙◌, arith, Bool, true, cond, Some, inl, inr, subst, nat_lt, length-append}
+use Rattle.std.proofs.Common.{◌≡◌, ℕ, suc, ◌+◌, ◌-◌, ◌<◌, ◌≤◌, ℤ, List, [], ◌∷◌, ◌++◌, length, map, take, drop, get_or, refl, ap, sym, ◌∙◌, arith, Bool, true, cond, Some, inl, inr, subst, nat_lt, length-append}
 use Rattle.std.specs.Prelude.{not, nat_eq, filter, find, Contains}
+use Rattle.std.specs.List.{prefix_len}
 use Rattle.std.specs.List.Sorted.{IsStrictlyIncreasing}
 use Rattle.std.proofs.lemmas.Bool.{cases_lt, cases_Bool, lt-ltb, le-ltb, eqb-true, eq-eqb}
 use Rattle.std.proofs.lemmas.List.{length-map, length-take-le, drop_at, get_or-map, get_or_default}
@@ -9,7 +10,9 @@ use Rattle.cw_tree.specs.declared.node.Node.{Node}
 use Rattle.cw_tree.specs.declared.access.Entry.{Entry}
 use Rattle.cw_tree.specs.Nodes.{stamp_of, is_pending}
 use Rattle.cw_tree.specs.Walks.{IsRooted, is_above}
-use Rattle.cw_tree.specs.AccessStacks.{stamps, IsAccessStack}
+use Rattle.cw_tree.specs.Accesses.{written}
+use Rattle.cw_tree.specs.Cancels.{before_block}
+use Rattle.cw_tree.specs.AccessStacks.{written_by, stamps, IsAccessStack}
 use Rattle.cw_tree.proofs.ChainLaws.Chains.{beneath_is_end}
 use Rattle.cw_tree.proofs.ChainLaws.Stacks.{stack_there, stacks_tell, fronts_of_stacks}
 use Rattle.cw_stack.proofs.Rising.{earlier_less, filter_front, stamp_at, contains_rest}
@@ -82,6 +85,40 @@ beneath_taken t c b n v us es k s r w pending first stamp rise h at =
     ap (λ i. drop i us) place
     ∙ ap (drop (length before)) parts
     ∙ drop_at before (filter test us) (length before) refl
+
+-- the first that passes stands behind just those that come before any that pass
+first_behind : (p : ℕ → Bool) (xs : List ℕ) (n : ℕ) → find p xs ≡ Some n → let k = prefix_len (λ x. not (p x)) xs in (k < length xs) × (get_or xs k 0 ≡ n)
+first_behind p [] n e = absurd (cc e)
+first_behind p (x ∷ xs) n e =
+    elim (cases_Bool (p x)) [
+      | inl g ↦
+          (let none : prefix_len (λ y. not (p y)) (x ∷ xs) ≡ 0 = ap (λ b. cond (not b) (1 + prefix_len (λ y. not (p y)) xs) 0) g in
+          (omega (arith, none), ap (λ i. get_or (x ∷ xs) i 0) none ∙ same_Some x n (sym (ap (λ b. cond b (Some x) (find p xs)) g) ∙ e)))
+      | inr g ↦
+          (let more = first_behind p xs n (sym (ap (λ b. cond b (Some x) (find p xs)) g) ∙ e) in
+          let low = more.0 in
+          let one : prefix_len (λ y. not (p y)) (x ∷ xs) ≡ 1 + prefix_len (λ y. not (p y)) xs = ap
+          (λ b. cond (not b) (1 + prefix_len (λ y. not (p y)) xs) 0) g in (
+            omega (arith, one),
+            ap (λ i. get_or (x ∷ xs) i 0) (let e : prefix_len (λ y. not (p y)) (x ∷ xs)
+                ≡ suc (prefix_len (λ y. not (p y)) xs) = omega (arith, one) in e) ∙ more.1,
+          ))
+    ]
+
+-- the entries before that of the first access beneath a block are those of the accesses before it
+pub beneath_before : (t : List Node) (c b n : ℕ) (v : ℤ) (us : List ℕ) (es : List Entry) (k s : ℕ)
+    → IsAccessStack t c v us es → find (is_above t b) us ≡ Some n → stamp_of t n ≡ s
+    → IsStrictlyIncreasing (stamps es) → k < length es → get_or (stamps es) k 0 ≡ s → map written_by (take k es) ≡ map (written t) (before_block t b us)
+beneath_before t c b n v us es k s w first stamp rise h at =
+    let head = first_behind (is_above t b) us n first in
+    let i = prefix_len (λ u. not (is_above t b u)) us in
+    let low = head.0 in
+    let tell : stamps es ≡ map (stamp_of t) us = (stacks_tell t c v us es w).1 in
+    let len : length (stamps es) ≡ length es = length-map es (λ x. x.mark.stamp) in
+    let size : length (map (stamp_of t) us) ≡ length us = length-map us (stamp_of t) in
+    let named : get_or (stamps es) i 0 ≡ s = ap (λ ns. get_or ns i 0) tell ∙ get_or-map (stamp_of t) us i 0 0 low ∙ ap (stamp_of t) head.1 ∙ stamp in
+    let place : k ≡ i = one_place (stamps es) rise k i (omega arith) (omega (arith, ap length tell)) (at ∙ sym named) in
+    (stacks_tell t c v (take k us) (take k es) (fronts_of_stacks t c k v us es w)).0 ∙ ap (λ j. map (written t) (take j us)) place
 
 -- what is left of the entries goes with what is left of the accesses
 pub stays : (t : List Node) (c k : ℕ) (v : ℤ) (us : List ℕ) (es : List Entry) → k < length es → IsAccessStack t c v us es → IsAccessStack t c v (take (length (take k es)) us) (take k es)

@@ -6,7 +6,8 @@ use Rattle.cw_tree.specs.declared.access.Mark.{Mark}
 use Rattle.cw_tree.specs.declared.access.Entry.{Entry}
 use Rattle.cw_tree.specs.Nodes.{is_pending, stamp_of, fresh_node}
 use Rattle.cw_tree.specs.Walks.{IsRooted, is_above}
-use Rattle.cw_tree.specs.Accesses.{cell_value}
+use Rattle.cw_tree.specs.Accesses.{cell_value, written}
+use Rattle.cw_tree.specs.Cancels.{before_block}
 use Rattle.cw_tree.specs.AccessStacks.{newest_conflicts, access_kind, written_by, stamps, IsAccessStack}
 
 pub record CellParts : Type 0 where
@@ -68,3 +69,10 @@ TakesWhatIsBeneath old new first =
     (t : List Node) (c b n : ℕ) (us : List ℕ)
     → IsRooted t → IsAccessStack t c old.first us old.entries → IsTrue (is_pending t b) → find (is_above t b) us ≡ Some n → stamp_of t n ≡ first
     → drop (length new.entries) us ≡ filter (is_above t b) us
+
+-- where the stamp is that of the first access beneath a block, a value is what the accesses before that one left
+abbrev pub TellsWhatWasBefore : CellParts → ℕ → ℤ → Type 0
+TellsWhatWasBefore cell first value =
+    (t : List Node) (c b n : ℕ) (us : List ℕ)
+    → IsAccessStack t c cell.first us cell.entries → find (is_above t b) us ≡ Some n → stamp_of t n ≡ first
+    → value ≡ cell_value cell.first (map (written t) (before_block t b us))

@@ -1,10 +1,11 @@
-ghost use Rattle.std.specs.Prelude.{◌≡◌, ◌↔◌, IsTrue, IsNone, ◌+◌, ◌<◌, ◌≤◌, List, ◌++◌, ◌∷◌, [], length, filter, take, drop, nat_lt, slice_index, unwrap_or, Contains, IfOk, IsOk, OnOk, IfSome};
+ghost use Rattle.std.specs.Prelude.{◌≡◌, ◌↔◌, IsTrue, IsNone, ◌+◌, ◌<◌, ◌≤◌, List, ◌++◌, ◌∷◌, [], length, map, filter, take, drop, nat_lt, slice_index, unwrap_or, Contains, IfOk, IsOk, OnOk, IfSome};
 ghost use Rattle.std.specs.Option.{option_map};
 ghost use Rattle.std.specs.List.Sorted.{IsStrictlyIncreasing};
 ghost use Rattle.cw_tree.specs.declared.access.Entry.{Entry};
-ghost use Rattle.cw_tree.specs.AccessStacks.{stamps};
+ghost use Rattle.cw_tree.specs.Accesses.{cell_value};
+ghost use Rattle.cw_tree.specs.AccessStacks.{written_by, stamps};
 ghost use Rattle.cw_tree.specs.Newest.{last_eight};
-ghost use Rattle.cw_stack.specs.Cells.{entries_value, newest_entry, entry_of, AreSteps, GoesWithTrees, StaysWithTrees, TakesWhatIsBeneath};
+ghost use Rattle.cw_stack.specs.Cells.{entries_value, newest_entry, entry_of, AreSteps, GoesWithTrees, StaysWithTrees, TakesWhatIsBeneath, TellsWhatWasBefore};
 
 use cw_base::OutOfMemory;
 use cw_tree::{Entry, Mark};
@@ -106,6 +107,16 @@ impl Cell {
         let left = place_of(self.entries.as_slice(), first);
         self.value = self.entries[left].old;
         self.entries.truncate(left);
+    }
+
+    /// The value from before the entry with stamp `first`: what a roll of it would restore. Takes no memory.
+    pub fn before(&self, first: u64) -> i64
+        requires { Contains (stamps (drop self.now.cleaned self.now.entries)) first }
+        ensures entry { (es : List Entry) (e : Entry) (fs : List Entry) → self.now.entries ≡ es ++ e ∷ fs → e.mark.stamp ≡ first → result ≡ e.old }
+        ensures value { result ≡ cell_value self.now.first (map written_by (filter (λ e. nat_lt e.mark.stamp first) self.now.entries)) }
+        ensures beneath { TellsWhatWasBefore self.now first result }
+    {
+        self.entries[place_of(self.entries.as_slice(), first)].old
     }
 
     /// Whether an entry has this stamp that may be rolled back.

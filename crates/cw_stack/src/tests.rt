@@ -6,16 +6,18 @@ use std::alloc::Global;
 use std::process::Abort;
 use std::test::Fail;
 
-/// What is done with a cell: an access with its stamp and what it writes, a clean, a roll of what has a stamp and of what came later.
+/// What is done with a cell: an access with its stamp and what it writes, a clean, a look at the value from before what has a stamp, a roll
+/// of that and of what came later.
 #[derive(Clone, Copy)]
 enum Step {
     Read(u64),
     Write(u64, i64),
     Clean,
+    Before(u64),
     Roll(u64),
 }
 
-/// What a cell shows: its value after each step, and at the end its newest stamps, the last of them, and the value before each entry.
+/// What a cell shows: its value after each step, or the one that was looked at, and at the end its newest stamps, the last of them, and the value before each entry.
 #[derive(Drop)]
 struct Seen {
     values: Vec<i64>,
@@ -34,6 +36,13 @@ fn access(cell: &mut Cell, stamp: u64, write: Option<i64>) -> Result<i64, Fail>
     }
     cell.reserve()?;
     Ok(cell.access(Mark { strand: 0, stamp }, write))
+}
+
+fn before(cell: &Cell, first: u64) -> Result<i64, Fail> {
+    if !cell.may_roll(first) {
+        return Err(Fail::new("no entry to look behind has the stamp"));
+    }
+    Ok(cell.before(first))
 }
 
 fn roll(cell: &mut Cell, cleaned: usize, first: u64) -> Result<(), Fail>
@@ -63,6 +72,7 @@ fn see(alloc: Global, init: i64, steps: &[Step]) -> Result<Seen, Fail> {
                 cleaned = cell.journal().len();
                 cell.value()
             }
+            Step::Before(first) => before(&cell, first)?,
             Step::Roll(first) => {
                 roll(&mut cell, cleaned, first)?;
                 cell.value()
@@ -98,7 +108,7 @@ struct Row {
     olds: &'static [i64],
 }
 
-const ROWS: [Row; 7] = [
+const ROWS: [Row; 8] = [
     Row {
         steps: &[
             Step::Write(2, 8),
@@ -171,6 +181,25 @@ const ROWS: [Row; 7] = [
         chain: &[1, 3],
         last: Some(3),
         olds: &[7, 3],
+    },
+    // what is put back: the first of the entries that go may be a read
+    Row {
+        steps: &[
+            Step::Write(2, 8),
+            Step::Read(3),
+            Step::Write(4, 9),
+            Step::Write(5, 6),
+            Step::Before(5),
+            Step::Before(4),
+            Step::Before(3),
+            Step::Before(2),
+            Step::Roll(4),
+            Step::Before(3),
+        ],
+        values: &[8, 8, 9, 6, 9, 8, 8, 7, 8, 8],
+        chain: &[2, 3],
+        last: Some(3),
+        olds: &[7, 8],
     },
     // the small run of `specs/WorkedRun.antt`
     Row {

@@ -32,31 +32,31 @@ module _ (ds : List Declaration) (p : Program) (is : IsProgramOf ds p) (n : ℕ)
       (subst (λ (k : ℕ). coded.MainTakes (code_of ds) k n) (sym is.main) (m.func, m.numbered, same)) in
       takes
 
-module _ (n : ℕ) (bytes : List ℕ) (p : Program) (spells : Spells bytes p) where
-  pub takes : AsksFor bytes n → TakesWords p n
+module _ (l n : ℕ) (bytes : List ℕ) (p : Program) (spells : Spells l bytes p) where
+  pub takes : AsksFor l bytes n → TakesWords p n
   takes asks =
       let same : asks.0 ≡ spells.0 = same_Some asks.0 spells.0 (sym (ap result_ok asks.1.0) ∙ ap result_ok spells.1.0) in
       code_takes spells.0.items p spells.1.1 n (subst (λ (source : Source). MainTakes source.items n) same asks.1.1)
 
-  pub asks : TakesWords p n → AsksFor bytes n
+  pub asks : TakesWords p n → AsksFor l bytes n
   asks t = (spells.0, (spells.1.0, source_takes spells.0.items p spells.1.1 n t))
 
 -- bytes that spell a program are not refused
-pub spelled_accepted : (bytes : List ℕ) (p : Program) → Spells bytes p → refusal bytes ≡ None
-spelled_accepted bytes p spells = ap of_reading spells.1.0 ∙ ap named spells.1.1.named
+pub spelled_accepted : (l : ℕ) (bytes : List ℕ) (p : Program) → Spells l bytes p → refusal l bytes ≡ None
+spelled_accepted l bytes p spells = ap of_reading spells.1.0 ∙ ap named spells.1.1.named
 
 -- the words do not fit where the program takes another number of them
-pub misfits : (left : Option (List ℕ)) (words : List ℤ) (p : Program) → IfSome left (λ bytes. Spells bytes p) → (TakesWords p (length words) → ⊥) → IfSome left (IsMisfit words)
-misfits None words p spells other = tt
-misfits (Some bytes) words p spells other = (spelled_accepted bytes p spells, λ a. other (takes (length words) bytes p spells a))
+pub misfits : (l : ℕ) (left : Option (List ℕ)) (words : List ℤ) (p : Program) → IfSome left (λ bytes. Spells l bytes p) → (TakesWords p (length words) → ⊥) → IfSome left (IsMisfit l words)
+misfits l None words p spells other = tt
+misfits l (Some bytes) words p spells other = (spelled_accepted l bytes p spells, λ a. other (takes l (length words) bytes p spells a))
 
 -- words that a program takes do fit
-pub fits : (left : Option (List ℕ)) (words : List ℤ) (p : Program) → IfSome left (λ bytes. Spells bytes p) → TakesWords p (length words) → IsSomeAnd left (IsMisfit words) → ⊥
-fits None words p spells t misfit = misfit
-fits (Some bytes) words p spells t misfit = misfit.1 (asks (length words) bytes p spells t)
+pub fits : (l : ℕ) (left : Option (List ℕ)) (words : List ℤ) (p : Program) → IfSome left (λ bytes. Spells l bytes p) → TakesWords p (length words) → IsSomeAnd left (IsMisfit l words) → ⊥
+fits l None words p spells t misfit = misfit
+fits l (Some bytes) words p spells t misfit = misfit.1 (asks l (length words) bytes p spells t)
 
 -- a command is of no use where its program takes another number of words; that of a load takes none, as it has
 pub of_no_use : (co : Command) (left : Option (List ℕ)) (p : Program) (r w : Type 0) → IsItsProgram co left p → (TakesWords p (length (words_of co)) → ⊥) → HasCause (Some co) Usage left r w
-of_no_use (Run ws ls wk rp) left p r w its other = misfits left ws p its other
-of_no_use (Sim ws ls wk sc rp) left p r w its other = misfits left ws p its other
+of_no_use (Run ws ls wk rp) left p r w its other = misfits 1 left ws p its other
+of_no_use (Sim ws ls wk sc rp) left p r w its other = misfits 2 left ws p its other
 of_no_use (Load tr wk) left p r w its other = other (code_takes (load_tree tr) p its 0 (takes_no_words tr))

@@ -13,9 +13,9 @@ use Rattle.cw_top.specs.Runs.{IsDoneAs, IsRunOf}
 use Rattle.cw_top.specs.Spent.{IsSpentBy, IsSpentOn, SpentItsBudget}
 use Rattle.cw_top.proofs.Budgets.{spends}
 
-of_source : (left : Option (List ℕ)) (r : Record) → IfSome left (λ bytes. Spells bytes r.program) → IsCoherentRun r → SpentItsBudget r → IfSome left Spawns
-of_source None r spelled coherent spent = tt
-of_source (Some bytes) r spells coherent spent =
+of_source : (l : ℕ) (left : Option (List ℕ)) (r : Record) → IfSome left (λ bytes. Spells l bytes r.program) → IsCoherentRun r → SpentItsBudget r → IfSome left (Spawns l)
+of_source l None r spelled coherent spent = tt
+of_source l (Some bytes) r spells coherent spent =
     let (source, (spelled, is)) = spells in
     let (f, fork) = spent.forks in
     (source, spelled, forks_need_spawns source.items r is coherent f fork)
@@ -25,7 +25,7 @@ by_kept command left None run done spent = absurd spent
 by_kept None left (Some r) run done spent = absurd run
 by_kept (Some (Run ws ls w p)) left (Some r) run done spent = tt
 by_kept (Some (Load tr w)) left (Some r) run done spent = tt
-by_kept (Some (Sim ws ls w s p)) left (Some r) run done spent = of_source left r run.program done.coherent spent
+by_kept (Some (Sim ws ls w s p)) left (Some r) run done spent = of_source 2 left r run.program done.coherent spent
 
 pub spawned : (command : Option Command) (kept : Option Record) (status : ℕ) (n : Note) (left : Option (List ℕ)) → IsStatus kept status n → IfSome kept (IsRunOf command left) → IfSome kept (IsDoneAs command) → status ≡ 7 → IsSpentOn command left
 spawned command kept status n left is run done seven = by_kept command left kept run done (spends command kept status n left is run done seven)

@@ -29,7 +29,7 @@ use Rattle.cw_top.specs.declared.telling.Telling.{Telling}
 use Rattle.cw_top.specs.declared.telling.Telling.TheVariants.{Results, Summary}
 use Rattle.cw_top.specs.Outcome.{HasCause, IsCauseOfRun, IsCauseOfTelling, IsMisused, IsRefusedWith, IsStatus, IsStatusOf, IsSurelyMisused, IsSurelyRefused, MayBeMisusedWith, MayEndWith, status_of_end, FailsToRead}
 use Rattle.cw_top.specs.Runs.{HasSeveralWorkers, IsDoneAs, IsDoneBy, IsOfMoves, IsOfThreads, IsReady, IsRunOf}
-use Rattle.cw_top.specs.Taken.{Accepts, IsRefusedFor}
+use Rattle.cw_top.specs.Taken.{Accepts, IsRefusedFor, IsRefusedIn}
 use Rattle.cw_top.specs.Written.{Writes, WritesEndOfOneMemory, end_of_one_memory, end_text_in, telling_of, load_text_of, report_if, summary_text, text_in, text_of, text_owed}
 
 -- words that are no command come to status 2
@@ -69,64 +69,64 @@ load_writes kept status note.Write w is cause h = cause
 load_writes kept status (note.Text f) w is cause h = absurd cause
 load_writes kept status (note.Name f) w is cause h = absurd cause
 
-usage_of : (words : List ℤ) (kept : Option Record) (status : ℕ) (n : Note) (left : Option (List ℕ)) (r w : Type 0) → IsStatus kept status n → IsCauseOfRun words n left r w → status ≡ 2 → IfSome left (IsMisfit words)
-usage_of words kept status note.Nothing left r w is cause h = absurd ((no_fault kept status is).0 h)
-usage_of words kept status note.Usage left r w is cause h = cause
-usage_of words kept status note.Memory left r w (none, is) cause h = cc
-usage_of words kept status note.Read left r w (none, is) cause h = cc
-usage_of words kept status note.Write left r w (some, is) cause h = cc
-usage_of words kept status (note.Text f) left r w (none, is) cause h = cc
-usage_of words kept status (note.Name f) left r w (none, is) cause h = cc
+usage_of : (l : ℕ) (words : List ℤ) (kept : Option Record) (status : ℕ) (n : Note) (left : Option (List ℕ)) (r w : Type 0) → IsStatus kept status n → IsCauseOfRun l words n left r w → status ≡ 2 → IfSome left (IsMisfit l words)
+usage_of l words kept status note.Nothing left r w is cause h = absurd ((no_fault kept status is).0 h)
+usage_of l words kept status note.Usage left r w is cause h = cause
+usage_of l words kept status note.Memory left r w (none, is) cause h = cc
+usage_of l words kept status note.Read left r w (none, is) cause h = cc
+usage_of l words kept status note.Write left r w (some, is) cause h = cc
+usage_of l words kept status (note.Text f) left r w (none, is) cause h = cc
+usage_of l words kept status (note.Name f) left r w (none, is) cause h = cc
 
 pub usage : (command : Option Command) (kept : Option Record) (status : ℕ) (n : Note) (left : Option (List ℕ)) (r w : Type 0) → IsStatus kept status n → HasCause command n left r w → status ≡ 2 → IsMisused command left
 usage None kept status n left r w is cause h = tt
-usage (Some (Run ws ls wk p)) kept status n left r w is cause h = usage_of ws kept status n left r w is cause h
-usage (Some (Sim ws ls wk sc p)) kept status n left r w is cause h = usage_of ws kept status n left r w is cause h
+usage (Some (Run ws ls wk p)) kept status n left r w is cause h = usage_of 1 ws kept status n left r w is cause h
+usage (Some (Sim ws ls wk sc p)) kept status n left r w is cause h = usage_of 2 ws kept status n left r w is cause h
 usage (Some (Load tr wk)) kept status n left r w is cause h = (load_causes kept status n w is cause).0 h
 
-read_fault_of : (words : List ℤ) (kept : Option Record) (status : ℕ) (n : Note) (left : Option (List ℕ)) (r w : Type 0) → IsStatus kept status n → IsCauseOfRun words n left r w → status ≡ 3 → r
-read_fault_of words kept status note.Nothing left r w is cause h = absurd ((no_fault kept status is).1 h)
-read_fault_of words kept status note.Usage left r w (none, is) cause h = cc
-read_fault_of words kept status note.Memory left r w (none, is) cause h = cc
-read_fault_of words kept status note.Read left r w is cause h = cause
-read_fault_of words kept status note.Write left r w (some, is) cause h = cc
-read_fault_of words kept status (note.Text f) left r w (none, is) cause h = cc
-read_fault_of words kept status (note.Name f) left r w (none, is) cause h = cc
+read_fault_of : (l : ℕ) (words : List ℤ) (kept : Option Record) (status : ℕ) (n : Note) (left : Option (List ℕ)) (r w : Type 0) → IsStatus kept status n → IsCauseOfRun l words n left r w → status ≡ 3 → r
+read_fault_of l words kept status note.Nothing left r w is cause h = absurd ((no_fault kept status is).1 h)
+read_fault_of l words kept status note.Usage left r w (none, is) cause h = cc
+read_fault_of l words kept status note.Memory left r w (none, is) cause h = cc
+read_fault_of l words kept status note.Read left r w is cause h = cause
+read_fault_of l words kept status note.Write left r w (some, is) cause h = cc
+read_fault_of l words kept status (note.Text f) left r w (none, is) cause h = cc
+read_fault_of l words kept status (note.Name f) left r w (none, is) cause h = cc
 
 pub read_fault : (command : Option Command) (kept : Option Record) (status : ℕ) (n : Note) (left : Option (List ℕ)) (r w : Type 0) → IsStatus kept status n → HasCause command n left r w → status ≡ 3 → r
 read_fault None kept status n left r w is cause h = let two = of_none kept status n cause is in cc
-read_fault (Some (Run ws ls wk p)) kept status n left r w is cause h = read_fault_of ws kept status n left r w is cause h
-read_fault (Some (Sim ws ls wk sc p)) kept status n left r w is cause h = read_fault_of ws kept status n left r w is cause h
+read_fault (Some (Run ws ls wk p)) kept status n left r w is cause h = read_fault_of 1 ws kept status n left r w is cause h
+read_fault (Some (Sim ws ls wk sc p)) kept status n left r w is cause h = read_fault_of 2 ws kept status n left r w is cause h
 read_fault (Some (Load tr wk)) kept status n left r w is cause h = absurd ((load_causes kept status n w is cause).1 h)
 
-write_fault_of : (words : List ℤ) (kept : Option Record) (status : ℕ) (n : Note) (left : Option (List ℕ)) (r w : Type 0) → IsStatus kept status n → IsCauseOfRun words n left r w → status ≡ 4 → w
-write_fault_of words kept status note.Nothing left r w is cause h = absurd ((no_fault kept status is).2 h)
-write_fault_of words kept status note.Usage left r w (none, is) cause h = cc
-write_fault_of words kept status note.Memory left r w (none, is) cause h = cc
-write_fault_of words kept status note.Read left r w (none, is) cause h = cc
-write_fault_of words kept status note.Write left r w is cause h = cause
-write_fault_of words kept status (note.Text f) left r w (none, is) cause h = cc
-write_fault_of words kept status (note.Name f) left r w (none, is) cause h = cc
+write_fault_of : (l : ℕ) (words : List ℤ) (kept : Option Record) (status : ℕ) (n : Note) (left : Option (List ℕ)) (r w : Type 0) → IsStatus kept status n → IsCauseOfRun l words n left r w → status ≡ 4 → w
+write_fault_of l words kept status note.Nothing left r w is cause h = absurd ((no_fault kept status is).2 h)
+write_fault_of l words kept status note.Usage left r w (none, is) cause h = cc
+write_fault_of l words kept status note.Memory left r w (none, is) cause h = cc
+write_fault_of l words kept status note.Read left r w (none, is) cause h = cc
+write_fault_of l words kept status note.Write left r w is cause h = cause
+write_fault_of l words kept status (note.Text f) left r w (none, is) cause h = cc
+write_fault_of l words kept status (note.Name f) left r w (none, is) cause h = cc
 
 pub write_fault : (command : Option Command) (kept : Option Record) (status : ℕ) (n : Note) (left : Option (List ℕ)) (r w : Type 0) → IsStatus kept status n → HasCause command n left r w → status ≡ 4 → w
 write_fault None kept status n left r w is cause h = let two = of_none kept status n cause is in cc
-write_fault (Some (Run ws ls wk p)) kept status n left r w is cause h = write_fault_of ws kept status n left r w is cause h
-write_fault (Some (Sim ws ls wk sc p)) kept status n left r w is cause h = write_fault_of ws kept status n left r w is cause h
+write_fault (Some (Run ws ls wk p)) kept status n left r w is cause h = write_fault_of 1 ws kept status n left r w is cause h
+write_fault (Some (Sim ws ls wk sc p)) kept status n left r w is cause h = write_fault_of 2 ws kept status n left r w is cause h
 write_fault (Some (Load tr wk)) kept status n left r w is cause h = load_writes kept status n w is cause h
 
-refused_of : (words : List ℤ) (kept : Option Record) (status : ℕ) (n : Note) (left : Option (List ℕ)) (r w : Type 0) → IsStatus kept status n → IsCauseOfRun words n left r w → status ≡ 5 → IsRefusedFor n left
-refused_of words kept status note.Nothing left r w is cause h = absurd ((no_fault kept status is).3 h)
-refused_of words kept status note.Usage left r w (none, is) cause h = cc
-refused_of words kept status note.Memory left r w (none, is) cause h = cc
-refused_of words kept status note.Read left r w (none, is) cause h = cc
-refused_of words kept status note.Write left r w (some, is) cause h = cc
-refused_of words kept status (note.Text f) left r w is cause h = cause
-refused_of words kept status (note.Name f) left r w is cause h = cause
+refused_of : (l : ℕ) (words : List ℤ) (kept : Option Record) (status : ℕ) (n : Note) (left : Option (List ℕ)) (r w : Type 0) → IsStatus kept status n → IsCauseOfRun l words n left r w → status ≡ 5 → IsRefusedIn l n left
+refused_of l words kept status note.Nothing left r w is cause h = absurd ((no_fault kept status is).3 h)
+refused_of l words kept status note.Usage left r w (none, is) cause h = cc
+refused_of l words kept status note.Memory left r w (none, is) cause h = cc
+refused_of l words kept status note.Read left r w (none, is) cause h = cc
+refused_of l words kept status note.Write left r w (some, is) cause h = cc
+refused_of l words kept status (note.Text f) left r w is cause h = cause
+refused_of l words kept status (note.Name f) left r w is cause h = cause
 
-pub refused : (command : Option Command) (kept : Option Record) (status : ℕ) (n : Note) (left : Option (List ℕ)) (r w : Type 0) → IsStatus kept status n → HasCause command n left r w → status ≡ 5 → IsRefusedFor n left
+pub refused : (command : Option Command) (kept : Option Record) (status : ℕ) (n : Note) (left : Option (List ℕ)) (r w : Type 0) → IsStatus kept status n → HasCause command n left r w → status ≡ 5 → IsRefusedFor command n left
 refused None kept status n left r w is cause h = let two = of_none kept status n cause is in cc
-refused (Some (Run ws ls wk p)) kept status n left r w is cause h = refused_of ws kept status n left r w is cause h
-refused (Some (Sim ws ls wk sc p)) kept status n left r w is cause h = refused_of ws kept status n left r w is cause h
+refused (Some (Run ws ls wk p)) kept status n left r w is cause h = refused_of 1 ws kept status n left r w is cause h
+refused (Some (Sim ws ls wk sc p)) kept status n left r w is cause h = refused_of 2 ws kept status n left r w is cause h
 refused (Some (Load tr wk)) kept status n left r w is cause h = absurd ((load_causes kept status n w is cause).2 h)
 
 -- ## Which statuses come
@@ -190,30 +190,30 @@ may_want (Load tr w) status is = inr (inr (inr (inr is)))
 may_want (Sim ws ls w s p) status is = inr (inr (inr (inr is)))
 
 -- bytes that are not refused are refused for no reason
-not_refused : (left : Option (List ℕ)) (P : List ℕ → Type 0) (n : Note) → IsSomeAnd left (λ bytes. (refusal bytes ≡ None) × P bytes) → IsRefusedFor n left → ⊥
-not_refused None P n h why = h
-not_refused (Some bytes) P n (h, p) why = cc
+not_refused : (l : ℕ) (left : Option (List ℕ)) (P : List ℕ → Type 0) (n : Note) → IsSomeAnd left (λ bytes. (refusal l bytes ≡ None) × P bytes) → IsRefusedIn l n left → ⊥
+not_refused l None P n h why = h
+not_refused l (Some bytes) P n (h, p) why = cc
 
 -- words that fit are no misfit
-fitting : (left : Option (List ℕ)) (words : List ℤ) → IsSomeAnd left (λ bytes. (refusal bytes ≡ None) × AsksFor bytes (length words)) → IfSome left (IsMisfit words) → ⊥
-fitting None words h misfit = h
-fitting (Some bytes) words h misfit = misfit.1 h.1
+fitting : (l : ℕ) (left : Option (List ℕ)) (words : List ℤ) → IsSomeAnd left (λ bytes. (refusal l bytes ≡ None) × AsksFor l bytes (length words)) → IfSome left (IsMisfit l words) → ⊥
+fitting l None words h misfit = h
+fitting l (Some bytes) words h misfit = misfit.1 h.1
 
 -- where there is a run the words fit
-run_fits : (words : List ℤ) (left : Option (List ℕ)) (x : Record) → IfSome left (λ bytes. Spells bytes x.program) → x.words ≡ words → TakesWords x.program (length x.words) → IsSomeAnd left (IsMisfit words) → ⊥
-run_fits words left x spelled is takes = fits left words x.program spelled (subst (λ (vs : List ℤ). TakesWords x.program (length vs)) is takes)
+run_fits : (l : ℕ) (words : List ℤ) (left : Option (List ℕ)) (x : Record) → IfSome left (λ bytes. Spells l bytes x.program) → x.words ≡ words → TakesWords x.program (length x.words) → IsSomeAnd left (IsMisfit l words) → ⊥
+run_fits l words left x spelled is takes = fits l left words x.program spelled (subst (λ (vs : List ℤ). TakesWords x.program (length vs)) is takes)
 
-misused_of : (words : List ℤ) (kept : Option Record) (status : ℕ) (n : Note) (left : Option (List ℕ)) (r w : Type 0) → IsStatus kept status n → IsCauseOfRun words n left r w → IsSomeAnd left (IsMisfit words) → (r → ⊥)
+misused_of : (l : ℕ) (words : List ℤ) (kept : Option Record) (status : ℕ) (n : Note) (left : Option (List ℕ)) (r w : Type 0) → IsStatus kept status n → IsCauseOfRun l words n left r w → IsSomeAnd left (IsMisfit l words) → (r → ⊥)
     → ((x : Record) → kept ≡ Some x → ⊥) → (status ≡ 2) ⊎ (status ≡ 1)
-misused_of words None status note.Nothing left r w is cause misfit no_r no_run = absurd is
-misused_of words (Some x) status note.Nothing left r w is cause misfit no_r no_run = absurd (no_run x refl)
-misused_of words kept status note.Usage left r w (none, is) cause misfit no_r no_run = inl is
-misused_of words kept status note.Memory left r w (none, is) cause misfit no_r no_run = inr is
-misused_of words kept status note.Read left r w is cause misfit no_r no_run = absurd (no_r cause)
-misused_of words None status note.Write left r w (some, is) cause misfit no_r no_run = absurd some
-misused_of words (Some x) status note.Write left r w is cause misfit no_r no_run = absurd (no_run x refl)
-misused_of words kept status (note.Text f) left r w is cause misfit no_r no_run = absurd (not_refused left (λ bytes. AsksFor bytes (length words) → ⊥) (note.Text f) misfit cause)
-misused_of words kept status (note.Name f) left r w is cause misfit no_r no_run = absurd (not_refused left (λ bytes. AsksFor bytes (length words) → ⊥) (note.Name f) misfit cause)
+misused_of l words None status note.Nothing left r w is cause misfit no_r no_run = absurd is
+misused_of l words (Some x) status note.Nothing left r w is cause misfit no_r no_run = absurd (no_run x refl)
+misused_of l words kept status note.Usage left r w (none, is) cause misfit no_r no_run = inl is
+misused_of l words kept status note.Memory left r w (none, is) cause misfit no_r no_run = inr is
+misused_of l words kept status note.Read left r w is cause misfit no_r no_run = absurd (no_r cause)
+misused_of l words None status note.Write left r w (some, is) cause misfit no_r no_run = absurd some
+misused_of l words (Some x) status note.Write left r w is cause misfit no_r no_run = absurd (no_run x refl)
+misused_of l words kept status (note.Text f) left r w is cause misfit no_r no_run = absurd (not_refused l left (λ bytes. AsksFor l bytes (length words) → ⊥) (note.Text f) misfit cause)
+misused_of l words kept status (note.Name f) left r w is cause misfit no_r no_run = absurd (not_refused l left (λ bytes. AsksFor l bytes (length words) → ⊥) (note.Name f) misfit cause)
 
 kept_run : (command : Option Command) (kept : Option Record) (left : Option (List ℕ)) → IfSome kept (IsRunOf command left) → (x : Record) → kept ≡ Some x → IsRunOf command left x
 kept_run command kept left run x is = subst (λ (k : Option Record). IfSome k (IsRunOf command left)) is run
@@ -221,54 +221,54 @@ kept_run command kept left run x is = subst (λ (k : Option Record). IfSome k (I
 pub misused : (command : Option Command) (kept : Option Record) (status : ℕ) (n : Note) (left : Option (List ℕ)) (r w : Type 0) → IsStatus kept status n → HasCause command n left r w → IfSome kept (IsRunOf command left) → IsSurelyMisused command left → (r → ⊥) → MayBeMisusedWith command status
 misused None kept status n left r w is cause run misfit no_r = of_none kept status n cause is
 misused (Some (Run ws ls wk p)) kept status n left r w is cause run misfit no_r =
-    misused_of ws kept status n left r w is cause misfit no_r (λ x e. let by = kept_run (Some (Run ws ls wk p)) kept left run x e in run_fits ws left x by.program by.words by.takes misfit)
+    misused_of 1 ws kept status n left r w is cause misfit no_r (λ x e. let by = kept_run (Some (Run ws ls wk p)) kept left run x e in run_fits 1 ws left x by.program by.words by.takes misfit)
 misused (Some (Sim ws ls wk sc p)) kept status n left r w is cause run misfit no_r =
-    misused_of ws kept status n left r w is cause misfit no_r (λ x e. let by = kept_run (Some (Sim ws ls wk sc p)) kept left run x e in run_fits ws left x by.program by.words by.takes misfit)
+    misused_of 2 ws kept status n left r w is cause misfit no_r (λ x e. let by = kept_run (Some (Sim ws ls wk sc p)) kept left run x e in run_fits 2 ws left x by.program by.words by.takes misfit)
 misused (Some (Load tr wk)) kept status n left r w is cause run misfit no_r = absurd misfit
 
 -- a source that has a run is not refused
-run_accepted : (left : Option (List ℕ)) (x : Record) (fault : Note) → IfSome left (λ bytes. Spells bytes x.program) → IsSomeAnd left (λ bytes. refusal bytes ≡ Some fault) → ⊥
-run_accepted None x fault spelled is = is
-run_accepted (Some bytes) x fault spelled is = let none = spelled_accepted bytes x.program spelled in cc
+run_accepted : (l : ℕ) (left : Option (List ℕ)) (x : Record) (fault : Note) → IfSome left (λ bytes. Spells l bytes x.program) → IsSomeAnd left (λ bytes. refusal l bytes ≡ Some fault) → ⊥
+run_accepted l None x fault spelled is = is
+run_accepted l (Some bytes) x fault spelled is = let none = spelled_accepted l bytes x.program spelled in cc
 
-same_fault : (left : Option (List ℕ)) (n fault : Note) → IsSomeAnd left (λ bytes. refusal bytes ≡ Some fault) → IsRefusedFor n left → n ≡ fault
-same_fault None n fault is why = absurd is
-same_fault (Some bytes) n fault is why = same_Some n fault (sym why ∙ is)
+same_fault : (l : ℕ) (left : Option (List ℕ)) (n fault : Note) → IsSomeAnd left (λ bytes. refusal l bytes ≡ Some fault) → IsRefusedIn l n left → n ≡ fault
+same_fault l None n fault is why = absurd is
+same_fault l (Some bytes) n fault is why = same_Some n fault (sym why ∙ is)
 
-no_misfit : (left : Option (List ℕ)) (words : List ℤ) (fault : Note) → IsSomeAnd left (λ bytes. refusal bytes ≡ Some fault) → IfSome left (IsMisfit words) → ⊥
-no_misfit None words fault is misfit = is
-no_misfit (Some bytes) words fault is misfit = let none = misfit.0 in cc
+no_misfit : (l : ℕ) (left : Option (List ℕ)) (words : List ℤ) (fault : Note) → IsSomeAnd left (λ bytes. refusal l bytes ≡ Some fault) → IfSome left (IsMisfit l words) → ⊥
+no_misfit l None words fault is misfit = is
+no_misfit l (Some bytes) words fault is misfit = let none = misfit.0 in cc
 
-refuses_of : (words : List ℤ) (kept : Option Record) (status : ℕ) (n : Note) (left : Option (List ℕ)) (r w : Type 0) → IsStatus kept status n → IsCauseOfRun words n left r w → (fault : Note) → IsSomeAnd left (λ bytes. refusal bytes ≡ Some fault) → (r → ⊥)
+refuses_of : (l : ℕ) (words : List ℤ) (kept : Option Record) (status : ℕ) (n : Note) (left : Option (List ℕ)) (r w : Type 0) → IsStatus kept status n → IsCauseOfRun l words n left r w → (fault : Note) → IsSomeAnd left (λ bytes. refusal l bytes ≡ Some fault) → (r → ⊥)
     → ((x : Record) → kept ≡ Some x → ⊥) → IsRefusedWith fault status n
-refuses_of words None status note.Nothing left r w is cause fault why no_r no_run = absurd is
-refuses_of words (Some x) status note.Nothing left r w is cause fault why no_r no_run = absurd (no_run x refl)
-refuses_of words kept status note.Usage left r w is cause fault why no_r no_run = absurd (no_misfit left words fault why cause)
-refuses_of words kept status note.Memory left r w (none, is) cause fault why no_r no_run = inr is
-refuses_of words kept status note.Read left r w is cause fault why no_r no_run = absurd (no_r cause)
-refuses_of words None status note.Write left r w (some, is) cause fault why no_r no_run = absurd some
-refuses_of words (Some x) status note.Write left r w is cause fault why no_r no_run = absurd (no_run x refl)
-refuses_of words kept status (note.Text f) left r w (none, is) cause fault why no_r no_run = inl (is, same_fault left (note.Text f) fault why cause)
-refuses_of words kept status (note.Name f) left r w (none, is) cause fault why no_r no_run = inl (is, same_fault left (note.Name f) fault why cause)
+refuses_of l words None status note.Nothing left r w is cause fault why no_r no_run = absurd is
+refuses_of l words (Some x) status note.Nothing left r w is cause fault why no_r no_run = absurd (no_run x refl)
+refuses_of l words kept status note.Usage left r w is cause fault why no_r no_run = absurd (no_misfit l left words fault why cause)
+refuses_of l words kept status note.Memory left r w (none, is) cause fault why no_r no_run = inr is
+refuses_of l words kept status note.Read left r w is cause fault why no_r no_run = absurd (no_r cause)
+refuses_of l words None status note.Write left r w (some, is) cause fault why no_r no_run = absurd some
+refuses_of l words (Some x) status note.Write left r w is cause fault why no_r no_run = absurd (no_run x refl)
+refuses_of l words kept status (note.Text f) left r w (none, is) cause fault why no_r no_run = inl (is, same_fault l left (note.Text f) fault why cause)
+refuses_of l words kept status (note.Name f) left r w (none, is) cause fault why no_r no_run = inl (is, same_fault l left (note.Name f) fault why cause)
 
 pub refuses : (command : Option Command) (kept : Option Record) (status : ℕ) (n : Note) (left : Option (List ℕ)) (r w : Type 0) → IsStatus kept status n → HasCause command n left r w → IfSome kept (IsRunOf command left) → (fault : Note) → IsSurelyRefused command left fault → (r → ⊥) → IsRefusedWith fault status n
 refuses None kept status n left r w is cause run fault why no_r = absurd why
 refuses (Some (Run ws ls wk p)) kept status n left r w is cause run fault why no_r =
-    refuses_of ws kept status n left r w is cause fault why no_r (λ x e. let by = kept_run (Some (Run ws ls wk p)) kept left run x e in run_accepted left x fault by.program why)
+    refuses_of 1 ws kept status n left r w is cause fault why no_r (λ x e. let by = kept_run (Some (Run ws ls wk p)) kept left run x e in run_accepted 1 left x fault by.program why)
 refuses (Some (Sim ws ls wk sc p)) kept status n left r w is cause run fault why no_r =
-    refuses_of ws kept status n left r w is cause fault why no_r (λ x e. let by = kept_run (Some (Sim ws ls wk sc p)) kept left run x e in run_accepted left x fault by.program why)
+    refuses_of 2 ws kept status n left r w is cause fault why no_r (λ x e. let by = kept_run (Some (Sim ws ls wk sc p)) kept left run x e in run_accepted 2 left x fault by.program why)
 refuses (Some (Load tr wk)) kept status n left r w is cause run fault why no_r = absurd why
 
-complete_of : (co : Command) (words : List ℤ) (kept : Option Record) (status : ℕ) (n : Note) (left : Option (List ℕ)) (r w : Type 0) → IsStatus kept status n → IsCauseOfRun words n left r w → IsReady co → IfSome kept (IsDoneBy co)
-    → IsSomeAnd left (λ bytes. (refusal bytes ≡ None) × AsksFor bytes (length words)) → (r → ⊥) → (w → ⊥) → MayEndWith (Some co) status
-complete_of co words None status note.Nothing left r w is cause ready done accepted no_r no_w = absurd is
-complete_of co words (Some x) status note.Nothing left r w is cause ready done accepted no_r no_w = may_end co x status ready done is
-complete_of co words kept status note.Usage left r w is cause ready done accepted no_r no_w = absurd (fitting left words accepted cause)
-complete_of co words kept status note.Memory left r w (none, is) cause ready done accepted no_r no_w = may_want co status is
-complete_of co words kept status note.Read left r w is cause ready done accepted no_r no_w = absurd (no_r cause)
-complete_of co words kept status note.Write left r w is cause ready done accepted no_r no_w = absurd (no_w cause)
-complete_of co words kept status (note.Text f) left r w is cause ready done accepted no_r no_w = absurd (not_refused left (λ bytes. AsksFor bytes (length words)) (note.Text f) accepted cause)
-complete_of co words kept status (note.Name f) left r w is cause ready done accepted no_r no_w = absurd (not_refused left (λ bytes. AsksFor bytes (length words)) (note.Name f) accepted cause)
+complete_of : (co : Command) (l : ℕ) (words : List ℤ) (kept : Option Record) (status : ℕ) (n : Note) (left : Option (List ℕ)) (r w : Type 0) → IsStatus kept status n → IsCauseOfRun l words n left r w → IsReady co → IfSome kept (IsDoneBy co)
+    → IsSomeAnd left (λ bytes. (refusal l bytes ≡ None) × AsksFor l bytes (length words)) → (r → ⊥) → (w → ⊥) → MayEndWith (Some co) status
+complete_of co l words None status note.Nothing left r w is cause ready done accepted no_r no_w = absurd is
+complete_of co l words (Some x) status note.Nothing left r w is cause ready done accepted no_r no_w = may_end co x status ready done is
+complete_of co l words kept status note.Usage left r w is cause ready done accepted no_r no_w = absurd (fitting l left words accepted cause)
+complete_of co l words kept status note.Memory left r w (none, is) cause ready done accepted no_r no_w = may_want co status is
+complete_of co l words kept status note.Read left r w is cause ready done accepted no_r no_w = absurd (no_r cause)
+complete_of co l words kept status note.Write left r w is cause ready done accepted no_r no_w = absurd (no_w cause)
+complete_of co l words kept status (note.Text f) left r w is cause ready done accepted no_r no_w = absurd (not_refused l left (λ bytes. AsksFor l bytes (length words)) (note.Text f) accepted cause)
+complete_of co l words kept status (note.Name f) left r w is cause ready done accepted no_r no_w = absurd (not_refused l left (λ bytes. AsksFor l bytes (length words)) (note.Name f) accepted cause)
 
 load_complete : (co : Command) (kept : Option Record) (status : ℕ) (n : Note) (w : Type 0) → IsStatus kept status n → IsCauseOfTelling n w → IsReady co → IfSome kept (IsDoneBy co) → (w → ⊥) → MayEndWith (Some co) status
 load_complete co None status note.Nothing w is cause ready done no_w = absurd is
@@ -282,8 +282,8 @@ load_complete co kept status (note.Name f) w is cause ready done no_w = absurd c
 
 pub complete : (command : Option Command) (kept : Option Record) (status : ℕ) (n : Note) (left : Option (List ℕ)) (r w : Type 0) → IsStatus kept status n → HasCause command n left r w → IfSome command IsReady → IfSome kept (IsDoneAs command) → Accepts command left → (FailsToRead command r → ⊥) → (w → ⊥) → MayEndWith command status
 complete None kept status n left r w is cause ready done accepted no_r no_w = of_none kept status n cause is
-complete (Some (Run ws ls wk p)) kept status n left r w is cause ready done accepted no_r no_w = complete_of (Run ws ls wk p) ws kept status n left r w is cause ready done accepted no_r no_w
-complete (Some (Sim ws ls wk sc p)) kept status n left r w is cause ready done accepted no_r no_w = complete_of (Sim ws ls wk sc p) ws kept status n left r w is cause ready done accepted no_r no_w
+complete (Some (Run ws ls wk p)) kept status n left r w is cause ready done accepted no_r no_w = complete_of (Run ws ls wk p) 1 ws kept status n left r w is cause ready done accepted no_r no_w
+complete (Some (Sim ws ls wk sc p)) kept status n left r w is cause ready done accepted no_r no_w = complete_of (Sim ws ls wk sc p) 2 ws kept status n left r w is cause ready done accepted no_r no_w
 complete (Some (Load tr wk)) kept status n left r w is cause ready done accepted no_r no_w = load_complete (Load tr wk) kept status n w is cause ready done no_w
 
 -- where a run's status is 0 the machine finished, with the memory and the outputs that were written, and behind them what follows

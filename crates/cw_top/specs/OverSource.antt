@@ -25,17 +25,17 @@ pub record IsRunOfDeclarations (words : List ℤ) (limits : Limits) (source : Li
   pub cells : r.program.cells ≡ cells_of source
   pub replays : Replays (strands_of_syntax source words limits) (first_memory (cells_of source)) limits.aborts r.tree r.conflicts r.order r.end
 
--- a run of the syntax tree that these bytes spell
-abbrev pub IsRunOfSyntax : (words : List ℤ) (limits : Limits) (bytes : List ℕ) → Record → Type 0
-IsRunOfSyntax words limits bytes r = (source : Source) × (program newest bytes ≡ Ok source) × IsRunOfDeclarations words limits source.items r
+-- a run of the syntax tree that these bytes spell, where no language after this one is read
+abbrev pub IsRunOfSyntax : (language : ℕ) (words : List ℤ) (limits : Limits) (bytes : List ℕ) → Record → Type 0
+IsRunOfSyntax language words limits bytes r = (source : Source) × (program language bytes ≡ Ok source) × IsRunOfDeclarations words limits source.items r
 
 -- What is kept is, over the syntax: of `run` and `sim`, where the source's bytes are told, a run of what they spell; of a load one of its
 -- own tree. Words that are no command leave none.
 abbrev pub IsRunOfSource : Option Command → (left : Option (List ℕ)) → Record → Type 0
 IsRunOfSource None left r = ⊥
 IsRunOfSource (Some (Load transfers workers)) left r = IsRunOfDeclarations [] default_limits (load_tree transfers) r
-IsRunOfSource (Some c) left r = IfSome left (λ bytes. IsRunOfSyntax (words_of c) (limits_of c) bytes r)
+IsRunOfSource (Some c) left r = IfSome left (λ bytes. IsRunOfSyntax (newest c) (words_of c) (limits_of c) bytes r)
 
 -- The tree that these bytes spell has a `spawn` somewhere in a function.
-abbrev pub Spawns : List ℕ → Type 0
-Spawns bytes = (source : Source) × (program newest bytes ≡ Ok source) × IsTrue (any_spawns source.items)
+abbrev pub Spawns : (language : ℕ) → List ℕ → Type 0
+Spawns language bytes = (source : Source) × (program language bytes ≡ Ok source) × IsTrue (any_spawns source.items)

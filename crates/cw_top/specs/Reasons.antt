@@ -27,18 +27,18 @@ abbrev pub WhyStopped : Stop → (read_failed : Type 0) → Type 0
 WhyStopped stop.OutOfMemory read_failed = Unit {0}
 WhyStopped stop.ReadFault read_failed = read_failed
 
--- Bytes are refused for their first fault.
-abbrev pub WhyRefused : Refusal → List ℕ → Type 0
-WhyRefused refused.OutOfMemory bytes = Unit {0}
-WhyRefused (refused.Text f) bytes = refusal bytes ≡ Some (note.Text f)
-WhyRefused (refused.Name f) bytes = refusal bytes ≡ Some (note.Name f)
+-- Bytes are refused for their first fault, where no language after this one is read.
+abbrev pub WhyRefused : (language : ℕ) → Refusal → List ℕ → Type 0
+WhyRefused language refused.OutOfMemory bytes = Unit {0}
+WhyRefused language (refused.Text f) bytes = refusal language bytes ≡ Some (note.Text f)
+WhyRefused language (refused.Name f) bytes = refusal language bytes ≡ Some (note.Name f)
 
 -- There is no run where reading stopped, where the bytes are refused, or where the words do not fit.
-abbrev pub WhyNoRun : NoRun → (read_failed misfit : Type 0) (left : Option (List ℕ)) → Type 0
-WhyNoRun no_run.OutOfMemory read_failed misfit left = Unit {0}
-WhyNoRun (no_run.Stopped s) read_failed misfit left = WhyStopped s read_failed
-WhyNoRun (no_run.Refused r) read_failed misfit left = IfSome left (WhyRefused r)
-WhyNoRun no_run.Misfit read_failed misfit left = misfit
+abbrev pub WhyNoRun : (language : ℕ) → NoRun → (read_failed misfit : Type 0) (left : Option (List ℕ)) → Type 0
+WhyNoRun language no_run.OutOfMemory read_failed misfit left = Unit {0}
+WhyNoRun language (no_run.Stopped s) read_failed misfit left = WhyStopped s read_failed
+WhyNoRun language (no_run.Refused r) read_failed misfit left = IfSome left (WhyRefused language r)
+WhyNoRun language no_run.Misfit read_failed misfit left = misfit
 
 abbrev pub note_of_stop : Stop → Note
 note_of_stop stop.OutOfMemory = note.Memory

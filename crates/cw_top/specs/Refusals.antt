@@ -8,12 +8,15 @@ use Rattle.cw_strand.specs.Meaning.{MainTakes}
 use Rattle.cw_strand.specs.Names.{naming_fault, Fault}
 use Rattle.cw_code.specs.declared.program.Program.{Program}
 use Rattle.cw_strand.specs.Programs.{IsProgramOf}
+use Rattle.cw_words.specs.declared.command.Command.{Command}
+use Rattle.cw_words.specs.declared.command.Command.TheVariants.{Sim}
 use Rattle.cw_top.specs.declared.outcome.Note.{Note}
 use Rattle.cw_top.specs.declared.outcome.Note.TheVariants.{Text, Name}
 
--- the newest language in which sources are read
-abbrev pub newest : ℕ
-newest = 1
+-- the newest language in which a command reads its source: running threads give up no block yet
+abbrev pub newest : Command → ℕ
+newest (Sim words limits workers schedule report) = 2
+newest command = 1
 
 abbrev pub named : Fault → Option Note
 named None = None
@@ -23,18 +26,18 @@ abbrev pub of_reading : Result Source TextFault → Option Note
 of_reading (Ok source) = named (naming_fault source.items)
 of_reading (Err f) = Some (Text f)
 
--- why these bytes are refused, if they are
-abbrev pub refusal : List ℕ → Option Note
-refusal bytes = of_reading (program newest bytes)
+-- why these bytes are refused, if they are, where no language after this one is read
+abbrev pub refusal : (language : ℕ) → List ℕ → Option Note
+refusal language bytes = of_reading (program language bytes)
 
 -- The program is the compilation of the tree that these bytes spell.
-abbrev pub Spells : List ℕ → Program → Type 0
-Spells bytes p = (source : Source) × ((program newest bytes ≡ Ok source) × IsProgramOf source.items p)
+abbrev pub Spells : (language : ℕ) → List ℕ → Program → Type 0
+Spells language bytes p = (source : Source) × ((program language bytes ≡ Ok source) × IsProgramOf source.items p)
 
 -- Main of the program that these bytes spell has so many parameters; 0 where it has no main.
-abbrev pub AsksFor : List ℕ → ℕ → Type 0
-AsksFor bytes n = (source : Source) × ((program newest bytes ≡ Ok source) × MainTakes source.items n)
+abbrev pub AsksFor : (language : ℕ) → List ℕ → ℕ → Type 0
+AsksFor language bytes n = (source : Source) × ((program language bytes ≡ Ok source) × MainTakes source.items n)
 
 -- The bytes are not refused, and their main has another number of parameters than there are words.
-abbrev pub IsMisfit : List ℤ → List ℕ → Type 0
-IsMisfit words bytes = (refusal bytes ≡ None) × (AsksFor bytes (length words) → ⊥)
+abbrev pub IsMisfit : (language : ℕ) → List ℤ → List ℕ → Type 0
+IsMisfit language words bytes = (refusal language bytes ≡ None) × (AsksFor language bytes (length words) → ⊥)

@@ -1,8 +1,9 @@
 -- The run that a command keeps: of which program, with which words and limits, and who did it. What depends on the command is a function of
 -- it, with a case for words that are none; so a further command adds its cases, where it is not like the others, and changes no clause.
-use Rattle.std.specs.Prelude.{◌≡◌, ◌≢◌, ◌<◌, ◌≤◌, ℕ, List, length, Option, Some, IfSome, IsSomeAnd}
+use Rattle.std.specs.Prelude.{◌≡◌, ◌≢◌, ◌<◌, ◌≤◌, ℕ, List, length, false, Option, Some, IfSome, IsSomeAnd}
 use Rattle.cw_io.specs.declared.schedule.Schedule.{Schedule}
 use Rattle.cw_code.specs.declared.program.Program.{Program}
+use Rattle.cw_code.specs.Programs.{cancels}
 use Rattle.cw_strand.specs.Programs.{IsCompiled, IsProgramOf}
 use Rattle.cw_tree.specs.Walks.{IsNumbered}
 use Rattle.cw_job.specs.Jobs.{TakesWords}
@@ -17,7 +18,7 @@ use Rattle.cw_words.specs.declared.command.Command.{Command}
 use Rattle.cw_words.specs.declared.command.Command.TheVariants.{Run, Sim, Load}
 use Rattle.cw_gen.specs.Load.{load_tree}
 use Rattle.cw_words.specs.Words.{limits_of, most_transfers, words_of}
-use Rattle.cw_top.specs.Refusals.{Spells}
+use Rattle.cw_top.specs.Refusals.{Spells, newest}
 
 -- ## The command
 
@@ -44,9 +45,13 @@ HasSeveralThreads command = ⊥
 
 -- the program of a command: the one that the whole source spells, or that of a load
 abbrev pub IsItsProgram : Command → (left : Option (List ℕ)) → Program → Type 0
-IsItsProgram (Run words limits workers report) left p = IfSome left (λ bytes. Spells bytes p)
-IsItsProgram (Sim words limits workers schedule report) left p = IfSome left (λ bytes. Spells bytes p)
 IsItsProgram (Load transfers workers) left p = IsProgramOf (load_tree transfers) p
+IsItsProgram c left p = IfSome left (λ bytes. Spells (newest c) bytes p)
+
+-- only a simulation gives up blocks
+abbrev pub MayCancel : Command → Program → Type 0
+MayCancel (Sim words limits workers schedule report) p = Unit {0}
+MayCancel c p = cancels p.code ≡ false
 
 -- A run of this command: of its program, which takes its words, with its words and limits. What is kept of it has its outputs, and is
 -- numbered depth first.

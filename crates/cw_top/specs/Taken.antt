@@ -5,7 +5,7 @@ use Rattle.cw_words.specs.declared.command.Command.{Command}
 use Rattle.cw_words.specs.declared.command.Command.TheVariants.{Load}
 use Rattle.cw_words.specs.Words.{words_of}
 use Rattle.cw_top.specs.declared.outcome.Note.{Note}
-use Rattle.cw_top.specs.Refusals.{AsksFor, refusal}
+use Rattle.cw_top.specs.Refusals.{AsksFor, newest, refusal}
 
 -- the most bytes that are ever taken from a source: one more than a text may have
 abbrev pub most_bytes : ℕ
@@ -41,12 +41,18 @@ HasRead None old new = ⊥
 HasRead (Some (Load transfers workers)) old new = TakesNothing old new
 HasRead (Some c) old new = RunsDry old new
 
--- A source is refused for this reason, where its bytes are told.
-abbrev pub IsRefusedFor : Note → Option (List ℕ) → Type 0
-IsRefusedFor n left = IfSome left (λ bytes. refusal bytes ≡ Some n)
+-- A source is refused for this reason, where its bytes are told and no language after this one is read.
+abbrev pub IsRefusedIn : (language : ℕ) → Note → Option (List ℕ) → Type 0
+IsRefusedIn language n left = IfSome left (λ bytes. refusal language bytes ≡ Some n)
+
+-- the same of the source of a command; words that are none, and a load, have no source
+abbrev pub IsRefusedFor : Option Command → Note → Option (List ℕ) → Type 0
+IsRefusedFor None n left = ⊥
+IsRefusedFor (Some (Load transfers workers)) n left = ⊥
+IsRefusedFor (Some c) n left = IsRefusedIn (newest c) n left
 
 -- a source, with its bytes told, that a command accepts: it is not refused, and asks for as many words as the command has; a load accepts any
 abbrev pub Accepts : Option Command → Option (List ℕ) → Type 0
 Accepts None left = Unit {0}
 Accepts (Some (Load transfers workers)) left = Unit {0}
-Accepts (Some c) left = IsSomeAnd left (λ bytes. (refusal bytes ≡ None) × AsksFor bytes (length (words_of c)))
+Accepts (Some c) left = IsSomeAnd left (λ bytes. (refusal (newest c) bytes ≡ None) × AsksFor (newest c) bytes (length (words_of c)))

@@ -1,4 +1,4 @@
-ghost use Rattle.std.specs.Prelude.{◌≡◌, ◌-◌, ◌<◌, ◌≤◌, length, false, Ok, IfOk, IfErr, IfSome, OnOk};
+ghost use Rattle.std.specs.Prelude.{◌≡◌, ◌-◌, ◌<◌, ◌≤◌, ◌⊎◌, length, false, Ok, IfOk, IfErr, IfSome, OnOk};
 ghost use Rattle.cw_io.specs.Outside.{IsDry, Rose, RunsDry, Takes};
 ghost use Rattle.cw_code.specs.Programs.{cancels};
 ghost use Rattle.cw_strand.specs.Programs.{IsCompiled};
@@ -15,9 +15,6 @@ use std::alloc::Global;
 
 // One more than a text may have.
 const MOST_BYTES: usize = 1_048_577;
-
-// The newest language in which sources are read.
-const NEWEST: u32 = 1;
 
 // So many bytes are asked for at most in one read.
 const ROOM: usize = 8_192;
@@ -61,27 +58,29 @@ fn read_all<S: Source>(alloc: Global, source: &mut S) -> Result<Vec<u8>, Stop>
 }
 
 // The program that bytes spell, compiled.
-fn program_of(alloc: Global, bytes: &[u8]) -> Result<Program, Refusal>
-    ensures spelled { IfOk result (λ p. Spells bytes.now p) }
+fn program_of(alloc: Global, bytes: &[u8], newest: u32) -> Result<Program, Refusal>
+    requires { (newest ≡ 1) ⊎ (newest ≡ 2) }
+    ensures spelled { IfOk result (λ p. Spells newest bytes.now p) }
     ensures compiled { IfOk result (λ p. IsCompiled p) }
-    ensures cancels { IfOk result (λ p. cancels p.code ≡ false) }
-    ensures why { IfErr result (λ r. WhyRefused r bytes.now) }
+    ensures cancels { newest ≡ 1 → IfOk result (λ p. cancels p.code ≡ false) }
+    ensures why { IfErr result (λ r. WhyRefused newest r bytes.now) }
 {
-    let ast = read_language(alloc, bytes, NEWEST)?;
+    let ast = read_language(alloc, bytes, newest)?;
     Ok(compile(alloc, &ast)?)
 }
 
-// The program that a source spells.
-pub fn program_from<S: Source>(alloc: Global, source: &mut S) -> Result<Program, NoRun>
+// The program that a source spells, where no language after this one is read.
+pub fn program_from<S: Source>(alloc: Global, source: &mut S, newest: u32) -> Result<Program, NoRun>
+    requires { (newest ≡ 1) ⊎ (newest ≡ 2) }
     ensures later { S.faults source.old ≤ S.faults source.new }
-    ensures why { IfErr result (λ n. WhyNoRun n (Rose (S.faults source.old) (S.faults source.new)) ⊥ (S.left source.old)) }
+    ensures why { IfErr result (λ n. WhyNoRun newest n (Rose (S.faults source.old) (S.faults source.new)) ⊥ (S.left source.old)) }
     ensures taken { TakesAtMost most_bytes (S.left source.old) (S.left source.new) }
     ensures whole { OnOk result (RunsDry (S.left source.old) (S.left source.new)) }
     ensures once { RisesAtMost 1 (S.ends source.old) (S.ends source.new) }
-    ensures spelled { IfOk result (λ p. IfSome (S.left source.old) (λ bytes. Spells bytes p)) }
+    ensures spelled { IfOk result (λ p. IfSome (S.left source.old) (λ bytes. Spells newest bytes p)) }
     ensures compiled { IfOk result (λ p. IsCompiled p) }
-    ensures cancels { IfOk result (λ p. cancels p.code ≡ false) }
+    ensures cancels { newest ≡ 1 → IfOk result (λ p. cancels p.code ≡ false) }
 {
     let bytes = read_all(alloc, source)?;
-    Ok(program_of(alloc, bytes.as_slice())?)
+    Ok(program_of(alloc, bytes.as_slice(), newest)?)
 }

@@ -8,7 +8,8 @@ ghost use Rattle.cw_record.specs.Records.{HasItsOutputs, IsNumberedDepthFirst};
 ghost use Rattle.cw_top.specs.declared.reasons.NoRun.TheVariants.{Misfit};
 ghost use Rattle.cw_top.specs.Outcome.{HasCause};
 ghost use Rattle.cw_top.specs.Reasons.{note_of};
-ghost use Rattle.cw_top.specs.Runs.{HasSeveralThreads, IsDoneBy, IsItsProgram, IsOfThreads, IsReady, IsRunOf};
+ghost use Rattle.cw_top.specs.Refusals.{newest};
+ghost use Rattle.cw_top.specs.Runs.{HasSeveralThreads, IsDoneBy, IsItsProgram, IsOfThreads, IsReady, IsRunOf, MayCancel};
 ghost use Rattle.cw_top.specs.Taken.{HasRead, RisesAtMost, TakesAtMost, most_ends, most_read};
 ghost use Rattle.cw_words.specs.Words.{limits_of, words_of};
 
@@ -26,6 +27,16 @@ use cw_words::{Command, default_limits};
 use std::alloc::Global;
 use std::sync::Wait;
 use std::thread::Threads;
+
+// The newest language in which a command reads its source.
+fn newest(command: &Command) -> u32
+    ensures { result ≡ newest command.now }
+{
+    match command {
+        Command::Sim { .. } => 2,
+        Command::Run { .. } | Command::Load { .. } => 1,
+    }
+}
 
 /// Whether a command has more than one worker, and they are threads.
 pub fn has_several_threads(command: &Command) -> bool
@@ -74,7 +85,7 @@ fn done_by<R: Threads + Wait + Sync, G: Gate>(
     gate: &G,
 ) -> Result<Record, OutOfMemory>
     requires compiled { IsCompiled program }
-    requires cancels { cancels program.code ≡ false }
+    requires cancels { MayCancel command program }
     requires takes { TakesWords program (length (words_of command)) }
     requires ready { IsReady command }
     ensures program { IfOk result (λ r. r.program ≡ program) }
@@ -114,7 +125,7 @@ fn done<R: Threads + Wait + Sync, G: Gate>(
     gate: &G,
 ) -> Result<Record, OutOfMemory>
     requires compiled { IsCompiled program }
-    requires cancels { cancels program.code ≡ false }
+    requires cancels { MayCancel command program }
     requires takes { TakesWords program (length (words_of command)) }
     requires ready { IsReady command }
     ensures program { IfOk result (λ r. r.program ≡ program) }
@@ -142,11 +153,11 @@ fn program_by<S: Source>(alloc: Global, command: &Command, source: &mut S) -> Re
     ensures once { RisesAtMost (most_ends (Some command.now)) (S.ends source.old) (S.ends source.new) }
     ensures its { IfOk result (IsItsProgram command.now (S.left source.old)) }
     ensures compiled { IfOk result (λ p. IsCompiled p) }
-    ensures cancels { IfOk result (λ p. cancels p.code ≡ false) }
+    ensures cancels { IfOk result (MayCancel command.now) }
 {
     match command {
         Command::Load { transfers, .. } => Ok(compiled_load(alloc, *transfers)?),
-        Command::Run { .. } | Command::Sim { .. } => program_from(alloc, source),
+        Command::Run { .. } | Command::Sim { .. } => program_from(alloc, source, newest(command)),
     }
 }
 

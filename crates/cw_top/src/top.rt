@@ -134,7 +134,7 @@ pub fn cwstm<R: Threads + Wait + Sync, S: Source, K: Sink, G: Gate>(
 
     ensures read_fault { result.status ≡ 3 → Rose (S.faults source.old) (S.faults source.new) }
     ensures write_fault { result.status ≡ 4 → Rose (K.faults sink.old) (K.faults sink.new) }
-    ensures refused { result.status ≡ 5 → IsRefusedFor result.note (S.left source.old) }
+    ensures refused { result.status ≡ 5 → IsRefusedFor (command_in words.now) result.note (S.left source.old) }
 
     // A source that is refused gives status 5 and its first fault, unless a read fails; want of memory alone may come before it.
     ensures refuses { (fault : Note) → IsSurelyRefused (command_in words.now) (S.left source.old) fault

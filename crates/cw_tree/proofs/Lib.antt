@@ -5,6 +5,7 @@ pub mod Ahead
 pub mod Rising
 pub mod Sorts
 pub mod NodeKinds
+pub mod Cancels
 pub mod ChainLaws
 pub mod InOrder
 pub mod Names

@@ -4,7 +4,7 @@ use Rattle.std.specs.Prelude.{◌&&◌, ◌||◌, not, slice_get}
 use Rattle.std.proofs.lemmas.Bool.{and_parts, ltb-true, false_from_ne_true}
 use Rattle.cw_tree.specs.declared.node.Node.{Node}
 use Rattle.cw_tree.specs.declared.node.Kind.{Kind}
-use Rattle.cw_tree.specs.declared.node.Kind.TheVariants.{Strand, Fork, Block, Read, Write, Out, Tried}
+use Rattle.cw_tree.specs.declared.node.Kind.TheVariants.{Strand, Fork, Block, Read, Write, Out, Tried, Cancel}
 use Rattle.cw_tree.specs.Nodes.{passes, is_node, is_strand_kind, is_fork_kind, is_block_kind, is_tried_kind, is_pending_state, is_committed_state, is_aborted_state, touches_kind, first_state, is_strand, is_fork, is_block, is_tried, is_pending, is_committed, is_aborted, touches, stamp_of}
 use Rattle.cw_tree.specs.Shape.{AreStamps}
 use Rattle.cw_tree.proofs.Walks.There.{node_there}
@@ -92,6 +92,7 @@ access_alone c Fork e = absurd (cc e)
 access_alone c Block e = absurd (cc e)
 access_alone c (Out v) e = absurd (cc e)
 access_alone c (Tried d) e = absurd (cc e)
+access_alone c (Cancel back) e = absurd (cc e)
 
 pub access_no_block : (t : List Node) (c n : ℕ) → touches t c n ≡ true → is_block t n ≡ false
 access_no_block t c = node_tells false t (λ x. touches_kind c x.kind) (λ x. is_block_kind x.kind) (λ x e. (access_alone c x.kind e).0)

@@ -1,4 +1,5 @@
 pub mod Checks
+pub mod GivenUp
 pub mod KeptParts
 pub mod KeptRuns
 pub mod OneTreeRows

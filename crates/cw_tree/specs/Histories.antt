@@ -5,6 +5,7 @@ use Rattle.cw_tree.specs.declared.access.Entry.{Entry}
 use Rattle.cw_tree.specs.declared.conflict.Conflict.{Conflict}
 use Rattle.cw_tree.specs.Shape.{IsTree, AreStamps, PendingLast}
 use Rattle.cw_tree.specs.Journals.{AreJournals, FitsCells, JournalsEnded}
+use Rattle.cw_tree.specs.Cancels.{AreCancels}
 use Rattle.cw_tree.specs.Refusals.{AreRefusals, RollsBack}
 
 -- the tree of a run over cells with these first values, the cells' journals, and its conflicts
@@ -15,5 +16,6 @@ pub record IsHistory (t : List Node) (first : List ℤ) (kept : List (List Entry
   pub cells : FitsCells t (length first)
   pub journals : AreJournals t first kept
   pub ended : JournalsEnded t (length first)
+  pub cancels : AreCancels t first
   pub refusals : AreRefusals t cs
   pub rolls_back : RollsBack t cs

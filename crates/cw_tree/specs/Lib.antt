@@ -7,6 +7,7 @@ pub mod Attempts
 pub mod Accesses
 pub mod Shape
 pub mod Journals
+pub mod Cancels
 pub mod Refusals
 pub mod Histories
 pub mod AccessStacks

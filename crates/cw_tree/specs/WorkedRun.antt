@@ -1,12 +1,14 @@
 -- A small run: two strands, each with a block that writes one cell. The second strand's inner block is refused, its outer
 -- block is rolled back, and both are done again. Each part of what is kept holds of it, and breaks where one thing is changed.
 use Rattle.std.specs.Prelude.{ℕ, ℤ, List, [], ◌∷◌, true, false, pos}
+use Rattle.cw_code.specs.declared.Back.{Back}
 use Rattle.cw_tree.specs.declared.node.Node.{Node}
-use Rattle.cw_tree.specs.declared.node.Kind.TheVariants.{Strand, Fork, Write, Read, Tried}
+use Rattle.cw_tree.specs.declared.node.Kind.TheVariants.{Strand, Fork, Write, Read, Tried, Cancel}
 use Rattle.cw_tree.specs.declared.access.Entry.{Entry}
 use Rattle.cw_tree.specs.declared.conflict.Conflict.{Conflict}
 use Rattle.cw_tree.specs.Shape.{IsTree, AreStamps, NonePending}
 use Rattle.cw_tree.specs.Journals.{IsJournal, FitsCells, EndedBetween}
+use Rattle.cw_tree.specs.Cancels.{AreCancels}
 use Rattle.cw_tree.specs.Refusals.{IsRefusal, AreRefusals, Spent}
 use Rattle.cw_tree.specs.Histories.{IsHistory}
 use Rattle.cw_tree.specs.Worked.{plain, committed, aborted, apart}
@@ -61,3 +63,46 @@ pub record Breaks : Type 0 where
   pub other_strand : Spent apart (refused_write ∷ []) 1 2 → ⊥
   pub other_budget : Spent apart (refused_write ∷ []) 2 5 → ⊥
   pub other_cell : FitsCells two_blocks 0 → ⊥
+
+-- ## A block that is given up
+
+-- cell n had value v
+abbrev pub had : ℕ → ℤ → Back
+had n v = record { cell = n; value = v }
+
+-- Cell 1 is written before the block, read in it and written again. A strand in it writes cell 0 in a block; another writes cell 2 in a block
+-- that is rolled back, and cell 0, which it is refused at first, when it does the block again, and reads cell 3. The block is given up, with
+-- this list, and then writes cells 0, 1 and 3.
+abbrev pub given_up : List Back → List Node
+given_up back =
+    plain 0 Strand 0 ∷ plain 0 (Write 1 (pos 5)) 1 ∷ committed 0 2 20 ∷ plain 2 (Read 1 (pos 5)) 3 ∷ plain 2 Fork 4 ∷ plain 4 Strand 0
+    ∷ plain 4 Strand 0 ∷ committed 5 5 9 ∷ plain 7 (Write 0 (pos 6)) 6 ∷ aborted 6 7 10 ∷ plain 9 (Write 2 (pos 7)) 8 ∷ plain 9 (Tried 0) 0
+    ∷ committed 6 11 14 ∷ plain 12 (Write 0 (pos 8)) 12 ∷ plain 12 (Read 3 (pos 4)) 13 ∷ plain 2 (Write 1 (pos 9)) 15 ∷ plain 2 (Cancel back) 16
+    ∷ plain 2 (Write 0 (pos 1)) 17 ∷ plain 2 (Write 1 (pos 5)) 18 ∷ plain 2 (Write 3 (pos 0)) 19 ∷ []
+
+abbrev pub one_to_four : List ℤ
+one_to_four = pos 1 ∷ pos 2 ∷ pos 3 ∷ pos 4 ∷ []
+
+-- a cancel right in a strand, and one in a block that is rolled back
+abbrev pub no_block : List Node
+no_block = plain 0 Strand 0 ∷ plain 0 (Cancel []) 1 ∷ []
+
+abbrev pub rolled_back : List Node
+rolled_back = plain 0 Strand 0 ∷ aborted 0 1 3 ∷ plain 1 (Cancel (had 2 (pos 5) ∷ [])) 2 ∷ []
+
+-- It puts back what its strands wrote, and not what was only read, was rolled back or comes after the cancel. Each value is from before the
+-- block's first access, a read or a write.
+pub record GivenUp : Type 0 where
+  pub right : AreCancels (given_up (had 0 (pos 1) ∷ had 1 (pos 5) ∷ [])) one_to_four
+  pub first_value : AreCancels (given_up (had 0 (pos 1) ∷ had 1 (pos 2) ∷ [])) one_to_four → ⊥
+  pub present_value : AreCancels (given_up (had 0 (pos 1) ∷ had 1 (pos 9) ∷ [])) one_to_four → ⊥
+  pub written_between : AreCancels (given_up (had 0 (pos 6) ∷ had 1 (pos 5) ∷ [])) one_to_four → ⊥
+  pub own_alone : AreCancels (given_up (had 1 (pos 5) ∷ [])) one_to_four → ⊥
+  pub others_alone : AreCancels (given_up (had 0 (pos 1) ∷ [])) one_to_four → ⊥
+  pub none : AreCancels (given_up []) one_to_four → ⊥
+  pub rolled_back_too : AreCancels (given_up (had 0 (pos 1) ∷ had 1 (pos 5) ∷ had 2 (pos 3) ∷ [])) one_to_four → ⊥
+  pub read_too : AreCancels (given_up (had 0 (pos 1) ∷ had 1 (pos 5) ∷ had 3 (pos 4) ∷ [])) one_to_four → ⊥
+  pub exchanged : AreCancels (given_up (had 1 (pos 5) ∷ had 0 (pos 1) ∷ [])) one_to_four → ⊥
+  pub outside : AreCancels no_block one_to_four → ⊥
+  -- nothing is asked of one that was rolled back
+  pub dead : AreCancels rolled_back one_to_four

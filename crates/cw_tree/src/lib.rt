@@ -2,9 +2,9 @@
 //! what strands are called.
 //! Stands on `cw_base` and `cw_code`.
 //! Contracts cite `specs/Nodes.antt` (nodes), `specs/Walks.antt` (what stands above a node), `specs/Names.antt` (names of strands) and
-//! `specs/ForkCounts.antt` (how forks are counted). `Series`, `Attempts`, `Accesses`, `Shape`, `Journals`, `Refusals` and `Histories`
-//! there hold what the layers above say of a tree, its accesses and its conflicts, and `AccessStacks` the accesses of a cell with their
-//! entries; `Laws` and `ChainLaws` are laws on them, `VictimsAt` says who falls for an access at a place, `NextNodes` where a node may
+//! `specs/ForkCounts.antt` (how forks are counted). `Series`, `Attempts`, `Accesses`, `Shape`, `Journals`, `Cancels`, `Refusals` and
+//! `Histories` there hold what the layers above say of a tree, its accesses, its cancels and its conflicts, and `AccessStacks` the accesses of
+//! a cell with their entries; `Laws` and `ChainLaws` are laws on them, `VictimsAt` says who falls for an access at a place, `NextNodes` where a node may
 //! be made next and with which stamp, `Newest` which accesses are newest, `InOrder` what a tree, its conflicts and its end are with the
 //! nodes numbered depth first, of which `OrderLaws` are laws, `OneTree` when two trees are one but for the numbers of their nodes,
 //! `Worked` and `WorkedRun` try them.
@@ -12,7 +12,7 @@
 
 ghost use Rattle.cw_tree.specs.Laws.{SeriesOrParallel};
 ghost use Rattle.cw_tree.specs.Worked.{Ancestors, Conflicts, Orders, Names, Texts, Attempts, Places, Values, Chains};
-ghost use Rattle.cw_tree.specs.WorkedRun.{AllHold, Stops, Breaks};
+ghost use Rattle.cw_tree.specs.WorkedRun.{AllHold, Stops, Breaks, GivenUp};
 
 mod access;
 mod closed;
@@ -51,9 +51,11 @@ pub fn worked_trees()
     ensures chains { Chains }
 {}
 
-/// What is kept of a small run meets all that is said of it, and does not where one thing is changed.
+/// What is kept of a small run meets all that is said of it, and does not where one thing is changed; and what a block that is given up puts
+/// back is told, and nothing else is.
 pub fn worked_run()
     ensures holds { AllHold }
     ensures stops { Stops }
     ensures breaks { Breaks }
+    ensures given_up { GivenUp }
 {}

@@ -1,5 +1,8 @@
+use cw_base::Seq;
+use cw_code::Back;
+
 /// What a node of the tree is.
-#[derive(Drop, Debug)]
+#[derive(Drop)]
 pub enum Kind {
     Strand,
     Fork,
@@ -9,6 +12,8 @@ pub enum Kind {
     Out { value: i64 },
     /// An access that was refused.
     Tried { cell: u32 },
+    /// A block was given up: what is put back.
+    Cancel { back: Seq<Back> },
 }
 
 /// What has become of a block. Other nodes are committed.
@@ -21,7 +26,7 @@ pub enum BlockState {
 
 /// A node of the tree: the number of its parent, what it is, the stamp at which it was made, or 0 where it has none, and for a
 /// closed block the stamp of its end.
-#[derive(Drop, Debug)]
+#[derive(Drop)]
 pub struct Node {
     pub parent: u32,
     pub kind: Kind,

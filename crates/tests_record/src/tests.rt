@@ -1,4 +1,5 @@
 mod builds;
+mod cancels;
 mod checks;
 mod grown;
 mod machines;

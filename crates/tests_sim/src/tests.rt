@@ -1,7 +1,8 @@
-ghost use Rattle.std.specs.Prelude.{◌≡◌, false, IfOk};
-ghost use Rattle.cw_code.specs.Programs.{cancels};
+ghost use Rattle.std.specs.Prelude.{IfOk};
 ghost use Rattle.cw_job.specs.Jobs.{TakesWords};
 ghost use Rattle.cw_strand.specs.Programs.{IsCompiled};
+
+mod cancels;
 
 use cw_base::Seq;
 use cw_code::{Limits, Program};
@@ -56,13 +57,9 @@ const fn asked<'a>(text: &'a str, workers: u32, list: &'a [u32], limits: Limits)
 
 fn program(alloc: Global, text: &str) -> Result<Program, Fail>
     ensures compiled { IfOk result (λ p. IsCompiled p) }
-    ensures cancels { IfOk result (λ p. cancels p.code ≡ false) }
     ensures words { IfOk result (λ p. TakesWords p 0) }
 {
     let program = compile(alloc, &read_program(alloc, text.as_bytes())?)?;
-    if program.cancels() {
-        return Err("a block is given up".into());
-    }
     if takes_words(&program, 0) {
         Ok(program)
     } else {

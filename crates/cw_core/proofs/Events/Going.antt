@@ -4,7 +4,7 @@ use Rattle.std.specs.Prelude.{◌&&◌, ◌||◌, not, ℤ, slice_get}
 use Rattle.std.proofs.lemmas.Bool.{and_parts, or_cases, ltb-true, not-true}
 use Rattle.cw_tree.specs.declared.node.Node.{Node}
 use Rattle.cw_tree.specs.declared.node.Kind.{Kind}
-use Rattle.cw_tree.specs.declared.node.Kind.TheVariants.{Strand, Fork, Block, Read, Write, Out, Tried}
+use Rattle.cw_tree.specs.declared.node.Kind.TheVariants.{Strand, Fork, Block, Read, Write, Out, Tried, Cancel}
 use Rattle.cw_tree.specs.Nodes.{passes, is_strand_kind, is_fork_kind, is_block_kind, is_tried_kind, is_pending_state, parent_of, stamp_of, is_fork, is_strand, is_block, is_pending}
 use Rattle.cw_tree.specs.Walks.{has}
 use Rattle.cw_tree.specs.Series.{strand_of, place}
@@ -45,6 +45,7 @@ no_stamp Fork e = absurd (cc e)
 no_stamp (Read c v) e = absurd (cc e)
 no_stamp (Write c v) e = absurd (cc e)
 no_stamp (Out v) e = absurd (cc e)
+no_stamp (Cancel back) e = absurd (cc e)
 no_stamp (Tried c) e = absurd (cc e)
 
 -- a block has a stamp

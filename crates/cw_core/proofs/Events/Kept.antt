@@ -31,7 +31,7 @@ use Rattle.cw_core.specs.Events.{fits, fits_now, is_stop, is_unstarted, may_stop
 use Rattle.cw_core.specs.Laws.{IsCore, StartsAreCores, EventsAreRuns, ListsAreRuns, CellsAreChains, StrandsGoOn}
 use Rattle.cw_open.proofs.Runs.More.{run_more, after_more}
 use Rattle.cw_core.proofs.Events.Going.{well, column_place, in_order, goes}
-use Rattle.cw_core.proofs.Events.Making.{IsKept, keeps_out, keeps_begin, keeps_fork}
+use Rattle.cw_core.proofs.Events.Making.{IsKept, keeps_out, keeps_cancel, keeps_begin, keeps_fork}
 use Rattle.cw_core.proofs.Events.Closing.{keeps_commit, keeps_finish, keeps_stop}
 use Rattle.cw_core.proofs.Events.Forks.{keeps_split, keeps_join}
 use Rattle.cw_core.proofs.Events.Accessing.{keeps_access}
@@ -65,6 +65,10 @@ module _ (first : List ℤ) (k : CoreState) (core : IsCore first k) where
       let z = free_ready s y.0 in
       keeps_access first k core s c w z.0 z.1 y.1
   keeps (event.Out s v) e = let z = free_ready s e in keeps_out first k core s z.0 z.1 v
+  keeps (event.Cancel s) e =
+      let y = and_parts (is_free m s && not (waits_for_left k s)) (in_block m s) e in
+      let z = free_ready s y.0 in
+      keeps_cancel first k core s z.0 z.1 y.1
   keeps (event.Commit s) e =
       let x = and_parts (is_free m s && not (waits_for_left k s) && in_block m s) (not (is_victim m.tree m.conflicts (place m.tree s))) e in
       let y = and_parts (is_free m s && not (waits_for_left k s)) (in_block m s) x.0 in

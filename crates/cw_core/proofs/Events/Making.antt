@@ -1,9 +1,9 @@
 -- Outputs, begins and forks are runs of the open machine, and keep what is true of a core.
 use Rattle.std.proofs.Common.{◌≡◌, ℕ, suc, ◌+◌, ◌<◌, ◌≤◌, List, [], ◌∷◌, ◌++◌, length, refl, ap, sym, ◌∙◌, subst, arith, Bool, true, false, cond, length-append}
 use Rattle.std.specs.Prelude.{ℤ, slice_index}
-use Rattle.std.proofs.lemmas.Bool.{leb-true, leb-false}
+use Rattle.std.proofs.lemmas.Bool.{and_from, leb-true, leb-false}
 use Rattle.cw_tree.specs.declared.node.Node.{Node}
-use Rattle.cw_tree.specs.declared.node.Kind.TheVariants.{Strand, Fork, Block, Out}
+use Rattle.cw_tree.specs.declared.node.Kind.TheVariants.{Strand, Fork, Block, Out, Cancel}
 use Rattle.cw_tree.specs.Nodes.{is_fork_kind, touches_kind, parent_of, is_fork, fresh_node}
 use Rattle.cw_tree.specs.Series.{place}
 use Rattle.cw_tree.specs.NextNodes.{fork_nodes}
@@ -14,7 +14,8 @@ use Rattle.cw_trace.specs.Stands.{column}
 use Rattle.cw_trace.specs.Keeps.{Keeps}
 use Rattle.cw_trace.proofs.Keeps.Kept.{fork_keeps, inline_keeps}
 use Rattle.cw_trace.proofs.Keeps.TierLaws.{begin}
-use Rattle.cw_open.specs.Machine.{OpenMachine, is_running, is_free}
+use Rattle.cw_open.specs.Machine.{OpenMachine, is_running, in_block, is_free}
+use Rattle.cw_open.specs.Steps.{puts_back}
 use Rattle.cw_open.specs.Runs.{IsRun, at_once}
 use Rattle.cw_open.specs.Open.{is_open}
 use Rattle.cw_open.proofs.Open.TreeSteps.{free_runs}
@@ -58,6 +59,22 @@ module _ (first : List ℤ) (k : CoreState) (core : IsCore first k) (s : ℕ) (f
         core = record {
           reached = reached_more at_once first m (steps_of k (event.Out s v)) core.reached run;
           complete = none_of (after_event k (event.Out s v)).machine (all_quiet t (x ∷ []) (well first k core).sound.tree.rooted m.lists (λ c n le. none_new (λ y. touches_kind c y.kind) t (x ∷ []) n refl le) (all_listed first k core));
+          joined = forks_grown first k core (x ∷ []);
+          left_first = node_left first k core s running ready x refl;
+          stands = leaf_stands first k core s running ready x refl refl refl refl;
+        };
+      }
+
+  pub keeps_cancel : in_block m s ≡ true → IsKept first k (event.Cancel s)
+  keeps_cancel within =
+      let x = fresh_node p (Cancel (puts_back m s (m.clock + 1))) (m.clock + 1) in
+      let run : IsRun at_once m (steps_of k (event.Cancel s)) = ((and_from (is_free m s) (in_block m s) free within, next_stamp first k core p), tt) in
+      record {
+        run = run;
+        core = record {
+          reached = reached_more at_once first m (steps_of k (event.Cancel s)) core.reached run;
+          complete = none_of (after_event k (event.Cancel s)).machine (all_quiet t (x ∷ []) (well first k core).sound.tree.rooted m.lists
+              (λ c n le. none_new (λ y. touches_kind c y.kind) t (x ∷ []) n refl le) (all_listed first k core));
           joined = forks_grown first k core (x ∷ []);
           left_first = node_left first k core s running ready x refl;
           stands = leaf_stands first k core s running ready x refl refl refl refl;

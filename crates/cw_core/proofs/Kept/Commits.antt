@@ -24,7 +24,7 @@ use Rattle.cw_core.specs.InMemory.{state_of, IsCoreInMemory}
 use Rattle.cw_core.proofs.Events.Kept.{events}
 use Rattle.cw_core.proofs.Kept.Changed.{length_changed, was_changed}
 use Rattle.cw_core.proofs.Kept.PartsGrow.{unspent, none_spent}
-use Rattle.cw_core.proofs.Kept.RowsClose.{open_block, there, low, made_closed, tail_closed, place_here, place_other, victim_closed, now_closed}
+use Rattle.cw_core.proofs.Kept.RowsClose.{open_block, low, made_closed, tail_closed, place_here, place_other, victim_closed, now_closed}
 use Rattle.cw_core.proofs.Kept.PartsClose.{forks_closed, held_closed, askers_closed, one_closed, tail_shut}
 use Rattle.cw_core.proofs.InMemory.Out.{now_of, max_next}
 

@@ -6,7 +6,7 @@ use Rattle.std.proofs.lemmas.List.Elements.{filter-append}
 use Rattle.std.proofs.lemmas.Bool.{and_from, and_right, cases_eq, eqb-true, ltb-true, lt-ltb, false_from_ne_true, not_from_false}
 use Rattle.cw_tree.specs.declared.node.Node.{Node}
 use Rattle.cw_tree.specs.declared.node.Kind.{Kind}
-use Rattle.cw_tree.specs.declared.node.Kind.TheVariants.{Strand, Fork, Block, Read, Write, Out, Tried}
+use Rattle.cw_tree.specs.declared.node.Kind.TheVariants.{Strand, Fork, Block, Read, Write, Out, Tried, Cancel}
 use Rattle.cw_tree.specs.declared.node.BlockState.{BlockState}
 use Rattle.cw_tree.specs.Nodes.{passes, is_block_kind, is_tried_kind, touches_kind, is_pending_state, parent_of, is_block, is_tried, is_pending, is_aborted, all_nodes, below, closed}
 use Rattle.cw_tree.specs.Series.{children, place}
@@ -124,6 +124,7 @@ module _ (first : List ℤ) (k : CoreState) (core : IsCore first k) (s : ℕ) (r
     kinds (Read c v) e = absurd (cc e)
     kinds (Write c v) e = absurd (cc e)
     kinds (Out v) e = absurd (cc e)
+    kinds (Cancel back) e = absurd (cc e)
     kinds (Tried c) e = absurd (cc e)
 
     cell_in : (o : Option Node) → slice_get t b ≡ o → passes (λ x. is_block_kind x.kind) o ≡ true → tried_cell t b ≡ None

@@ -7,7 +7,7 @@ use Rattle.std.proofs.lemmas.Bool.{and_parts, or_left, or_parts, not-true, cases
 use Rattle.cw_tree.specs.declared.node.Node.{Node}
 use Rattle.cw_tree.specs.declared.conflict.Conflict.{Conflict}
 use Rattle.cw_tree.specs.declared.node.Kind.{Kind}
-use Rattle.cw_tree.specs.declared.node.Kind.TheVariants.{Strand, Fork, Block, Read, Write, Out, Tried}
+use Rattle.cw_tree.specs.declared.node.Kind.TheVariants.{Strand, Fork, Block, Read, Write, Out, Tried, Cancel}
 use Rattle.cw_tree.specs.Nodes.{passes, is_strand_kind, is_fork_kind, is_tried_kind, parent_of, is_strand, is_fork, is_tried, all_nodes}
 use Rattle.cw_tree.specs.Walks.{has, is_above, is_ancestor}
 use Rattle.cw_tree.specs.Series.{strand_of, children}
@@ -192,6 +192,7 @@ module _ (first : List ℤ) (k : CoreState) (core : IsCore first k) (askers : (i
             kinds (Read c v) f = refl
             kinds (Write c v) f = refl
             kinds (Out v) f = refl
+            kinds (Cancel back) f = refl
             kinds (Tried c) f = refl
 
             by : (o : Option Node) → passes (λ x. is_tried_kind x.kind) o ≡ true → passes (λ x. is_strand_kind x.kind) o ≡ false

@@ -33,12 +33,12 @@ among_get [] e i = absurd i
 among_get (x ∷ es) e (inl q) = (0, ap Some (sym q))
 among_get (x ∷ es) e (inr i) = let z = among_get es e i in (suc z.0, z.1)
 
-among_in : (es : List Entry) (e : Entry) → Among e es → In e.mark.stamp (stamps es)
+pub among_in : (es : List Entry) (e : Entry) → Among e es → In e.mark.stamp (stamps es)
 among_in [] e i = absurd i
 among_in (x ∷ es) e (inl q) = inl (ap (λ y. y.mark.stamp) q)
 among_in (x ∷ es) e (inr i) = inr (among_in es e i)
 
-in_among : (es : List Entry) (v : ℕ) → In v (stamps es) → (e : Entry) × Among e es × (e.mark.stamp ≡ v)
+pub in_among : (es : List Entry) (v : ℕ) → In v (stamps es) → (e : Entry) × Among e es × (e.mark.stamp ≡ v)
 in_among [] v i = absurd i
 in_among (x ∷ es) v (inl q) = (x, inl refl, sym q)
 in_among (x ∷ es) v (inr i) = let z = in_among es v i in (z.0, inr z.1, z.2)
@@ -52,7 +52,7 @@ listed_cell [] c x e = absurd (cc e)
 listed_cell (y ∷ cs) zero x e = ap (λ z. stamps z.entries) (let q : y ≡ x = cc e in q)
 listed_cell (y ∷ cs) (suc c) x e = listed_cell cs c x e
 
-cell_listed : (cs : List CellParts) (c v : ℕ) → In v (listed (lists_of cs) c) → (x : CellParts) × (slice_get cs c ≡ Some x) × In v (stamps x.entries)
+pub cell_listed : (cs : List CellParts) (c v : ℕ) → In v (listed (lists_of cs) c) → (x : CellParts) × (slice_get cs c ≡ Some x) × In v (stamps x.entries)
 cell_listed [] c v i = absurd i
 cell_listed (y ∷ cs) zero v i = (y, refl, i)
 cell_listed (y ∷ cs) (suc c) v i = cell_listed cs c v i

@@ -6,7 +6,7 @@ use Rattle.cw_tree.specs.Series.{place}
 use Rattle.cw_trace.specs.Columns.{ColumnTable, used, owner, first_tier, forked, split_at, merged, back_to, around_fork}
 use Rattle.cw_trace.specs.Stands.{fork_column}
 use Rattle.cw_open.specs.Machine.{OpenMachine}
-use Rattle.cw_open.specs.Steps.{Step, forks, begins, accesses, refuses, outputs, commits, undoes, aborts, finishes, joins, stops, refusal, after_all, after_open_step as after_step}
+use Rattle.cw_open.specs.Steps.{Step, forks, begins, accesses, refuses, outputs, cancels, commits, undoes, aborts, finishes, joins, stops, refusal, after_all, after_open_step as after_step}
 use Rattle.cw_core.specs.declared.event.Event.{Event}
 use Rattle.cw_core.specs.declared.event.Event.TheVariants as event
 use Rattle.cw_trace.proofs.Marks.Edits.{length_parts}
@@ -32,6 +32,7 @@ plain (forks s n) = forks s n
 plain (begins s n) = begins s n
 plain (accesses s c w n) = accesses s c w n
 plain (outputs s v n) = outputs s v n
+plain (cancels s n) = cancels s n
 plain (commits s n) = commits s n
 plain (undoes s c) = undoes s c
 plain (aborts s n) = aborts s n
@@ -47,6 +48,7 @@ plain_step m (forks s n) = refl
 plain_step m (begins s n) = refl
 plain_step m (accesses s c w n) = refl
 plain_step m (outputs s v n) = refl
+plain_step m (cancels s n) = refl
 plain_step m (commits s n) = refl
 plain_step m (undoes s c) = refl
 plain_step m (aborts s n) = refl
@@ -75,6 +77,7 @@ same_steps k (event.Access s c w) =
 same_steps k (event.Fork s) = refl
 same_steps k (event.Begin s) = refl
 same_steps k (event.Out s v) = refl
+same_steps k (event.Cancel s) = refl
 same_steps k (event.Commit s) = refl
 same_steps k (event.Roll s) = refl
 same_steps k (event.Finish s dead) = refl
@@ -113,6 +116,7 @@ used_is k (event.Join f) = join_used (is_split k f) (fork_column k.machine.tree 
 used_is k (event.Begin s) = refl
 used_is k (event.Access s c w) = refl
 used_is k (event.Out s v) = refl
+used_is k (event.Cancel s) = refl
 used_is k (event.Commit s) = refl
 used_is k (event.Roll s) = refl
 used_is k (event.Finish s dead) = refl
@@ -137,6 +141,7 @@ room_is k (event.Join f) = join_room (is_split k f) (fork_column k.machine.tree 
 room_is k (event.Begin s) = refl
 room_is k (event.Access s c w) = refl
 room_is k (event.Out s v) = refl
+room_is k (event.Cancel s) = refl
 room_is k (event.Commit s) = refl
 room_is k (event.Roll s) = refl
 room_is k (event.Finish s dead) = refl
@@ -150,6 +155,7 @@ halt_is k j (event.Fork s) same = same
 halt_is k j (event.Begin s) same = same
 halt_is k j (event.Access s c w) same = same
 halt_is k j (event.Out s v) same = same
+halt_is k j (event.Cancel s) same = same
 halt_is k j (event.Commit s) same = same
 halt_is k j (event.Roll s) same = same
 halt_is k j (event.Finish s dead) same = same

@@ -13,9 +13,9 @@ use Rattle.cw_open.specs.Open.{is_open}
 use Rattle.cw_open.proofs.Open.Trees.{IsWell}
 use Rattle.cw_core.specs.declared.event.Event.TheVariants as event
 use Rattle.cw_core.specs.declared.event.Reply.TheVariants as reply
-use Rattle.cw_core.specs.State.{CoreState, joined_columns}
-use Rattle.cw_core.specs.Events.{fits, is_early, fork_at, reply_to}
-use Rattle.cw_core.specs.Laws.{IsCore, Bars, IsNextOut, SplitsAreAnswered}
+use Rattle.cw_core.specs.State.{joined_columns}
+use Rattle.cw_core.specs.Events.{is_early, fork_at, reply_to}
+use Rattle.cw_core.specs.Laws.{Bars, IsNextOut, SplitsAreAnswered}
 use Rattle.cw_core.proofs.Events.Forks.{names}
 use Rattle.cw_core.proofs.Events.Going.{well, root_open}
 use Rattle.cw_core.proofs.InMemory.Out.{now_of}

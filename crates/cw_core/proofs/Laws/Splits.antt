@@ -5,7 +5,7 @@ use Rattle.cw_tree.specs.Series.{place}
 use Rattle.cw_tree.specs.Newest.{newest, last_eight}
 use Rattle.cw_trace.specs.Columns.{used}
 use Rattle.cw_open.specs.Machine.{OpenMachine, live, live_value}
-use Rattle.cw_open.specs.Steps.{refusal}
+use Rattle.cw_open.specs.Steps.{refusal, puts_back}
 use Rattle.cw_open.specs.Runs.{meets}
 use Rattle.cw_core.specs.declared.event.Event.{Event}
 use Rattle.cw_core.specs.declared.event.Event.TheVariants as event
@@ -45,6 +45,7 @@ answers k j (event.Access s c w) a other =
     ∙ ap (λ (m : OpenMachine). without_block (answer s c w m (met_by j s c).block)) a.machine
 answers k j (event.Begin s) a other = refl
 answers k j (event.Out s v) a other = refl
+answers k j (event.Cancel s) a other = ap (λ (m : OpenMachine). reply.Back (puts_back m s (m.clock + 1))) a.machine
 answers k j (event.Commit s) a other = refl
 answers k j (event.Roll s) a other = refl
 answers k j (event.Finish s dead) a other = refl

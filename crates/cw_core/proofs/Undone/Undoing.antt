@@ -1,6 +1,6 @@
 -- Entries that are undone, one access after another.
 use Rattle.std.proofs.Common.{◌≡◌, ℕ, zero, suc, ◌-◌, ◌<◌, List, [], ◌∷◌, length, take, get_or, refl, ap, sym, ◌∙◌, subst, arith, Bool, true, false, cond, Option, Some, None, nat_eq, nat_lt, inl, inr}
-use Rattle.std.specs.Prelude.{◌⊎◌, ◌&&◌, ℤ, filter, slice_get, slice_set, Contains, IfSome}
+use Rattle.std.specs.Prelude.{◌⊎◌, ◌&&◌, filter, slice_get, slice_set, Contains, IfSome}
 use Rattle.std.specs.Option.{option_map}
 use Rattle.std.specs.List.Sorted.{IsStrictlyIncreasing}
 use Rattle.std.proofs.lemmas.Bool.{cases_lt, cases_eq, eq-eqb, ne_eqb, lt-ltb}
@@ -12,11 +12,11 @@ use Rattle.cw_tree.specs.AccessStacks.{stamps}
 use Rattle.cw_stack.specs.Cells.{CellParts, newest_entry}
 use Rattle.cw_stack.proofs.Rising.{above_last, earlier_less, filter_front, stamp_at}
 use Rattle.cw_tree.specs.declared.node.Kind.{Kind}
-use Rattle.cw_tree.specs.declared.node.Kind.TheVariants.{Strand, Fork, Block, Read, Write, Out, Tried}
+use Rattle.cw_tree.specs.declared.node.Kind.TheVariants.{Strand, Fork, Block, Read, Write, Out, Tried, Cancel}
 use Rattle.cw_tree.specs.Nodes.{passes, is_block, is_block_kind, touches_kind, stamp_of, touches}
 use Rattle.cw_tree.proofs.NextNodes.Closing.{get_set_same, get_set_other}
 use Rattle.cw_tree.proofs.NodeKinds.{node_tells}
-use Rattle.cw_core.specs.Undone.{Among, before_stamp, cut_entries, IsLeftWith, AreCut}
+use Rattle.cw_core.specs.Undone.{Among, accessed, before_stamp, cut_entries, IsLeftWith, AreCut}
 
 pub get_among : (es : List Entry) (i : ℕ) (e : Entry) → slice_get es i ≡ Some e → Among e es
 get_among [] i e at = absurd (cc at)
@@ -90,9 +90,18 @@ all_before es mark s rise q less =
 
 -- ## An access and its cell
 
-pub touches_is : (t : List Node) (n : ℕ) (x : Node) (d : ℕ) → slice_get t n ≡ Some x → ((v : ℤ) × (x.kind ≡ Read d v)) ⊎ ((v : ℤ) × (x.kind ≡ Write d v)) → (c : ℕ) → touches t c n ≡ nat_eq d c
-touches_is t n x d at (inl k) c = ap (passes (λ y. touches_kind c y.kind)) at ∙ ap (touches_kind c) k.1
-touches_is t n x d at (inr k) c = ap (passes (λ y. touches_kind c y.kind)) at ∙ ap (touches_kind c) k.1
+pub touches_is : (t : List Node) (n : ℕ) (x : Node) (d : ℕ) → slice_get t n ≡ Some x → Some d ≡ accessed x.kind → (c : ℕ) → touches t c n ≡ nat_eq d c
+touches_is t n x d at is c =
+    ap (passes (λ y. touches_kind c y.kind)) at ∙ by x.kind is where
+      by : (k : Kind) → Some d ≡ accessed k → touches_kind c k ≡ nat_eq d c
+      by (Read e v) q = ap (λ i. nat_eq i c) (let same : e ≡ d = cc q in same)
+      by (Write e v) q = ap (λ i. nat_eq i c) (let same : e ≡ d = cc q in same)
+      by Strand q = absurd (cc q)
+      by Fork q = absurd (cc q)
+      by Block q = absurd (cc q)
+      by (Out v) q = absurd (cc q)
+      by (Tried e) q = absurd (cc q)
+      by (Cancel back) q = absurd (cc q)
 
 -- one cell is cut, and the node touches no other
 pub cut_one : (t : List Node) (n d : ℕ) (old : List CellParts) (x y : CellParts) → ((c : ℕ) → touches t c n ≡ nat_eq d c) → slice_get old d ≡ Some x → IsLeftWith x y (before_stamp (stamp_of t n) x.entries) → AreCut t n old (slice_set old d y)
@@ -122,4 +131,5 @@ block_touches t c n = node_tells false t (λ x. is_block_kind x.kind) (λ x. tou
   by (Read d v) e = absurd (cc e)
   by (Write d v) e = absurd (cc e)
   by (Out v) e = absurd (cc e)
+  by (Cancel back) e = absurd (cc e)
   by (Tried d) e = absurd (cc e)

@@ -45,6 +45,7 @@ impl Core {
             Event::Begin { strand } => self.goes_on(strand),
             Event::Access { strand, cell, .. } => self.goes_on(strand) && self.has_cell(cell),
             Event::Out { strand, .. } => self.goes_on(strand),
+            Event::Cancel { strand } => self.may_cancel(strand),
             Event::Commit { strand } => self.may_commit(strand),
             Event::Roll { strand } => self.rolls_back(strand) && !self.waits_for_left(strand),
             Event::Finish { strand, dead } => self.may_finish(strand, dead),
@@ -97,6 +98,13 @@ impl Core {
         ensures { result ≡ (is_free self.now.machine strand && not (waits_for_left self.now strand)) }
     {
         self.is_running(strand) && !self.is_dying(strand) && !self.waits_for_left(strand)
+    }
+
+    fn may_cancel(&self, strand: u32) -> bool
+        requires { self.now.machine.stopped ≡ [] }
+        ensures { result ≡ fits_now self.now (event.Cancel strand) }
+    {
+        self.goes_on(strand) && self.in_block(strand)
     }
 
     fn may_commit(&self, strand: u32) -> bool

@@ -30,6 +30,7 @@ impl Core {
                 write,
             } => self.access(strand, cell, write),
             Event::Out { strand, value } => self.output(strand, value),
+            Event::Cancel { strand } => self.cancel(strand),
             Event::Commit { strand } => {
                 self.commit(strand);
                 Ok(Reply::Done)

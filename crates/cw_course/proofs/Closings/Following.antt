@@ -3,11 +3,11 @@ use Rattle.std.proofs.Common.{◌≡◌, ℕ, zero, suc, ◌+◌, ◌<◌, ◌�
 use Rattle.std.specs.Prelude.{◌&&◌, ◌||◌, slice_get}
 use Rattle.std.proofs.lemmas.Bool.{and_parts, or_cases, not_from_false}
 use Rattle.cw_strand.specs.declared.want.Want.TheVariants as want
-use Rattle.cw_strand.specs.declared.want.Given.TheVariants.{Nothing, Value}
+use Rattle.cw_strand.specs.declared.want.Given.TheVariants.{Nothing, Value, Back as Wrote}
 use Rattle.cw_strand.specs.Strands.{Strands, is_over}
 use Rattle.cw_tree.specs.declared.node.Node.{Node}
 use Rattle.cw_tree.specs.declared.node.Kind.{Kind}
-use Rattle.cw_tree.specs.declared.node.Kind.TheVariants.{Strand, Fork, Block, Read, Write, Out, Tried}
+use Rattle.cw_tree.specs.declared.node.Kind.TheVariants.{Strand, Fork, Block, Read, Write, Out, Tried, Cancel}
 use Rattle.cw_tree.specs.declared.node.BlockState.{BlockState}
 use Rattle.cw_tree.specs.declared.node.BlockState.TheVariants.{Pending, Committed, Aborted}
 use Rattle.cw_tree.specs.Nodes.{passes, fresh_node, first_state, is_fork_kind, is_block_kind, is_strand_kind, is_committed_state, parent_of, is_fork, is_committed}
@@ -42,6 +42,7 @@ module _ {A : Type 0} (s : Strands A) (t : List Node) (rooted : IsRooted t) wher
   acted f ns a (Read c v) state b d = sym d.1
   acted f ns a (Write c v) state b d = sym d.1
   acted f ns a (Out v) state b d = sym d.1
+  acted f ns a (Cancel back) state b d = sym d.2
   acted f ns a (Tried c) state b d = sym d.1
   acted f ns a Strand state b d = absurd d
   acted f ns a Fork state b d = absurd d
@@ -158,6 +159,7 @@ module _ {A : Type 0} (s : Strands A) (t : List Node) (rooted : IsRooted t) wher
   acts_no_fork a b (Read c v) d = refl
   acts_no_fork a b (Write c v) d = refl
   acts_no_fork a b (Out v) d = refl
+  acts_no_fork a b (Cancel back) d = refl
   acts_no_fork a b (Tried c) d = refl
   acts_no_fork a b Strand d = refl
   acts_no_fork a b Fork d = absurd d
@@ -167,6 +169,7 @@ module _ {A : Type 0} (s : Strands A) (t : List Node) (rooted : IsRooted t) wher
   acts_no_block a b (Read c v) d = refl
   acts_no_block a b (Write c v) d = refl
   acts_no_block a b (Out v) d = refl
+  acts_no_block a b (Cancel back) d = refl
   acts_no_block a b (Tried c) d = refl
   acts_no_block a b Strand d = refl
   acts_no_block a b Fork d = refl
@@ -176,6 +179,7 @@ module _ {A : Type 0} (s : Strands A) (t : List Node) (rooted : IsRooted t) wher
   acts_no_strand a b (Read c v) d = refl
   acts_no_strand a b (Write c v) d = refl
   acts_no_strand a b (Out v) d = refl
+  acts_no_strand a b (Cancel back) d = refl
   acts_no_strand a b (Tried c) d = refl
   acts_no_strand a b Strand d = absurd d
   acts_no_strand a b Fork d = refl
@@ -185,6 +189,7 @@ module _ {A : Type 0} (s : Strands A) (t : List Node) (rooted : IsRooted t) wher
   wanted_act n a b (Read c v) state e f d = (ap s.want e ∙ d.0, f ∙ d.1 ∙ ap (λ z. s.answer z (Value v)) (sym e))
   wanted_act n a b (Write c v) state e f d = (ap s.want e ∙ d.0, f ∙ d.1 ∙ ap (λ z. s.answer z Nothing) (sym e))
   wanted_act n a b (Out v) state e f d = (ap s.want e ∙ d.0, f ∙ d.1 ∙ ap (λ z. s.answer z Nothing) (sym e))
+  wanted_act n a b (Cancel back) state e f d = (ap s.want e ∙ d.0, f ∙ d.2 ∙ ap (λ z. s.answer z (Wrote back)) (sym e))
   wanted_act n a b (Tried c) state e f d = let P : A → Type 0 = λ z. IsAccessOf c (s.want z) in (subst P (sym e) d.0, f ∙ d.1 ∙ sym e)
   wanted_act n a b Strand state e f d = absurd d
   wanted_act n a b Fork state e f d = absurd d

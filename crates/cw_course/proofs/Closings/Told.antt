@@ -2,11 +2,11 @@
 use Rattle.std.proofs.Common.{◌≡◌, ℕ, zero, suc, ◌<◌, ◌≤◌, List, [], ◌∷◌, ◌++◌, length, refl, ap, sym, ◌∙◌, subst, arith, true, false, cond, Option, Some, None, inl, nat_eq, append_assoc, append-nil}
 use Rattle.std.specs.Prelude.{slice_get}
 use Rattle.std.proofs.lemmas.Bool.{eq-eqb, ne_eqb}
-use Rattle.cw_strand.specs.declared.want.Given.TheVariants.{Nothing, Value}
+use Rattle.cw_strand.specs.declared.want.Given.TheVariants.{Nothing, Value, Back as Wrote}
 use Rattle.cw_strand.specs.Strands.{Strands}
 use Rattle.cw_tree.specs.declared.node.Node.{Node}
 use Rattle.cw_tree.specs.declared.node.Kind.{Kind}
-use Rattle.cw_tree.specs.declared.node.Kind.TheVariants.{Strand, Fork, Block, Read, Write, Out, Tried}
+use Rattle.cw_tree.specs.declared.node.Kind.TheVariants.{Strand, Fork, Block, Read, Write, Out, Tried, Cancel}
 use Rattle.cw_tree.specs.declared.node.BlockState.{BlockState}
 use Rattle.cw_tree.specs.declared.node.BlockState.TheVariants.{Pending, Committed, Aborted}
 use Rattle.cw_tree.specs.Nodes.{parent_of, is_fork, is_block}
@@ -54,6 +54,7 @@ module _ {A : Type 0} (s : Strands A) (t : List Node) where
   after_kind f ns a (Read c v) state = s.answer a (Value v)
   after_kind f ns a (Write c v) state = s.answer a Nothing
   after_kind f ns a (Out v) state = s.answer a Nothing
+  after_kind f ns a (Cancel back) state = s.answer a (Wrote back)
   after_kind f ns a (Tried c) state = a
   after_kind f ns a Block Committed = s.answer (through f (s.answer a Nothing) ns) Nothing
   after_kind f ns a Block Pending = a

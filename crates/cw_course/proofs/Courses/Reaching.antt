@@ -3,10 +3,10 @@ use Rattle.std.proofs.Common.{◌≡◌, ℕ, suc, List, [], ◌∷◌, ap, sym,
 use Rattle.cw_strand.specs.declared.want.Want.{Want}
 use Rattle.cw_strand.specs.declared.want.Want.TheVariants as want
 use Rattle.cw_strand.specs.declared.want.Given.{Given}
-use Rattle.cw_strand.specs.declared.want.Given.TheVariants.{Nothing, Value}
+use Rattle.cw_strand.specs.declared.want.Given.TheVariants.{Nothing, Value, Back as Wrote}
 use Rattle.cw_strand.specs.Strands.{Strands, IsAnswer, own_after, GoesTo, stays, answered, joins}
 use Rattle.cw_tree.specs.declared.node.Kind.{Kind}
-use Rattle.cw_tree.specs.declared.node.Kind.TheVariants.{Strand, Fork, Block, Read, Write, Out, Tried}
+use Rattle.cw_tree.specs.declared.node.Kind.TheVariants.{Strand, Fork, Block, Read, Write, Out, Tried, Cancel}
 use Rattle.cw_course.specs.Courses.{Course, Acts, Goes, CoursesGoOn}
 use Rattle.cw_course.specs.Courses as course
 
@@ -26,6 +26,7 @@ module _ {A : Type 0} (s : Strands A) where
   act_goes own a b c (Read k v) g d = subst (GoesTo s own a own) (sym d.1) (next own own a b (want.Load k) (Value v) g d.0 tt)
   act_goes own a b c (Write k v) g d = subst (GoesTo s own a own) (sym d.1) (next own own a b (want.Store k v) Nothing g d.0 tt)
   act_goes own a b c (Out v) g d = subst (GoesTo s own a own) (sym d.1) (next own own a b (want.Out v) Nothing g d.0 tt)
+  act_goes own a b c (Cancel back) g d = subst (GoesTo s own a own) (sym d.2) (next own own a b want.Cancel (Wrote back) g d.0 d.1)
   act_goes own a b c (Tried k) g d = subst (GoesTo s own a own) (sym d.1) g
   act_goes own a b c Strand g d = absurd d
   act_goes own a b c Fork g d = absurd d

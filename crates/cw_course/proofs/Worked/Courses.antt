@@ -2,8 +2,10 @@
 use Rattle.std.proofs.Common.{◌≡◌, ℕ, ◌<◌, List, [], ◌∷◌, length, refl, ap, sym, ◌∙◌, subst, arith, lit<, pos, Option, Some, None, true}
 use Rattle.std.specs.Prelude.{◌^◌}
 use Rattle.std.proofs.lemmas.Bool.{lt-ltb, ltb-true}
+use Rattle.cw_code.specs.declared.Back.{Back}
 use Rattle.cw_strand.specs.declared.want.Want.{Want}
-use Rattle.cw_strand.specs.declared.want.Want.TheVariants.{Out as Shows}
+use Rattle.cw_strand.specs.declared.want.Want.TheVariants.{Store, Out as Shows}
+use Rattle.cw_strand.specs.declared.want.Given.TheVariants.{Back as Wrote}
 use Rattle.cw_tree.specs.declared.node.Kind.TheVariants.{Out}
 use Rattle.cw_tree.specs.declared.node.BlockState.TheVariants.{Committed}
 use Rattle.cw_tree.specs.declared.node.Node.{Node}
@@ -21,7 +23,7 @@ use Rattle.cw_record.specs.Scripts as script
 use Rattle.cw_record.specs.Scripts.{scripted, wants_of, right_of}
 use Rattle.cw_course.specs.Courses.{Goes, Stops, starts, acts, commits, aborts, joins, there, within, apart, nothing, act, block}
 use Rattle.cw_course.specs.Closings.{tree_of, HasStates, AreWorked, AreApart}
-use Rattle.cw_course.specs.Worked.{Reader, reader, reader_wants, reads, shows, showed, Reads, Forks, Blocks, Sums, Nests, Mixes, Closes, WorkedCourses, spawns, shown, spawned, shows_in_block, sums, nests, nested, nested_logs, Finishes, mixes, mixed, logs_at, spent, spent_logs}
+use Rattle.cw_course.specs.Worked.{Reader, reader, reader_wants, reads, shows, showed, Reads, Forks, Blocks, quitter, quitter_wants, quitter_next, begins, quit, Cancels, Sums, Nests, Mixes, Closes, WorkedCourses, spawns, shown, spawned, shows_in_block, sums, nests, nested, nested_logs, Finishes, mixes, mixed, logs_at, spent, spent_logs}
 use Rattle.cw_course.proofs.Closings.States.{has_states}
 
 -- what is shown
@@ -84,6 +86,34 @@ blocks_go = record {
   pending = within starts refl (there starts);
   again = commits (aborts starts refl (there starts)) refl (acts starts (refl, refl)) refl;
   broken = not_broken;
+}
+
+-- ## A block that is given up
+
+-- what is stored
+abbrev stored : Want → ℕ
+stored (Store c (pos n)) = n
+stored w = 0
+
+quit_other : Stops quitter begins (quit 0 4) → ⊥
+quit_other (there (commits starts e (acts {b = x} (acts {b = y} (acts starts a) b) d) f)) = less 0 4 (lit< tt) (by_list ∙ at_store ∙ ap stored d.0) where
+  back : Back
+  back = record { cell = 0; value = pos 0 }
+
+  by_list : 0 ≡ stored (quitter_wants (quitter_next y (Wrote (back ∷ []))))
+  by_list = ap (λ z. stored (quitter_wants (quitter_next z (Wrote (back ∷ []))))) (sym a.1)
+
+  at_store : stored (quitter_wants (quitter_next y (Wrote (back ∷ [])))) ≡ stored (quitter_wants x)
+  at_store = ap (λ z. stored (quitter_wants z)) (sym b.2)
+
+quit_there : Stops quitter begins (quit 1 0) → ⊥
+quit_there (there (commits starts e (acts (acts g b) d) f)) = less 1 1 b.1.0 refl
+
+cancels_go : Cancels
+cancels_go = record {
+  goes = commits starts refl (acts (acts (acts starts (refl, refl)) (refl, (lit< tt, tt), refl)) (refl, refl)) refl;
+  other = quit_other;
+  there = quit_there;
 }
 
 -- ## One of two sums is lost
@@ -193,4 +223,14 @@ closes_all = record {
 }
 
 pub courses : WorkedCourses
-courses = record { reads = reads_go; forks = forks_go; blocks = blocks_go; sums = sums_go; nests = nests_go; finishes = finishes_all; mixes = mixes_all; closes = closes_all }
+courses = record {
+  reads = reads_go;
+  forks = forks_go;
+  blocks = blocks_go;
+  cancels = cancels_go;
+  sums = sums_go;
+  nests = nests_go;
+  finishes = finishes_all;
+  mixes = mixes_all;
+  closes = closes_all;
+}

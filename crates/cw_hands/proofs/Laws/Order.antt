@@ -6,7 +6,7 @@ use Rattle.std.proofs.lemmas.Bool.{and_parts, or_cases, or_right, not-true, fals
 use Rattle.std.proofs.lemmas.List.{length-map}
 use Rattle.cw_tree.specs.declared.node.Node.{Node}
 use Rattle.cw_tree.specs.declared.node.Kind.{Kind}
-use Rattle.cw_tree.specs.declared.node.Kind.TheVariants.{Block, Out, Tried}
+use Rattle.cw_tree.specs.declared.node.Kind.TheVariants.{Block, Out, Tried, Cancel}
 use Rattle.cw_tree.specs.declared.node.BlockState.{BlockState}
 use Rattle.cw_tree.specs.declared.node.BlockState.TheVariants.{Committed, Aborted}
 use Rattle.cw_tree.specs.Nodes.{number_in, is_fork_kind, parent_of, is_fork, fresh_node, closed}
@@ -29,8 +29,8 @@ use Rattle.cw_trace.proofs.Stands.Counting.{fork_column_one}
 use Rattle.cw_trace.proofs.Keeps.Ending.{fork_column_same}
 use Rattle.cw_trace.proofs.Keeps.Forking.{get_right}
 use Rattle.cw_trace.proofs.Keeps.TierLaws.{closed_shape}
-use Rattle.cw_open.specs.Machine.{OpenMachine, live_value, has_finished, is_running, is_free}
-use Rattle.cw_open.specs.Steps.{Step, after_open_step}
+use Rattle.cw_open.specs.Machine.{OpenMachine, live_value, has_finished, is_running, in_block, is_free}
+use Rattle.cw_open.specs.Steps.{Step, puts_back, after_open_step}
 use Rattle.cw_open.specs.Steps as step
 use Rattle.cw_open.specs.Open.{is_open}
 use Rattle.cw_open.specs.Runs.{Rules, Allowed, at_any_time}
@@ -175,6 +175,9 @@ module _ (s : SharedMoment) (w : IsWell s.machine) (k : Keeps s.columns s.words 
       let free = (and_parts (is_free m x) (nat_lt c (length m.lists)) a.0).0 in
       with_others (step.refuses x c write met) _ (leaf_passed x (Tried c) 0 (free_runs m x free) (one_ready x ready) refl)
   machine_passed r (step.outputs x v stamp) a ready = with_others (step.outputs x v stamp) _ (leaf_passed x (Out v) stamp (free_runs m x a.0) (one_ready x ready) refl)
+  machine_passed r (step.cancels x stamp) a ready =
+      let free = (and_parts (is_free m x) (in_block m x) a.0).0 in
+      with_others (step.cancels x stamp) _ (leaf_passed x (Cancel (puts_back m x stamp)) stamp (free_runs m x free) (one_ready x ready) refl)
   machine_passed r (step.commits x stamp) a ready = with_others (step.commits x stamp) _ (close_passed (place t x) stamp Committed)
   machine_passed r (step.undoes x c) a ready = with_others (step.undoes x c) _ (stay_passed m.finished (λ y h. h))
   machine_passed r (step.aborts x stamp) a ready = with_others (step.aborts x stamp) _ (close_passed (place t x) stamp Aborted)

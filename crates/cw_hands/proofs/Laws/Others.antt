@@ -4,7 +4,7 @@ use Rattle.std.specs.Prelude.{◌&&◌, not, nat_lt, ℤ, slice_index}
 use Rattle.std.specs.List.{list_all}
 use Rattle.std.proofs.lemmas.Bool.{and_parts, and_from, not-true, cases_eq, leb-true, leb-false, eq-eqb}
 use Rattle.cw_tree.specs.declared.node.Node.{Node}
-use Rattle.cw_tree.specs.declared.node.Kind.TheVariants.{Block, Out, Tried}
+use Rattle.cw_tree.specs.declared.node.Kind.TheVariants.{Block, Out, Tried, Cancel}
 use Rattle.cw_tree.specs.declared.node.BlockState.TheVariants.{Committed, Aborted}
 use Rattle.cw_tree.specs.Nodes.{parent_of, stamp_of, is_fork, fresh_node}
 use Rattle.cw_tree.specs.Names.{is_right}
@@ -21,7 +21,7 @@ use Rattle.cw_trace.specs.OrderedRuns.{Moment, GoesOnAt, RunsInOrder}
 use Rattle.cw_trace.proofs.Keeps.Meaning.{odd_column}
 use Rattle.cw_trace.proofs.ManyHands.Running.{others_go_on}
 use Rattle.cw_open.specs.Machine.{OpenMachine, live_value, has_finished, is_running, in_block, is_free, rolls_back}
-use Rattle.cw_open.specs.Steps.{Step, after_open_step}
+use Rattle.cw_open.specs.Steps.{Step, puts_back, after_open_step}
 use Rattle.cw_open.specs.Steps as step
 use Rattle.cw_open.specs.Runs.{Rules, Allowed, at_any_time}
 use Rattle.cw_open.specs.LeftFirst.{makers}
@@ -93,6 +93,10 @@ module _ (s : SharedMoment) (w : IsWell s.machine) (h : StandsInOrder s.columns 
   machine_beside r (step.outputs y v stamp) a all ne =
       let run = free_runs m y a.0 in
       leaf_beside s.columns s.words t s.cuts s.joins (is_open_yet s) h p go (place t y) (goes_at y run all) (apart y run ne) (fresh_node (place t y) (Out v) stamp) refl refl refl
+  machine_beside r (step.cancels y stamp) a all ne =
+      let run = free_runs m y (and_parts (is_free m y) (in_block m y) a.0).0 in
+      leaf_beside s.columns s.words t s.cuts s.joins (is_open_yet s) h p go (place t y) (goes_at y run all) (apart y run ne)
+      (fresh_node (place t y) (Cancel (puts_back m y stamp)) stamp) refl refl refl
   machine_beside r (step.commits y stamp) a all ne =
       let z = and_parts (is_free m y && in_block m y) _ a.0 in
       let run = free_runs m y (and_parts (is_free m y) (in_block m y) z.0).0 in
@@ -124,6 +128,9 @@ module _ (s : SharedMoment) (w : IsWell s.machine) (h : StandsInOrder s.columns 
       seen_goes _ _ (machine_step s w h r (step.accesses y c write stamp) a all later root) (hand_other y (free_runs m y (and_parts (is_free m y) (nat_lt c (length m.lists)) z.0).0) ne)
   machine_goes r (step.refuses y c write met) a all later root ne = seen_goes _ _ (machine_step s w h r (step.refuses y c write met) a all later root) (hand_other y (free_runs m y (and_parts (is_free m y) (nat_lt c (length m.lists)) a.0).0) ne)
   machine_goes r (step.outputs y v stamp) a all later root ne = seen_goes _ _ (machine_step s w h r (step.outputs y v stamp) a all later root) (hand_other y (free_runs m y a.0) ne)
+  machine_goes r (step.cancels y stamp) a all later root ne =
+      let run = free_runs m y (and_parts (is_free m y) (in_block m y) a.0).0 in
+      seen_goes _ _ (machine_step s w h r (step.cancels y stamp) a all later root) (hand_other y run ne)
   machine_goes r (step.commits y stamp) a all later root ne =
       let z = and_parts (is_free m y && in_block m y) _ a.0 in
       seen_goes _ _ (machine_step s w h r (step.commits y stamp) a all later root) (hand_other y (free_runs m y (and_parts (is_free m y) (in_block m y) z.0).0) ne)

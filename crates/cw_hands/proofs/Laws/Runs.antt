@@ -56,6 +56,7 @@ unfinished_before m (step.begins x stamp) h = h
 unfinished_before m (step.accesses x c w stamp) h = h
 unfinished_before m (step.refuses x c w met) h = h
 unfinished_before m (step.outputs x v stamp) h = h
+unfinished_before m (step.cancels x stamp) h = h
 unfinished_before m (step.commits x stamp) h = h
 unfinished_before m (step.undoes x c) h = h
 unfinished_before m (step.aborts x stamp) h = h

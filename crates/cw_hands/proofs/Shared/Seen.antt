@@ -7,7 +7,7 @@ use Rattle.std.proofs.Math.Bool.{and-true}
 use Rattle.std.proofs.lemmas.List.{length-map}
 use Rattle.cw_tree.specs.declared.node.Node.{Node}
 use Rattle.cw_tree.specs.declared.node.Kind.{Kind}
-use Rattle.cw_tree.specs.declared.node.Kind.TheVariants.{Block, Out, Tried}
+use Rattle.cw_tree.specs.declared.node.Kind.TheVariants.{Block, Out, Tried, Cancel}
 use Rattle.cw_tree.specs.declared.node.BlockState.{BlockState}
 use Rattle.cw_tree.specs.declared.node.BlockState.TheVariants.{Committed, Aborted}
 use Rattle.cw_tree.specs.Nodes.{is_strand_kind, is_fork_kind, is_block_kind, is_pending_state, parent_of, stamp_of, is_fork, fresh_node, closed}
@@ -30,7 +30,7 @@ use Rattle.cw_trace.specs.OrderedRuns as tier
 use Rattle.cw_trace.proofs.Marks.Edits.{length_parts}
 use Rattle.cw_trace.proofs.Keeps.Meaning.{odd_column}
 use Rattle.cw_open.specs.Machine.{OpenMachine, live_value, has_finished, is_running, in_block, is_free, rolls_back}
-use Rattle.cw_open.specs.Steps.{Step, after_open_step}
+use Rattle.cw_open.specs.Steps.{Step, puts_back, after_open_step}
 use Rattle.cw_open.specs.Steps as step
 use Rattle.cw_open.specs.Open.{is_open}
 use Rattle.cw_open.specs.Runs.{Rules, Allowed}
@@ -243,6 +243,9 @@ module _ (s : SharedMoment) (w : IsWell s.machine) (h : StandsInOrder s.columns 
       let free = (and_parts (is_free m x) (nat_lt c (length m.lists)) a.0).0 in
       seen (leaf_step x (Tried c) 0 (free_runs m x free) (one_ready x ready) refl refl refl)
   machine_step r (step.outputs x v stamp) a ready later open_root = seen (leaf_step x (Out v) stamp (free_runs m x a.0) (one_ready x ready) refl refl refl)
+  machine_step r (step.cancels x stamp) a ready later open_root =
+      let free = (and_parts (is_free m x) (in_block m x) a.0).0 in
+      seen (leaf_step x (Cancel (puts_back m x stamp)) stamp (free_runs m x free) (one_ready x ready) refl refl refl)
   machine_step r (step.commits x stamp) a ready later open_root =
       let z = and_parts (is_free m x && in_block m x) _ a.0 in
       let y = and_parts (is_free m x) (in_block m x) z.0 in

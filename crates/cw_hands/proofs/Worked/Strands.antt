@@ -7,10 +7,10 @@ use Rattle.cw_tree.proofs.Worked.Checks.{all_below, each_below, implies, implied
 use Rattle.cw_trace.specs.Hands.{IsLater, trace_at}
 use Rattle.cw_trace.specs.OrderedRuns.{GoesOnAt}
 use Rattle.cw_trace.proofs.Worked.SmallRun.{zeros, unstarted}
-use Rattle.cw_open.specs.Steps.{begins, commits, finishes, forks, joins}
+use Rattle.cw_open.specs.Steps.{begins, cancels, commits, finishes, forks, joins}
 use Rattle.cw_open.proofs.WorkedTimes.Checks.{next_stamp, end_stamp}
 use Rattle.cw_hands.specs.Shared.{SharedMoment, moment_of, after_shared, first_shared, SharedStep, makes, splits, merges, RunsTogether, start, more}
-use Rattle.cw_hands.specs.Worked.{any_rules, no_words, alone, after_these, forked_once, stolen, in_blocks, joined_once, put_together, TwoStrands, NotReady, rejoined, inline_once, NoneOwed}
+use Rattle.cw_hands.specs.Worked.{any_rules, no_words, alone, after_these, forked_once, stolen, in_blocks, given_up, joined_once, put_together, TwoStrands, NotReady, rejoined, inline_once, NoneOwed}
 
 abbrev Run : SharedMoment → Type 0
 Run s = RunsTogether any_rules [] s
@@ -38,6 +38,9 @@ run_left = more stolen left_begun run_stolen (makes (begins 2 2) (refl, next_sta
 
 run_blocks : Run in_blocks
 run_blocks = more left_begun in_blocks run_left (makes (begins 3 3) (refl, next_stamp _ _ _ refl refl refl refl) refl (later left_begun 3 3 refl))
+
+run_given_up : Run given_up
+run_given_up = more in_blocks given_up run_blocks (makes (cancels 2 4) (refl, next_stamp _ _ _ refl refl refl refl) refl tt)
 
 abbrev right_ended : SharedMoment
 right_ended = after_these in_blocks (commits 3 4 ∷ [])
@@ -86,6 +89,9 @@ two_strands = record {
   drawn = later stolen 3 3 refl;
   still = later left_begun 3 3 refl;
   words = refl;
+  cancelled = run_given_up;
+  still_hands = (refl, refl);
+  still_words = refl;
   joined = run_joined;
   owed = (refl, refl);
   main_waits = (refl, refl);

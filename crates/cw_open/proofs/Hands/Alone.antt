@@ -19,7 +19,7 @@ use Rattle.cw_tree.proofs.Walks.There.{fork_there, strand_there}
 use Rattle.cw_tree.proofs.Walks.Kin.{ancestor_linear}
 use Rattle.cw_tree.proofs.Walks.Ancestors.{above_ancestor, ancestor_le, ancestor_trans}
 use Rattle.cw_open.specs.Machine.{OpenMachine, has_finished, waits, is_running, in_block, falls, is_dying, leads_back}
-use Rattle.cw_open.specs.Steps.{Step, forks, begins, accesses, refuses, outputs, commits, undoes, aborts, finishes, joins, stops, after_open_step, refusal}
+use Rattle.cw_open.specs.Steps.{Step, forks, begins, accesses, refuses, outputs, cancels, commits, undoes, aborts, finishes, joins, stops, after_open_step, refusal}
 use Rattle.cw_open.specs.Runs.{Rules, Allowed, at_any_time}
 use Rattle.cw_open.specs.Hands.{is_step_of, brought, begun_in, IsLeftAlone, OthersLeaveAlone}
 use Rattle.cw_open.proofs.Open.Trees.{IsWell}
@@ -81,6 +81,7 @@ conflicts_after m (begins s stamp) = sym (append-nil m.conflicts)
 conflicts_after m (accesses s c w stamp) = sym (append-nil m.conflicts)
 conflicts_after m (refuses s c w met) = refl
 conflicts_after m (outputs s v stamp) = sym (append-nil m.conflicts)
+conflicts_after m (cancels s stamp) = sym (append-nil m.conflicts)
 conflicts_after m (commits s stamp) = sym (append-nil m.conflicts)
 conflicts_after m (undoes s c) = sym (append-nil m.conflicts)
 conflicts_after m (aborts s stamp) = sym (append-nil m.conflicts)
@@ -97,6 +98,7 @@ new_askers m (refuses s d w met) c i = elim i [
   | inr z ↦ absurd z
 ]
 new_askers m (outputs s v stamp) c i = absurd i
+new_askers m (cancels s stamp) c i = absurd i
 new_askers m (commits s stamp) c i = absurd i
 new_askers m (undoes s d) c i = absurd i
 new_askers m (aborts s stamp) c i = absurd i
@@ -120,6 +122,7 @@ finished_stays m (begins u stamp) s o = refl
 finished_stays m (accesses u c w stamp) s o = refl
 finished_stays m (refuses u c w met) s o = refl
 finished_stays m (outputs u v stamp) s o = refl
+finished_stays m (cancels u stamp) s o = refl
 finished_stays m (commits u stamp) s o = refl
 finished_stays m (undoes u c) s o = refl
 finished_stays m (aborts u stamp) s o = refl
@@ -133,6 +136,7 @@ stopped_stays m (begins u stamp) s o = refl
 stopped_stays m (accesses u c w stamp) s o = refl
 stopped_stays m (refuses u c w met) s o = refl
 stopped_stays m (outputs u v stamp) s o = refl
+stopped_stays m (cancels u stamp) s o = refl
 stopped_stays m (commits u stamp) s o = refl
 stopped_stays m (undoes u c) s o = refl
 stopped_stays m (aborts u stamp) s o = refl
@@ -146,6 +150,7 @@ joined_stays m (begins u stamp) f j = j
 joined_stays m (accesses u c w stamp) f j = j
 joined_stays m (refuses u c w met) f j = j
 joined_stays m (outputs u v stamp) f j = j
+joined_stays m (cancels u stamp) f j = j
 joined_stays m (commits u stamp) f j = j
 joined_stays m (undoes u c) f j = j
 joined_stays m (aborts u stamp) f j = j

@@ -3,7 +3,7 @@ use Rattle.std.proofs.Common.{◌≡◌, ◌≢◌, ℕ, zero, suc, ◌<◌, ◌
 use Rattle.std.specs.Prelude.{◌⊎◌, ◌&&◌, not, ℤ, slice_get}
 use Rattle.std.proofs.lemmas.Bool.{and_parts, cases_eq, not-true, false_from_ne_true, eq-eqb, cases_Bool}
 use Rattle.cw_tree.specs.declared.node.Node.{Node}
-use Rattle.cw_tree.specs.declared.node.Kind.TheVariants.{Block, Out, Tried}
+use Rattle.cw_tree.specs.declared.node.Kind.TheVariants.{Block, Out, Cancel, Tried}
 use Rattle.cw_tree.specs.declared.node.BlockState.{BlockState}
 use Rattle.cw_tree.specs.declared.node.BlockState.TheVariants.{Committed, Aborted}
 use Rattle.cw_tree.specs.Nodes.{is_pending_state, touches_kind, passes, number_in, stamp_of, end_of, is_strand, is_fork, is_pending, touches, fresh_node, closed}
@@ -20,7 +20,7 @@ use Rattle.cw_tree.proofs.NextNodes.Before.{before_closed}
 use Rattle.cw_tree.proofs.NextNodes.Closing.{closed_other, node_closed, end_closed, rooted_closed, length_closed}
 use Rattle.cw_tree.proofs.NextNodes.Pending.{end_of_place, pending_closed}
 use Rattle.cw_open.specs.Machine.{OpenMachine, live_value, is_running, in_block, is_free, rolls_back}
-use Rattle.cw_open.specs.Steps.{Step, forks, begins, accesses, refuses, outputs, commits, undoes, aborts, finishes, joins, stops, after_open_step}
+use Rattle.cw_open.specs.Steps.{Step, forks, begins, accesses, refuses, outputs, cancels, commits, undoes, aborts, finishes, joins, stops, puts_back, after_open_step}
 use Rattle.cw_open.specs.Runs.{Rules, Allowed}
 use Rattle.cw_open.specs.Hands.{is_step_of, brought}
 use Rattle.cw_open.proofs.Open.Trees.{IsWell, stands_well}
@@ -231,6 +231,7 @@ module _ (first : List ℤ) (m : OpenMachine) (w : IsToldState first m) (s : ℕ
       let free = (and_parts (is_free m u) (nat_lt c (length m.lists)) a.0).0 in
       leaf_beside u (differs u o) (free_runs m u free) (Tried c) 0
   beside rules (outputs u v stamp) o a = leaf_beside u (differs u o) (free_runs m u a.0) (Out v) stamp
+  beside rules (cancels u stamp) o a = leaf_beside u (differs u o) (free_runs m u (and_parts (is_free m u) (in_block m u) a.0).0) (Cancel (puts_back m u stamp)) stamp
   beside rules (commits u stamp) o a =
       let z = and_parts (is_free m u && in_block m u) _ a.0 in
       let y = and_parts (is_free m u) (in_block m u) z.0 in

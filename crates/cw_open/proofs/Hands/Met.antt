@@ -13,7 +13,7 @@ use Rattle.cw_tree.proofs.ChainLaws.Change.{conflicts_grow, conflicts_close}
 use Rattle.cw_tree.proofs.Walks.There.{node_there}
 use Rattle.cw_tree.proofs.Walks.Ancestors.{ancestor_le}
 use Rattle.cw_open.specs.Machine.{OpenMachine, is_running, live}
-use Rattle.cw_open.specs.Steps.{Met, Step, forks, begins, accesses, refuses, outputs, commits, undoes, aborts, finishes, joins, stops, after_open_step}
+use Rattle.cw_open.specs.Steps.{Met, Step, forks, begins, accesses, refuses, outputs, cancels, commits, undoes, aborts, finishes, joins, stops, after_open_step}
 use Rattle.cw_open.specs.Runs.{IsMet, Allowed, at_any_time}
 use Rattle.cw_open.specs.Times.{times_after, ClosedLater, IsMetInTime}
 use Rattle.cw_open.specs.Refused.{IsNewest}
@@ -39,6 +39,7 @@ none_more m r (begins s stamp) u p hu hp none = conflicts_grow m.tree _ u p r hu
 none_more m r (accesses s c w stamp) u p hu hp none = conflicts_grow m.tree _ u p r hu hp ∙ none
 none_more m r (refuses s c w met) u p hu hp none = conflicts_grow m.tree _ u p r hu hp ∙ none
 none_more m r (outputs s v stamp) u p hu hp none = conflicts_grow m.tree _ u p r hu hp ∙ none
+none_more m r (cancels s stamp) u p hu hp none = conflicts_grow m.tree _ u p r hu hp ∙ none
 none_more m r (commits s stamp) u p hu hp none = conflicts_close m.tree u p (place m.tree s) _ stamp r hu hp refl none
 none_more m r (undoes s c) u p hu hp none = none
 none_more m r (aborts s stamp) u p hu hp none = conflicts_close m.tree u p (place m.tree s) _ stamp r hu hp refl none

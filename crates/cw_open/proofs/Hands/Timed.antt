@@ -1,8 +1,8 @@
 -- A run goes on by one step in time; no time is above the clock, and a number above it may be used anywhere.
-use Rattle.std.proofs.Common.{◌≡◌, ℕ, ◌<◌, List, [], ◌∷◌, ◌++◌, length, refl, ap, sym, ◌∙◌, subst, arith}
+use Rattle.std.proofs.Common.{◌≡◌, ℕ, List, [], ◌∷◌, ◌++◌, refl, ap, sym, ◌∙◌, subst, arith}
 use Rattle.cw_open.specs.Machine.{OpenMachine}
 use Rattle.cw_open.specs.Steps.{Step, after_open_step, after_all, first_machine}
-use Rattle.cw_open.specs.Runs.{Rules, Allowed, IsRun, IsReachedBy, at_any_time}
+use Rattle.cw_open.specs.Runs.{Rules, Allowed, IsReachedBy, at_any_time}
 use Rattle.cw_open.specs.Times.{times_after, IsTimely, AreTimely}
 use Rattle.cw_open.specs.Hands.{times_after_all, RunsAreInTime, RunsBegin, RunsGoOn, TimesAreLow, AheadIsNext}
 use Rattle.cw_open.proofs.Runs.States.{by_rules, at_any_step, states}

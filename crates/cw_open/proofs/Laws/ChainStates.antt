@@ -12,7 +12,7 @@ use Rattle.cw_tree.specs.Accesses.{HasAccess}
 use Rattle.cw_tree.specs.AccessStacks.{access_kind}
 use Rattle.cw_tree.specs.Newest.{newest}
 use Rattle.cw_open.specs.Machine.{OpenMachine, live, live_value, in_block, is_free, rolls_back}
-use Rattle.cw_open.specs.Steps.{Step, forks, begins, accesses, refuses, outputs, commits, undoes, aborts, finishes, joins, stops, live_beside, after_open_step, first_machine}
+use Rattle.cw_open.specs.Steps.{Step, forks, begins, accesses, refuses, outputs, cancels, commits, undoes, aborts, finishes, joins, stops, live_beside, after_open_step, first_machine}
 use Rattle.cw_open.specs.Runs.{Rules, Allowed, IsReachedBy, meets, at_any_time}
 use Rattle.cw_open.proofs.Open.Trees.{stands_well}
 use Rattle.cw_open.proofs.Open.TreeSteps.{free_runs, rolls_runs, place_pending}
@@ -61,6 +61,7 @@ module _ (first : List ℤ) (m : OpenMachine) (s : IsState first m) (h : AreChai
       (grown (node ∷ []) z.well.sound.stamps)
   chained_after (refuses x c write met) a z = grown _ z.well.sound.stamps
   chained_after (outputs x v stamp) a z = grown _ z.well.sound.stamps
+  chained_after (cancels x stamp) a z = grown _ z.well.sound.stamps
   chained_after (commits x stamp) a z =
       let y = and_parts (is_free m x && in_block m x) _ a.0 in
       let q = and_parts (is_free m x) (in_block m x) y.0 in

@@ -1,7 +1,7 @@
 -- Each step keeps of the lists of live accesses what is true of them: blocks are closed, and what they did is undone.
 use Rattle.std.proofs.Common.{◌≡◌, ◌≢◌, ℕ, ◌<◌, List, [], length, refl, ap, sym, ◌∙◌, subst, arith, Bool, true, false, inl, inr, append-nil}
 use Rattle.std.specs.Prelude.{◌⊎◌, ◌&&◌, not, slice_set}
-use Rattle.std.proofs.lemmas.Bool.{and_from, and_right, cases_Bool, cases_eq, not_from_false, false_from_ne_true}
+use Rattle.std.proofs.lemmas.Bool.{and_from, cases_Bool, cases_eq, not_from_false}
 use Rattle.std.proofs.lemmas.List.{length-set}
 use Rattle.std.proofs.lemmas.List.Elements.{All-weaker}
 use Rattle.cw_tree.specs.declared.node.Node.{Node}
@@ -18,20 +18,23 @@ use Rattle.cw_tree.proofs.Lists.{In}
 use Rattle.cw_tree.proofs.Members.{in_filter, filter_in}
 use Rattle.cw_tree.proofs.Walks.There.{node_there}
 use Rattle.cw_tree.proofs.Walks.Ancestors.{ancestor_above}
-use Rattle.cw_tree.proofs.NextNodes.Closing.{length_closed, node_closed, node_closed_other, number_closed, state_closed, ancestor_closed, is_above_closed, strand_of_closed}
+use Rattle.cw_tree.proofs.NextNodes.Closing.{length_closed, node_closed, number_closed, state_closed, ancestor_closed, is_above_closed, strand_of_closed}
 use Rattle.cw_tree.proofs.NextNodes.Pending.{pending_stays}
 use Rattle.cw_tree.proofs.Rising.{Rises, rises_filter}
 use Rattle.cw_tree.proofs.NodeKinds.{pending_block}
 use Rattle.cw_open.specs.Machine.{OpenMachine, live, leads_back}
 use Rattle.cw_open.specs.Steps.{live_beside}
-use Rattle.cw_open.proofs.Refused.Falling.{Holds, IsGone, back_kept}
+use Rattle.cw_open.specs.Open.{is_open}
+use Rattle.cw_open.proofs.Refused.Falling.{Holds, IsGone, StayShut, back_kept}
 use Rattle.cw_open.proofs.Laws.Listing.{AreListed, listed, with_parts}
 use Rattle.cw_open.proofs.Laws.ListSteps.{listed_here, listed_other}
-use Rattle.cw_open.proofs.Laws.Named.{access_named, live_tells, live_from, aborted_done}
+use Rattle.cw_open.proofs.Laws.Named.{access_named, live_tells, was_live, live_closed}
 
 -- ## The block at a place is closed
 
-module _ (m : OpenMachine) (r : IsRooted m.tree) (a : AreListed m) (p : ℕ) (place : IsPlace m.tree p) (pending : is_pending m.tree p ≡ true) (state : BlockState) (end clock : ℕ) (finished : List (ℕ × Bool)) (joined stopped : List ℕ) where
+module _ (m : OpenMachine) (r : IsRooted m.tree) (a : AreListed m) (p : ℕ) (place : IsPlace m.tree p) (pending : is_pending m.tree p ≡ true)
+    (state : BlockState) (end clock : ℕ) (finished : List (ℕ × Bool)) (joined stopped : List ℕ)
+    (still : StayShut m (with_parts m (closed m.tree p state end) m.lists clock m.conflicts finished joined stopped)) where
   abbrev t : List Node
   t = m.tree
 
@@ -68,16 +71,8 @@ module _ (m : OpenMachine) (r : IsRooted m.tree) (a : AreListed m) (p : ℕ) (pl
         pending = pending_stays t p state end b ne ∙ g.pending;
         over = is_above_closed t p state end r b n h ∙ g.over;
         back = subst P (sym (strand_of_closed t p state end r b there)) (back_kept m k [] (sym (append-nil m.conflicts)) a.askers (strand_of t b) b (holds_closed (strand_of t b) b there g.pending ne) g.back);
+        shut = still n g;
       }
-
-  was_aborted : (b : ℕ) → is_aborted v b ≡ false → is_aborted t b ≡ false
-  was_aborted b e = elim (cases_eq b p) [
-    | inl q ↦ false_from_ne_true (is_aborted t b) (λ f. absurd (cc (ap (is_pending t) q, pending, aborted_done t b f)))
-    | inr ne ↦ sym (node_closed_other t p state end (λ y. is_block_kind y.kind && is_aborted_state y.state) b ne) ∙ e
-  ]
-
-  was_live : (n : ℕ) → n < length t → is_live v n ≡ true → is_live t n ≡ true
-  was_live n h e = live_from t n (λ b over. was_aborted b (live_tells v n b e (is_above_closed t p state end r b n h ∙ over)))
 
   -- nothing that a list has gets lost, and what was undone stays so
   module _ (lives : (c n : ℕ) → touches t c n ≡ true → In (stamp_of t n) (live m c) → is_live t n ≡ true → is_live v n ≡ true) (gone : (n : ℕ) → n < length t → is_live v n ≡ true → (g : IsGone m n) → g.block ≢ p) where
@@ -100,7 +95,7 @@ module _ (m : OpenMachine) (r : IsRooted m.tree) (a : AreListed m) (p : ℕ) (pl
       missing = λ c n e l. (
           let P : ℕ → Type 0 = λ s. In s (live m c) in
           let h : n < length t = node_there (λ y. touches_kind c y.kind) t n (was c n e) in
-          elim (a.missing c n (was c n e) (was_live n h l)) [
+          elim (a.missing c n (was c n e) (was_live t r p state end pending n h l)) [
             | inl i ↦ inl (subst P (sym (same_stamp n)) i)
             | inr g ↦ inr (gone_closed n h g (gone n h l g))
           ]);
@@ -110,27 +105,13 @@ module _ (m : OpenMachine) (r : IsRooted m.tree) (a : AreListed m) (p : ℕ) (pl
   -- a commit
   pub committed_listed : is_aborted_state state ≡ false → (leads_back m (strand_of t p) p ≡ true → ⊥) → AreListed k
   committed_listed kept back =
-      listed_closed
-      (λ c n e i l. live_from v n (λ b over.
-      let h : n < length t = node_there (λ y. touches_kind c y.kind) t n e in
-      let up = live_tells t n b l (sym (is_above_closed t p state end r b n h) ∙ over) in
-      elim (cases_eq b p) [
-        | inl q ↦ ap (is_aborted v) q ∙ state_closed t p state end is_aborted_state ∙ and_right (is_block t p) (is_aborted_state state) kept
-        | inr ne ↦ node_closed_other t p state end (λ y. is_block_kind y.kind && is_aborted_state y.state) b ne ∙ up
-      ]))
+      listed_closed (λ c n e i l. live_closed t r p state end n (node_there (λ y. touches_kind c y.kind) t n e) l (λ over. kept))
       (λ n h l g q. let P : ℕ → Type 0 = λ b. leads_back m (strand_of t b) b ≡ true in back (subst P q g.back))
 
   -- an abort
   pub aborted_listed : is_aborted_state state ≡ true → ((c n : ℕ) → touches t c n ≡ true → In (stamp_of t n) (live m c) → is_above t p n ≡ false) → AreListed k
   aborted_listed rolled undone =
-      listed_closed
-      (λ c n e i l. live_from v n (λ b over.
-      let h : n < length t = node_there (λ y. touches_kind c y.kind) t n e in
-      let up = sym (is_above_closed t p state end r b n h) ∙ over in
-      elim (cases_eq b p) [
-        | inl q ↦ absurd (cc (undone c n e i, ap (λ b. is_above t b n) q, up))
-        | inr ne ↦ node_closed_other t p state end (λ y. is_block_kind y.kind && is_aborted_state y.state) b ne ∙ live_tells t n b l up
-      ]))
+      listed_closed (λ c n e i l. live_closed t r p state end n (node_there (λ y. touches_kind c y.kind) t n e) l (λ over. absurd (cc (undone c n e i, over))))
       (λ n h l g q.
       let P : ℕ → Type 0 = λ b. is_above t b n ≡ true in
       let over = is_above_closed t p state end r p n h ∙ subst P q g.over in
@@ -139,7 +120,9 @@ module _ (m : OpenMachine) (r : IsRooted m.tree) (a : AreListed m) (p : ℕ) (pl
 
 -- ## What a block did to a cell is undone
 
-module _ (m : OpenMachine) (stamped : AreStamps m.tree) (a : AreListed m) (p c clock : ℕ) (there : c < length m.lists) (pending : is_pending m.tree p ≡ true) (back : leads_back m (strand_of m.tree p) p ≡ true) where
+module _ (m : OpenMachine) (stamped : AreStamps m.tree) (a : AreListed m) (p c clock : ℕ) (there : c < length m.lists) (pending : is_pending m.tree p ≡ true)
+    (back : leads_back m (strand_of m.tree p) p ≡ true)
+    (shut : (k : ℕ) → k < length m.tree → is_above m.tree p k ≡ true → is_open m k ≡ false) where
   abbrev w : List Node
   w = m.tree
 
@@ -180,7 +163,7 @@ module _ (m : OpenMachine) (stamped : AreStamps m.tree) (a : AreListed m) (p c c
       ]
 
   gone_still : (n : ℕ) → IsGone m n → IsGone z n
-  gone_still n g = record { block = g.block; pending = g.pending; over = g.over; back = g.back }
+  gone_still n g = record { block = g.block; pending = g.pending; over = g.over; back = g.back; shut = g.shut }
 
   pub undone_listed : AreListed z
   undone_listed = record {
@@ -196,7 +179,7 @@ module _ (m : OpenMachine) (stamped : AreStamps m.tree) (a : AreListed m) (p c c
       | inr g ↦ inr (gone_still n g)
       | inl i ↦ elim (left d n e i) [
         | inl j ↦ inl j
-        | inr over ↦ inr (record { block = p; pending = pending; over = over; back = back })
+        | inr over ↦ inr (record { block = p; pending = pending; over = over; back = back; shut = shut })
       ]
     ];
     cells = a.cells;
@@ -204,13 +187,20 @@ module _ (m : OpenMachine) (stamped : AreStamps m.tree) (a : AreListed m) (p c c
 
 -- ## The lists and the tree stay
 
-pub same_listed : (m : OpenMachine) (clock : ℕ) (finished : List (ℕ × Bool)) (joined stopped : List ℕ) → AreListed m → AreListed (with_parts m m.tree m.lists clock m.conflicts finished joined stopped)
-same_listed m clock finished joined stopped a = record {
+pub same_listed : (m : OpenMachine) (clock : ℕ) (finished : List (ℕ × Bool)) (joined stopped : List ℕ)
+    → StayShut m (with_parts m m.tree m.lists clock m.conflicts finished joined stopped) → AreListed m
+    → AreListed (with_parts m m.tree m.lists clock m.conflicts finished joined stopped)
+same_listed m clock finished joined stopped still a = record {
   len = a.len;
   askers = a.askers;
   accesses = a.accesses;
   rises = a.rises;
   lives = a.lives;
-  missing = λ c n e l. elim (a.missing c n e l) [ inl i ↦ inl i | inr g ↦ inr (record { block = g.block; pending = g.pending; over = g.over; back = g.back }) ];
+  missing =
+      λ c n e l. elim (a.missing c n e l) [
+        | inl i ↦ inl i
+        | inr g ↦ inr
+            (record { block = g.block; pending = g.pending; over = g.over; back = g.back; shut = still n g })
+      ];
   cells = a.cells;
 }

@@ -21,7 +21,7 @@ use Rattle.cw_tree.proofs.NextNodes.Growing.{length_more, node_new, number_new}
 use Rattle.cw_tree.proofs.NextNodes.Closing.{get_set_same, get_set_other}
 use Rattle.cw_tree.proofs.Rising.{Rises, rises_more}
 use Rattle.cw_open.specs.Machine.{OpenMachine, live}
-use Rattle.cw_open.proofs.Refused.Falling.{AreAskers}
+use Rattle.cw_open.proofs.Refused.Falling.{AreAskers, StayShut}
 use Rattle.cw_open.proofs.Laws.Listing.{AreListed, listed, with_parts, listed_grown}
 use Rattle.cw_open.proofs.Laws.Named.{live_new}
 
@@ -59,14 +59,17 @@ listed_other ls c d l ne = ap (λ o. unwrap_or o []) (get_set_other ls c d l ne)
 
 module _ (m : OpenMachine) (r : IsRooted m.tree) (a : AreListed m) (xs : List Node) (clock : ℕ) (finished : List (ℕ × Bool)) (joined stopped : List ℕ) (quiet : (c : ℕ) → list_any (λ x. touches_kind c x.kind) xs ≡ false)
     (fits : list_all (λ x. fits_cells (length m.first) x.kind) xs ≡ true) where
-  pub quiet_more : (cs more : List Conflict) → cs ≡ m.conflicts ++ more → AreAskers (m.tree ++ xs) more → AreListed (with_parts m (m.tree ++ xs) m.lists clock cs finished joined stopped)
-  quiet_more cs more told askers =
-      listed_grown m r a xs m.lists clock cs more finished joined stopped told askers refl a.rises (λ c s i. i) (λ c s i. inl i) (λ c n e i. i)
+  pub quiet_more : (cs more : List Conflict) → cs ≡ m.conflicts ++ more → AreAskers (m.tree ++ xs) more
+      → StayShut m (with_parts m (m.tree ++ xs) m.lists clock cs finished joined stopped)
+      → AreListed (with_parts m (m.tree ++ xs) m.lists clock cs finished joined stopped)
+  quiet_more cs more told askers still =
+      listed_grown m r a xs m.lists clock cs more finished joined stopped told askers still refl a.rises (λ c s i. i) (λ c s i. inl i) (λ c n e i. i)
       (λ c n le e. absurd (cc (e, none_new (λ x. touches_kind c x.kind) m.tree xs n (quiet c) le)))
       (λ n le h. all_new (λ x. fits_cells (length m.first) x.kind) m.tree xs n fits le h)
 
-  pub quiet_grown : AreListed (with_parts m (m.tree ++ xs) m.lists clock m.conflicts finished joined stopped)
-  quiet_grown = quiet_more m.conflicts [] (sym (append-nil m.conflicts)) (All-nil (λ c. c.asker < length (m.tree ++ xs)))
+  pub quiet_grown : StayShut m (with_parts m (m.tree ++ xs) m.lists clock m.conflicts finished joined stopped)
+      → AreListed (with_parts m (m.tree ++ xs) m.lists clock m.conflicts finished joined stopped)
+  quiet_grown still = quiet_more m.conflicts [] (sym (append-nil m.conflicts)) (All-nil (λ c. c.asker < length (m.tree ++ xs))) still
 
 -- ## An access
 
@@ -158,6 +161,8 @@ module _ (m : OpenMachine) (r : IsRooted m.tree) (a : AreListed m) (p c stamp : 
       let len = a.len in
       ap (is_node (λ y. fits_cells (length m.first) y.kind) u) at ∙ node_new t x (λ y. fits_cells (length m.first) y.kind) ∙ access_fits c (length m.first) write v ∙ lt-ltb c (length m.first) (omega arith)
 
-  pub access_listed : (clock : ℕ) (finished : List (ℕ × Bool)) (joined stopped : List ℕ) → AreListed (with_parts m u ls clock m.conflicts finished joined stopped)
-  access_listed clock finished joined stopped =
-      listed_grown m r a (x ∷ []) ls clock m.conflicts [] finished joined stopped (sym (append-nil m.conflicts)) (All-nil (λ c. c.asker < length u)) (length-set m.lists c (live m c ++ stamp ∷ [])) rise kept came old_only new_in fits
+  pub access_listed : (clock : ℕ) (finished : List (ℕ × Bool)) (joined stopped : List ℕ)
+      → StayShut m (with_parts m u ls clock m.conflicts finished joined stopped) → AreListed (with_parts m u ls clock m.conflicts finished joined stopped)
+  access_listed clock finished joined stopped still =
+      listed_grown m r a (x ∷ []) ls clock m.conflicts [] finished joined stopped (sym (append-nil m.conflicts)) (All-nil (λ c. c.asker < length u)) still
+      (length-set m.lists c (live m c ++ stamp ∷ [])) rise kept came old_only new_in fits

@@ -16,7 +16,7 @@ use Rattle.cw_tree.proofs.NextNodes.Growing.{node_grown, number_grown, ancestor_
 use Rattle.cw_tree.proofs.ChainLaws.Stamps.{has_grown}
 use Rattle.cw_tree.proofs.Rising.{Rises}
 use Rattle.cw_open.specs.Machine.{OpenMachine, live, leads_back}
-use Rattle.cw_open.proofs.Refused.Falling.{AreAskers, Holds, IsGone, back_kept}
+use Rattle.cw_open.proofs.Refused.Falling.{AreAskers, Holds, IsGone, StayShut, back_kept}
 use Rattle.cw_open.proofs.Laws.Named.{live_grown}
 
 pub record AreListed (m : OpenMachine) : Type 0 where
@@ -39,7 +39,7 @@ abbrev pub with_parts : OpenMachine → List Node → List (List ℕ) → ℕ �
 with_parts m t ls clock cs finished joined stopped = record { first = m.first; tree = t; lists = ls; clock = clock; conflicts = cs; finished = finished; joined = joined; stopped = stopped }
 
 module _ (m : OpenMachine) (r : IsRooted m.tree) (a : AreListed m) (xs : List Node) (ls : List (List ℕ)) (clock : ℕ) (cs more : List Conflict) (finished : List (ℕ × Bool)) (joined stopped : List ℕ) (told : cs ≡ m.conflicts ++ more)
-    (new_askers : AreAskers (m.tree ++ xs) more) where
+    (new_askers : AreAskers (m.tree ++ xs) more) (still : StayShut m (with_parts m (m.tree ++ xs) ls clock cs finished joined stopped)) where
   abbrev t : List Node
   t = m.tree
 
@@ -69,6 +69,7 @@ module _ (m : OpenMachine) (r : IsRooted m.tree) (a : AreListed m) (xs : List No
         pending = node_grown t xs (λ y. is_block_kind y.kind && is_pending_state y.state) b there ∙ g.pending;
         over = is_above_grown t xs r b n h ∙ g.over;
         back = subst P (sym (strand_of_grown t xs r b there)) (back_kept m k more told a.askers (strand_of t b) b (holds_grown (strand_of t b) b there) g.back);
+        shut = still n g;
       }
 
   -- a list gets just the stamps of the accesses that come in, all of them live

@@ -1,14 +1,14 @@
 -- Accesses by their stamps, and which nodes are live, as the tree changes.
-use Rattle.std.proofs.Common.{◌≡◌, ℕ, ◌<◌, List, [], ◌∷◌, ◌++◌, length, refl, ap, sym, ◌∙◌, arith, Bool, true, false, cond, Option, Some, None, nat_eq}
+use Rattle.std.proofs.Common.{◌≡◌, inl, inr, ℕ, ◌<◌, List, [], ◌∷◌, ◌++◌, length, refl, ap, sym, ◌∙◌, arith, Bool, true, false, cond, Option, Some, None, nat_eq}
 use Rattle.std.specs.Prelude.{◌&&◌, ◌||◌, not, unwrap_or}
 use Rattle.std.specs.List.{find, list_all}
-use Rattle.std.proofs.lemmas.Bool.{and_parts, and_from, and_right, or_from, not-true, not_from_false, false_from_ne_true, eqb-true, ltb-true}
+use Rattle.std.proofs.lemmas.Bool.{and_parts, and_from, and_right, or_from, not-true, not_from_false, false_from_ne_true, cases_eq, eqb-true, ltb-true}
 use Rattle.cw_tree.specs.declared.node.Node.{Node}
 use Rattle.cw_tree.specs.declared.node.Kind.{Kind}
 use Rattle.cw_tree.specs.declared.node.Kind.TheVariants.{Read, Write, Strand, Fork, Block, Out, Tried}
 use Rattle.cw_tree.specs.declared.node.BlockState.{BlockState}
 use Rattle.cw_tree.specs.declared.node.BlockState.TheVariants.{Pending, Committed, Aborted}
-use Rattle.cw_tree.specs.Nodes.{is_strand_kind, is_tried_kind, is_block_kind, is_pending_state, is_aborted_state, touches_kind, stamp_of, is_strand, is_tried, is_block, is_pending, is_aborted, touches, all_nodes}
+use Rattle.cw_tree.specs.Nodes.{is_strand_kind, is_tried_kind, is_block_kind, is_pending_state, is_aborted_state, touches_kind, stamp_of, is_strand, is_tried, is_block, is_pending, is_aborted, touches, all_nodes, closed}
 use Rattle.cw_tree.specs.Walks.{IsRooted, path, above, is_ancestor, is_above}
 use Rattle.cw_tree.specs.Series.{strand_of}
 use Rattle.cw_tree.specs.Shape.{AreStamps}
@@ -20,6 +20,7 @@ use Rattle.cw_tree.proofs.Walks.There.{node_there}
 use Rattle.cw_tree.proofs.Walks.Kin.{in_ancestor, in_above, above_in}
 use Rattle.cw_tree.proofs.Walks.Ancestors.{above_ancestor, ancestor_le}
 use Rattle.cw_tree.proofs.NextNodes.Growing.{node_grown, above_grown, above_new}
+use Rattle.cw_tree.proofs.NextNodes.Closing.{node_closed_other, state_closed, is_above_closed}
 use Rattle.cw_tree.proofs.ChainLaws.Stamps.{named}
 use Rattle.cw_tree.proofs.Members.{all_same}
 use Rattle.cw_tree.proofs.NodeKinds.{node_tells, access_stamped, aborted_block}
@@ -90,6 +91,33 @@ live_new t x r w =
     let le = ancestor_le t r b x.parent there over in
     not_from_false (is_aborted (t ++ x ∷ []) b) (node_grown t (x ∷ []) (λ y. is_block_kind y.kind && is_aborted_state y.state) b (omega arith) ∙ none_aborted t x.parent w b over))
 
+-- a block is closed that was pending
+module _ (t : List Node) (r : IsRooted t) (p : ℕ) (state : BlockState) (end : ℕ) where
+  abbrev v : List Node
+  v = closed t p state end
+
+  was_aborted : is_pending t p ≡ true → (b : ℕ) → is_aborted v b ≡ false → is_aborted t b ≡ false
+  was_aborted pending b e = elim (cases_eq b p) [
+    | inl q ↦ false_from_ne_true (is_aborted t b) (λ f. absurd (cc (ap (is_pending t) q, pending, aborted_done t b f)))
+    | inr ne ↦ sym (node_closed_other t p state end (λ y. is_block_kind y.kind && is_aborted_state y.state) b ne) ∙ e
+  ]
+
+  -- what is live then was live
+  pub was_live : is_pending t p ≡ true → (n : ℕ) → n < length t → is_live v n ≡ true → is_live t n ≡ true
+  was_live pending n h e = live_from t n (λ b over. was_aborted pending b (live_tells v n b e (is_above_closed t p state end r b n h ∙ over)))
+
+  -- and what was live is live still, unless it stands in a block that is rolled back
+  pub live_closed : (n : ℕ) → n < length t → is_live t n ≡ true → (is_above t p n ≡ true → is_aborted_state state ≡ false) → is_live v n ≡ true
+  live_closed n h l kept =
+      live_from v n (λ b over.
+      let up = sym (is_above_closed t p state end r b n h) ∙ over in
+      elim (cases_eq b p) [
+        | inl q ↦ ap (is_aborted v) q
+            ∙ state_closed t p state end is_aborted_state
+            ∙ and_right (is_block t p) (is_aborted_state state) (kept (ap (λ c. is_above t c n) (sym q) ∙ up))
+        | inr ne ↦ node_closed_other t p state end (λ y. is_block_kind y.kind && is_aborted_state y.state) b ne ∙ live_tells t n b l up
+      ])
+
 block_kind_no : (k : Kind) → is_block_kind k ≡ true → (is_strand_kind k ≡ false) × (is_tried_kind k ≡ false)
 block_kind_no Block e = (refl, refl)
 block_kind_no Strand e = absurd (cc e)
@@ -98,6 +126,7 @@ block_kind_no (Read c v) e = absurd (cc e)
 block_kind_no (Write c v) e = absurd (cc e)
 block_kind_no (Out v) e = absurd (cc e)
 block_kind_no (Tried c) e = absurd (cc e)
+block_kind_no _ e = absurd (cc e)
 
 -- a block has a stamp
 pub block_stamp : (t : List Node) → AreStamps t → (n : ℕ) → is_block t n ≡ true → 0 < stamp_of t n

@@ -18,7 +18,7 @@ use Rattle.cw_tree.proofs.NextNodes.Growing.{get_append, get_next, node_new, num
 use Rattle.cw_tree.proofs.NextNodes.Closing.{node_closed, number_closed, same_closed}
 use Rattle.cw_tree.proofs.ChainLaws.Stamps.{stamps_beneath}
 use Rattle.cw_open.specs.Machine.{OpenMachine, live, live_value, is_free, rolls_back}
-use Rattle.cw_open.specs.Steps.{Step, forks, begins, accesses, refuses, outputs, commits, undoes, aborts, finishes, joins, stops, live_beside, after_open_step, first_machine}
+use Rattle.cw_open.specs.Steps.{Step, forks, begins, accesses, refuses, outputs, cancels, commits, undoes, aborts, finishes, joins, stops, live_beside, after_open_step, first_machine}
 use Rattle.cw_open.specs.Runs.{Allowed}
 use Rattle.cw_open.specs.Reads.{AreRead, ReadsAreMet}
 use Rattle.cw_open.proofs.Open.TreeSteps.{rolls_runs, place_pending}
@@ -158,6 +158,7 @@ module _ (first : List ℤ) (m : OpenMachine) (s : IsChainState first m) (h : Ar
       by_cell first m st h (now ++ node ∷ []) c (live m c ++ stamp ∷ []) (ltb-true c (length m.lists) q.1) (accessed (place now x) c write stamp z.well.sound.stamps) (grown first m st h (node ∷ []) z.well.sound.stamps)
   read_after (refuses x c write met) a z = grown first m st h _ z.well.sound.stamps
   read_after (outputs x v stamp) a z = grown first m st h _ z.well.sound.stamps
+  read_after (cancels x stamp) a z = grown first m st h _ z.well.sound.stamps
   read_after (commits x stamp) a z = shut first m st h (place now x) Committed stamp z.well.sound.stamps
   read_after (undoes x c) a z =
       let y = and_parts (rolls_back m x) _ a in

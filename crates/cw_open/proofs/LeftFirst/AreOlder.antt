@@ -4,7 +4,7 @@ use Rattle.std.specs.Prelude.{◌&&◌, ◌||◌, nat_lt, ℤ}
 use Rattle.std.specs.List.{list_all}
 use Rattle.std.proofs.lemmas.Bool.{and_parts, or_left, lt-ltb, not-true, false_from_ne_true, true_from_ne_false}
 use Rattle.cw_tree.specs.declared.node.Node.{Node}
-use Rattle.cw_tree.specs.declared.node.Kind.TheVariants.{Strand, Fork, Block, Out, Tried}
+use Rattle.cw_tree.specs.declared.node.Kind.TheVariants.{Strand, Fork, Block, Out, Cancel, Tried}
 use Rattle.cw_tree.specs.declared.node.BlockState.TheVariants.{Committed, Aborted}
 use Rattle.cw_tree.specs.Nodes.{parent_of, stamp_of, end_of, is_strand, is_fork, is_pending, is_tried, fresh_node}
 use Rattle.cw_tree.specs.Walks.{IsRooted, is_ancestor}
@@ -21,7 +21,7 @@ use Rattle.cw_tree.proofs.Walks.There.{strand_there}
 use Rattle.cw_tree.proofs.Walks.Kin.{branch, fork_child}
 use Rattle.cw_open.specs.Machine.{OpenMachine, live_value, has_finished, in_block, is_running, is_free, rolls_back}
 use Rattle.cw_open.specs.Open.{is_open}
-use Rattle.cw_open.specs.Steps.{Step, forks, begins, accesses, refuses, outputs, commits, undoes, aborts, finishes, joins, stops, after_open_step, after_all, first_machine}
+use Rattle.cw_open.specs.Steps.{Step, forks, begins, accesses, refuses, outputs, cancels, commits, undoes, aborts, finishes, joins, stops, puts_back, after_open_step, after_all, first_machine}
 use Rattle.cw_open.specs.Runs.{Rules, Allowed, IsRun, at_any_time}
 use Rattle.cw_open.specs.Times.{IsAhead, AreAhead}
 use Rattle.cw_open.specs.LeftFirst.{makers, lefts_have_finished, go_left_first, IsLeftOf, LeftFirstAreOlder, LeftFirstHaveFinished}
@@ -110,6 +110,7 @@ module _ (m : OpenMachine) (w : IsWell m) (waits : RightsWait m.tree (has_finish
       let free = (and_parts (is_free m s) (nat_lt c (length m.lists)) a.0).0 in
       older_grows s (free_runs m s free) old (fresh_node (place t s) (Tried c) 0) refl (λ pos. absurd (omega arith))
   older_after r (outputs s v stamp) a ahead old = older_grows s (free_runs m s a.0) old (fresh_node (place t s) (Out v) stamp) refl (λ pos. ahead)
+  older_after r (cancels s stamp) a ahead old = older_grows s (free_runs m s (and_parts (is_free m s) (in_block m s) a.0).0) old (fresh_node (place t s) (Cancel (puts_back m s stamp)) stamp) refl (λ pos. ahead)
   older_after r (commits s stamp) a ahead old =
       let z = and_parts (is_free m s && in_block m s) _ a.0 in
       let running = free_runs m s (and_parts (is_free m s) (in_block m s) z.0).0 in

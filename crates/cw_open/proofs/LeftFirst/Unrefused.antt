@@ -4,7 +4,7 @@ use Rattle.std.specs.Prelude.{◌&&◌, not, nat_lt, nat_eq, ℤ, Option}
 use Rattle.std.specs.List.{list_all}
 use Rattle.std.proofs.lemmas.Bool.{and_parts, and_from, or_right, not-true}
 use Rattle.cw_tree.specs.declared.node.Node.{Node}
-use Rattle.cw_tree.specs.declared.node.Kind.TheVariants.{Block, Out, Tried}
+use Rattle.cw_tree.specs.declared.node.Kind.TheVariants.{Block, Out, Cancel, Tried}
 use Rattle.cw_tree.specs.declared.node.BlockState.TheVariants.{Committed, Aborted}
 use Rattle.cw_tree.specs.Nodes.{is_pending, fresh_node}
 use Rattle.cw_tree.specs.Walks.{is_ancestor, is_above}
@@ -12,8 +12,8 @@ use Rattle.cw_tree.specs.Series.{place}
 use Rattle.cw_tree.specs.AccessStacks.{access_kind, access_at}
 use Rattle.cw_tree.specs.NextNodes.{fork_nodes}
 use Rattle.cw_tree.specs.Newest.{newest}
-use Rattle.cw_open.specs.Machine.{OpenMachine, live_value, has_finished, is_running, is_free}
-use Rattle.cw_open.specs.Steps.{Step, forks, begins, accesses, refuses, outputs, commits, undoes, aborts, finishes, joins, stops, after_open_step, after_all, first_machine}
+use Rattle.cw_open.specs.Machine.{OpenMachine, live_value, has_finished, is_running, in_block, is_free}
+use Rattle.cw_open.specs.Steps.{Step, forks, begins, accesses, refuses, outputs, cancels, commits, undoes, aborts, finishes, joins, stops, puts_back, after_open_step, after_all, first_machine}
 use Rattle.cw_open.specs.Runs.{Rules, Allowed, IsRun, at_once}
 use Rattle.cw_open.specs.LeftFirst.{makers, lefts_have_finished, go_left_first, while_pending, AtOnceIsWhilePending, LeftFirstIsUnrefused}
 use Rattle.cw_open.proofs.Open.Trees.{IsWell, stands_well}
@@ -59,6 +59,7 @@ module _ (m : OpenMachine) (w : IsWell m) (waits : RightsWait m.tree (has_finish
       let free = (and_parts (is_free m s) (nat_lt c (length m.lists)) a.0).0 in
       waits_more s (free_runs m s free) (one_left m s first) (fresh_node (place m.tree s) (Tried c) 0) refl
   waits_after r (outputs s v stamp) a first = waits_more s (free_runs m s a.0) (one_left m s first) (fresh_node (place m.tree s) (Out v) stamp) refl
+  waits_after r (cancels s stamp) a first = waits_more s (free_runs m s (and_parts (is_free m s) (in_block m s) a.0).0) (one_left m s first) (fresh_node (place m.tree s) (Cancel (puts_back m s stamp)) stamp) refl
   waits_after r (commits s stamp) a first = rights_closed m.tree (has_finished m) (place m.tree s) Committed stamp waits
   waits_after r (undoes s c) a first = waits
   waits_after r (aborts s stamp) a first = rights_closed m.tree (has_finished m) (place m.tree s) Aborted stamp waits
@@ -84,6 +85,7 @@ module _ (asked : List Node → List ℕ → Option ℤ → List ℕ) where
   none_after m (begins s stamp) u a first = u.none
   none_after m (accesses s c write stamp) u a first = u.none
   none_after m (outputs s v stamp) u a first = u.none
+  none_after m (cancels s stamp) u a first = u.none
   none_after m (commits s stamp) u a first = u.none
   none_after m (undoes s c) u a first = u.none
   none_after m (aborts s stamp) u a first = u.none
@@ -115,6 +117,7 @@ pending_step m (refuses s c w met) a =
     let pending = (and_parts (is_pending m.tree b) (is_above m.tree b (access_at m.tree met.last)) z.0).0 in
     (a.0, (b, and_from (is_pending m.tree b) (not (is_ancestor m.tree b (place m.tree s))) pending z.1))
 pending_step m (outputs s v stamp) a = a
+pending_step m (cancels s stamp) a = a
 pending_step m (commits s stamp) a = a
 pending_step m (undoes s c) a = a
 pending_step m (aborts s stamp) a = a

@@ -40,6 +40,7 @@ not_committed (Read c v) = refl
 not_committed (Write c v) = refl
 not_committed (Out v) = refl
 not_committed (Tried c) = refl
+not_committed _ = refl
 
 -- a test that a new node fails, as did all that were not there
 module _ (t : List Node) (x : Node) (test : Node → Bool) where

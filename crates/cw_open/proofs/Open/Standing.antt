@@ -4,7 +4,7 @@ use Rattle.std.specs.Prelude.{◌⊎◌, ◌&&◌, ◌||◌, not, unwrap_or}
 use Rattle.std.proofs.lemmas.Bool.{and_parts, and_from, or_cases, or_left, or_right, not-true, not_from_false, eqb-true, eq-eqb, false_from_ne_true, true_from_ne_false}
 use Rattle.cw_tree.specs.declared.node.Node.{Node}
 use Rattle.cw_tree.specs.Nodes.{is_strand_kind, is_fork_kind, is_block_kind, is_pending_state, parent_of, is_strand, is_fork, is_block, is_pending, all_nodes, last_below}
-use Rattle.cw_tree.specs.Walks.{IsRooted, has, is_ancestor}
+use Rattle.cw_tree.specs.Walks.{IsRooted, has, is_ancestor, is_above}
 use Rattle.cw_tree.specs.Series.{strand_of, place, is_before}
 use Rattle.cw_tree.specs.Shape.{IsTree}
 use Rattle.cw_tree.specs.NextNodes.{IsPlace}
@@ -152,6 +152,15 @@ module _ (m : OpenMachine) (tree : IsTree m.tree) (w : AreNested m.tree (is_open
           ]
         ])
 
+    -- nor beneath it
+    pub shut_beneath : (b : ℕ) → b < length t → is_above t p b ≡ true → is_open m b ≡ false
+    shut_beneath b h over =
+        false_from_ne_true (is_open m b) (λ e.
+        let less = above_less t r p b h over in
+        let z = branch t r p b h (omega arith) (above_ancestor t p b over) in
+        let le : z.child ≤ b = ancestor_le t r z.child b h z.over in
+        absurd (cc (none_open z.child z.some (omega arith) z.parent, open_over z.child b h z.over e)))
+
     pub is_place : IsPlace t p
     is_place = record {
       there = stands.there;
@@ -159,9 +168,5 @@ module _ (m : OpenMachine) (tree : IsTree m.tree) (w : AreNested m.tree (is_open
       last = λ n h. open_last p n stands.there h place_open;
       around = λ b e. (let z = and_parts (is_block t b) (is_ancestor t b p) e in open_block b z.0 (open_over b p stands.there z.1 place_open));
       within = λ b h over.
-          false_from_ne_true (is_pending t b) (λ e.
-          let less = above_less t r p b h over in
-          let z = branch t r p b h (omega arith) (above_ancestor t p b over) in
-          let le : z.child ≤ b = ancestor_le t r z.child b h z.over in
-          absurd (cc (none_open z.child z.some (omega arith) z.parent, open_over z.child b h z.over (pending_open b e))));
+          false_from_ne_true (is_pending t b) (λ e. absurd (cc (shut_beneath b h over, pending_open b e)));
     }

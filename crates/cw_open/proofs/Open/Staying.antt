@@ -13,8 +13,9 @@ use Rattle.cw_tree.proofs.Members.{filter_same, below_in, filter_in}
 use Rattle.cw_tree.proofs.NextNodes.Kept.{KeepsParents, find_path_kept, is_above_kept, ancestor_kept, strand_of_kept}
 use Rattle.cw_tree.proofs.NextNodes.Closing.{length_closed, all_nodes_closed, node_closed, number_closed}
 use Rattle.cw_tree.proofs.InOrder.DepthFirst.{child_is}
+use Rattle.cw_tree.proofs.Walks.Climbs.{by_parent}
 use Rattle.cw_tree.proofs.Walks.Kin.{before_of}
-use Rattle.cw_tree.proofs.Walks.Ancestors.{ancestor_self, ancestor_le}
+use Rattle.cw_tree.proofs.Walks.Ancestors.{above_parent, ancestor_above, ancestor_self, ancestor_le}
 use Rattle.cw_tree.proofs.Walks.Meets.{lca_is_meet}
 use Rattle.cw_open.proofs.Open.Growth.{IsGrowth}
 
@@ -62,6 +63,19 @@ module _ (t u : List Node) (s : Stays t u) where
 
   pub strand_stays : (n : ℕ) → n < length t → strand_of u n ≡ strand_of t n
   strand_stays = strand_of_kept t u keeps s.strands
+
+-- what is above a node that came is above the place where it came, or is that place, where it did not come too
+pub came_beneath : (t u : List Node) (p stamp : ℕ) → IsRooted t → p < length t → IsGrowth t u p stamp → (a k : ℕ) → a < length t → length t ≤ k → k < length u
+    → is_above u a k ≡ true → is_ancestor t a p ≡ true
+came_beneath t u p stamp r there g a k low le h over =
+    by_parent u g.rooted (λ k. length t ≤ k → is_above u a k ≡ true → is_ancestor t a p ≡ true) (λ le. absurd (omega arith))
+    (λ k some h more le over.
+    let up : is_ancestor u a (parent_of u k) ≡ true = sym (above_parent u g.rooted a k some h) ∙ over in
+    elim (g.parents k le h) [
+      | inl q ↦ sym (ancestor_stays t u (grown_stays t u p stamp r g) a p there) ∙ ap (is_ancestor u a) (sym q) ∙ up
+      | inr past ↦ (let ne : parent_of u k ≡ a → ⊥ = λ q. omega (arith, q) in more past (sym (ancestor_above u a (parent_of u k) ne) ∙ up))
+    ])
+    k h le over
 
 module _ (t u : List Node) (s : Stays t u) (x v : ℕ) (low_x : x < length t) (low_v : v < length t) where
   fork_stays : is_fork u (lca u x v) ≡ is_fork t (lca t x v)

@@ -4,7 +4,7 @@ use Rattle.std.specs.Prelude.{ℤ, Option, Some, None, ◌&&◌, ◌||◌, not}
 use Rattle.std.specs.List.{list_all}
 use Rattle.std.proofs.lemmas.Bool.{and_parts, and_from, and_left, and_right, or_from, or_left, or_cases, not-true, not-false, not_from_true, false_from_ne_true, eqb-true, eq-eqb, ne_eqb, lt-ltb}
 use Rattle.cw_tree.specs.declared.node.Node.{Node}
-use Rattle.cw_tree.specs.declared.node.Kind.TheVariants.{Block, Out}
+use Rattle.cw_tree.specs.declared.node.Kind.TheVariants.{Cancel, Block, Out}
 use Rattle.cw_tree.specs.declared.node.BlockState.TheVariants.{Committed, Aborted}
 use Rattle.cw_tree.specs.Nodes.{is_strand_kind, is_fork_kind, is_tried_kind, parent_of, is_strand, is_fork, is_pending, all_nodes}
 use Rattle.cw_tree.specs.Walks.{has}
@@ -16,7 +16,7 @@ use Rattle.cw_tree.proofs.Walks.There.{node_there}
 use Rattle.cw_tree.proofs.NextNodes.Trees.{is_child}
 use Rattle.cw_tree.proofs.NodeKinds.{strand_no_block, fork_no_strand, fork_no_block, pending_block}
 use Rattle.cw_open.specs.Machine.{OpenMachine, live_value, has_finished, is_running, in_block, is_dying, is_free, rolls_back}
-use Rattle.cw_open.specs.Steps.{Step, forks, begins, accesses, refuses, outputs, commits, undoes, aborts, finishes, joins, stops, after_open_step}
+use Rattle.cw_open.specs.Steps.{puts_back, Step, forks, begins, accesses, refuses, outputs, cancels, commits, undoes, aborts, finishes, joins, stops, after_open_step}
 use Rattle.cw_open.specs.Runs.{Rules, Allowed}
 use Rattle.cw_open.specs.Open.{is_open}
 use Rattle.cw_open.proofs.Open.Standing.{runs, stands, none_open}
@@ -130,6 +130,7 @@ well_after r m (refuses s c write met) w a =
       clock = λ n h. (let z = g.clock n h in (omega (arith, z.0), omega (arith, z.1)));
     }
 well_after r m (outputs s v stamp) w a = well_grows m w s (free_runs m s a.0) (Out v) stamp refl refl refl a.1
+well_after r m (cancels s stamp) w a = well_grows m w s (free_runs m s (and_parts (is_free m s) (in_block m s) a.0).0) (Cancel (puts_back m s stamp)) stamp refl refl refl a.1
 well_after r m (commits s stamp) w a =
     let z = and_parts (is_free m s && in_block m s) _ a.0 in
     let y = and_parts (is_free m s) (in_block m s) z.0 in

@@ -158,13 +158,13 @@ module _ (m : OpenMachine) (w : IsWell m) (s : ℕ) (running : is_running m s �
     abbrev v : List Node
     v = closed t p state end
 
-    open_closed : (n : ℕ) → n ≢ p → is_open (record m { tree = v }) n ≡ is_open m n
+    pub open_closed : (n : ℕ) → n ≢ p → is_open (record m { tree = v }) n ≡ is_open m n
     open_closed n ne =
         ap (λ q. (q && not (has_finished m n)) || (is_fork v n && not (has m.joined n)) || is_pending v n) (node_closed t p state end (λ y. is_strand_kind y.kind) (λ y. refl) n)
         ∙ ap (λ q. (is_strand t n && not (has_finished m n)) || (q && not (has m.joined n)) || is_pending v n) (node_closed t p state end (λ y. is_fork_kind y.kind) (λ y. refl) n)
         ∙ ap (λ q. (is_strand t n && not (has_finished m n)) || (is_fork t n && not (has m.joined n)) || q) (pending_stays t p state end n ne)
 
-    shut : is_open (record m { tree = v }) p ≡ false
+    pub shut : is_open (record m { tree = v }) p ≡ false
     shut =
         let block = pending_block t p pending in
         or_from ((is_strand v p && not (has_finished m p)) || (is_fork v p && not (has m.joined p))) (is_pending v p)

@@ -4,7 +4,7 @@ use Rattle.std.specs.Prelude.{ℤ, filter, Option, Some, None}
 use Rattle.std.proofs.lemmas.List.{map-append}
 use Rattle.std.proofs.lemmas.List.Elements.{filter-append}
 use Rattle.cw_tree.specs.declared.node.Node.{Node}
-use Rattle.cw_tree.specs.declared.node.Kind.TheVariants.{Strand, Fork, Block, Out, Tried}
+use Rattle.cw_tree.specs.declared.node.Kind.TheVariants.{Cancel, Strand, Fork, Block, Out, Tried}
 use Rattle.cw_tree.specs.declared.node.BlockState.TheVariants.{Committed, Aborted}
 use Rattle.cw_tree.specs.declared.conflict.Conflict.{Conflict}
 use Rattle.cw_tree.specs.Nodes.{is_tried_kind, is_tried, all_nodes, fresh_node}
@@ -16,7 +16,7 @@ use Rattle.cw_tree.proofs.Members.{in_below, filter_same}
 use Rattle.cw_tree.proofs.NextNodes.Growing.{node_grown, node_new, all_nodes_more}
 use Rattle.cw_tree.proofs.NextNodes.Trees.{in_turn}
 use Rattle.cw_open.specs.Machine.{OpenMachine, live_value}
-use Rattle.cw_open.specs.Steps.{Step, forks, begins, accesses, refuses, outputs, commits, undoes, aborts, finishes, joins, stops, refusal, after_open_step}
+use Rattle.cw_open.specs.Steps.{puts_back, Step, forks, begins, accesses, refuses, outputs, cancels, commits, undoes, aborts, finishes, joins, stops, refusal, after_open_step}
 use Rattle.cw_open.specs.Runs.{Rules, Allowed, IsReachedBy}
 use Rattle.cw_open.proofs.Open.Trees.{stands_well}
 use Rattle.cw_open.proofs.Open.TreeSteps.{free_runs}
@@ -61,6 +61,7 @@ asking_after r first m (refuses s c write met) w k a =
     ∙ ap (λ ns. ns ++ length m.tree ∷ []) k
     ∙ sym (tries_more m.tree (fresh_node (place m.tree s) (Tried c) 0))
 asking_after r first m (outputs s v stamp) w k a = k ∙ sym (none_tried m.tree (fresh_node (place m.tree s) (Out v) stamp) refl)
+asking_after r first m (cancels s stamp) w k a = k ∙ sym (none_tried m.tree (fresh_node (place m.tree s) (Cancel (puts_back m s stamp)) stamp) refl)
 asking_after r first m (commits s stamp) w k a = k ∙ sym (tried_closed m.tree (place m.tree s) Committed stamp)
 asking_after r first m (undoes s c) w k a = k
 asking_after r first m (aborts s stamp) w k a = k ∙ sym (tried_closed m.tree (place m.tree s) Aborted stamp)

@@ -3,7 +3,7 @@ use Rattle.std.proofs.Common.{◌≡◌, ℕ, zero, suc, List, [], ◌∷◌, �
 use Rattle.std.specs.Prelude.{◌&&◌, ◌||◌, not, ℤ}
 use Rattle.std.proofs.lemmas.Bool.{and_parts, not-true}
 use Rattle.cw_tree.specs.declared.node.Kind.{Kind}
-use Rattle.cw_tree.specs.declared.node.Kind.TheVariants.{Block, Out}
+use Rattle.cw_tree.specs.declared.node.Kind.TheVariants.{Cancel, Block, Out}
 use Rattle.cw_tree.specs.Nodes.{is_committed, is_aborted, fresh_node}
 use Rattle.cw_tree.specs.Series.{place}
 use Rattle.cw_tree.specs.Refusals.{is_victim}
@@ -11,7 +11,7 @@ use Rattle.cw_tree.specs.AccessStacks.{access_kind}
 use Rattle.cw_tree.specs.NextNodes.{IsPlace, fork_nodes}
 use Rattle.cw_tree.proofs.NextNodes.Pending.{end_of_place}
 use Rattle.cw_open.specs.Machine.{OpenMachine, live_value, has_finished, finished_dead, is_running, in_block, is_dying, is_free, rolls_back}
-use Rattle.cw_open.specs.Steps.{Step, forks, begins, accesses, refuses, outputs, commits, undoes, aborts, finishes, joins, stops, after_open_step, first_machine}
+use Rattle.cw_open.specs.Steps.{puts_back, Step, forks, begins, accesses, refuses, outputs, cancels, commits, undoes, aborts, finishes, joins, stops, after_open_step, first_machine}
 use Rattle.cw_open.specs.Runs.{Rules, Allowed, IsReachedBy, left_died}
 use Rattle.cw_open.proofs.Open.Trees.{stands_well}
 use Rattle.cw_open.proofs.Open.TreeSteps.{free_runs, rolls_runs}
@@ -56,6 +56,7 @@ module _ (first : List ℤ) (m : OpenMachine) (w : IsToldState first m) (k : IsB
       let z = refused_come first m w k s (free_runs m s free) (lives_free s free) c met in
       record { back = z.0; died = z.1 }
   backed_after rules (outputs s v stamp) a = let z = leaf s a.0 (Out v) stamp in record { back = z.0; died = z.1 }
+  backed_after rules (cancels s stamp) a = let z = leaf s (and_parts (is_free m s) (in_block m s) a.0).0 (Cancel (puts_back m s stamp)) stamp in record { back = z.0; died = z.1 }
   backed_after rules (commits s stamp) a =
       let y = and_parts (is_free m s && in_block m s) (not (is_victim m.tree m.conflicts (place m.tree s))) a.0 in
       let x = and_parts (is_free m s) (in_block m s) y.0 in

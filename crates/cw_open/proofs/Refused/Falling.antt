@@ -14,6 +14,7 @@ use Rattle.cw_tree.specs.Refusals.{is_victim, victim_of}
 use Rattle.cw_tree.proofs.Lists.{any_in, any_from}
 use Rattle.cw_tree.proofs.Members.{in_below, below_in}
 use Rattle.cw_open.specs.Machine.{OpenMachine, falls, is_dying, leads_back}
+use Rattle.cw_open.specs.Open.{is_open}
 
 -- some of these passes, and so some of these and more, where each that passed still does
 pub any_kept : {X : Type 0} (P : X → Type 0) (p q : X → Bool) (xs ys : List X) → All P xs → ((x : X) → P x → p x ≡ true → q x ≡ true) → list_any p xs ≡ true → list_any q (xs ++ ys) ≡ true
@@ -81,9 +82,15 @@ module _ (m k : OpenMachine) (more : List Conflict) (told : k.conflicts ≡ m.co
       let z = and_parts (is_above m.tree s c.asker) (list_any (λ v. falls m c v && is_ancestor m.tree v b) (all_nodes m.tree)) f in
       and_from (is_above k.tree s c.asker) (list_any (λ v. falls k c v && is_ancestor k.tree v b) (all_nodes k.tree)) (h.above c.asker low ∙ z.0) (falling c z.1)) e
 
--- A live access that is not in its cell's list was undone: it stands beneath a pending block that its strand has to roll back.
+-- A live access that is not in its cell's list was undone: it stands beneath a pending block that its strand has to roll back, and in which
+-- nothing is open.
 pub record IsGone (m : OpenMachine) (n : ℕ) : Type 0 where
   pub block : ℕ
   pub pending : is_pending m.tree block ≡ true
   pub over : is_above m.tree block n ≡ true
   pub back : leads_back m (strand_of m.tree block) block ≡ true
+  pub shut : (k : ℕ) → k < length m.tree → is_above m.tree block k ≡ true → is_open m k ≡ false
+
+-- and so it is in another state
+abbrev pub StayShut : OpenMachine → OpenMachine → Type 0
+StayShut m z = (n : ℕ) (g : IsGone m n) (k : ℕ) → k < length z.tree → is_above z.tree g.block k ≡ true → is_open z k ≡ false

@@ -201,6 +201,7 @@ module _ (times after : ℕ → ℕ) (was clock : ℕ) (t u : List Node) (g : Go
       no_tried (Read d y) st e = absurd (cc e)
       no_tried (Write d y) st e = absurd (cc e)
       no_tried (Out y) st e = absurd (cc e)
+      no_tried _ st e = absurd (cc e)
 
     refusal_on : IsRefusal u c x b
     refusal_on = record {

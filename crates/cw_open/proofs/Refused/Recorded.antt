@@ -4,7 +4,7 @@ use Rattle.std.specs.Prelude.{◌&&◌, ℤ, All}
 use Rattle.std.proofs.lemmas.Bool.{and_parts, false_from_ne_true}
 use Rattle.std.proofs.lemmas.List.Elements.{All-nil, All-cons, All-append, All-weaker}
 use Rattle.cw_tree.specs.declared.node.Node.{Node}
-use Rattle.cw_tree.specs.declared.node.Kind.TheVariants.{Block, Out, Tried}
+use Rattle.cw_tree.specs.declared.node.Kind.TheVariants.{Cancel, Block, Out, Tried}
 use Rattle.cw_tree.specs.declared.node.BlockState.{BlockState}
 use Rattle.cw_tree.specs.declared.node.BlockState.TheVariants.{Committed, Aborted}
 use Rattle.cw_tree.specs.declared.conflict.Conflict.{Conflict}
@@ -19,7 +19,7 @@ use Rattle.cw_tree.proofs.NextNodes.Pending.{end_of_place}
 use Rattle.cw_tree.proofs.Walks.Kin.{fork_child}
 use Rattle.cw_tree.proofs.NodeKinds.{strand_no_block, block_some}
 use Rattle.cw_open.specs.Machine.{OpenMachine, live_value, is_running, in_block, is_free, rolls_back}
-use Rattle.cw_open.specs.Steps.{Step, forks, begins, accesses, refuses, outputs, commits, undoes, aborts, finishes, joins, stops, refusal, after_open_step, after_all, first_machine}
+use Rattle.cw_open.specs.Steps.{puts_back, Step, forks, begins, accesses, refuses, outputs, cancels, commits, undoes, aborts, finishes, joins, stops, refusal, after_open_step, after_all, first_machine}
 use Rattle.cw_open.specs.Runs.{Allowed, IsRun}
 use Rattle.cw_open.specs.Times.{times_after, IsTimely, AreTimely}
 use Rattle.cw_open.specs.Refused.{as_told, ConflictsAreRecorded}
@@ -136,6 +136,10 @@ keep asked first times m w (outputs s v stamp) latest a d =
     let well = w.told.state.well in
     let running = free_runs m s a.0 in
     came first times m w (outputs s v stamp) s stamp running (growth_leaf m.tree well.sound.tree.rooted (place m.tree s) (end_of_place m.tree (place m.tree s) (stands_well m well s running)) (Out v) stamp) (λ n j h le l some e. d n h e) latest (omega arith)
+keep asked first times m w (cancels s stamp) latest a d =
+    let well = w.told.state.well in
+    let running = free_runs m s (and_parts (is_free m s) (in_block m s) a.0).0 in
+    came first times m w (cancels s stamp) s stamp running (growth_leaf m.tree well.sound.tree.rooted (place m.tree s) (end_of_place m.tree (place m.tree s) (stands_well m well s running)) (Cancel (puts_back m s stamp)) stamp) (λ n j h le l some e. d n h e) latest (omega arith)
 keep asked first times m w (commits s stamp) latest a d =
     let y = and_parts (is_free m s && in_block m s) _ a.0 in
     let x = and_parts (is_free m s) (in_block m s) y.0 in

@@ -34,6 +34,7 @@ access_holds c Fork e = absurd (cc e)
 access_holds c Block e = absurd (cc e)
 access_holds c (Out v) e = absurd (cc e)
 access_holds c (Tried d) e = absurd (cc e)
+access_holds c _ e = absurd (cc e)
 
 -- access u, a pending block b above it, and a place p that is not in that block
 module _ (t : List Node) (s : IsSound t) (c u b p : ℕ) (access : touches t c u ≡ true) (pending : is_pending t b ≡ true) (over : is_above t b u ≡ true) (place : IsPlace t p) (off : is_ancestor t b p ≡ false) where

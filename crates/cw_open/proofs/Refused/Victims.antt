@@ -29,7 +29,7 @@ use Rattle.cw_tree.proofs.NextNodes.Closing.{length_closed, node_closed, number_
 use Rattle.cw_tree.proofs.NextNodes.Before.{above_down}
 use Rattle.cw_tree.proofs.NodeKinds.{fork_no_strand, fork_no_block, pending_block}
 use Rattle.cw_open.specs.Machine.{OpenMachine, has_finished, falls, is_running, in_block, is_dying, is_free, leads_back, rolls_back}
-use Rattle.cw_open.specs.Steps.{Met, Step, forks, begins, accesses, refuses, outputs, commits, undoes, aborts, finishes, joins, stops, refusal, after_open_step, first_machine}
+use Rattle.cw_open.specs.Steps.{Met, Step, forks, begins, accesses, refuses, outputs, cancels, commits, undoes, aborts, finishes, joins, stops, refusal, after_open_step, first_machine}
 use Rattle.cw_open.specs.Runs.{Rules, Allowed, IsReachedBy, at_any_time}
 use Rattle.cw_open.specs.Laws.{VictimsAreAbove, DyingRollBack, FreeAreSafe}
 use Rattle.cw_open.proofs.Open.Standing.{runs, stands, pending_open, open_over, open_last, place_open}
@@ -131,6 +131,7 @@ told_after r first m (refuses s c write met) w a n =
     All-append (IsTold u) m.conflicts (refusal m p c met ∷ []) (All-weaker (IsTold m.tree) (IsTold u) (told_grown m.tree (fresh_node p (Tried c) 0 ∷ []) rooted) m.conflicts a)
     (All-cons (IsTold u) (refusal m p c met) [] (told_new m rooted p (stands_well m w.well s (free_runs m s free)).there c met) (All-nil (IsTold u)))
 told_after r first m (outputs s v stamp) w a n = All-weaker (IsTold m.tree) _ (told_grown m.tree _ w.well.sound.tree.rooted) m.conflicts a
+told_after r first m (cancels s stamp) w a n = All-weaker (IsTold m.tree) _ (told_grown m.tree _ w.well.sound.tree.rooted) m.conflicts a
 told_after r first m (commits s stamp) w a n = All-weaker (IsTold m.tree) _ (told_closed m.tree w.well.sound.tree.rooted (place m.tree s) _ stamp) m.conflicts a
 told_after r first m (undoes s c) w a n = a
 told_after r first m (aborts s stamp) w a n = All-weaker (IsTold m.tree) _ (told_closed m.tree w.well.sound.tree.rooted (place m.tree s) _ stamp) m.conflicts a

@@ -55,6 +55,7 @@ module _ (t : List Node) (w : IsNumbered t) where
         no_strand (Read d v) e = absurd (cc e)
         no_strand (Write d v) e = absurd (cc e)
         no_strand (Out v) e = absurd (cc e)
+        no_strand _ e = absurd (cc e)
 
   module _ (c : Conflict) (x b : ℕ) (q : IsRefusal t c x b) where
     abbrev v : ℕ

@@ -1,35 +1,41 @@
 -- What a run leaves, in depth-first order.
-use Rattle.std.proofs.Common.{◌≡◌, ℕ, ◌<◌, List, [], ◌∷◌, length, map, refl, ap, sym, ◌∙◌, subst, arith, Bool, Some, None, true, false, inl, inr, nat_eq}
-use Rattle.std.specs.Prelude.{◌&&◌, not, is_some, ℤ, All, filter, unwrap_or}
+use Rattle.std.proofs.Common.{◌≡◌, ℕ, ◌<◌, List, [], ◌∷◌, length, map, refl, ap, sym, ◌∙◌, subst, arith, Bool, Option, Some, None, true, false, inl, inr, nat_eq, nat_lt}
+use Rattle.std.specs.Prelude.{◌&&◌, not, is_some, ℤ, pos, All, filter, option_map, slice_get, slice_index_or, unwrap_or}
 use Rattle.std.specs.List.{list_any}
 use Rattle.std.proofs.lemmas.Bool.{and_parts, and_from, eqb-true, or_cases}
 use Rattle.std.proofs.lemmas.List.Elements.{All-weaker, All-head, All-tail}
+use Rattle.std.proofs.lemmas.List.{map-id}
+use Rattle.std.proofs.lemmas.Option.{same_Some, slice_get_within}
+use Rattle.cw_code.specs.declared.Back.{Back}
 use Rattle.cw_tree.specs.declared.node.Node.{Node}
+use Rattle.cw_tree.specs.declared.node.Kind.TheVariants.{Cancel}
 use Rattle.cw_tree.specs.declared.access.Entry.{Entry}
 use Rattle.cw_tree.specs.declared.conflict.Conflict.{Conflict}
-use Rattle.cw_tree.specs.Nodes.{touches_kind, tries_kind, is_strand_kind, stamp_of, end_of, is_node, is_block, is_strand, is_aborted, is_committed, touches, all_nodes}
+use Rattle.cw_tree.specs.Nodes.{touches_kind, tries_kind, is_strand_kind, is_block_kind, below, stamp_of, end_of, is_node, is_block, is_strand, is_aborted, is_committed, touches, all_nodes}
 use Rattle.cw_tree.specs.Walks.{IsNumbered, path, is_above}
 use Rattle.cw_tree.specs.Series.{has_later}
 use Rattle.cw_tree.specs.Shape.{AreStamps}
 use Rattle.cw_tree.specs.NextNodes.{IsSound}
 use Rattle.cw_tree.specs.declared.closed.Halt.TheVariants.{Fault, Budget, Memory}
-use Rattle.cw_tree.specs.Accesses.{is_live, live_accesses, written}
+use Rattle.cw_tree.specs.Accesses.{is_live, live_accesses, written, cell_value}
 use Rattle.cw_tree.specs.Journals.{AreEntries, AreJournals, EndedBetween, AllEndedBetween, JournalsEnded, fits_cells}
+use Rattle.cw_tree.specs.Cancels.{wrote_in, before_block, put_back, IsCancel, AreCancels}
 use Rattle.cw_tree.specs.Refusals.{victim_of, is_victim, names_victim, IsRecorded, AreRefusals, RollsBack}
-use Rattle.cw_tree.specs.InOrder.{renamed, in_order, conflicts_in_order}
+use Rattle.cw_tree.specs.InOrder.{renamed, with_parent_renamed, in_order, conflicts_in_order}
 use Rattle.cw_tree.proofs.Lists.{In}
-use Rattle.cw_tree.proofs.Members.{in_filter, in_below, below_in, map_in, in_map, filter_in, any_same}
+use Rattle.cw_tree.proofs.Members.{in_filter, in_below, below_in, map_in, in_map, filter_in, filter_same, any_same, map_same}
+use Rattle.cw_tree.proofs.Cancels.{before_same}
 use Rattle.cw_tree.proofs.InOrder.Keys.{by_key_in, in_by_key}
 use Rattle.cw_tree.proofs.Walks.There.{node_there}
 use Rattle.cw_tree.proofs.Walks.Kin.{in_ancestor}
 use Rattle.cw_tree.proofs.Walks.Ancestors.{ancestor_le}
-use Rattle.cw_tree.proofs.InOrder.Renaming.{above_stays}
+use Rattle.cw_tree.proofs.InOrder.Renaming.{node_stays, above_stays}
 use Rattle.cw_tree.proofs.InOrder.Sound.{sound_stays}
 use Rattle.cw_tree.proofs.ChainLaws.LiveAccesses.{live_rises}
 use Rattle.cw_tree.proofs.Rising.{Rises, rises_same}
 use Rattle.cw_tree.proofs.NodeKinds.{access_stamped, aborted_block, block_some}
 use Rattle.cw_open.specs.Left.{AreMade, HistoriesAreInOrder}
-use Rattle.cw_open.specs.Reordered.{CellsStay, JournalsStay, EndsStay, RefusalsStay, RollsBackStays, FaultsStay}
+use Rattle.cw_open.specs.Reordered.{CellsStay, JournalsStay, EndsStay, CancelsStay, RefusalsStay, RollsBackStays, FaultsStay}
 use Rattle.cw_open.proofs.Refused.Falling.{AreAskers}
 use Rattle.cw_open.proofs.Reordered.Leaving.{histories_left}
 use Rattle.cw_open.proofs.Reordered.Renamed.{each_number, low, node_kept, stamp_kept, end_kept, block_kept, aborted_kept, committed_kept, live_renamed, strand_kept, written_kept, read_kept, path_renamed, later_renamed, any_map}
@@ -151,6 +157,58 @@ module _ (t : List Node) (w : IsNumbered t) (sound : IsSound t) where
   pub ends_renamed : (k : ℕ) → JournalsEnded t k → JournalsEnded new k
   ends_renamed k ends c l = let P : List ℕ → Type 0 = λ us. AllEndedBetween new us in subst P (sym (accesses_renamed c)) (all_between (live_accesses t c) (live_low c) (ends c l))
 
+  -- ## Cancels
+
+  -- what a block puts back, which is renamed, is the same
+  wrote_renamed : (b stamp c : ℕ) → b < length t → wrote_in new (f b) stamp (live_accesses new c) ≡ wrote_in t b stamp (live_accesses t c)
+  wrote_renamed b stamp c low_b =
+      ap (wrote_in new (f b) stamp) (accesses_renamed c)
+      ∙ any_map (λ u. is_above new (f b) u && nat_lt (stamp_of new u) stamp && is_some (written new u)) f (live_accesses t c)
+      ∙ any_same (λ u. is_above new (f b) (f u) && nat_lt (stamp_of new (f u)) stamp && is_some (written new (f u)))
+      (λ u. is_above t b u && nat_lt (stamp_of t u) stamp && is_some (written t u)) (live_accesses t c)
+      (λ u i.
+      let l = live_low c u i in
+      ap (λ k. k && nat_lt (stamp_of new (f u)) stamp && is_some (written new (f u))) (above_stays t w b u low_b l)
+      ∙ ap (λ k. is_above t b u && nat_lt k stamp && is_some (written new (f u))) (stamp_kept t w u l)
+      ∙ ap (λ k. is_above t b u && nat_lt (stamp_of t u) stamp && is_some k) (written_kept t w u l))
+
+  before_renamed : (b c : ℕ) → b < length t
+      → map (written new) (before_block new (f b) (live_accesses new c)) ≡ map (written t) (before_block t b (live_accesses t c))
+  before_renamed b c low_b =
+      ap (λ us. map (written new) (before_block new (f b) us)) (accesses_renamed c)
+      ∙ before_same t new b (f b) (λ (n : ℕ). n) f (live_accesses t c)
+      (λ u i. (above_stays t w b u low_b (live_low c u i), written_kept t w u (live_low c u i)))
+      ∙ ap (λ us. map (written t) (before_block t b us)) (map-id (live_accesses t c))
+
+  back_renamed : (first : List ℤ) (b stamp : ℕ) → b < length t → put_back new first (live_accesses new) (f b) stamp ≡ put_back t first (live_accesses t) b stamp
+  back_renamed first b stamp low_b =
+      let entry : ℕ → ℤ → Back = λ c v. record { cell = c; value = v } in
+      let back : List Node → ℕ → ℕ → Back = λ u d c. entry c
+      (cell_value (slice_index_or first c (pos 0)) (map (written u) (before_block u d (live_accesses u c)))) in
+      ap (map (back new (f b)))
+      (filter_same (λ c. wrote_in new (f b) stamp (live_accesses new c)) (λ c. wrote_in t b stamp (live_accesses t c)) (below (length first))
+      (λ c i. wrote_renamed b stamp c low_b))
+      ∙ map_same (back new (f b)) (back t b) (filter (λ c. wrote_in t b stamp (live_accesses t c)) (below (length first)))
+      (λ c i. ap (λ ws. entry c (cell_value (slice_index_or first c (pos 0)) ws)) (before_renamed b c low_b))
+
+  cancel_renamed : (first : List ℤ) → AreCancels t first → (n : ℕ) → n < length t → (y : Node) (back : List Back) → slice_get new (f n) ≡ Some y
+      → y.kind ≡ Cancel back → is_live new (f n) ≡ true → IsCancel new first y back
+  cancel_renamed first cancels n l y back at kind lives = by (slice_get t n) refl where
+    by : (o : Option Node) → slice_get t n ≡ o → IsCancel new first y back
+    by None e = absurd (cc (at, node_stays t w n l, ap (option_map (with_parent_renamed t)) e))
+    by (Some x) e =
+        let same : with_parent_renamed t x ≡ y = same_Some (with_parent_renamed t x) y
+        (sym (node_stays t w n l ∙ ap (option_map (with_parent_renamed t)) e) ∙ at) in
+        let old = cancels n x back e (ap (λ z. z.kind) same ∙ kind) (sym (live_renamed t w n l) ∙ lives) in
+        let low_b = node_there (λ z. is_block_kind z.kind) t x.parent old.block in
+        let P : Node → Type 0 = λ z. IsCancel new first z back in
+        subst P same (record { block = block_kept t w x.parent low_b ∙ old.block; list = old.list ∙ sym (back_renamed first x.parent x.stamp low_b) })
+
+  pub cancels_renamed : (first : List ℤ) → AreCancels t first → AreCancels new first
+  cancels_renamed first cancels n y back at =
+      each_number t w (λ n. (y : Node) (back : List Back) → slice_get new n ≡ Some y → y.kind ≡ Cancel back → is_live new n ≡ true → IsCancel new first y back)
+      (cancel_renamed first cancels) n (slice_get_within new n y at) y back at
+
 -- ## Refusals
 
 module _ (t : List Node) (w : IsNumbered t) (cs : List Conflict) (made : AreMade t cs) where
@@ -226,6 +284,9 @@ journals_stay t first kept w sound js = journals_renamed t w sound first kept js
 pub ends_stay : EndsStay
 ends_stay t k w sound ends = ends_renamed t w sound k ends
 
+pub cancels_stay : CancelsStay
+cancels_stay t first w sound cancels = cancels_renamed t w sound first cancels
+
 pub refusals_stay : RefusalsStay
 refusals_stay t cs w made = refusals_renamed t w cs made
 
@@ -253,6 +314,7 @@ histories_in_order first m kept reached none k w =
       cells = cells_stay t (length first) w h.cells;
       journals = journals_renamed t w h.sound first kept h.journals;
       ended = ends_renamed t w h.sound (length first) h.ended;
+      cancels = cancels_renamed t w h.sound first h.cancels;
       refusals = refusals_renamed t w m.conflicts h.refusals;
       rolls_back = backs_renamed t w m.conflicts h.refusals h.rolls_back;
     }

@@ -1,19 +1,14 @@
 -- What a run leaves.
 use Rattle.std.proofs.Common.{◌≡◌, ℕ, List, [], ◌∷◌, length, map, refl, ap, ◌∙◌, subst, true, inl, inr}
-use Rattle.std.specs.Prelude.{◌&&◌, ℤ, filter, is_some, slice_get, Option, unwrap_or}
-use Rattle.std.proofs.lemmas.Bool.{and_parts}
+use Rattle.std.specs.Prelude.{ℤ, is_some, slice_get, Option, unwrap_or}
 use Rattle.cw_tree.specs.declared.node.Node.{Node}
 use Rattle.cw_tree.specs.declared.access.Entry.{Entry}
-use Rattle.cw_tree.specs.Nodes.{stamp_of, touches, all_nodes}
+use Rattle.cw_tree.specs.Nodes.{stamp_of, touches}
 use Rattle.cw_tree.specs.Shape.{AreStamps}
-use Rattle.cw_tree.specs.Accesses.{written, is_live, live_accesses}
-use Rattle.cw_tree.specs.AccessStacks.{access_at}
+use Rattle.cw_tree.specs.Accesses.{written, live_accesses}
 use Rattle.cw_tree.specs.Journals.{AreEntries, AllEndedBetween}
 use Rattle.cw_tree.specs.Newest.{newest}
 use Rattle.cw_tree.proofs.Lists.{In}
-use Rattle.cw_tree.proofs.Members.{in_filter}
-use Rattle.cw_tree.proofs.InOrder.Keys.{by_key_in}
-use Rattle.cw_open.specs.Machine.{live}
 use Rattle.cw_open.specs.Reads.{AreRead}
 use Rattle.cw_open.specs.Left.{AreEntriesAt, HistoriesAreLeft}
 use Rattle.cw_open.proofs.Laws.Named.{access_named}
@@ -21,18 +16,14 @@ use Rattle.cw_open.proofs.Runs.LawsHold.{cells, have_all, trees, ended}
 use Rattle.cw_open.proofs.Refused.GoingBack.{askers_tried, aborted_victims, committed_safe, dying_back}
 use Rattle.cw_open.proofs.Refused.Recorded.{conflicts_recorded}
 use Rattle.cw_open.proofs.Laws.Reading.{reads_met}
+use Rattle.cw_open.proofs.Laws.CancelStates.{all_named, cancels_right}
+use Rattle.cw_open.proofs.Runs.States.{states}
+use Rattle.cw_open.specs.Runs.{at_any_time}
+use Rattle.cw_tree.proofs.Cancels.{live_is}
 use Rattle.cw_open.proofs.Runs.Unstopped.{told_any_time}
 
--- the nodes of stamps of accesses
-named_back : (t : List Node) → AreStamps t → (c : ℕ) (ns : List ℕ) → ((n : ℕ) → In n ns → touches t c n ≡ true) → map (access_at t) (map (stamp_of t) ns) ≡ ns
-named_back t s c [] f = refl
-named_back t s c (n ∷ ns) f =
-    ap (λ k. k ∷ map (access_at t) (map (stamp_of t) ns)) (access_named t s c n (f n (inl refl))) ∙ ap (λ ks. n ∷ ks) (named_back t s c ns (λ k i. f k (inr i)))
-
 pub live_touched : (t : List Node) (c n : ℕ) → In n (live_accesses t c) → touches t c n ≡ true
-live_touched t c n i =
-    let p = λ (n : ℕ). touches t c n && is_live t n in
-    (and_parts (touches t c n) (is_live t n) (in_filter p n (all_nodes t) (by_key_in (stamp_of t) n (filter p (all_nodes t)) i)).1).0
+live_touched t c n i = (live_is t c n i).0
 
 -- entries of accesses by their nodes
 entries_of : (t : List Node) → AreStamps t → (c : ℕ) (v : ℤ) (ns : List ℕ) (es : List Entry) → ((n : ℕ) → In n ns → touches t c n ≡ true) → AreEntriesAt t v (map (stamp_of t) ns) es → AreRead t v ns → AreEntries t v ns es
@@ -60,7 +51,7 @@ histories_left first m kept reached none k =
     let sound = trees asked first m any in
     let fit = cells asked first m any in
     let all = have_all asked first m any none in
-    let same : (c : ℕ) → map (access_at t) (live m c) ≡ live_accesses t c = λ c. ap (map (access_at t)) (all c) ∙ named_back t sound.stamps c (live_accesses t c) (live_touched t c) in
+    let same = all_named first m (states (at_any_time asked) first m any) none in
     record {
       sound = sound;
       cells = fit.2;
@@ -73,6 +64,7 @@ histories_left first m kept reached none k =
             entries_of t sound.stamps c v (live_accesses t c) es (live_touched t c) (subst P (all c) (k.each c v es at f)) (subst Q (same c) (reads_met first m any c v e)));
       };
       ended = λ c h. (let P : List ℕ → Type 0 = λ ns. AllEndedBetween t ns in subst P (same c) (ended first m any c));
+      cancels = cancels_right first m any none;
       refusals = record {
         each = askers_tried asked first m any;
         recorded = conflicts_recorded asked first m reached;

@@ -104,6 +104,7 @@ tried_no_strand t = node_tells false t (λ y. is_tried_kind y.kind) (λ y. is_st
   kinds (Read d v) e = absurd (cc e)
   kinds (Write d v) e = absurd (cc e)
   kinds (Out v) e = absurd (cc e)
+  kinds _ e = absurd (cc e)
 
 -- the askers of conflicts are refused accesses
 all_tried : (t : List Node) (cs : List Conflict) (ns : List ℕ) → map (λ c. c.asker) cs ≡ ns → ((n : ℕ) → In n ns → is_tried t n ≡ true) → All (λ c. is_tried t c.asker ≡ true) cs

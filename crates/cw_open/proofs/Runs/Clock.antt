@@ -1,5 +1,5 @@
 -- A number above the clock may be the next stamp anywhere, and the end of any block.
-use Rattle.std.proofs.Common.{◌≡◌, ℕ, ◌<◌, List, length, arith}
+use Rattle.std.proofs.Common.{ℕ, ◌<◌, length, arith}
 use Rattle.cw_tree.specs.Nodes.{stamp_of, end_of}
 use Rattle.cw_tree.specs.NextNodes.{IsFresh, IsNextStamp, IsEndStamp}
 use Rattle.cw_open.specs.Machine.{OpenMachine}

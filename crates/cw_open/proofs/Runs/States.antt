@@ -13,7 +13,7 @@ use Rattle.cw_tree.proofs.Lists.{In}
 use Rattle.cw_tree.proofs.Worked.Checks.{is_tree, are_stamps, pending_last}
 use Rattle.cw_tree.proofs.Rising.{Rises}
 use Rattle.cw_open.specs.Machine.{OpenMachine, live}
-use Rattle.cw_open.specs.Steps.{Step, forks, begins, accesses, refuses, outputs, commits, undoes, aborts, finishes, joins, stops, after_open_step, after_all, first_machine}
+use Rattle.cw_open.specs.Steps.{Step, forks, begins, accesses, refuses, outputs, cancels, commits, undoes, aborts, finishes, joins, stops, after_open_step, after_all, first_machine}
 use Rattle.cw_open.specs.Runs.{Rules, Allowed, IsRun, IsReachedBy, at_any_time}
 use Rattle.cw_open.proofs.Open.Trees.{IsWell}
 use Rattle.cw_open.proofs.Open.TreeSteps.{well_after}
@@ -43,6 +43,7 @@ at_any_step r m (begins s stamp) a = a
 at_any_step r m (accesses s c w stamp) a = a
 at_any_step r m (refuses s c w met) a = (a.0, tt)
 at_any_step r m (outputs s v stamp) a = a
+at_any_step r m (cancels s stamp) a = a
 at_any_step r m (commits s stamp) a = a
 at_any_step r m (undoes s c) a = a
 at_any_step r m (aborts s stamp) a = a
@@ -102,12 +103,13 @@ pub record IsState (first : List ℤ) (m : OpenMachine) : Type 0 where
   pub listed : AreListed m
   pub values : m.first ≡ first
 
-same_first : (m : OpenMachine) (e : Step) → (after_open_step m e).first ≡ m.first
+pub same_first : (m : OpenMachine) (e : Step) → (after_open_step m e).first ≡ m.first
 same_first m (forks s stamp) = refl
 same_first m (begins s stamp) = refl
 same_first m (accesses s c w stamp) = refl
 same_first m (refuses s c w met) = refl
 same_first m (outputs s v stamp) = refl
+same_first m (cancels s stamp) = refl
 same_first m (commits s stamp) = refl
 same_first m (undoes s c) = refl
 same_first m (aborts s stamp) = refl

@@ -7,7 +7,7 @@ use Rattle.cw_tree.specs.Series.{place}
 use Rattle.cw_tree.specs.Walks.{has}
 use Rattle.cw_tree.specs.Nodes.{is_strand}
 use Rattle.cw_open.specs.Machine.{OpenMachine, has_finished, waits, is_running, in_block, is_dying, is_free, leads_back, rolls_back}
-use Rattle.cw_open.specs.Steps.{Step, forks, begins, accesses, refuses, outputs, commits, undoes, aborts, finishes, joins, stops, after_open_step, after_all, first_machine}
+use Rattle.cw_open.specs.Steps.{Step, forks, begins, accesses, refuses, outputs, cancels, commits, undoes, aborts, finishes, joins, stops, after_open_step, after_all, first_machine}
 use Rattle.cw_open.specs.Runs.{Rules, IsRun, is_undone, at_any_time}
 use Rattle.cw_open.specs.Refused.{as_told, unstopped, StopsAreLeftOut, ToldIsAtAnyTime}
 use Rattle.cw_open.proofs.Runs.States.{by_rules, at_any_step}
@@ -53,6 +53,9 @@ module _ (asked : List Node → List ℕ → Option ℤ → List ℕ) where
       let z = unstopped_run (after_open_step m (refuses s c w met)) es run.1 in
       (((first_part (is_free m s) (is_free (unstopped m) s) (nat_lt c (length m.lists)) (free_on m s) run.0.0, run.0.1), z.0), z.1)
   unstopped_run m (outputs s v stamp ∷ es) run = let z = unstopped_run (after_open_step m (outputs s v stamp)) es run.1 in (((free_on m s run.0.0, run.0.1), z.0), z.1)
+  unstopped_run m (cancels s stamp ∷ es) run =
+      let z = unstopped_run (after_open_step m (cancels s stamp)) es run.1 in
+      (((first_part (is_free m s) (is_free (unstopped m) s) (in_block m s) (free_on m s) run.0.0, run.0.1), z.0), z.1)
   unstopped_run m (commits s stamp ∷ es) run =
       let z = unstopped_run (after_open_step m (commits s stamp)) es run.1 in
       (((first_part (is_free m s && in_block m s) (is_free (unstopped m) s && in_block m s) _ (first_part (is_free m s) (is_free (unstopped m) s) (in_block m s) (free_on m s)) run.0.0, run.0.1), z.0), z.1)

@@ -17,7 +17,7 @@ use Rattle.cw_tree.proofs.Rising.{Rises, rises_increase}
 use Rattle.cw_tree.proofs.Members.{all_of}
 use Rattle.cw_tree.proofs.NodeKinds.{pending_block}
 use Rattle.cw_open.specs.Machine.{OpenMachine, live}
-use Rattle.cw_open.specs.Steps.{Met, Step, forks, begins, accesses, refuses, outputs, commits, undoes, aborts, finishes, joins, stops, after_open_step, first_machine}
+use Rattle.cw_open.specs.Steps.{Met, Step, forks, begins, accesses, refuses, outputs, cancels, commits, undoes, aborts, finishes, joins, stops, after_open_step, first_machine}
 use Rattle.cw_open.specs.Runs.{Allowed, IsRun, IsRefused, at_once}
 use Rattle.cw_open.specs.Times.{is_changed, times_after, IsDrawn, IsMetInTime, IsTimely, AreTimely, IsAhead, AreAhead}
 use Rattle.cw_open.specs.Refused.{IsNewest, as_told, AtOnceIsTold, AheadIsTimely}
@@ -63,6 +63,7 @@ told_step first m (begins s stamp) w a = a
 told_step first m (accesses s c write stamp) w a = a
 told_step first m (refuses s c write met) w a = (a.0, (met_is first m s c write met w a, newest_told m.tree c (live m c) met (w.listed.rises c) (w.listed.accesses c) a.1.last a.1.chain))
 told_step first m (outputs s v stamp) w a = a
+told_step first m (cancels s stamp) w a = a
 told_step first m (commits s stamp) w a = a
 told_step first m (undoes s c) w a = a
 told_step first m (aborts s stamp) w a = a
@@ -85,6 +86,7 @@ clock_on m (begins s stamp) = omega arith
 clock_on m (accesses s c w stamp) = omega arith
 clock_on m (refuses s c w met) = omega arith
 clock_on m (outputs s v stamp) = omega arith
+clock_on m (cancels s stamp) = omega arith
 clock_on m (commits s stamp) = omega arith
 clock_on m (undoes s c) = omega arith
 clock_on m (aborts s stamp) = omega arith
@@ -118,6 +120,7 @@ timely_step times m (begins s stamp) low a ahead = drawn times m (place m.tree s
 timely_step times m (accesses s c w stamp) low a ahead = drawn times m (place m.tree s) stamp low ahead
 timely_step times m (refuses s c w met) low a ahead = met_now times m s c met a.1
 timely_step times m (outputs s v stamp) low a ahead = drawn times m (place m.tree s) stamp low ahead
+timely_step times m (cancels s stamp) low a ahead = drawn times m (place m.tree s) stamp low ahead
 timely_step times m (commits s stamp) low a ahead = tt
 timely_step times m (undoes s c) low a ahead = tt
 timely_step times m (aborts s stamp) low a ahead = tt

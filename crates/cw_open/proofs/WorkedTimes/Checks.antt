@@ -15,7 +15,7 @@ use Rattle.cw_tree.proofs.Walks.There.{node_there, pending_there}
 use Rattle.cw_tree.proofs.Walks.Kin.{has_in}
 use Rattle.cw_tree.proofs.Worked.Checks.{all_below, each_below, implies, implied, differ, both_less}
 use Rattle.cw_open.specs.Machine.{OpenMachine}
-use Rattle.cw_open.specs.Steps.{Met, Step, forks, begins, accesses, refuses, outputs, after_open_step}
+use Rattle.cw_open.specs.Steps.{Met, Step, forks, begins, accesses, refuses, outputs, cancels, after_open_step}
 use Rattle.cw_open.specs.Runs.{ComesLast}
 use Rattle.cw_open.specs.Laws.{NoneUndone}
 use Rattle.cw_open.specs.Times.{times_after, IsDrawn, ClosedLater, IsMetInTime, IsTimely, AreTimely}
@@ -111,6 +111,7 @@ step_test times m (begins s stamp) = all_below (drawn_test m.tree times (place m
 step_test times m (accesses s c w stamp) = all_below (drawn_test m.tree times (place m.tree s) stamp) (length m.tree)
 step_test times m (refuses s c w met) = met_test m.tree times (place m.tree s) (unwrap_or (block_with_stamp m.tree met.block) 0) met.block
 step_test times m (outputs s v stamp) = all_below (drawn_test m.tree times (place m.tree s) stamp) (length m.tree)
+step_test times m (cancels s stamp) = all_below (drawn_test m.tree times (place m.tree s) stamp) (length m.tree)
 step_test times m _ = true
 
 is_timely : (times : ℕ → ℕ) (m : OpenMachine) (e : Step) → step_test times m e ≡ true → IsTimely times m e
@@ -119,6 +120,7 @@ is_timely times m (begins s stamp) e = drawn m.tree times (place m.tree s) stamp
 is_timely times m (accesses s c w stamp) e = drawn m.tree times (place m.tree s) stamp e
 is_timely times m (refuses s c w met) e = met_in_time m.tree times (place m.tree s) (unwrap_or (block_with_stamp m.tree met.block) 0) met e
 is_timely times m (outputs s v stamp) e = drawn m.tree times (place m.tree s) stamp e
+is_timely times m (cancels s stamp) e = drawn m.tree times (place m.tree s) stamp e
 is_timely times m _ e = tt
 
 abbrev pub timely_test : (ℕ → ℕ) → OpenMachine → List Step → Bool

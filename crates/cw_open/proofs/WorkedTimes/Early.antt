@@ -4,6 +4,7 @@ use Rattle.cw_tree.specs.Newest.{newest}
 use Rattle.cw_tree.specs.Histories.{IsHistory}
 use Rattle.cw_tree.specs.Shape.{AreStamps}
 use Rattle.cw_tree.proofs.Worked.Checks.{each_below, is_tree, are_stamps, pending_last, are_refusals, rolls_back}
+use Rattle.cw_tree.proofs.Cancels.{no_cancels}
 use Rattle.cw_tree.proofs.Worked.KeptParts.{both_at, are_journals, is_entry, ended_between}
 use Rattle.cw_tree.proofs.Worked.KeptRuns.{ended_one}
 use Rattle.cw_open.specs.Machine.{live}
@@ -51,6 +52,7 @@ history = record {
   cells = each_below _ 7 refl;
   journals = are_journals early_tree one_cell early_entries ((is_entry early_tree _ 3 _ refl refl refl refl refl, (is_entry early_tree _ 6 _ refl refl refl refl refl, tt)), tt);
   ended = ended_one early_tree (ended_between early_tree 3 6 refl, tt);
+  cancels = no_cancels early_tree one_cell refl;
   refusals = are_refusals early_tree [] refl (λ k d l. absurd (omega arith)) refl refl;
   rolls_back = rolls_back early_tree [] refl refl;
 }

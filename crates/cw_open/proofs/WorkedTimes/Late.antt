@@ -12,6 +12,7 @@ use Rattle.cw_tree.specs.Histories.{IsHistory}
 use Rattle.cw_tree.specs.Refusals.{IsRecorded}
 use Rattle.cw_tree.proofs.Walks.There.{node_there}
 use Rattle.cw_tree.proofs.Worked.Checks.{all_below, each_below, implies, implied, is_tree, are_stamps, pending_last, are_refusals, rolls_back, all_one}
+use Rattle.cw_tree.proofs.Cancels.{no_cancels}
 use Rattle.cw_tree.proofs.Worked.KeptParts.{both_at, are_journals, is_entry, ended_between, recorded}
 use Rattle.cw_tree.proofs.Worked.KeptRuns.{ended_one}
 use Rattle.cw_open.specs.Machine.{OpenMachine, live}
@@ -77,6 +78,7 @@ history = record {
   cells = each_below _ 9 refl;
   journals = are_journals late_tree one_cell late_entries ((is_entry late_tree _ 4 _ refl refl refl refl refl, (is_entry late_tree _ 8 _ refl refl refl refl refl, tt)), tt);
   ended = ended_one late_tree (ended_between late_tree 4 8 refl, tt);
+  cancels = no_cancels late_tree one_cell refl;
   refusals = are_refusals late_tree (late_conflict ∷ []) refl (recorded late_tree late_conflict 4 3 (refl, refl, refl, refl, refl, refl, refl, refl, refl) (refl, refl, refl)) refl refl;
   rolls_back = rolls_back late_tree (late_conflict ∷ []) refl refl;
 }

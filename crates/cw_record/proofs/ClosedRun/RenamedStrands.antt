@@ -3,11 +3,11 @@ use Rattle.std.proofs.Common.{◌≡◌, ℕ, zero, suc, ◌<◌, List, [], ◌�
 use Rattle.std.specs.Prelude.{◌&&◌, ◌||◌, not, filter, slice_get, option_map}
 use Rattle.std.proofs.lemmas.Bool.{and_parts, and_from, not-true, not_from_false}
 use Rattle.std.proofs.lemmas.List.Elements.{filter-append}
-use Rattle.cw_strand.specs.declared.want.Given.TheVariants.{Nothing, Value}
+use Rattle.cw_strand.specs.declared.want.Given.TheVariants.{Nothing, Value, Back as Wrote}
 use Rattle.cw_strand.specs.Strands.{Strands, is_over}
 use Rattle.cw_tree.specs.declared.node.Node.{Node}
 use Rattle.cw_tree.specs.declared.node.Kind.{Kind}
-use Rattle.cw_tree.specs.declared.node.Kind.TheVariants.{Strand, Fork, Block, Read, Write, Out, Tried}
+use Rattle.cw_tree.specs.declared.node.Kind.TheVariants.{Strand, Fork, Block, Read, Write, Out, Tried, Cancel}
 use Rattle.cw_tree.specs.declared.node.BlockState.{BlockState}
 use Rattle.cw_tree.specs.declared.node.BlockState.TheVariants.{Pending, Committed, Aborted}
 use Rattle.cw_tree.specs.Nodes.{passes, parent_of, is_strand, is_fork, is_block, is_committed, below, last_below}
@@ -120,6 +120,7 @@ module _ {A : Type 0} (s : Strands A) (t : List Node) (w : IsNumbered t) (before
   wanted_at n h (Read c v) state e = (ap s.want (moved_at before n h) ∙ e.0, moved_at after n h ∙ e.1 ∙ ap (λ a. s.answer a (Value v)) (sym (moved_at before n h)))
   wanted_at n h (Write c v) state e = (ap s.want (moved_at before n h) ∙ e.0, moved_at after n h ∙ e.1 ∙ ap (λ a. s.answer a Nothing) (sym (moved_at before n h)))
   wanted_at n h (Out v) state e = (ap s.want (moved_at before n h) ∙ e.0, moved_at after n h ∙ e.1 ∙ ap (λ a. s.answer a Nothing) (sym (moved_at before n h)))
+  wanted_at n h (Cancel back) state e = (ap s.want (moved_at before n h) ∙ e.0, moved_at after n h ∙ e.1 ∙ ap (λ a. s.answer a (Wrote back)) (sym (moved_at before n h)))
   wanted_at n h (Tried c) state e =
       let P : A → Type 0 = λ a. IsAccessOf c (s.want a) in
       (subst P (sym (moved_at before n h)) e.0, moved_at after n h ∙ e.1 ∙ sym (moved_at before n h))

@@ -11,7 +11,6 @@ use Rattle.cw_tree.specs.declared.closed.Halt.TheVariants as halt
 use Rattle.cw_tree.specs.Nodes.{touches_kind, is_strand, is_fork, is_pending}
 use Rattle.cw_tree.specs.Walks.{IsNumbered, is_ancestor}
 use Rattle.cw_tree.specs.Series.{place, strand_of}
-use Rattle.cw_tree.specs.Shape.{NonePending}
 use Rattle.cw_tree.specs.Accesses.{is_live, live_accesses, written, cell_value}
 use Rattle.cw_tree.specs.Histories.{IsHistory}
 use Rattle.cw_tree.specs.Newest.{newest}

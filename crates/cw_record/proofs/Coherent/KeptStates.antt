@@ -7,7 +7,7 @@ use Rattle.cw_strand.specs.declared.want.Given.TheVariants.{Nothing}
 use Rattle.cw_strand.specs.Strands.{Strands}
 use Rattle.cw_tree.specs.declared.node.Node.{Node}
 use Rattle.cw_tree.specs.declared.node.Kind.{Kind}
-use Rattle.cw_tree.specs.declared.node.Kind.TheVariants.{Strand, Fork, Block, Read, Write, Out, Tried}
+use Rattle.cw_tree.specs.declared.node.Kind.TheVariants.{Strand, Fork, Block, Read, Write, Out, Tried, Cancel}
 use Rattle.cw_tree.specs.declared.node.BlockState.{BlockState}
 use Rattle.cw_tree.specs.declared.node.BlockState.TheVariants.{Pending, Committed, Aborted}
 use Rattle.cw_tree.specs.Nodes.{parent_of, passes, last_below, is_fork, is_block, is_block_kind, is_committed, is_committed_state}
@@ -30,6 +30,7 @@ module _ {A : Type 0} (s : Strands A) where
   does_any a b c d (Read n v) state e h = h
   does_any a b c d (Write n v) state e h = h
   does_any a b c d (Out v) state e h = h
+  does_any a b c d (Cancel back) state e h = h
   does_any a b c d (Tried n) state e h = h
 
   pub does_same : (a b c d e f : A) (kind : Kind) (state : BlockState) → d ≡ a → e ≡ b → f ≡ c → DoesAs s a b c kind state → DoesAs s d e f kind state

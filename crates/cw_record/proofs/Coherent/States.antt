@@ -8,11 +8,11 @@ use Rattle.std.proofs.lemmas.List.{append-nil}
 use Rattle.std.proofs.lemmas.Option.{slice_get_within}
 use Rattle.std.proofs.lemmas.List.Elements.{filter-append}
 use Rattle.cw_strand.specs.declared.want.Want.TheVariants as want
-use Rattle.cw_strand.specs.declared.want.Given.TheVariants.{Nothing, Value}
+use Rattle.cw_strand.specs.declared.want.Given.TheVariants.{Nothing, Value, Back as Wrote}
 use Rattle.cw_strand.specs.Strands.{Strands, is_over}
 use Rattle.cw_tree.specs.declared.node.Node.{Node}
 use Rattle.cw_tree.specs.declared.node.Kind.{Kind}
-use Rattle.cw_tree.specs.declared.node.Kind.TheVariants.{Strand, Fork, Block, Read, Write, Out, Tried}
+use Rattle.cw_tree.specs.declared.node.Kind.TheVariants.{Strand, Fork, Block, Read, Write, Out, Tried, Cancel}
 use Rattle.cw_tree.specs.declared.node.BlockState.{BlockState}
 use Rattle.cw_tree.specs.declared.node.BlockState.TheVariants.{Pending, Committed, Aborted}
 use Rattle.cw_tree.specs.Nodes.{parent_of, passes, below, last_below, is_strand, is_fork, is_fork_kind, is_block, is_committed}
@@ -79,6 +79,7 @@ module _ {A : Type 0} (s : Strands A) where
   DoesAs a b c (Read e v) state = (s.want a ≡ want.Load e) × (b ≡ s.answer a (Value v))
   DoesAs a b c (Write e v) state = (s.want a ≡ want.Store e v) × (b ≡ s.answer a Nothing)
   DoesAs a b c (Out v) state = (s.want a ≡ want.Out v) × (b ≡ s.answer a Nothing)
+  DoesAs a b c (Cancel back) state = (s.want a ≡ want.Cancel) × (b ≡ s.answer a (Wrote back))
   DoesAs a b c (Tried e) state = IsAccessOf e (s.want a) × (b ≡ a)
 
 module _ {A : Type 0} (s : Strands A) (t : List Node) (x : States A) where
@@ -255,6 +256,7 @@ module _ {A : Type 0} (s : Strands A) (t : List Node) (x : States A) where
       wanted n (Read c v) state there fork d = d
       wanted n (Write c v) state there fork d = d
       wanted n (Out v) state there fork d = d
+      wanted n (Cancel back) state there fork d = d
       wanted n (Tried c) state there fork d = d
 
       -- the states of a coherent record, where a strand went on only behind shut forks

@@ -17,16 +17,10 @@ module _ (code : Worker) {w : Want} (says : (job : Job) → w ≡ (strands_of_jo
   over_by (inl e) = ap is_over (wanted_by e)
   over_by (inr e) = ap is_over (wanted_by e)
 
-  pub answered_by : ((c : ℕ) × (w ≡ Load c)) ⊎ (((c : ℕ) × (v : ℤ) × (w ≡ Store c v)) ⊎ (((v : ℤ) × (w ≡ Out v)) ⊎ ((w ≡ Begin) ⊎ (w ≡ End)))) → takes_answer (want_of code) ≡ true
+  pub answered_by : ((c : ℕ) × (w ≡ Load c)) ⊎ (((c : ℕ) × (v : ℤ) × (w ≡ Store c v)) ⊎ (((v : ℤ) × (w ≡ Out v)) ⊎ ((w ≡ Cancel) ⊎ ((w ≡ Begin) ⊎ (w ≡ End))))) → takes_answer (want_of code) ≡ true
   answered_by (inl (c, e)) = ap takes_answer (wanted_by e)
   answered_by (inr (inl (c, v, e))) = ap takes_answer (wanted_by e)
   answered_by (inr (inr (inl (v, e)))) = ap takes_answer (wanted_by e)
   answered_by (inr (inr (inr (inl e)))) = ap takes_answer (wanted_by e)
-  answered_by (inr (inr (inr (inr e)))) = ap takes_answer (wanted_by e)
-
-  pub keeps_by : ((c : ℕ) × (w ≡ Load c)) ⊎ (((c : ℕ) × (v : ℤ) × (w ≡ Store c v)) ⊎ (((v : ℤ) × (w ≡ Out v)) ⊎ ((w ≡ Begin) ⊎ (w ≡ End)))) → want_of code ≡ Cancel → ⊥
-  keeps_by (inl (c, e)) is = cc (wanted_by e, is)
-  keeps_by (inr (inl (c, v, e))) is = cc (wanted_by e, is)
-  keeps_by (inr (inr (inl (v, e)))) is = cc (wanted_by e, is)
-  keeps_by (inr (inr (inr (inl e)))) is = cc (wanted_by e, is)
-  keeps_by (inr (inr (inr (inr e)))) is = cc (wanted_by e, is)
+  answered_by (inr (inr (inr (inr (inl e))))) = ap takes_answer (wanted_by e)
+  answered_by (inr (inr (inr (inr (inr e))))) = ap takes_answer (wanted_by e)

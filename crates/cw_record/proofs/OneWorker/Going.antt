@@ -1,14 +1,17 @@
 -- A worker goes from strand to strand.
-use Rattle.std.proofs.Common.{◌≡◌, ℕ, ℤ, suc, ◌+◌, ◌<◌, ◌≤◌, List, ◌∷◌, length, refl, ap, sym, ◌∙◌, subst, arith, true, false}
+use Rattle.std.proofs.Common.{◌≡◌, ℕ, ℤ, suc, ◌+◌, ◌<◌, ◌≤◌, List, [], ◌∷◌, length, refl, ap, sym, ◌∙◌, subst, arith, true, false}
+use Rattle.std.specs.Prelude.{All}
 use Rattle.cw_strand.specs.declared.want.Want.TheVariants as want
 use Rattle.cw_strand.specs.Names.{first_memory}
 use Rattle.cw_strand.specs.Strands.{Closes, IsDeep, is_over}
 use Rattle.cw_tree.specs.declared.node.Node.{Node}
 use Rattle.cw_tree.specs.declared.node.Kind.TheVariants.{Strand, Fork}
 use Rattle.cw_tree.specs.Nodes.{parent_of, is_fork, fresh_node}
-use Rattle.cw_tree.proofs.NextNodes.Growing.{rooted_more}
+use Rattle.cw_tree.proofs.NextNodes.Growing.{rooted_more, length_more, number_grown, number_new}
 use Rattle.cw_job.specs.Jobs.{Job, job_of_task}
 use Rattle.cw_job.specs.declared.standing.Standing.{Standing as Written}
+use Rattle.cw_serial.specs.declared.undo.Undo.{Undo}
+use Rattle.cw_serial.specs.InMemory.{AreSince}
 use Rattle.cw_serial.specs.Machine.{Machine}
 use Rattle.cw_job.specs.Room.Strands.{StrandState, state_of, strands_of_job}
 use Rattle.cw_serial.specs.MachineOf.{machine_of}
@@ -26,7 +29,8 @@ use Rattle.cw_record.proofs.OneWorker.Building.{IsBuilt, open_items}
 use Rattle.cw_record.proofs.OneWorker.Descending.{Descends, Crossing}
 use Rattle.cw_record.proofs.OneWorker.Doers.{doers_beside, doers_forked}
 use Rattle.cw_record.proofs.OneWorker.GrowingItems.{fork_built, fork_items, turn_built, turn_items, join_built, join_items}
-use Rattle.cw_record.proofs.OneWorker.GrowingJournals.{has_beside, has_forked}
+use Rattle.cw_record.proofs.OneWorker.GrowingCancels.{cancels_plain}
+use Rattle.cw_record.proofs.OneWorker.GrowingJournals.{has_beside, has_forked, same_more}
 use Rattle.cw_record.proofs.OneWorker.GrowingWays.{way_fork, way_turn, way_join, crossed_some, crossed_there, crossed_parent, crossed_strand, crossed_fork}
 use Rattle.cw_record.proofs.OneWorker.KeptCells.{fits_more}
 use Rattle.cw_record.proofs.OneWorker.KnownStates.{Known}
@@ -34,6 +38,8 @@ use Rattle.cw_record.proofs.OneWorker.EndStates.{states_turn, states_join}
 use Rattle.cw_record.proofs.OneWorker.StepStates.{states_fork}
 use Rattle.cw_tree.specs.Series.{children}
 use Rattle.cw_record.proofs.OneWorker.Later.{rising_forked, rising_strand}
+use Rattle.cw_record.proofs.OneWorker.NoneAborted.{not_aborted}
+use Rattle.cw_record.proofs.OneWorker.PuttingBack.{Keeps, keeps_forked, keeps_turned}
 use Rattle.cw_record.proofs.OneWorker.Playing.{SameDoers, Plays, plays_kept}
 use Rattle.cw_record.proofs.OneWorker.Running.{Draws, HoldsBranches, Runs, crossings, draws_by, wants_same, law_same, left_to_do, weights}
 use Rattle.cw_record.proofs.OneWorker.Shaped.{IsShaped, shaped_strand, shaped_forked}
@@ -41,12 +47,18 @@ use Rattle.cw_record.proofs.OneWorker.Stamped.{stamped_strand, stamped_forked}
 
 module _ (job : Job) where
   -- the worker in memory, from what was drawn
-  runs_from : (code new : Worker) (w u : Working StrandState) → Runs job code w → SwitchesStrand code new → u.memory ≡ w.memory → u.outputs ≡ w.outputs → IsAtWork (strands_of_job job) u → state_of new.strand ≡ u.strand
+  runs_from : (code new : Worker) (w u : Working StrandState) → Runs job code w → SwitchesStrand code new → u.memory ≡ w.memory → u.outputs ≡ w.outputs → u.since ≡ w.since → IsAtWork (strands_of_job job) u → state_of new.strand ≡ u.strand
       → Draws job (drawn new.drawing) new.branches u → Runs job new u
-  runs_from code new w u r stays memory outputs work strand draws = record {
+  runs_from code new w u r stays memory outputs since work strand draws = record {
     job_is = ap job_of_task stays.task ∙ r.job_is;
     memory = ap (λ v. v.items) stays.memory ∙ (r.memory ∙ sym memory);
     outputs = ap (λ v. v.items) stays.outputs ∙ (r.outputs ∙ sym outputs);
+    undo = (
+        let U : Undo → Type 0 = λ undo. AreSince undo new.memory.items u.since in
+        let M : List ℤ → Type 0 = λ memory. AreSince code.undo memory u.since in
+        let S : List Since → Type 0 = λ xs. AreSince code.undo code.memory.items xs in
+        subst U (sym stays.undo) (subst M (sym (ap (λ v. v.items) stays.memory)) (subst S (sym since) r.undo)));
+    one_strand = (let U : Undo → Type 0 = λ undo. All (λ b. b.strand ≡ 0) undo.begun in subst U (sym stays.undo) r.one_strand);
     strand = strand;
     work = work;
     draws = draws;
@@ -78,6 +90,13 @@ module _ (job : Job) where
           branches = (stands, r.draws.branches);
           place = way_fork t at code.drawing.clock r.draws.built st (crossings code.branches w.branches) w.blocks w.forks r.draws.place;
           journals = has_forked t at code.drawing.clock r.draws.built (first_memory job.program.cells) w.memory code.drawing.journals.items r.draws.journals st;
+          cancels = (
+              let none = not_aborted t at code.drawing.clock r.draws.built in
+              let u = added t at Fork st in
+              let once = cancels_plain t r.draws.built.rooted none (first_memory job.program.cells) r.draws.cancels at Fork st (λ c. refl) (λ back e. absurd (cc e)) in
+              cancels_plain u (rooted_more t (fresh_node at Fork st) r.draws.built.rooted r.draws.built.there) (same_more t none at Fork st).none_too (first_memory job.program.cells) once (length t) Strand 0 (λ c. refl) (λ back e. absurd (cc e)));
+          since = keeps_forked t at code.drawing.clock r.draws.built (first_memory job.program.cells) (crossings code.branches w.branches) w.blocks w.forks r.draws.place w.since r.draws.since st
+              (number_grown (added t at Fork st) (fresh_node (length t) Strand 0 ∷ []) (λ x. x.parent) (length t) (omega (arith, length_more t (fresh_node at Fork st))) ∙ number_new t (fresh_node at Fork st) (λ x. x.parent));
           states = states_fork (strands_of_job job) t at code.drawing.clock r.draws.built code.branches w.strand r.draws.states.0 r.draws.states.1 st f right stands;
           played = same_played t (forked t at st) (machine_at (strands_of_job job) w) (machine_at (strands_of_job job) (worker_after_fork (strands_of_job job) w)) (open_items t at) _ (doers_forked t at code.drawing.clock r.draws.built st)
               (fork_items t at code.drawing.clock r.draws.built st later) (fork_stays (strands_of_job job) closes deep w f) r.draws.played;
@@ -108,7 +127,7 @@ module _ (job : Job) where
         let goes_right : state_of other ≡ s.right w.strand = stands ∙ (ap (λ l. l.right (state_of code.strand)) (law_same job code w r) ∙ ap s.right r.strand) in
         let next : length code.drawing.tree + 1 ≡ suc (length code.drawing.tree) = omega arith in
         let placed = drawing ∙ ap (λ p. record (after_fork (drawn code.drawing)) { place = p }) next in (
-          runs_from code new w (worker_after_fork s w) r stays refl refl (forks_off s closes w r.work wanted) goes_left (draws_by placed is (fork_drawn code w r wanted other goes_right)),
+          runs_from code new w (worker_after_fork s w) r stays refl refl refl (forks_off s closes w r.work wanted) goes_left (draws_by placed is (fork_drawn code w r wanted other goes_right)),
           fork_leaves_less code new w r stays wanted other (length code.drawing.tree) is goes_left goes_right,
         )
 
@@ -138,6 +157,10 @@ module _ (job : Job) where
           (let P : List Held → Type 0 = λ xs. Descends t at (crossings xs (on_left k n r ∷ c)) b m in
           let Q : ℕ → Type 0 = λ j. Descends t at (cross ∷ crossings rest c) j m in
           subst Q none (subst P was h.draws.place)) in
+          let kept : Keeps t (first_memory job.program.cells) at (cross ∷ crossings rest c) 0 since =
+          (let P : List Held → Type 0 = λ xs. Keeps t (first_memory job.program.cells) at (crossings xs (on_left k n r ∷ c)) b since in
+          let Q : ℕ → Type 0 = λ j. Keeps t (first_memory job.program.cells) at (cross ∷ crossings rest c) j since in
+          subst Q none (subst P was h.draws.since)) in
           let up : parent_of t at ≡ f = crossed_parent t at code.drawing.clock h.draws.built cross (crossings rest c) m down in
           let on_strand = crossed_strand t at code.drawing.clock h.draws.built cross (crossings rest c) m down in
           let at_fork = crossed_fork t at code.drawing.clock h.draws.built cross (crossings rest c) m down in
@@ -157,6 +180,8 @@ module _ (job : Job) where
             branches = (h.strand, held.1);
             place = way_turn t at code.drawing.clock h.draws.built cross (crossings rest c) m down;
             journals = has_beside t at code.drawing.clock h.draws.built (first_memory job.program.cells) memory code.drawing.journals.items h.draws.journals f Strand 0 (λ e. refl);
+            cancels = cancels_plain t h.draws.built.rooted (not_aborted t at code.drawing.clock h.draws.built) (first_memory job.program.cells) h.draws.cancels f Strand 0 (λ e. refl) (λ back e. absurd (cc e));
+            since = keeps_turned t at code.drawing.clock h.draws.built (first_memory job.program.cells) cross (crossings rest c) m down since kept;
             states = subst KT held.0 (states_turn (strands_of_job job) t at code.drawing.clock h.draws.built f rest a known.0 on_strand (ap (is_fork t) (sym up) ∙ at_fork) (crossed_some t at code.drawing.clock h.draws.built cross (crossings rest c) m down) up o right code.strand known.1 h.strand);
             played = same_played t (added t f Strand 0) (machine_at (strands_of_job job) x) (machine_at (strands_of_job job) u) (open_items t at) (open_items (added t f Strand 0) (length t)) (doers_beside t h.draws.built.rooted f Strand 0 there refl)
                 (subst O up (turn_items t at code.drawing.clock h.draws.built on_strand at_fork)) (turn_stays (strands_of_job job) closes memory outputs since c k n m b a o r h.work) h.draws.played;
@@ -168,7 +193,7 @@ module _ (job : Job) where
           let left : left_to_do code ≡ weight (s.depth (state_of code.strand)) + (weight (s.depth (state_of right)) + 2 + weights s rest) = (rw (same, was) refl) in (
             (
               u,
-              runs_from code new x u h stays refl refl (turns_right (strands_of_job job) closes memory outputs since c k n m b a o r h.work) (ap state_of strand ∙ held.0)
+              runs_from code new x u h stays refl refl refl (turns_right (strands_of_job job) closes memory outputs since c k n m b a o r h.work) (ap state_of strand ∙ held.0)
                   (draws_by drawing branches draws),
             ),
             omega arith,
@@ -195,6 +220,10 @@ module _ (job : Job) where
           let up : parent_of t at ≡ f = crossed_parent t at code.drawing.clock h.draws.built cross (crossings rest c) m down in
           let on_strand = crossed_strand t at code.drawing.clock h.draws.built cross (crossings rest c) m down in
           let at_fork = crossed_fork t at code.drawing.clock h.draws.built cross (crossings rest c) m down in
+          let kept : Keeps t (first_memory job.program.cells) at (cross ∷ crossings rest c) 0 since =
+          (let P : List Held → Type 0 = λ xs. Keeps t (first_memory job.program.cells) at (crossings xs (on_right k n o l ∷ c)) b since in
+          let Q : ℕ → Type 0 = λ j. Keeps t (first_memory job.program.cells) at (cross ∷ crossings rest c) j since in
+          subst Q none (subst P was h.draws.since)) in
           let I : ℕ → Type 0 = λ g. IsBuilt t (parent_of t g) code.drawing.clock in
           let O : ℕ → Type 0 = λ g. open_items t (parent_of t g) ≡ open_items t at in
           let F : List Held → Type 0 = λ xs. IsShaped t (unstarted xs) in
@@ -219,13 +248,15 @@ module _ (job : Job) where
             branches = held.1;
             place = way_join t at code.drawing.clock h.draws.built cross (crossings rest c) m down;
             journals = h.draws.journals;
+            cancels = h.draws.cancels;
+            since = kept;
             states = subst KJ held.0 (states_join (strands_of_job job) t at code.drawing.clock h.draws.built f rest a known.0 on_strand (ap (is_fork t) (sym up) ∙ at_fork) (crossed_some t at code.drawing.clock h.draws.built cross (crossings rest c) m down) up v left known.1 (few f (ap (is_fork t) (sym up) ∙ at_fork)));
             played = same_played t t (machine_at (strands_of_job job) x) (machine_at (strands_of_job job) u) (open_items t at) (open_items t (parent_of t f)) (record { longer = omega arith; doers = λ i j. refl; kinds = λ i j. refl })
                 (subst O up (join_items t at code.drawing.clock h.draws.built on_strand at_fork)) (join_stays (strands_of_job job) closes memory outputs since c k n m b a v o l h.work) h.draws.played;
           } in (
             (
               u,
-              runs_from code new x u h stays refl refl (joins_up (strands_of_job job) closes memory outputs since c k n m b a v o l h.work) becomes
+              runs_from code new x u h stays refl refl refl (joins_up (strands_of_job job) closes memory outputs since c k n m b a v o l h.work) becomes
                   (draws_by drawing branches draws),
             ),
             omega arith,

@@ -53,7 +53,7 @@ module _ (t : List Node) (r : IsRooted t) (root : is_strand t 0 ≡ true) where
       (ap (name_of t) own ∙ d.5, ap (forks_of t) own ∙ d.6)
 
   -- a fork on the way, and its parent, have smaller numbers than the strand beneath it
-  crossed_low : (p : ℕ) (x : Crossing) (c : List Crossing) (k : ℕ) → p < length t → Descends t p (x ∷ c) zero k → (parent_of t x.node < x.node) × (x.node < p)
+  pub crossed_low : (p : ℕ) (x : Crossing) (c : List Crossing) (k : ℕ) → p < length t → Descends t p (x ∷ c) zero k → (parent_of t x.node < x.node) × (x.node < p)
   crossed_low p x c k h d =
       let low : parent_of t p < p = r p d.0 h in
       let under : x.node < p = let up : parent_of t p ≡ x.node = d.2 in omega arith in

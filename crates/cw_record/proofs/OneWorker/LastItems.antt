@@ -1,4 +1,4 @@
--- The items so far, and one more at the end: an access or output, the begin of a block, or its end.
+-- The items so far, and one more at the end: an access, output or cancel, the begin of a block, or its end.
 use Rattle.std.proofs.Common.{◌≡◌, ℕ, zero, suc, ◌<◌, ◌≤◌, List, [], ◌∷◌, ◌++◌, length, refl, ap, sym, ◌∙◌, arith, true, false, cond, Option, Some, None, append_assoc}
 use Rattle.std.specs.Prelude.{◌&&◌, ◌||◌}
 use Rattle.std.specs.List.{flat_map}
@@ -74,7 +74,7 @@ module _ (t : List Node) (p c : ℕ) (g : IsGrowing t p c) (kind : Kind) (st : �
         ∙ ap (λ xs. xs ++ Does (length t) ∷ []) (sym (append-nil (flat_map before (sorted t h))))
         ∙ ap (λ o. (flat_map before (sorted t h) ++ last_open o (items_in t p k o)) ++ Does (length t) ∷ []) (sym none)
 
-    -- an access or output comes last
+    -- an access, output or cancel comes last
     pub leaf_last : open_items u p ≡ open_items t p ++ Does (length t) ∷ []
     leaf_last = levels_added t p kind st p ∙ lengthens_more t p c g u p h leaf_same leaf_way (Does (length t) ∷ []) leaf_here
 

@@ -1,6 +1,8 @@
 -- How the run of one worker begins, and what it leaves at its end or at a fault.
-use Rattle.std.proofs.Common.{◌≡◌, ℕ, ℤ, zero, suc, ◌≤◌, List, [], ◌∷◌, ◌++◌, length, map, refl, ap, sym, ◌∙◌, subst, arith, true, false, Some, replicate, append-nil}
-use Rattle.std.specs.Prelude.{slice_get, option_map, is_some}
+use Rattle.std.proofs.Common.{◌≡◌, ℕ, ℤ, zero, suc, ◌<◌, ◌≤◌, List, [], ◌∷◌, ◌++◌, length, map, refl, ap, sym, ◌∙◌, subst, arith, true, false, Some, replicate, append-nil}
+use Rattle.std.specs.Prelude.{All, slice_get, option_map, is_some}
+use Rattle.std.specs.List.{AllZip}
+use Rattle.std.proofs.lemmas.List.Elements.{All-nil, All-head, All-tail, All-weaker}
 use Rattle.std.proofs.lemmas.List.{length-replicate, length-append}
 use Rattle.cw_code.specs.declared.FaultKind.{FaultKind}
 use Rattle.cw_strand.specs.declared.want.Want.TheVariants as want
@@ -11,6 +13,10 @@ use Rattle.cw_tree.specs.declared.node.Kind.TheVariants.{Strand}
 use Rattle.cw_tree.specs.declared.access.Entry.{Entry}
 use Rattle.cw_tree.specs.Nodes.{is_strand, is_aborted, fresh_node}
 use Rattle.cw_tree.specs.Accesses.{is_live}
+use Rattle.cw_tree.specs.Cancels.{AreCancels}
+use Rattle.cw_tree.specs.Walks.{IsRooted}
+use Rattle.cw_tree.proofs.Cancels.{no_cancels}
+use Rattle.cw_tree.proofs.NextNodes.Growing.{length_more, rooted_more}
 use Rattle.std.proofs.lemmas.Bool.{and_from, and_parts}
 use Rattle.cw_tree.specs.Series.{strand_of, place as place_in}
 use Rattle.cw_tree.specs.Names.{name_of}
@@ -23,6 +29,8 @@ use Rattle.cw_serial.specs.MachineOf.{machine_of}
 use Rattle.cw_serial.proofs.Branches.{Branch, way, plugged}
 use Rattle.cw_serial.proofs.Deep.{goes_over, ended_stands}
 use Rattle.cw_job.proofs.Room.Elements.{elements_of}
+use Rattle.cw_serial.specs.declared.undo.Begun.{Begun as Block}
+use Rattle.cw_serial.specs.InMemory.{IsSince}
 use Rattle.cw_serial.specs.Wants.{Since}
 use Rattle.cw_strand.specs.Programs.{IsCompiled}
 use Rattle.cw_serial.proofs.Working.{Worker as Working, machine_at, starts_work, none_begun, at_here, leftmost_here}
@@ -42,6 +50,7 @@ use Rattle.cw_record.proofs.OneWorker.Behind.{waiting_over, numbered_at_fault}
 use Rattle.cw_record.proofs.OneWorker.Descending.{Descends}
 use Rattle.cw_record.proofs.OneWorker.Faults.{fault_items}
 use Rattle.cw_record.proofs.OneWorker.FollowedStates.{none_pending, finished_follows, finished_ended, fault_stops}
+use Rattle.cw_record.proofs.OneWorker.GrowingCancels.{cancels_plain}
 use Rattle.cw_record.proofs.OneWorker.GrowingItems.{built_root, root_items}
 use Rattle.cw_record.proofs.OneWorker.GrowingJournals.{same_more, has_unless}
 use Rattle.cw_record.proofs.OneWorker.GrowingWays.{descends_root, way_root}
@@ -71,9 +80,9 @@ all_empty (suc n) (suc c) es h = all_empty n c es h
 
 module _ (job : Job) where
   -- the worker at the first want of main
-  pub runs_first : (code : Worker) → IsCompiled job.program → job_of_task code.task ≡ job → code.memory.items ≡ first_memory job.program.cells → code.outputs.items ≡ [] → drawn code.drawing ≡ blank (length code.memory.items)
+  pub runs_first : (code : Worker) → IsCompiled job.program → job_of_task code.task ≡ job → code.memory.items ≡ first_memory job.program.cells → code.outputs.items ≡ [] → code.undo.begun ≡ [] → drawn code.drawing ≡ blank (length code.memory.items)
       → state_of code.strand ≡ (law_of code).start → code.branches ≡ [] → (w : Working StrandState) × Runs job code w
-  runs_first code compiled is memory outputs drawing strand branches =
+  runs_first code compiled is memory outputs begun drawing strand branches =
       let first = first_memory job.program.cells in
       let root = fresh_node 0 Strand 0 ∷ [] in
       let empty = replicate (length first) [] in
@@ -89,6 +98,8 @@ module _ (job : Job) where
         place = descends_root;
         states = known_root (strands_of_job job);
         journals = journals_begin (fresh_node 0 Strand 0) first empty refl (length-replicate (length first) []) (λ c es h. all_empty (length first) c es h);
+        cancels = no_cancels root first refl;
+        since = refl;
         played = subst I (sym root_items) refl;
       } in (
         w,
@@ -96,6 +107,8 @@ module _ (job : Job) where
           job_is = is;
           memory = memory;
           outputs = outputs;
+          undo = (let B : List Block → Type 0 = λ bs. AllZip (IsSince code.undo.writes.items code.memory.items) bs [] in subst B (sym begun) tt);
+          one_strand = (let B : List Block → Type 0 = λ bs. All (λ b. b.strand ≡ 0) bs in subst B (sym begun) (All-nil (λ b. b.strand ≡ 0)));
           strand = strand ∙ ap (λ j. (strands_of_job j).start) is;
           work = starts_work (strands_of_job job) first (omega (arith, elements_of job compiled));
           draws = draws_by (drawing ∙ ap (λ m. blank (length m)) memory) branches draws;
@@ -143,6 +156,7 @@ module _ (job : Job) where
               cells = r.draws.cells;
               journals = r.draws.journals.journals;
               ended = journals_ended t code.drawing.place code.drawing.clock r.draws.built r.draws.rising r.draws.stamps (length (first_memory job.program.cells));
+              cancels = r.draws.cancels;
               refusals = none_refused t 0 r.draws.shape.untried blocks;
               rolls_back = none_roll t (none_aborted t 0 blocks);
             };
@@ -176,6 +190,18 @@ module _ (job : Job) where
         let u = t ++ fresh_node f Strand 0 ∷ [] in
         let P : List Node → Type 0 = λ v. HasJournals v first memory kept in
         subst P (one_unstarted t f fs) (has_strands u first memory kept fs (same_more t none f Strand 0).none_too (has_unless t none f Strand 0 first memory kept h (λ c. refl)))
+
+    -- and give up nothing
+    cancels_strands : (t : List Node) (first : List ℤ) (fs : List ℕ) → IsRooted t → ((n : ℕ) → is_aborted t n ≡ false) → All (λ f. f < length t) fs → AreCancels t first → AreCancels (with_strands t fs) first
+    cancels_strands t first [] rooted none there h = let P : List Node → Type 0 = λ u. AreCancels u first in subst P (sym (append-nil t)) h
+    cancels_strands t first (f ∷ fs) rooted none there h =
+        let x = fresh_node f Strand 0 in
+        let u = t ++ x ∷ [] in
+        let P : List Node → Type 0 = λ v. AreCancels v first in
+        let low : f < length t = All-head (λ g. g < length t) f fs there in
+        subst P (one_unstarted t f fs)
+        (cancels_strands u first fs (rooted_more t x rooted low) (same_more t none f Strand 0).none_too (All-weaker (λ g. g < length t) (λ g. g < length u) (λ g less. omega (arith, length_more t x)) fs (All-tail (λ g. g < length t) f fs there))
+        (cancels_plain t rooted none first h f Strand 0 (λ c. refl) (λ back e. absurd (cc e))))
 
     pub fault_run : (code : Worker) (w : Working StrandState) → Runs job code w → (kind : FaultKind) → want_of code ≡ want.Fault kind → (t : List Node) → t ≡ with_strands code.drawing.tree (unstarted code.branches)
         → IsWorkerRun job t code.drawing.journals.items (Fault (strand_of code.drawing.tree code.drawing.place) kind)
@@ -218,6 +244,7 @@ module _ (job : Job) where
               cells = fits_behind old (length (first_memory job.program.cells)) r.draws.built.rooted r.draws.cells fs low;
               journals = (has_strands old (first_memory job.program.cells) w.memory code.drawing.journals.items fs live r.draws.journals).journals;
               ended = ended_behind old (length (first_memory job.program.cells)) r.draws.built.rooted live (journals_ended old place code.drawing.clock r.draws.built r.draws.rising r.draws.stamps (length (first_memory job.program.cells))) fs low;
+              cancels = cancels_strands old (first_memory job.program.cells) fs r.draws.built.rooted live low r.draws.cancels;
               refusals = none_refused u (place_in u x) shape.untried blocks;
               rolls_back = none_roll u (none_aborted u (place_in u x) blocks);
             };

@@ -37,18 +37,18 @@ module _ {A : Type 0} (s : Strands A) where
   plays_more t m n u (j ∷ is) i a (b, x, low, l, e, c, p, more) there left stands act picked =
       (b, x, low, l, e, c, p, plays_more t x n u is i a more there left stands act picked)
 
-  act_kept : (t u : List Node) (memory : List _) (w : _) (n : ℕ) → kind_at u n ≡ kind_at t n → IsActOf memory w (slice_get t n) → IsActOf memory w (slice_get u n)
-  act_kept t u memory w n e h = by (slice_get t n) (slice_get u n) e h where
-    by : (o q : Option Node) → option_map (λ x. x.kind) q ≡ option_map (λ x. x.kind) o → IsActOf memory w o → IsActOf memory w q
+  act_kept : (t u : List Node) (memory : List _) (since : List _) (w : _) (n : ℕ) → kind_at u n ≡ kind_at t n → IsActOf memory since w (slice_get t n) → IsActOf memory since w (slice_get u n)
+  act_kept t u memory since w n e h = by (slice_get t n) (slice_get u n) e h where
+    by : (o q : Option Node) → option_map (λ x. x.kind) q ≡ option_map (λ x. x.kind) o → IsActOf memory since w o → IsActOf memory since w q
     by None q e h = absurd h
     by (Some x) None e h = absurd (cc e)
     by (Some x) (Some y) e h =
         let same : y.kind ≡ x.kind = cc e in
-        let P : Kind → Type 0 = λ k. IsAct memory w k in subst P (sym same) h
+        let P : Kind → Type 0 = λ k. IsAct memory since w k in subst P (sym same) h
 
   item_kept : (t u : List Node) (same : SameDoers t u) (m : Machine A) (w : _) (i : OrderItem) → node_of i < length t → IsItemDone t m w i → IsItemDone u m w i
   item_kept t u same m w (Begins n) there h = h
-  item_kept t u same m w (Does n) there h = act_kept t u m.memory w n (same.kinds n there) h
+  item_kept t u same m w (Does n) there h = act_kept t u m.memory m.since w n (same.kinds n there) h
   item_kept t u same m w (Ends n) there h = h
 
   -- the same in a tree that has grown

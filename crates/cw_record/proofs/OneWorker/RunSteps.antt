@@ -55,11 +55,11 @@ module _ {A : Type 0} (s : Strands A) (closes : Closes s) where
         ∙ (ap (name_of u) (strand_of_new t (fresh_node p kind st) built.rooted built.there ∙ ap (λ b. cond b (length t) (strand_of t p)) other)
         ∙ (name_placed t p clock built kind st (strand_of t p) (let low : strand_of t p ≤ p = strand_of_le t built.rooted p built.there in let there = built.there in omega arith) ∙ named))
 
-    pub leaf_played : (kind : Kind) (st : ℕ) → clock < st → is_act_kind kind ≡ true → IsAct w.memory (s.want w.strand) kind → Plays s (added t p kind st) m (open_items (added t p kind st) p) (machine_at s (after_act s w))
+    pub leaf_played : (kind : Kind) (st : ℕ) → clock < st → is_act_kind kind ≡ true → IsAct w.memory w.since (s.want w.strand) kind → Plays s (added t p kind st) m (open_items (added t p kind st) p) (machine_at s (after_act s w))
     leaf_played kind st later act is =
         let u = added t p kind st in
         let P : List OrderItem → Type 0 = λ items. Plays s u m items (machine_at s (after_act s w)) in
-        let Q : Option Node → Type 0 = λ o. IsActOf w.memory (s.want w.strand) o in
+        let Q : Option Node → Type 0 = λ o. IsActOf w.memory w.since (s.want w.strand) o in
         subst P (sym (leaf_items t p clock built kind st act later))
         (one_more t u m w (open_items t p) (Does (length t)) h d (doers_placed t p clock built kind st) played (omega (arith, length_more t (fresh_node p kind st))) (new_doer kind st (Does (length t)) refl (act_no_strand kind act))
         (subst Q (sym (get_next t (fresh_node p kind st) [])) is))

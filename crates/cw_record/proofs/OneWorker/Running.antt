@@ -1,14 +1,17 @@
 -- One worker in memory goes depth first through a run, and draws its tree.
 use Rattle.std.proofs.Common.{◌≡◌, ℕ, ◌+◌, List, [], ◌∷◌, ◌++◌, length, refl, ap, sym, ◌∙◌, subst}
+use Rattle.std.specs.Prelude.{All}
 use Rattle.cw_strand.specs.Names.{first_memory}
 use Rattle.cw_strand.specs.Strands.{Strands}
 use Rattle.cw_tree.specs.Series.{strand_of}
 use Rattle.cw_tree.specs.Names.{name_of}
 use Rattle.cw_tree.specs.Shape.{AreStamps}
+use Rattle.cw_tree.specs.Cancels.{AreCancels}
 use Rattle.cw_tree.specs.Journals.{FitsCells}
 use Rattle.cw_tree.proofs.ChainLaws.CellJournals.{HasJournals}
 use Rattle.cw_job.specs.Jobs.{Job, job_of_task}
 use Rattle.cw_job.specs.Room.Strands.{StrandState, state_of, strands_of_job}
+use Rattle.cw_serial.specs.InMemory.{AreSince}
 use Rattle.cw_serial.specs.MachineOf.{machine_of}
 use Rattle.cw_serial.proofs.Branches.{Branch, on_left, on_right, turn_at, blocks_at, way}
 use Rattle.cw_serial.proofs.Working.{Worker as Working, machine_at, IsAtWork}
@@ -23,6 +26,7 @@ use Rattle.cw_record.proofs.OneWorker.GrowingWays.{strand_down}
 use Rattle.cw_record.proofs.OneWorker.KnownStates.{Known}
 use Rattle.cw_record.proofs.OneWorker.Later.{IsRising}
 use Rattle.cw_record.proofs.OneWorker.Playing.{Plays}
+use Rattle.cw_record.proofs.OneWorker.PuttingBack.{Keeps}
 use Rattle.cw_record.proofs.OneWorker.Shaped.{IsShaped}
 use Rattle.cw_serial.proofs.Weights.{weight}
 
@@ -67,6 +71,8 @@ pub record Draws (job : Job) (d : Drawn) (xs : List Held) (w : Working StrandSta
   pub branches : HoldsBranches xs w.branches
   pub place : Descends d.tree d.place (crossings xs w.branches) w.blocks w.forks
   pub journals : HasJournals d.tree (first_memory job.program.cells) w.memory d.journals
+  pub cancels : AreCancels d.tree (first_memory job.program.cells)
+  pub since : Keeps d.tree (first_memory job.program.cells) d.place (crossings xs w.branches) w.blocks w.since
   pub states : Known (strands_of_job job) d.tree d.place xs w.strand
   pub played : Plays (strands_of_job job) d.tree (machine_of job) (open_items d.tree d.place) (machine_at (strands_of_job job) w)
 
@@ -82,6 +88,9 @@ pub record Runs (job : Job) (code : Worker) (w : Working StrandState) : Type 0 w
   pub job_is : job_of_task code.task ≡ job
   pub memory : code.memory.items ≡ w.memory
   pub outputs : code.outputs.items ≡ w.outputs
+  -- its begun blocks are told as those of strand 0
+  pub undo : AreSince code.undo code.memory.items w.since
+  pub one_strand : All (λ b. b.strand ≡ 0) code.undo.begun
   pub strand : state_of code.strand ≡ w.strand
   pub work : IsAtWork (strands_of_job job) w
   pub draws : Draws job (drawn code.drawing) code.branches w

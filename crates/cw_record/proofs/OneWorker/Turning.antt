@@ -4,6 +4,7 @@ use Rattle.cw_strand.specs.declared.want.Want.{Want}
 use Rattle.cw_strand.specs.declared.want.Want.TheVariants as want
 use Rattle.cw_strand.specs.Strands.{Closes, IsDeep, MayWant, is_over, takes_answer}
 use Rattle.cw_tree.specs.Nodes.{is_block}
+use Rattle.std.specs.Option.{IsSome}
 use Rattle.std.specs.Prelude.{All, IfOk, IsTrue, Result, Ok, Err}
 use Rattle.cw_base.specs.declared.memory.OutOfMemory.{OutOfMemory}
 use Rattle.cw_code.specs.declared.FaultKind.{FaultKind}
@@ -12,11 +13,10 @@ use Rattle.cw_tree.specs.Series.{strand_of}
 use Rattle.std.proofs.lemmas.List.Elements.{All-head}
 use Rattle.cw_job.specs.Jobs.{Job}
 use Rattle.cw_job.specs.declared.standing.Standing.{Standing as Written}
-use Rattle.cw_job.specs.Room.Strands.{StrandState, state_of, strands_of_job}
+use Rattle.cw_job.specs.Room.Strands.{StrandState, IsOf, state_of, strands_of_job}
 use Rattle.cw_serial.proofs.Branches.{Branch, on_left, on_right}
 use Rattle.cw_job.proofs.Room.Lawful.{deep_of}
-use Rattle.cw_job.proofs.Room.Elements.{NamesThere, WantsThere}
-use Rattle.cw_strand.specs.Names.{first_memory}
+use Rattle.cw_serial.specs.InMemory.{begun_after}
 use Rattle.cw_serial.proofs.Working.{Worker as Working, own_in, reached, after_act, after_fork as worker_after_fork}
 use Rattle.cw_record.specs.declared.worker.Branch.{Branch as Held}
 use Rattle.cw_record.specs.declared.worker.Branch.TheVariants.{Left, Right}
@@ -24,8 +24,9 @@ use Rattle.cw_record.specs.declared.worker.Worker.{Worker}
 use Rattle.cw_record.specs.declared.worker.Run.{Run}
 use Rattle.cw_record.specs.declared.drawing.Drawing.{Drawing}
 use Rattle.cw_record.specs.declared.record_end.RecordEnd.{RecordEnd}
-use Rattle.cw_record.specs.OneWorker.{SwitchesStrand, WaitsOnLeft, law_of, unstarted, want_of}
-use Rattle.cw_record.proofs.OneWorker.Acting.{Acted, acts_on, act_leaves_less, end_blocks}
+use Rattle.cw_record.specs.OneWorker.{FollowsBlocks, SwitchesStrand, WaitsOnLeft, law_of, unstarted, want_of}
+use Rattle.cw_record.proofs.OneWorker.AccessesThere.{AccessesThere}
+use Rattle.cw_record.proofs.OneWorker.Acting.{Acted, acts_on, act_leaves_less, end_blocks, follows_there}
 use Rattle.cw_record.proofs.OneWorker.Descending.{Descends}
 use Rattle.cw_record.proofs.OneWorker.Unstarted.{with_strands}
 use Rattle.cw_record.specs.Drawn.{after_fork, after_join, after_start, drawn}
@@ -39,6 +40,13 @@ use Rattle.cw_record.proofs.OneWorker.Running.{HoldsBranches, crossings, fork_at
 -- the job is still run, and less of it is left
 abbrev pub StillRuns : Job → (code new : Worker) → Type 0
 StillRuns job code new = ((v : Working StrandState) × Runs job new v) × (left_to_do new < left_to_do code)
+
+-- a worker that can do what its strand wants, behind the blocks that were followed
+pub record IsReady (w : Worker) : Type 0 where
+  pub there : w.drawing.place < length w.drawing.tree
+  pub answered : takes_answer (want_of w) ≡ true
+  pub block : want_of w ≡ want.End → IsTrue (is_block w.drawing.tree w.drawing.place)
+  pub stands : IsOf w.task.program.now w.strand
 
 module _ {job : Job} {code : Worker} {w : Working StrandState} (r : Runs job code w) where
   -- the same with other branches
@@ -66,19 +74,19 @@ module _ {job : Job} {code : Worker} {w : Working StrandState} (r : Runs job cod
   first_fork_there {y = y} {rest} was is = first_there y rest (was ∙ ap (λ b. b ∷ rest) is)
 
   -- where blocks close, and strands want only elements that are there
-  module _ (closes : Closes (strands_of_job job)) (there : WantsThere job) where
+  module _ (closes : Closes (strands_of_job job)) (there : AccessesThere job) where
     deep : IsDeep (strands_of_job job)
     deep = deep_of job
 
-    -- the strand gives up no block
-    pub none_given_up : want_of code ≡ want.Cancel → ⊥
-    none_given_up e =
-        subst (NamesThere (length (first_memory job.program.cells))) (sym (wants_same job code w r) ∙ e) (there _ _ (reached (strands_of_job job) r.work))
+    -- the blocks can be followed
+    pub follow_run : takes_answer (want_of code) ≡ true → IsSome (begun_after (want_of code) 0 code.undo)
+    follow_run answered = follows_there job closes there code w r answered
 
     -- ## A step
 
-    pub act_run : (new : Worker) → takes_answer (want_of code) ≡ true → Acted code new → StillRuns job code new
-    act_run new answered acted = ((after_act (strands_of_job job) w, acts_on job closes there code new w r answered acted), act_leaves_less job closes there deep code new w r answered acted)
+    pub act_run : (followed new : Worker) → takes_answer (want_of code) ≡ true → Acted code followed new → StillRuns job code new
+    act_run followed new answered acted =
+        ((after_act (strands_of_job job) w, acts_on job closes there code followed new w r answered acted), act_leaves_less job closes there deep code followed new w r answered acted)
 
     pub fork_run : {new : Worker} → SwitchesStrand code new → want_of code ≡ want.Fork → drawn new.drawing ≡ after_fork (drawn code.drawing) → state_of new.strand ≡ (law_of code).left (state_of code.strand)
         → WaitsOnLeft code.branches new.branches (length code.drawing.tree) ((law_of code).right (state_of code.strand)) → StillRuns job code new
@@ -89,7 +97,7 @@ module _ {job : Job} {code : Worker} {w : Working StrandState} (r : Runs job cod
     -- from the end of a strand to the branch that was taken
     module _ {x : Held} {rest : List Held} (taken : code.branches ≡ x ∷ rest) {new : Worker} (over : is_over (want_of code) ≡ true) (keeps : SwitchesStrand (record code { branches = rest }) new) where
       stays : SwitchesStrand code new
-      stays = record { task = keeps.task; memory = keeps.memory; outputs = keeps.outputs }
+      stays = record { task = keeps.task; memory = keeps.memory; outputs = keeps.outputs; undo = keeps.undo }
 
       pub turn_run : {f : ℕ} {right : Written} → x ≡ Left f right → drawn new.drawing ≡ after_start f (drawn code.drawing) → new.strand ≡ right → new.branches ≡ Right f code.strand ∷ rest → StillRuns job code new
       turn_run {f} {right} is drawing strand branches = by w.branches refl (held (Left f right) rest was) where
@@ -117,6 +125,12 @@ module _ {job : Job} {code : Worker} {w : Working StrandState} (r : Runs job cod
         let (n, is) = end_blocks w.branches w.blocks (subst (λ (v : Want). MayWant v (own_in w.branches w.blocks)) wanted (closes _ _ (reached (strands_of_job job) r.work))) in
         let P : ℕ → Type 0 = λ b. Descends code.drawing.tree code.drawing.place (crossings code.branches w.branches) b w.forks in
         way_block code.drawing.tree code.drawing.place (crossings code.branches w.branches) n w.forks (subst P is r.draws.place)
+
+    -- behind the blocks that were followed it is as it was
+    pub act_ready : (followed : Worker) → FollowsBlocks code followed → takes_answer (want_of code) ≡ true → IsOf code.task.program.now code.strand → IsReady followed
+    act_ready followed follows answered stands =
+        let old : IsReady (record code { undo = followed.undo }) = record { there = r.draws.built.there; answered = answered; block = end_at_block; stands = stands } in
+        subst IsReady (sym follows.same) old
 
     -- ## What is answered
 

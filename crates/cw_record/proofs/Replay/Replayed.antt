@@ -8,7 +8,7 @@ use Rattle.cw_strand.specs.declared.want.Want.TheVariants as want
 use Rattle.cw_strand.specs.Strands.{is_over}
 use Rattle.cw_tree.specs.declared.node.Node.{Node}
 use Rattle.cw_tree.specs.declared.node.Kind.{Kind}
-use Rattle.cw_tree.specs.declared.node.Kind.TheVariants.{Read, Write, Out}
+use Rattle.cw_tree.specs.declared.node.Kind.TheVariants.{Read, Write, Out, Cancel}
 use Rattle.cw_tree.specs.declared.conflict.Conflict.{Conflict}
 use Rattle.cw_tree.specs.Nodes.{is_strand}
 use Rattle.cw_tree.specs.Walks.{IsNumbered}
@@ -18,6 +18,7 @@ use Rattle.cw_serial.specs.declared.play.Play.{Play}
 use Rattle.cw_job.specs.Jobs.{Job}
 use Rattle.cw_serial.specs.StrandTree.{at}
 use Rattle.cw_serial.specs.Machine.{Machine, pick, pick_named, steps_down}
+use Rattle.cw_serial.specs.Wants.{Since}
 use Rattle.cw_job.specs.Room.Strands.{StrandState, strands_of_job}
 use Rattle.cw_serial.specs.MachineOf.{machine_of}
 use Rattle.cw_serial.specs.InMemory.{want_before_end}
@@ -58,19 +59,20 @@ module _ (job : Job) (P : Want → Type 0) (before : (w : Want) → P w → is_o
   some_wants o (a, e, h) = subst (λ x. IsSomeAnd (want_before_end (strands_of_job job) x) P) (sym e) (subst (Passes (Some a)) (sym (before ((strands_of_job job).want a) h)) h)
 
 -- no strand that has come to its end does an item, or stands at what was refused
-act_before : (memory : List ℤ) (w : Want) (k : Kind) → IsAct memory w k → is_over w ≡ false
-act_before memory w (Read c v) h = ap is_over h.0
-act_before memory w (Write c v) h = ap is_over h
-act_before memory w (Out v) h = ap is_over h
-act_before memory w _ h = absurd h
+act_before : (memory : List ℤ) (since : List Since) (w : Want) (k : Kind) → IsAct memory since w k → is_over w ≡ false
+act_before memory since w (Read c v) h = ap is_over h.0
+act_before memory since w (Write c v) h = ap is_over h
+act_before memory since w (Out v) h = ap is_over h
+act_before memory since w (Cancel back) h = ap is_over h.0
+act_before memory since w _ h = absurd h
 
-act_of_before : (memory : List ℤ) (w : Want) (o : Option Node) → IsActOf memory w o → is_over w ≡ false
-act_of_before memory w None h = absurd h
-act_of_before memory w (Some x) h = act_before memory w x.kind h
+act_of_before : (memory : List ℤ) (since : List Since) (w : Want) (o : Option Node) → IsActOf memory since w o → is_over w ≡ false
+act_of_before memory since w None h = absurd h
+act_of_before memory since w (Some x) h = act_before memory since w x.kind h
 
 item_before : {A : Type 0} (t : List Node) (m : Machine A) (i : OrderItem) (w : Want) → IsItemDone t m w i → is_over w ≡ false
 item_before t m (Begins b) w h = ap is_over h
-item_before t m (Does n) w h = act_of_before m.memory w (slice_get t n) h
+item_before t m (Does n) w h = act_of_before m.memory m.since w (slice_get t n) h
 item_before t m (Ends b) w h = ap is_over h
 
 refused_before : (cell : ℕ) (victim : Option ℕ) (w : Want) → IsRefusedBy cell victim w → is_over w ≡ false

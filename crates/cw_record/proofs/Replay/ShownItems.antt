@@ -9,7 +9,7 @@ use Rattle.cw_strand.specs.declared.want.Want.{Want}
 use Rattle.cw_strand.specs.Strands.{Strands}
 use Rattle.cw_tree.specs.declared.node.Node.{Node}
 use Rattle.cw_tree.specs.declared.node.Kind.{Kind}
-use Rattle.cw_tree.specs.declared.node.Kind.TheVariants.{Block, Read, Write, Out}
+use Rattle.cw_tree.specs.declared.node.Kind.TheVariants.{Block, Read, Write, Out, Cancel}
 use Rattle.cw_tree.specs.declared.picks.Turn.{Turn}
 use Rattle.cw_tree.specs.Nodes.{passes, is_block, is_block_kind, is_pending}
 use Rattle.cw_tree.specs.Walks.{path}
@@ -17,7 +17,7 @@ use Rattle.cw_tree.specs.Accesses.{by_key}
 use Rattle.cw_tree.proofs.NodeKinds.{pending_block}
 use Rattle.cw_serial.specs.StrandTree.{at, put}
 use Rattle.cw_serial.specs.Machine.{Machine, Begun, may_pick, same_name, pick_at, pick}
-use Rattle.cw_serial.specs.Wants.{answer_to, memory_after, outputs_after, blocks_after, since_after}
+use Rattle.cw_serial.specs.Wants.{Since, answer_to, memory_after, outputs_after, blocks_after, since_after}
 use Rattle.cw_record.specs.declared.items.OrderItem.{OrderItem}
 use Rattle.cw_record.specs.declared.items.OrderItem.TheVariants.{Begins, Does, Ends}
 use Rattle.cw_record.specs.Coherent.{outputs_shown, shown_kind, shown_node}
@@ -67,15 +67,16 @@ pub block_shows : (o : Option Node) → passes (λ x. is_block_kind x.kind) o �
 block_shows None e = refl
 block_shows (Some x) e = block_kind_shows x.kind e
 
-act_shows : (memory outputs : List ℤ) (w : Want) (k : Kind) → IsAct memory w k → outputs_after w outputs ≡ outputs ++ shown_kind k
-act_shows memory outputs w (Read c v) h = ap (λ x. outputs_after x outputs) h.0 ∙ sym (append-nil outputs)
-act_shows memory outputs w (Write c v) h = ap (λ x. outputs_after x outputs) h ∙ sym (append-nil outputs)
-act_shows memory outputs w (Out v) h = ap (λ x. outputs_after x outputs) h
-act_shows memory outputs w _ h = absurd h
+act_shows : (memory : List ℤ) (since : List Since) (outputs : List ℤ) (w : Want) (k : Kind) → IsAct memory since w k → outputs_after w outputs ≡ outputs ++ shown_kind k
+act_shows memory since outputs w (Read c v) h = ap (λ x. outputs_after x outputs) h.0 ∙ sym (append-nil outputs)
+act_shows memory since outputs w (Write c v) h = ap (λ x. outputs_after x outputs) h ∙ sym (append-nil outputs)
+act_shows memory since outputs w (Out v) h = ap (λ x. outputs_after x outputs) h
+act_shows memory since outputs w (Cancel back) h = ap (λ x. outputs_after x outputs) h.0 ∙ sym (append-nil outputs)
+act_shows memory since outputs w _ h = absurd h
 
-act_of_shows : (memory outputs : List ℤ) (w : Want) (o : Option Node) → IsActOf memory w o → outputs_after w outputs ≡ outputs ++ shown_node o
-act_of_shows memory outputs w None h = absurd h
-act_of_shows memory outputs w (Some x) h = act_shows memory outputs w x.kind h
+act_of_shows : (memory : List ℤ) (since : List Since) (outputs : List ℤ) (w : Want) (o : Option Node) → IsActOf memory since w o → outputs_after w outputs ≡ outputs ++ shown_node o
+act_of_shows memory since outputs w None h = absurd h
+act_of_shows memory since outputs w (Some x) h = act_shows memory since outputs w x.kind h
 
 module _ {A : Type 0} (s : Strands A) where
   -- a pick puts out what its strand wants put out
@@ -93,7 +94,7 @@ module _ {A : Type 0} (s : Strands A) where
   module _ (t : List Node) where
     item_shows : (m : Machine A) (w : Want) (i : OrderItem) → OfBlock t i → IsItemDone t m w i → outputs_after w m.outputs ≡ m.outputs ++ shown_node (slice_get t (node_of i))
     item_shows m w (Begins n) b h = ap (λ x. outputs_after x m.outputs) h ∙ (sym (append-nil m.outputs) ∙ ap (λ vs. m.outputs ++ vs) (sym (block_shows (slice_get t n) b)))
-    item_shows m w (Does n) b h = act_of_shows m.memory m.outputs w (slice_get t n) h
+    item_shows m w (Does n) b h = act_of_shows m.memory m.since m.outputs w (slice_get t n) h
     item_shows m w (Ends n) b h = ap (λ x. outputs_after x m.outputs) h ∙ (sym (append-nil m.outputs) ∙ ap (λ vs. m.outputs ++ vs) (sym (block_shows (slice_get t n) b)))
 
     all_shown : (m n : Machine A) (is : List OrderItem) → All (OfBlock t) is → DoesAll s t m is n → n.outputs ≡ m.outputs ++ outputs_shown t is

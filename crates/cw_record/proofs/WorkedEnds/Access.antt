@@ -9,6 +9,7 @@ use Rattle.cw_tree.specs.Refusals.{IsRefusal, IsRecorded, victim_of, outermost_a
 use Rattle.cw_tree.proofs.Walks.There.{node_there}
 use Rattle.cw_tree.specs.declared.conflict.Conflict.{Conflict}
 use Rattle.cw_tree.specs.Histories.{IsHistory}
+use Rattle.cw_tree.proofs.Cancels.{no_cancels}
 use Rattle.cw_tree.proofs.Worked.Checks.{each_below, implies, implied, is_tree, are_stamps, pending_last, are_refusals, rolls_back}
 use Rattle.cw_tree.proofs.Worked.KeptParts.{are_journals, is_entry, recorded}
 use Rattle.cw_tree.proofs.Worked.KeptRuns.{ended_one}
@@ -47,6 +48,7 @@ history = record {
   cells = each_below _ 8 refl;
   journals = are_journals written (pos 0 ∷ []) ((entry 4 (pos 1) (pos 0) ∷ []) ∷ []) ((is_entry written (pos 0) 5 _ refl refl refl refl refl, tt), tt);
   ended = ended_one written tt;
+  cancels = no_cancels written (pos 0 ∷ []) refl;
   refusals = are_refusals written (refused_alone ∷ []) refl (recorded written refused_alone 5 4 (refl, refl, refl, refl, refl, refl, refl, refl, refl) (refl, refl, refl)) refl refl;
   rolls_back = rolls_back written (refused_alone ∷ []) refl refl;
 }

@@ -5,6 +5,7 @@ use Rattle.cw_strand.specs.declared.want.Want.TheVariants.{Load, Store, Begin, E
 use Rattle.cw_tree.specs.Worked.{pending}
 use Rattle.cw_tree.specs.declared.node.Node.{Node}
 use Rattle.cw_tree.specs.Histories.{IsHistory}
+use Rattle.cw_tree.proofs.Cancels.{no_cancels}
 use Rattle.cw_tree.proofs.Worked.Checks.{each_below, is_tree, are_stamps, pending_last, are_refusals, rolls_back}
 use Rattle.cw_tree.proofs.Worked.KeptParts.{are_journals, is_entry, recorded}
 use Rattle.cw_record.specs.Coherent.{Follows}
@@ -55,6 +56,7 @@ history = record {
   journals = are_journals t (pos 0 ∷ pos 0 ∷ []) ((entry 3 (pos 1) (pos 0) ∷ []) ∷ (met 6 (pos 0) ∷ []) ∷ [])
       ((is_entry t (pos 0) 4 _ refl refl refl refl refl, tt), ((is_entry t (pos 0) 11 _ refl refl refl refl refl, tt), tt));
   ended = ended_two t tt tt;
+  cancels = no_cancels t (pos 0 ∷ pos 0 ∷ []) refl;
   refusals = are_refusals t (refused_in_block ∷ []) refl (recorded t refused_in_block 4 3 (refl, refl, refl, refl, refl, refl, refl, refl, refl) (refl, refl, refl)) refl refl;
   rolls_back = rolls_back t (refused_in_block ∷ []) refl refl;
 }

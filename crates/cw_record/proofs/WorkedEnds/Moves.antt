@@ -5,6 +5,7 @@ use Rattle.cw_strand.specs.declared.want.Want.TheVariants.{Out as Shows, Fork, D
 use Rattle.cw_tree.specs.Refusals.{IsRecorded}
 use Rattle.cw_tree.specs.declared.node.Node.{Node}
 use Rattle.cw_tree.specs.Histories.{IsHistory}
+use Rattle.cw_tree.proofs.Cancels.{no_cancels}
 use Rattle.cw_tree.proofs.Worked.Checks.{each_below, is_tree, are_stamps, pending_last, are_refusals, rolls_back}
 use Rattle.cw_tree.proofs.Worked.KeptParts.{are_journals, is_entry, ended_between}
 use Rattle.cw_tree.proofs.Worked.KeptRuns.{ended_one}
@@ -50,6 +51,7 @@ history = record {
   journals = are_journals t (pos 0 ∷ []) ((met 1 (pos 0) ∷ entry 2 (pos 1) (pos 0) ∷ met 3 (pos 1) ∷ []) ∷ [])
       ((is_entry t (pos 0) 1 _ refl refl refl refl refl, (is_entry t (pos 0) 2 _ refl refl refl refl refl, (is_entry t (pos 1) 3 _ refl refl refl refl refl, tt))), tt);
   ended = ended_one t (ended_between t 1 2 refl, (ended_between t 2 3 refl, tt));
+  cancels = no_cancels t (pos 0 ∷ []) refl;
   refusals = are_refusals t [] refl (All-nil (IsRecorded t)) refl refl;
   rolls_back = rolls_back t [] refl refl;
 }

@@ -2,6 +2,7 @@
 use Rattle.std.proofs.Common.{ℕ, [], ◌∷◌, refl, arith, pos}
 use Rattle.cw_strand.specs.declared.want.Want.TheVariants.{Store, Begin, End}
 use Rattle.cw_tree.specs.Histories.{IsHistory}
+use Rattle.cw_tree.proofs.Cancels.{no_cancels}
 use Rattle.cw_tree.proofs.Worked.Checks.{each_below, is_tree, are_stamps, pending_last, are_refusals, rolls_back}
 use Rattle.cw_tree.proofs.Worked.KeptParts.{are_journals, is_entry, recorded}
 use Rattle.cw_tree.proofs.Worked.KeptRuns.{ended_one}
@@ -45,6 +46,7 @@ history = record {
   cells = each_below _ 11 refl;
   journals = are_journals spawned (pos 0 ∷ []) ((entry 3 (pos 1) (pos 0) ∷ []) ∷ []) ((is_entry spawned (pos 0) 4 _ refl refl refl refl refl, tt), tt);
   ended = ended_one spawned tt;
+  cancels = no_cancels spawned (pos 0 ∷ []) refl;
   refusals = are_refusals spawned (refused_in_block ∷ []) refl (recorded spawned refused_in_block 4 3 (refl, refl, refl, refl, refl, refl, refl, refl, refl) (refl, refl, refl)) refl refl;
   rolls_back = rolls_back spawned (refused_in_block ∷ []) refl refl;
 }

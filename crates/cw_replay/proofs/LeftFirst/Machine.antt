@@ -17,7 +17,8 @@ use Rattle.cw_replay.proofs.RecordsReplay.Work.Work.{Work, Doing, Way}
 use Rattle.cw_replay.proofs.RecordsReplay.Work.Ways.{Stops, threads}
 use Rattle.cw_replay.proofs.RecordsReplay.Work.Next.{Next}
 use Rattle.cw_replay.proofs.RecordsReplay.Work.Orders.{Respects, SeenAfter, Plays, way_after, left_first}
-use Rattle.cw_replay.proofs.RecordsReplay.Machine.Acts.{Act, item, stop, act_name, act_wanted, doing, Remembers, Picks, stops_item, picks_item, next_machine, next_threads, here_at, machine_after}
+use Rattle.cw_replay.proofs.RecordsReplay.Machine.Acts.{Act, item, stop, act_name, act_wanted, doing, PutsBack, Remembers, Picks, stops_item, picks_item, next_machine, next_threads, here_at, machine_after}
+use Rattle.cw_replay.proofs.RecordsReplay.Memory.Given.{cancels_stand, order_puts_back}
 use Rattle.cw_replay.proofs.RecordsReplay.Machine.Replaying.{last_machine, last_strands, order_remembers}
 use Rattle.cw_replay.proofs.RecordsReplay.Blocks.Nesting.{order_picks}
 use Rattle.cw_replay.proofs.RecordsReplay.Tasks.Tasks.{whole}
@@ -44,16 +45,16 @@ module _ {A : Type 0} (s : Strands A) (deep : IsDeep s) (t : List Node) (at_stop
       leftmost_step u deep c z.after z.turns i z.state (subst P (sym z.wants) g) l.lefts (none_left u deep all seen c i l r) z.step ∙ ap Some (sym z.named)
 
   pub goes_leftmost : (is : List OrderItem) (seen : Act → Type 0) (c : Way Act A) (m : Machine A) → First seen c → Respects (λ i j. Beside i j all) (λ j. Unit {0}) seen (map item is) → m.strands ≡ threads u c
-      → (p : Plays u c (map item is)) (b : Picks t m.begun is) → Remembers t m.memory is → GoesDepthFirst s m (map (doer t) is) (machine_after s deep t at_stop m c is p b)
-  goes_leftmost [] seen c m l r e p b q = here
-  goes_leftmost (i ∷ is) seen c m l r e p b q =
+      → (p : Plays u c (map item is)) (b : Picks t m.begun is) → Remembers t m.memory is → PutsBack t m.memory m.since is → GoesDepthFirst s m (map (doer t) is) (machine_after s deep t at_stop m c is p b)
+  goes_leftmost [] seen c m l r e p b q o = here
+  goes_leftmost (i ∷ is) seen c m l r e p b q o =
       let z = p.0 in
       let g = stops_item t m.memory s i q.0 in
       let stands : at s m.strands (doer t i) ≡ Some z.state = ap (λ x. at s x (doer t i)) e ∙ here_at s deep t at_stop c (item i) z g in
       let n = next_machine s deep t at_stop m i z.state b.1 in
       let left : leftmost s m.strands ≡ Some (doer t i) = ap (leftmost s) e ∙ next_leftmost seen c (item i) l r.1 z g in
-      picks left (picks_item s deep t at_stop m i z.state b.1 stands b.0 z.wants b.2 q.0)
-      (goes_leftmost is (λ j. (j ≡ item i) ⊎ seen j) z.after n (first_step u deep all seen c (item i) l z) r.3 (next_threads s deep t at_stop m c i z b.1 e g) p.1 b.3 q.1)
+      picks left (picks_item s deep t at_stop m i z.state b.1 stands b.0 z.wants b.2 q.0 o.0)
+      (goes_leftmost is (λ j. (j ≡ item i) ⊎ seen j) z.after n (first_step u deep all seen c (item i) l z) r.3 (next_threads s deep t at_stop m c i z b.1 e g) p.1 b.3 q.1 o.1)
 
   pub first_after : (js : List Act) (seen : Act → Type 0) (c : Way Act A) → First seen c → (p : Plays u c js) → First (SeenAfter seen js) (way_after u c js p)
   first_after [] seen c l p = l
@@ -75,8 +76,8 @@ module _ {A : Type 0} (s : Strands A) (deep : IsDeep s) (t : List Node) (p : ℕ
 
   pub order_leftmost : GoesDepthFirst s (initial s first) (map (doer t) (Order t p r.laid)) (last_machine s deep t p r first kept cs h)
   order_leftmost =
-      goes_leftmost s deep t r.account.stop.wants all (Order t p r.laid) (λ i. ⊥) (start s t p r deep) (initial s first) at_first (lefts_respected s t p r older ends) refl (order_plays s t p r deep) (order_picks t p r.laid)
-      (order_remembers s deep t p r first kept cs h)
+      goes_leftmost s deep t r.account.stop.wants all (Order t p r.laid) (λ i. ⊥) (start s t p r deep) (initial s first) at_first (lefts_respected s t p r older ends) refl (order_plays s t p r deep) (order_picks t p r.laid (cancels_stand s t p r first kept cs h))
+      (order_remembers s deep t p r first kept cs h) (order_puts_back s t p r first kept cs h)
 
   -- where a strand stopped, that is the leftmost then
   pub stop_leftmost : (n : ℕ) → r.account.stop.at n ≡ true → wants_fork r.account.stop.wants ≡ false → leftmost s (last_machine s deep t p r first kept cs h).strands ≡ Some (act_name t (stop n))

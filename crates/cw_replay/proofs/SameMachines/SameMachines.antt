@@ -208,10 +208,10 @@ module _ {A B : Type 0} (s : Strands A) (t : Strands B) (same : WantTheSame s t)
   -- ## Records
 
   module _ (nodes : List Node) where
-    item_alike : (m : Machine A) (n : Machine B) → m.memory ≡ n.memory → (v w : Want) → v ≡ w → (i : OrderItem) → IsItemDone nodes m v i → IsItemDone nodes n w i
-    item_alike m n e v w f (Begins b) h = sym f ∙ h
-    item_alike m n e v w f (Does k) h = subst (λ x. IsActOf x w (slice_get nodes k)) e (subst (λ x. IsActOf m.memory x (slice_get nodes k)) f h)
-    item_alike m n e v w f (Ends b) h = sym f ∙ h
+    item_alike : (m : Machine A) (n : Machine B) → m.memory ≡ n.memory → m.since ≡ n.since → (v w : Want) → v ≡ w → (i : OrderItem) → IsItemDone nodes m v i → IsItemDone nodes n w i
+    item_alike m n e d v w f (Begins b) h = sym f ∙ h
+    item_alike m n e d v w f (Does k) h = subst (λ x. IsActOf x n.since w (slice_get nodes k)) e (subst (λ x. IsActOf m.memory x w (slice_get nodes k)) d (subst (λ x. IsActOf m.memory m.since x (slice_get nodes k)) f h))
+    item_alike m n e d v w f (Ends b) h = sym f ∙ h
 
     -- what the one machine does of the order, the other one does
     does_all_alike : (is : List OrderItem) (m o : Machine A) (n : Machine B) → HoldTheSame m n → DoesAll s nodes m is o → (u : Machine B) × DoesAll t nodes n is u × HoldTheSame o u
@@ -221,7 +221,7 @@ module _ {A B : Type 0} (s : Strands A) (t : Strands B) (same : WantTheSame s t)
         let (b, stands, one) = both_some (HaveOnePast s t) (at s m.strands p) (at t n.strands p) (there m n h p) a stood in
         let (y, other_picked, held) = both_some HoldTheSame (pick s m p) (pick t n p) (pick_alike m n h p) x picked in
         let (u, acts, behind) = does_all_alike is x o y held more in
-        (u, (b, y, stands, item_alike m n h.memory (s.want a) (t.want b) (want_same s t same a b one) i item, other_picked, acts), behind)
+        (u, (b, y, stands, item_alike m n h.memory h.since (s.want a) (t.want b) (want_same s t same a b one) i item, other_picked, acts), behind)
 
     refused_alike : (m : Machine A) (n : Machine B) → HoldTheSame m n → (c : Option Conflict) (p : List Turn) → StandsRefused s c m p → StandsRefused t c n p
     refused_alike m n h None p r = r

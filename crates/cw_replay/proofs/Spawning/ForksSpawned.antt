@@ -3,12 +3,12 @@ use Rattle.std.proofs.Common.{◌≡◌, ℕ, zero, suc, ◌<◌, Bool, true, fa
 use Rattle.std.specs.Prelude.{◌||◌, if◌then◌else◌, IsTrue}
 use Rattle.std.proofs.lemmas.Bool.{false_from_ne_true}
 use Rattle.cw_code.specs.declared.instruction.Code.{Code}
-use Rattle.cw_strand.specs.declared.want.Given.TheVariants.{Nothing, Value}
+use Rattle.cw_strand.specs.declared.want.Given.TheVariants.{Nothing, Value, Back}
 use Rattle.cw_strand.specs.Strands as strands
 use Rattle.cw_strand.specs.Strands.{Strands}
 use Rattle.cw_tree.specs.declared.node.Node.{Node}
 use Rattle.cw_tree.specs.declared.node.Kind.{Kind}
-use Rattle.cw_tree.specs.declared.node.Kind.TheVariants.{Strand, Fork, Block, Read, Write, Out, Tried}
+use Rattle.cw_tree.specs.declared.node.Kind.TheVariants.{Strand, Fork, Block, Read, Write, Out, Cancel, Tried}
 use Rattle.cw_tree.specs.declared.node.BlockState.{BlockState}
 use Rattle.cw_tree.specs.declared.node.BlockState.TheVariants.{Pending, Committed, Aborted}
 use Rattle.cw_tree.specs.Nodes.{parent_of, passes, is_strand, is_fork, is_block, is_strand_kind, is_fork_kind}
@@ -56,6 +56,7 @@ module _ {A : Type 0} (s : Strands A) (never : NeverForks s) (t : List Node) (tr
       by (Read d v) z e w = subst Plain (sym w.1) (never.answer (before c) (Value v))
       by (Write d v) z e w = subst Plain (sym w.1) (never.answer (before c) Nothing)
       by (Out v) z e w = subst Plain (sym w.1) (never.answer (before c) Nothing)
+      by (Cancel back) z e w = subst Plain (sym w.1) (never.answer (before c) (Back back))
       by (Tried d) z e w = subst Plain (sym w.1) plain
 
   -- none is wanted between nodes in series, where none is wanted before the first

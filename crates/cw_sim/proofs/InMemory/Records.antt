@@ -5,7 +5,6 @@ use Rattle.std.proofs.lemmas.Result.{IfOk-weaker}
 use Rattle.cw_code.specs.declared.Limits.{Limits}
 use Rattle.cw_code.specs.declared.program.Program.{Program}
 use Rattle.cw_io.specs.declared.schedule.Schedule.{Schedule}
-use Rattle.cw_job.proofs.Room.Elements.{IsUncancelled}
 use Rattle.cw_strand.specs.Programs.{IsCompiled}
 use Rattle.cw_tree.specs.declared.node.Node.{Node}
 use Rattle.cw_tree.specs.declared.closed.Closed.{Closed}
@@ -49,7 +48,7 @@ pub moved_same : (program : Program) (limits : Limits) (ws vs : List ℤ) (worke
 moved_same program limits ws vs workers schedule c spent same is =
     let P : List ℤ → Type 0 = λ xs. IsMoved (record { program = program; words = xs; limits = limits }) workers schedule c spent in subst P same is
 
-module _ (job : Job) (workers : ℕ) (schedule : Schedule) (compiled : IsUncancelled job.program) (takes : TakesWords job.program (length job.words)) (room : 0 < job.limits.strands) (some : 0 < workers) (lists : ListsWorkers schedule workers) where
+module _ (job : Job) (workers : ℕ) (schedule : Schedule) (compiled : IsCompiled job.program) (takes : TakesWords job.program (length job.words)) (room : 0 < job.limits.strands) (some : 0 < workers) (lists : ListsWorkers schedule workers) where
   abbrev m : Simulation StrandState
   m = simulation_of job workers schedule
 
@@ -75,14 +74,14 @@ module _ (job : Job) (workers : ℕ) (schedule : Schedule) (compiled : IsUncance
         IfOk-weaker o (λ r. (t : List Node) → IsNumbered t → c.tree ≡ in_order t → IsNumberedDepthFirst r.tree) (λ r. IsNumberedDepthFirst r.tree) (λ r g. g (tree m) closed_left.numbered closed_left.tree) f
 
 -- a record of a program with its words that is coherent, and has its outputs and its order, replays
-module _ (p : Program) (words : List ℤ) (compiled : IsUncancelled p) (takes : TakesWords p (length words)) where
+module _ (p : Program) (words : List ℤ) (compiled : IsCompiled p) (takes : TakesWords p (length words)) where
   pub built_replays : {E : Type 0} (o : Result Record E) → IfOk o (λ r. r.program ≡ p) → IfOk o (λ r. r.words ≡ words) → IfOk o (λ r. IsCoherentRun r) → IfOk o (λ r. HasItsOutputs r)
       → IfOk o (λ r. r.order ≡ order_of r.tree r.conflicts r.limits.aborts r.end) → IfOk o (λ r. IsReplayed r)
   built_replays (Err e) program is coherent outputs order = tt
   built_replays (Ok r) program is coherent outputs order =
       let same : TakesWords p (length r.words) = subst (λ (ws : List ℤ). TakesWords p (length ws)) (sym is) takes in
       kept_records_replay r
-      (record { program = subst IsCompiled (sym program) compiled.compiled; words = subst (λ (q : Program). TakesWords q (length r.words)) (sym program) same; coherent = coherent })
+      (record { program = subst IsCompiled (sym program) compiled; words = subst (λ (q : Program). TakesWords q (length r.words)) (sym program) same; coherent = coherent })
       outputs order
 
 -- and the record of the moves tells whether they were spent

@@ -4,7 +4,7 @@ use Rattle.std.specs.Prelude.{ℤ}
 use Rattle.std.proofs.lemmas.List.{length-replicate}
 use Rattle.cw_io.specs.declared.schedule.Schedule.{Schedule}
 use Rattle.cw_strand.specs.Names.{first_memory}
-use Rattle.cw_job.proofs.Room.Elements.{IsUncancelled}
+use Rattle.cw_strand.specs.Programs.{IsCompiled}
 use Rattle.cw_strand.specs.Strands.{Strands}
 use Rattle.cw_core.proofs.Events.Going.{state}
 use Rattle.cw_job.specs.Jobs.{Job, TakesWords}
@@ -99,7 +99,7 @@ module _ (job : Job) (workers : ℕ) (schedule : Schedule) where
 
       -- ## Where it is not
 
-      module _ (compiled : IsUncancelled job.program) (takes : TakesWords job.program (length job.words)) (off : b ≡ false) (t : Turns) (along : AreAlong t n) (w : ℕ)
+      module _ (compiled : IsCompiled job.program) (takes : TakesWords job.program (length job.words)) (off : b ≡ false) (t : Turns) (along : AreAlong t n) (w : ℕ)
           (who : w ≡ worker_at t.schedule.now t.workers n) (few : w < t.workers) where
         are : AreStrands s (length first)
         are = strands_lawful job compiled takes

@@ -5,10 +5,10 @@ use Rattle.std.specs.List.{list_any}
 use Rattle.std.proofs.lemmas.Bool.{cases_lt, and_from, not_from_false, false_from_ne_true}
 use Rattle.cw_strand.specs.declared.want.Want.TheVariants.{Begin, End, Fork as ForkWant}
 use Rattle.cw_strand.specs.declared.want.Given.{Given}
-use Rattle.cw_strand.specs.declared.want.Given.TheVariants.{Nothing}
+use Rattle.cw_strand.specs.declared.want.Given.TheVariants.{Nothing, Back}
 use Rattle.cw_strand.specs.Strands.{Strands, IsAnswer}
 use Rattle.cw_tree.specs.declared.node.Node.{Node}
-use Rattle.cw_tree.specs.declared.node.Kind.TheVariants.{Block, Out, Tried}
+use Rattle.cw_tree.specs.declared.node.Kind.TheVariants.{Block, Out, Cancel, Tried}
 use Rattle.cw_tree.specs.declared.conflict.Conflict.{Conflict}
 use Rattle.cw_tree.specs.declared.node.BlockState.{BlockState}
 use Rattle.cw_tree.specs.declared.node.BlockState.TheVariants.{Committed, Aborted}
@@ -24,7 +24,7 @@ use Rattle.cw_tree.proofs.NextNodes.Pending.{pending_closed, pending_stays}
 use Rattle.cw_open.specs.Machine.{OpenMachine, has_finished, finished_dead, is_running, is_dying, is_free, in_block, rolls_back, live_value}
 use Rattle.cw_open.specs.Open.{is_open, AreNested}
 use Rattle.cw_open.specs.Runs.{at_once}
-use Rattle.cw_open.specs.Steps.{refuses, accesses, refusal, after_all}
+use Rattle.cw_open.specs.Steps.{refuses, accesses, refusal, puts_back, after_all}
 use Rattle.cw_open.proofs.Refused.BackedStates.{backed_states}
 use Rattle.cw_open.proofs.Refused.Fell.{names, names_block, one_names}
 use Rattle.cw_open.proofs.Runs.LawsHold.{at_any}
@@ -38,7 +38,7 @@ use Rattle.cw_core.specs.Events.{fits, after_event, is_met, met_by, next}
 use Rattle.cw_core.specs.Laws.{IsCore}
 use Rattle.cw_core.proofs.Events.Kept.{events}
 use Rattle.cw_sim.specs.Workers.{Simulation, left_node, right_node, changed, with_strand}
-use Rattle.cw_sim.specs.Moves.{does, answers, begins}
+use Rattle.cw_sim.specs.Moves.{does, answers, begins, gives_up}
 use Rattle.cw_sim.specs.Kept.{CoreGoesOn}
 use Rattle.cw_sim.proofs.Kept.After.{conflicts_after}
 use Rattle.cw_sim.specs.Inside.{IsRightOf, GoesBackIn, AreInside, HasInside}
@@ -52,7 +52,7 @@ use Rattle.cw_sim.proofs.Inside.Law.{goes_on, goes_out}
 use Rattle.cw_sim.proofs.Inside.Quiet.{IsLeft}
 use Rattle.cw_sim.proofs.Inside.Waits.{running_stands, over_waits}
 use Rattle.cw_sim.proofs.Kept.Leaves.{IsMore}
-use Rattle.cw_sim.proofs.Kept.Quiet.{out_more, begin_more, access_more, refused_more, commit_shut, roll_shut}
+use Rattle.cw_sim.proofs.Kept.Quiet.{out_more, cancel_more, begin_more, access_more, refused_more, commit_shut, roll_shut}
 use Rattle.cw_sim.proofs.Kept.Shuts.{IsShut}
 
 module _ {A : Type 0} (s : Strands A) (first : List ℤ) (m : Simulation A) (on : CoreGoesOn first m.core) (there : ℕ → A) (old : HasInside s m there) where
@@ -116,6 +116,12 @@ module _ {A : Type 0} (s : Strands A) (first : List ℤ) (m : Simulation A) (on 
     pub out_inside : (v : ℤ) → fits k (event.Out x v) ≡ true → is_dying mm x ≡ false → IsAnswer s.elements (s.want (m.at x)) Nothing → (s.want (m.at x) ≡ End → ⊥)
         → HasInside s (answers s x Nothing (does (event.Out x v) m)) (changed x (s.answer (m.at x) Nothing) there)
     out_inside v fit free answer off = leaf (event.Out x v) fit (fresh_node p (Out v) (next k)) (out_more first k on x running ready v) refl refl free Nothing answer off
+
+    -- a block is given up
+    pub cancel_inside : fits k (event.Cancel x) ≡ true → is_dying mm x ≡ false → IsAnswer s.elements (s.want (m.at x)) (Back (puts_back mm x (next k))) → (s.want (m.at x) ≡ End → ⊥)
+        → HasInside s (gives_up s x m) (changed x (s.answer (m.at x) (Back (puts_back mm x (next k)))) there)
+    cancel_inside fit free answer off =
+        leaf (event.Cancel x) fit (fresh_node p (Cancel (puts_back mm x (next k))) (next k)) (cancel_more first k on x running ready) refl refl free (Back (puts_back mm x (next k))) answer off
 
     access_plain : (c : ℕ) (w : Option ℤ) (v : ℤ) → is_block_kind (access_kind c w v) ≡ false
     access_plain c None v = refl

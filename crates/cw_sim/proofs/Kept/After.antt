@@ -42,6 +42,7 @@ module _ (k : CoreState) where
   halt_after (event.Begin s) e = refl
   halt_after (event.Access s c w) e = refl
   halt_after (event.Out s v) e = refl
+  halt_after (event.Cancel s) e = refl
   halt_after (event.Commit s) e = refl
   halt_after (event.Roll s) e = refl
   halt_after (event.Finish s dead) e = refl
@@ -54,6 +55,7 @@ module _ (k : CoreState) where
   stopped_after (event.Begin s) e = refl
   stopped_after (event.Access s c w) e = accessed (λ m. m.stopped) m s c w (met_by k s c) (next k) refl refl (is_met k s c)
   stopped_after (event.Out s v) e = refl
+  stopped_after (event.Cancel s) e = refl
   stopped_after (event.Commit s) e = refl
   stopped_after (event.Roll s) e = rolled (λ m. m.stopped) s (next k) (λ m c. refl) (λ m. refl) m (touched k s)
   stopped_after (event.Finish s dead) e = refl
@@ -66,6 +68,7 @@ module _ (k : CoreState) where
   joined_after (event.Begin s) e n = refl
   joined_after (event.Access s c w) e n = accessed (λ m. m.joined) m s c w (met_by k s c) (next k) refl refl (is_met k s c)
   joined_after (event.Out s v) e n = refl
+  joined_after (event.Cancel s) e n = refl
   joined_after (event.Commit s) e n = refl
   joined_after (event.Roll s) e n = rolled (λ m. m.joined) s (next k) (λ m c. refl) (λ m. refl) m (touched k s)
   joined_after (event.Finish s dead) e n = refl
@@ -78,6 +81,7 @@ module _ (k : CoreState) where
   finished_after (event.Begin s) e n = refl
   finished_after (event.Access s c w) e n = accessed (λ m. m.finished) m s c w (met_by k s c) (next k) refl refl (is_met k s c)
   finished_after (event.Out s v) e n = refl
+  finished_after (event.Cancel s) e n = refl
   finished_after (event.Commit s) e n = refl
   finished_after (event.Roll s) e n = rolled (λ m. m.finished) s (next k) (λ m c. refl) (λ m. refl) m (touched k s)
   finished_after (event.Finish s dead) e n = absurd (cc n)
@@ -90,6 +94,7 @@ module _ (k : CoreState) where
   conflicts_after (event.Begin s) e n = refl
   conflicts_after (event.Access s c w) e n = absurd (cc n)
   conflicts_after (event.Out s v) e n = refl
+  conflicts_after (event.Cancel s) e n = refl
   conflicts_after (event.Commit s) e n = refl
   conflicts_after (event.Roll s) e n = rolled (λ m. m.conflicts) s (next k) (λ m c. refl) (λ m. refl) m (touched k s)
   conflicts_after (event.Finish s dead) e n = refl
@@ -107,6 +112,7 @@ module _ (k : CoreState) where
   room_after (event.Begin s) = refl
   room_after (event.Access s c w) = refl
   room_after (event.Out s v) = refl
+  room_after (event.Cancel s) = refl
   room_after (event.Commit s) = refl
   room_after (event.Roll s) = refl
   room_after (event.Finish s dead) = refl

@@ -5,17 +5,19 @@ use Rattle.std.specs.Prelude.{◌&&◌, ◌||◌, slice_get}
 use Rattle.std.proofs.lemmas.Bool.{and_parts, and_from, or_left, or_right, not-true, cases_eq, cases_lt, eq-eqb, eqb-true, lt-ltb, false_from_ne_true}
 use Rattle.std.proofs.lemmas.Option.{slice_get_cases}
 use Rattle.cw_strand.specs.declared.want.Want.TheVariants as want
-use Rattle.cw_strand.specs.declared.want.Given.TheVariants.{Nothing, Value}
+use Rattle.cw_strand.specs.declared.want.Given.TheVariants.{Nothing, Value, Back}
 use Rattle.cw_strand.specs.Strands.{Strands, is_over, GoesTo, stays, joins}
 use Rattle.cw_tree.specs.declared.node.Node.{Node}
 use Rattle.cw_tree.specs.declared.node.Kind.{Kind}
-use Rattle.cw_tree.specs.declared.node.Kind.TheVariants.{Strand, Fork, Block, Read, Write, Out, Tried}
+use Rattle.cw_tree.specs.declared.node.Kind.TheVariants.{Strand, Fork, Block, Read, Write, Out, Cancel, Tried}
 use Rattle.cw_tree.specs.declared.node.BlockState.{BlockState}
 use Rattle.cw_tree.specs.declared.node.BlockState.TheVariants.{Pending, Committed, Aborted}
 use Rattle.cw_tree.specs.Nodes.{passes, is_strand_kind, is_fork_kind, is_block_kind, is_committed_state, parent_of, is_strand, is_fork, is_block, is_committed}
+use Rattle.cw_tree.specs.Cancels.{NamesCells, names_cells}
 use Rattle.cw_tree.specs.Series.{children, has_later}
 use Rattle.cw_tree.specs.Shape.{IsTree}
 use Rattle.cw_tree.specs.Links.{is_child, last_child}
+use Rattle.cw_tree.proofs.Cancels.{passes_at}
 use Rattle.cw_tree.proofs.Lists.{In}
 use Rattle.cw_tree.proofs.Walks.Children.{last_passes}
 use Rattle.cw_tree.proofs.InOrder.DepthFirst.{IsChild, child_is}
@@ -25,9 +27,10 @@ use Rattle.cw_tree.proofs.NodeKinds.{strand_no_block}
 use Rattle.cw_tree.proofs.LastBelow.{last_is, none_is}
 use Rattle.cw_open.proofs.Open.Staying.{is_later}
 use Rattle.cw_record.specs.Coherent.{entered, IsWanted, IsForkOf, StrandEnded, alone, joined, IsJoined, HasNoOpenFork, Follows}
+use Rattle.cw_sim.proofs.Kept.Elements.{elements_named}
 use Rattle.cw_sim.proofs.Kept.Onward.{goes_on, answers, Passes, passes_all}
 
-module _ {A : Type 0} (s : Strands A) (t : List Node) (before after reached : ℕ → A) (tree : IsTree t) (f : Follows s t before after reached) where
+module _ {A : Type 0} (s : Strands A) (t : List Node) (before after reached : ℕ → A) (tree : IsTree t) (f : Follows s t before after reached) (cells : ℕ) (are : cells ≤ s.elements) (named : NamesCells t cells) where
   abbrev Joined : ℕ → Type 0
   Joined = IsJoined s t before after reached
 
@@ -131,24 +134,25 @@ module _ {A : Type 0} (s : Strands A) (t : List Node) (before after reached : �
               let P : A → Type 0 = λ c. GoesTo s (m ∷ ms) c (m ∷ ms) (reached x) in
               subst P (entered_other x (strand_no_block t x strand) ∙ begins) (within x (omega arith) child.there (or_left (is_strand t x) (is_block t x) strand) (ended_none x ended) m ms)
 
-    past_kind : (k : Kind) (state : BlockState) → is_strand t n ≡ is_strand_kind k → is_fork t n ≡ is_fork_kind k → is_block t n ≡ is_block_kind k → is_committed t n ≡ (is_block_kind k && is_committed_state state) → IsWanted s t before after reached n k state
+    past_kind : (k : Kind) (state : BlockState) → is_strand t n ≡ is_strand_kind k → is_fork t n ≡ is_fork_kind k → is_block t n ≡ is_block_kind k → is_committed t n ≡ (is_block_kind k && is_committed_state state) → names_cells cells k ≡ true → IsWanted s t before after reached n k state
         → Goes (before n) (after n)
-    past_kind Strand state a b c d w = absurd (cc (a, plain))
-    past_kind Fork state a b c d w = past_fork b w.0 w.1
-    past_kind Block Committed a b c d w = past_block c d w.0 w.1.0 w.1.1
-    past_kind Block Pending a b c d w = stays_there w.1
-    past_kind Block Aborted a b c d w = stays_there w.1
-    past_kind (Read cell v) state a b c d w = λ m ms. answers s (want.Load cell) (m ∷ ms) (before n) (after n) (Value v) w.0 tt w.1
-    past_kind (Write cell v) state a b c d w = λ m ms. answers s (want.Store cell v) (m ∷ ms) (before n) (after n) Nothing w.0 tt w.1
-    past_kind (Out v) state a b c d w = λ m ms. answers s (want.Out v) (m ∷ ms) (before n) (after n) Nothing w.0 tt w.1
-    past_kind (Tried cell) state a b c d w = stays_there w.1
+    past_kind Strand state a b c d e w = absurd (cc (a, plain))
+    past_kind Fork state a b c d e w = past_fork b w.0 w.1
+    past_kind Block Committed a b c d e w = past_block c d w.0 w.1.0 w.1.1
+    past_kind Block Pending a b c d e w = stays_there w.1
+    past_kind Block Aborted a b c d e w = stays_there w.1
+    past_kind (Read cell v) state a b c d e w = λ m ms. answers s (want.Load cell) (m ∷ ms) (before n) (after n) (Value v) w.0 tt w.1
+    past_kind (Write cell v) state a b c d e w = λ m ms. answers s (want.Store cell v) (m ∷ ms) (before n) (after n) Nothing w.0 tt w.1
+    past_kind (Out v) state a b c d e w = λ m ms. answers s (want.Out v) (m ∷ ms) (before n) (after n) Nothing w.0 tt w.1
+    past_kind (Cancel back) state a b c d e w = λ m ms. answers s want.Cancel (m ∷ ms) (before n) (after n) (Back back) w.0 (elements_named cells s.elements are back e) w.1
+    past_kind (Tried cell) state a b c d e w = stays_there w.1
 
     past : Goes (before n) (after n)
     past = elim (slice_get_cases t n).1 [ inl c ↦ there c.0 c.2 | inr c ↦ absurd (omega (arith, low, c.0)) ] where
       there : (x : Node) → slice_get t n ≡ Some x → Goes (before n) (after n)
       there x e =
           past_kind x.kind x.state (ap (passes (λ y. is_strand_kind y.kind)) e) (ap (passes (λ y. is_fork_kind y.kind)) e) (ap (passes (λ y. is_block_kind y.kind)) e)
-          (ap (passes (λ y. is_block_kind y.kind && is_committed_state y.state)) e) (f.fits n x e)
+          (ap (passes (λ y. is_block_kind y.kind && is_committed_state y.state)) e) (passes_at (λ y. names_cells cells y.kind) t n x named e) (f.fits n x e)
 
   -- ## Through a node
 

@@ -3,7 +3,7 @@ use Rattle.std.proofs.Common.{◌≡◌, ℕ, ◌<◌, List, [], ◌∷◌, ◌+
 use Rattle.std.specs.Prelude.{ℤ}
 use Rattle.std.specs.List.{list_any}
 use Rattle.cw_tree.specs.declared.node.Node.{Node}
-use Rattle.cw_tree.specs.declared.node.Kind.TheVariants.{Block, Out, Tried}
+use Rattle.cw_tree.specs.declared.node.Kind.TheVariants.{Block, Out, Cancel, Tried}
 use Rattle.cw_tree.specs.declared.node.BlockState.TheVariants.{Committed, Aborted}
 use Rattle.cw_tree.specs.Nodes.{is_strand_kind, is_fork_kind, is_fork, fresh_node}
 use Rattle.cw_tree.specs.Walks.{has}
@@ -12,7 +12,7 @@ use Rattle.cw_tree.specs.Shape.{IsTree}
 use Rattle.cw_tree.specs.AccessStacks.{access_kind}
 use Rattle.cw_tree.proofs.NextNodes.Trees.{no_fork}
 use Rattle.cw_open.specs.Machine.{OpenMachine, has_finished, is_running, rolls_back, live_value}
-use Rattle.cw_open.specs.Steps.{refuses, accesses, after_all}
+use Rattle.cw_open.specs.Steps.{refuses, accesses, puts_back, after_all}
 use Rattle.cw_open.proofs.Open.Standing.{runs}
 use Rattle.cw_core.specs.declared.event.Event.{Event}
 use Rattle.cw_core.specs.declared.event.Event.TheVariants as event
@@ -111,6 +111,9 @@ module _ (first : List ℤ) (k : CoreState) (on : CoreGoesOn first k) (x : ℕ) 
   pub out_more : (v : ℤ) → IsMore k (after_event k (event.Out x v)) (fresh_node p (Out v) (next k))
   out_more v = record { tree = refl; there = there; under = under; strand = refl; fork = refl; room = refl; splits = refl; joined = refl; finished = refl; stopped = refl }
 
+  pub cancel_more : IsMore k (after_event k (event.Cancel x)) (fresh_node p (Cancel (puts_back m x (next k))) (next k))
+  cancel_more = record { tree = refl; there = there; under = under; strand = refl; fork = refl; room = refl; splits = refl; joined = refl; finished = refl; stopped = refl }
+
   pub begin_more : IsMore k (after_event k (event.Begin x)) (fresh_node p Block (next k))
   begin_more = record { tree = refl; there = there; under = under; strand = refl; fork = refl; room = refl; splits = refl; joined = refl; finished = refl; stopped = refl }
 
@@ -179,6 +182,9 @@ module _ (first : List ℤ) (k : CoreState) (on : CoreGoesOn first k) (x : ℕ) 
 
   pub keeps_out : (v : ℤ) (ws : List Worker) → AreWorkers k ws → fits k (event.Out x v) ≡ true → Keeps (after_event k (event.Out x v)) ws
   keeps_out v ws old fit = keeps_by (event.Out x v) ws old fit (more_quiet k (after_event k (event.Out x v)) trees (fresh_node p (Out v) (next k)) (out_more v)) on.halt (still_unspent (event.Out x v) refl)
+
+  pub keeps_cancel : (ws : List Worker) → AreWorkers k ws → fits k (event.Cancel x) ≡ true → Keeps (after_event k (event.Cancel x)) ws
+  keeps_cancel ws old fit = keeps_by (event.Cancel x) ws old fit (more_quiet k (after_event k (event.Cancel x)) trees (fresh_node p (Cancel (puts_back m x (next k))) (next k)) cancel_more) on.halt (still_unspent (event.Cancel x) refl)
 
   pub keeps_begin : (ws : List Worker) → AreWorkers k ws → fits k (event.Begin x) ≡ true → Keeps (after_event k (event.Begin x)) ws
   keeps_begin ws old fit = keeps_by (event.Begin x) ws old fit (more_quiet k (after_event k (event.Begin x)) trees (fresh_node p Block (next k)) begin_more) on.halt (still_unspent (event.Begin x) refl)

@@ -1,6 +1,6 @@
 -- By the states of a coherent tree each strand of it is one to which a run comes, and in each of its nodes stands where a run comes to: in each
 -- node that is begun, and at the end of each that has no open fork there.
-use Rattle.std.proofs.Common.{◌≡◌, ℕ, zero, suc, ◌<◌, List, [], ◌∷◌, ◌++◌, length, refl, ap, sym, ◌∙◌, subst, arith, Bool, true, false, Option, Some, None, inl, inr, nat_eq, nat_lt, append_assoc}
+use Rattle.std.proofs.Common.{◌≡◌, ℕ, zero, suc, ◌<◌, ◌≤◌, List, [], ◌∷◌, ◌++◌, length, refl, ap, sym, ◌∙◌, subst, arith, Bool, true, false, Option, Some, None, inl, inr, nat_eq, nat_lt, append_assoc}
 use Rattle.std.specs.Prelude.{◌||◌, slice_get}
 use Rattle.std.specs.List.{filter}
 use Rattle.std.proofs.lemmas.Bool.{and_parts, and_from, or_cases, or_left, or_right, eq-eqb, eqb-true, lt-ltb, ltb-true, false_from_ne_true, cases_Bool}
@@ -13,6 +13,7 @@ use Rattle.cw_tree.specs.declared.node.Kind.{Kind}
 use Rattle.cw_tree.specs.declared.node.Kind.TheVariants.{Fork, Block}
 use Rattle.cw_tree.specs.declared.node.BlockState.{BlockState}
 use Rattle.cw_tree.specs.Nodes.{passes, is_fork_kind, is_block_kind, parent_of, is_strand, is_fork, is_block, below}
+use Rattle.cw_tree.specs.Cancels.{NamesCells}
 use Rattle.cw_tree.specs.Series.{children}
 use Rattle.cw_tree.specs.Shape.{IsTree}
 use Rattle.cw_tree.specs.Links.{is_child}
@@ -40,7 +41,7 @@ filter_split p n (suc k) h e =
       | inr same ↦ (let none : List ℕ = [] in (none, ap (λ m. filter p (below (suc m))) same ∙ below_last p n (suc n) (omega arith) e (λ m a b. absurd (omega arith))))
     ]
 
-module _ {A : Type 0} (s : Strands A) (t : List Node) (before after reached : ℕ → A) (tree : IsTree t) (f : Follows s t before after reached) (made : AsMade t) where
+module _ {A : Type 0} (s : Strands A) (t : List Node) (before after reached : ℕ → A) (tree : IsTree t) (f : Follows s t before after reached) (cells : ℕ) (are : cells ≤ s.elements) (named : NamesCells t cells) (made : AsMade t) where
   abbrev enters : ℕ → A
   enters = entered s t before after reached
 
@@ -98,7 +99,7 @@ module _ {A : Type 0} (s : Strands A) (t : List Node) (before after reached : �
         let z = in_filter (is_child t q) c (below n) i in
         let y = and_parts (nat_lt 0 c) (nat_eq (parent_of t c) q) z.1 in
         let under : c < n = in_below c n z.0 in
-        past_earlier s t before after reached tree f q c n is
+        past_earlier s t before after reached tree f cells are named q c n is
         (record { some = ltb-true 0 c y.0; there = omega arith; parent = eqb-true (parent_of t c) q y.1 })
         (record { some = some; there = low; parent = refl }) under
 
@@ -125,8 +126,8 @@ module _ {A : Type 0} (s : Strands A) (t : List Node) (before after reached : �
         let P : List ℕ → Type 0 = IsForkOf s t before after reached p in
         let both = subst P (made p fork) kids in
         let Q : A → Type 0 = λ a. Reached s (levels t p) a in
-        let stood = subst Q (entered_other s t before after reached tree f p (fork_no_block t p fork)) up in
-        let here = entered_other s t before after reached tree f n (strand_no_block t n strand) in
+        let stood = subst Q (entered_other s t before after reached tree f cells are named p (fork_no_block t p fork)) up in
+        let here = entered_other s t before after reached tree f cells are named n (strand_no_block t n strand) in
         let R : List ℕ → Type 0 = λ own. Reached s own (enters n) in
         elim (which t tree made p fork n some low refl) [
           | inl left ↦
@@ -161,17 +162,17 @@ module _ {A : Type 0} (s : Strands A) (t : List Node) (before after reached : �
                 (let own : List ℕ = own_after want.Begin (levels t p) in
                 let Q : A → Type 0 = λ a. Reached s own a in
                 let there = reached_on s comes (answers s want.Begin (levels t p) (before n) (s.answer (before n) Nothing) Nothing (block_wanted n block) tt refl) in
-                subst P (sym (levels_block t tree.rooted n some low plain block)) (subst Q (sym (entered_block s t before after reached tree f n block)) there))
+                subst P (sym (levels_block t tree.rooted n some low plain block)) (subst Q (sym (entered_block s t before after reached tree f cells are named n block)) there))
             | inr none ↦
                 (let Q : A → Type 0 = λ a. Reached s (levels t p) a in
-                subst P (sym (levels_other t tree.rooted n some low plain none)) (subst Q (sym (entered_other s t before after reached tree f n none)) comes))
+                subst P (sym (levels_other t tree.rooted n some low plain none)) (subst Q (sym (entered_other s t before after reached tree f cells are named n none)) comes))
           ]
 
   root_reached : Reached s (levels t 0) (enters 0)
   root_reached =
       let own : List ℕ = 0 ∷ [] in
       let P : A → Type 0 = λ a. Reached s own a in
-      subst P (sym (entered_other s t before after reached tree f 0 (strand_no_block t 0 tree.root) ∙ f.start)) (of_main stays)
+      subst P (sym (entered_other s t before after reached tree f cells are named 0 (strand_no_block t 0 tree.root) ∙ f.start)) (of_main stays)
 
   -- where a node is begun
   pub entered_reached : (n : ℕ) → n < length t → Reached s (levels t n) (enters n)
@@ -185,4 +186,4 @@ module _ {A : Type 0} (s : Strands A) (t : List Node) (before after reached : �
 
   -- at the end of a node that has no open fork there
   pub end_reached : (n : ℕ) → n < length t → (is_strand t n || is_block t n) ≡ true → HasNoOpenFork s t before after reached n → Reached s (levels t n) (reached n)
-  end_reached n low is none = further n low (enters n) (reached n) (entered_reached n low) (through s t before after reached tree f n low is none)
+  end_reached n low is none = further n low (enters n) (reached n) (entered_reached n low) (through s t before after reached tree f cells are named n low is none)

@@ -7,7 +7,7 @@ use Rattle.cw_strand.specs.declared.want.Given.TheVariants.{Nothing}
 use Rattle.cw_strand.specs.Strands.{Strands}
 use Rattle.cw_tree.specs.declared.node.Node.{Node}
 use Rattle.cw_tree.specs.declared.node.Kind.{Kind}
-use Rattle.cw_tree.specs.declared.node.Kind.TheVariants.{Strand, Fork, Block, Read, Write, Out, Tried}
+use Rattle.cw_tree.specs.declared.node.Kind.TheVariants.{Strand, Fork, Block, Read, Write, Out, Cancel, Tried}
 use Rattle.cw_tree.specs.declared.node.BlockState.{BlockState}
 use Rattle.cw_tree.specs.Nodes.{is_strand_kind, is_fork_kind, is_block_kind, is_pending_state, first_state, is_strand, is_fork, is_block, is_pending, fresh_node}
 use Rattle.cw_tree.specs.Walks.{has}
@@ -41,6 +41,7 @@ module _ {A : Type 0} (s : Strands A) where
   wanted_by t before after reached n (Read c v) state other e = e
   wanted_by t before after reached n (Write c v) state other e = e
   wanted_by t before after reached n (Out v) state other e = e
+  wanted_by t before after reached n (Cancel back) state other e = e
   wanted_by t before after reached n (Tried c) state other e = e
 
 -- a node of this kind comes at the place of strand o

@@ -14,7 +14,7 @@ use Rattle.cw_sim.specs.Kept.{Runs, Fits, HasStates, IsKept}
 use Rattle.cw_sim.proofs.Laws.Fits.{free}
 use Rattle.cw_sim.specs.HasWants.{HasWants}
 use Rattle.cw_sim.proofs.Kept.StatesFollows.{finish_states}
-use Rattle.cw_sim.proofs.Kept.StatesMoves.{stop_states, steal_states, out_states, begin_states, load_states, store_states, fork_states, commit_states, roll_states}
+use Rattle.cw_sim.proofs.Kept.StatesMoves.{stop_states, steal_states, out_states, cancel_states, begin_states, load_states, store_states, fork_states, commit_states, roll_states}
 
 module _ {A : Type 0} (s : Strands A) (first : List ℤ) (m : Simulation A) (kept : IsKept s first m) (wants : HasWants s (length first) m) (w o : ℕ) (at : Runs m.core (worker m w) o) where
   -- a strand that is dying
@@ -38,7 +38,7 @@ module _ {A : Type 0} (s : Strands A) (first : List ℤ) (m : Simulation A) (kep
     act_states (want.Out v) e = out_states s first m kept.core kept.states o at.running at.ready v e
     act_states want.Begin e = begin_states s first m kept.core kept.states o at.running at.ready e
     act_states want.End e = commit_states s first m kept.core kept.states o at.running at.ready (wants.ends o is_free_here e) e
-    act_states want.Cancel e = kept.states
+    act_states want.Cancel e = cancel_states s first m kept.core kept.states o at.running at.ready e
     act_states want.Fork e = fork_states s first m kept.core kept.states o at.running at.ready w e
     act_states want.Sync e = over_states (ap is_over e)
     act_states want.Done e = over_states (ap is_over e)

@@ -3,11 +3,11 @@ use Rattle.std.proofs.Common.{◌≡◌, ◌≢◌, ℕ, ◌<◌, ◌≤◌, Lis
 use Rattle.std.specs.Prelude.{◌&&◌, ◌||◌, not, slice_get}
 use Rattle.std.specs.List.{list_any, filter}
 use Rattle.std.proofs.lemmas.Bool.{and_parts, and_right, cases_Bool, cases_eq, cases_lt, false_from_ne_true}
-use Rattle.cw_strand.specs.declared.want.Given.TheVariants.{Nothing, Value}
+use Rattle.cw_strand.specs.declared.want.Given.TheVariants.{Nothing, Value, Back}
 use Rattle.cw_strand.specs.Strands.{Strands, is_over}
 use Rattle.cw_tree.specs.declared.node.Node.{Node}
 use Rattle.cw_tree.specs.declared.node.Kind.{Kind}
-use Rattle.cw_tree.specs.declared.node.Kind.TheVariants.{Strand, Fork, Block, Read, Write, Out, Tried}
+use Rattle.cw_tree.specs.declared.node.Kind.TheVariants.{Strand, Fork, Block, Read, Write, Out, Cancel, Tried}
 use Rattle.cw_tree.specs.declared.node.BlockState.{BlockState}
 use Rattle.cw_tree.specs.declared.node.BlockState.TheVariants.{Pending, Committed, Aborted}
 use Rattle.cw_tree.specs.Nodes.{passes, is_fork_kind, is_block_kind, is_pending_state, is_committed_state, parent_of, is_strand, is_fork, is_block, is_pending, is_committed, below}
@@ -199,6 +199,7 @@ module _ {A : Type 0} (s : Strands A) (m z : OpenMachine) (x y : AllStates A) (p
     wanted_same n l nc (Read d v) state fork done e = (ap s.want (k.before n l) ∙ e.0, k.after n l nc ∙ e.1 ∙ ap (λ i. s.answer i (Value v)) (sym (k.before n l)))
     wanted_same n l nc (Write d v) state fork done e = (ap s.want (k.before n l) ∙ e.0, k.after n l nc ∙ e.1 ∙ ap (λ i. s.answer i Nothing) (sym (k.before n l)))
     wanted_same n l nc (Out v) state fork done e = (ap s.want (k.before n l) ∙ e.0, k.after n l nc ∙ e.1 ∙ ap (λ i. s.answer i Nothing) (sym (k.before n l)))
+    wanted_same n l nc (Cancel back) state fork done e = (ap s.want (k.before n l) ∙ e.0, k.after n l nc ∙ e.1 ∙ ap (λ i. s.answer i (Back back)) (sym (k.before n l)))
     wanted_same n l nc (Tried d) state fork done e =
         let P : A → Type 0 = λ i. IsAccessOf d (s.want i) in
         (subst P (sym (k.before n l)) e.0, k.after n l nc ∙ e.1 ∙ sym (k.before n l))

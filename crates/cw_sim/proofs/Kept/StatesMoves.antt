@@ -5,19 +5,19 @@ use Rattle.std.specs.Option.{option_map_or}
 use Rattle.std.proofs.lemmas.Bool.{and_from}
 use Rattle.cw_strand.specs.declared.want.Want.{Want}
 use Rattle.cw_strand.specs.declared.want.Want.TheVariants as want
-use Rattle.cw_strand.specs.declared.want.Given.TheVariants.{Nothing, Value}
+use Rattle.cw_strand.specs.declared.want.Given.TheVariants.{Nothing, Value, Back}
 use Rattle.cw_strand.specs.Strands.{Strands}
 use Rattle.cw_tree.specs.declared.closed.Halt.{Halt}
 use Rattle.cw_tree.specs.declared.closed.Halt.TheVariants as halt
 use Rattle.cw_tree.specs.declared.node.Kind.{Kind}
-use Rattle.cw_tree.specs.declared.node.Kind.TheVariants.{Block, Read, Write, Out, Tried}
+use Rattle.cw_tree.specs.declared.node.Kind.TheVariants.{Block, Read, Write, Out, Cancel, Tried}
 use Rattle.cw_tree.specs.declared.node.BlockState.TheVariants.{Committed, Aborted}
 use Rattle.cw_tree.specs.Nodes.{is_fork, is_block_kind, first_state, fresh_node}
 use Rattle.cw_tree.specs.Walks.{has}
 use Rattle.cw_tree.specs.Series.{place}
 use Rattle.cw_tree.specs.Newest.{newest}
 use Rattle.cw_open.specs.Machine.{live_value, is_running, in_block, is_dying, rolls_back}
-use Rattle.cw_open.specs.Steps.{refusal}
+use Rattle.cw_open.specs.Steps.{refusal, puts_back}
 use Rattle.cw_open.proofs.Runs.LawsHold.{at_any}
 use Rattle.cw_open.proofs.Open.Trees.{IsWell}
 use Rattle.cw_open.proofs.Refused.Victims.{dying_roll_back}
@@ -30,10 +30,10 @@ use Rattle.cw_record.specs.Replay.{IsAccessOf}
 use Rattle.cw_record.proofs.Coherent.AddedStates.{state_same, state_other}
 use Rattle.cw_record.proofs.Coherent.States.{DoesAs}
 use Rattle.cw_sim.specs.Workers.{Simulation, changed, tree, worker, with_strand}
-use Rattle.cw_sim.specs.Moves.{does, takes, steals, stops_if_spent, answers, meets_cell, accesses, begins, forks}
+use Rattle.cw_sim.specs.Moves.{does, takes, steals, stops_if_spent, answers, meets_cell, accesses, begins, gives_up, forks}
 use Rattle.cw_sim.specs.Kept.{CoreGoesOn, HasStates}
 use Rattle.cw_sim.proofs.Kept.Leaves.{IsMore}
-use Rattle.cw_sim.proofs.Kept.Quiet.{out_more, begin_more, access_more, refused_more, roll_shut}
+use Rattle.cw_sim.proofs.Kept.Quiet.{out_more, cancel_more, begin_more, access_more, refused_more, roll_shut}
 use Rattle.cw_sim.proofs.Kept.StatesKept.{AllStates}
 use Rattle.cw_sim.proofs.Kept.PlacedAlike.{states_alike}
 use Rattle.cw_sim.proofs.Kept.StatesAdded.{with_leaf, leaf_states}
@@ -101,6 +101,13 @@ module _ {A : Type 0} (s : Strands A) (first : List ℤ) (m : Simulation A) (on 
   out_states v wants =
       by_leaf (answers s o Nothing (does (event.Out o v) m)) (Out v) (next k) (out_more first k on o running ready v) (s.answer a Nothing) a (wants, refl) (λ e. absurd (cc e)) (state_same m.at o (s.answer a Nothing))
       (other_at (s.answer a Nothing)) (λ e. absurd (cc e)) (λ n l. refl)
+
+  pub cancel_states : s.want a ≡ want.Cancel → HasStates s (gives_up s o m)
+  cancel_states wants =
+      let back = puts_back k.machine o (next k) in
+      let given = Back back in
+      by_leaf (gives_up s o m) (Cancel back) (next k) (cancel_more first k on o running ready) (s.answer a given) a (wants, refl) (λ e. absurd (cc e)) (state_same m.at o (s.answer a given))
+      (other_at (s.answer a given)) (λ e. absurd (cc e)) (λ n l. refl)
 
   pub begin_states : s.want a ≡ want.Begin → HasStates s (begins s o m)
   begin_states wants =

@@ -21,7 +21,7 @@ use Rattle.cw_sim.specs.Kept.{Runs, AreWorkers, CoreGoesOn}
 use Rattle.cw_sim.proofs.Kept.Around.{Waits, waits_around}
 use Rattle.cw_sim.proofs.Laws.Deques.{oldest_may, unjoined_around}
 use Rattle.cw_sim.proofs.Kept.Finishing.{goes, takes_right, done, none_beneath as none_in_right}
-use Rattle.cw_sim.proofs.Laws.Fits.{fork_fits, begin_fits, out_fits, access_fits, commit_fits, rolls, roll_fits, finish_fits, finish_after_dead, split_fits, join_fits, free}
+use Rattle.cw_sim.proofs.Laws.Fits.{fork_fits, begin_fits, out_fits, cancel_fits, access_fits, commit_fits, rolls, roll_fits, finish_fits, finish_after_dead, split_fits, join_fits, free}
 use Rattle.cw_sim.proofs.Kept.Halves.{right_child, right_strand, open_unjoined, strand_open}
 use Rattle.cw_sim.proofs.Laws.MoveFresh.{no_children, no_block, unstarted}
 use Rattle.cw_sim.proofs.Laws.Unsplit.{none_beneath}
@@ -59,6 +59,9 @@ module _ (first : List ℤ) (k : CoreState) (on : CoreGoesOn first k) (ws : List
 
   pub out_fits_here : (v : ℤ) → is_dying m x ≡ false → fits k (event.Out x v) ≡ true
   out_fits_here = out_fits first k on x at.running at.ready
+
+  pub cancel_fits_here : is_dying m x ≡ false → in_block m x ≡ true → fits k (event.Cancel x) ≡ true
+  cancel_fits_here = cancel_fits first k on x at.running at.ready
 
   pub access_fits_here : (c : ℕ) (write : Option ℤ) → is_dying m x ≡ false → c < length first → fits k (event.Access x c write) ≡ true
   access_fits_here = access_fits first k on x at.running at.ready

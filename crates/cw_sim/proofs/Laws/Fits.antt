@@ -61,6 +61,9 @@ module _ (first : List ℤ) (k : CoreState) (on : CoreGoesOn first k) where
     pub out_fits : (v : ℤ) → is_dying m x ≡ false → fits k (event.Out x v) ≡ true
     out_fits v alive = fits_on (event.Out x v) (goes alive)
 
+    pub cancel_fits : is_dying m x ≡ false → in_block m x ≡ true → fits k (event.Cancel x) ≡ true
+    cancel_fits alive within = fits_on (event.Cancel x) (and_from (is_free m x && not (waits_for_left k x)) (in_block m x) (goes alive) within)
+
     pub access_fits : (c : ℕ) (write : Option ℤ) → is_dying m x ≡ false → c < length first → fits k (event.Access x c write) ≡ true
     access_fits c write alive low =
         let P : ℕ → Type 0 = λ n. c < n in

@@ -17,13 +17,13 @@ use Rattle.cw_sim.specs.Workers.{Simulation, Worker, tree, worker_in, worker, wi
 use Rattle.cw_sim.specs.Moves.{does, dies, finishes, meets_cell, accesses, acts}
 use Rattle.cw_sim.specs.Kept.{Runs, AreWorkers, CoreGoesOn}
 use Rattle.cw_sim.specs.Laws.{NamesCell}
-use Rattle.cw_sim.proofs.Laws.EventsFit.{strand_here, is_free_here, fork_fits_here, begin_fits_here, out_fits_here, access_fits_here, commit_fits_here, rolls_here, roll_fits_here, finish_fits_here}
+use Rattle.cw_sim.proofs.Laws.EventsFit.{strand_here, is_free_here, fork_fits_here, begin_fits_here, out_fits_here, cancel_fits_here, access_fits_here, commit_fits_here, rolls_here, roll_fits_here, finish_fits_here}
 use Rattle.cw_sim.proofs.Laws.Fits.{stop_fits, spent_stop}
 use Rattle.cw_sim.specs.HasWants.{HasWants}
 use Rattle.cw_sim.proofs.Laws.MoveFinishes.{finishes_to}
 use Rattle.cw_sim.proofs.Laws.MoveForks.{forks_goes, forks_workers}
 use Rattle.cw_sim.proofs.Laws.Moving.{GoesTo, goes_on_there, halted, by_event}
-use Rattle.cw_sim.proofs.Kept.Quiet.{keeps_out, keeps_begin, keeps_access, keeps_refused, keeps_commit, keeps_roll}
+use Rattle.cw_sim.proofs.Kept.Quiet.{keeps_out, keeps_cancel, keeps_begin, keeps_access, keeps_refused, keeps_commit, keeps_roll}
 use Rattle.cw_sim.proofs.Kept.Workers.{runs_in}
 
 module _ {A : Type 0} (s : Strands A) (first : List ℤ) (n : Simulation A) (w : ℕ) (low : w < length n.workers) (on : CoreGoesOn first n.core) (old : AreWorkers n.core n.workers) (x : ℕ) (run : (worker n w).runs ≡ Some x) where
@@ -107,7 +107,11 @@ module _ {A : Type 0} (s : Strands A) (first : List ℤ) (n : Simulation A) (w :
           let fit = commit_fits_here first k on ws old w x run alive (wants.ends x free e) in
           let kept = keeps_commit first k on x at.running at.ready ws old fit in
           by_event first o k (event.Commit x) fit (goes_on_there first o kept.goes kept.workers)
-      acts_to Cancel e = absurd (names Cancel e)
+      acts_to Cancel e =
+          let o = acts s w x Cancel n in
+          let fit = cancel_fits_here first k on ws old w x run alive (wants.cancels x free e) in
+          let kept = keeps_cancel first k on x at.running at.ready ws old fit in
+          by_event first o k (event.Cancel x) fit (goes_on_there first o kept.goes kept.workers)
       acts_to Fork e =
           let o = acts s w x Fork n in
           let fit = fork_fits_here first k on ws old w x run alive in

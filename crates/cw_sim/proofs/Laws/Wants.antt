@@ -1,9 +1,9 @@
 -- What a strand that may go on wants, it may do: it stands where a run comes to, with as many blocks begun in it and not ended as are pending.
-use Rattle.std.proofs.Common.{◌≡◌, ℕ, zero, suc, ◌<◌, List, ◌∷◌, length, refl, ap, sym, ◌∙◌, subst, arith, true, false, inl, inr, nat_eq}
+use Rattle.std.proofs.Common.{◌≡◌, ℕ, zero, suc, ◌<◌, ◌≤◌, List, ◌∷◌, length, refl, ap, sym, ◌∙◌, subst, arith, true, false, inl, inr, nat_eq}
 use Rattle.std.specs.Prelude.{◌⊎◌, ◌&&◌, not, ℤ, Option}
 use Rattle.std.proofs.lemmas.Bool.{and_parts, and_from, not-true, not_from_true, not_from_false, eq-eqb, ne_eqb, false_from_ne_true, cases_eq}
 use Rattle.cw_strand.specs.declared.want.Want.{Want}
-use Rattle.cw_strand.specs.declared.want.Want.TheVariants.{End, Sync, Done}
+use Rattle.cw_strand.specs.declared.want.Want.TheVariants.{End, Cancel, Sync, Done}
 use Rattle.cw_strand.specs.Strands.{Strands, Reached, MayWant, is_over}
 use Rattle.cw_tree.specs.declared.node.Node.{Node}
 use Rattle.cw_tree.specs.Nodes.{is_strand_kind, parent_of, is_strand, is_block, is_pending}
@@ -15,6 +15,7 @@ use Rattle.cw_tree.proofs.Walks.There.{node_there}
 use Rattle.cw_tree.proofs.NodeKinds.{strand_no_block, pending_block}
 use Rattle.cw_open.specs.Machine.{OpenMachine, has_finished, waits, is_running, is_dying, in_block, is_free}
 use Rattle.cw_open.specs.Refused.{unstopped}
+use Rattle.cw_open.proofs.Laws.Naming.{cancels_name}
 use Rattle.cw_open.proofs.Runs.LawsHold.{at_any}
 use Rattle.cw_open.proofs.Open.Standing.{runs, stands, place_holds}
 use Rattle.cw_open.proofs.Open.Trees.{IsWell}
@@ -33,6 +34,9 @@ use Rattle.cw_sim.proofs.Kept.Reaching.{end_reached}
 
 no_end : (w : Want) (bs : List ℕ) → w ≡ End → MayWant w (0 ∷ bs) → ⊥
 no_end w bs e may = let P : Want → Type 0 = λ v. MayWant v (0 ∷ bs) in subst P e may
+
+no_cancel : (w : Want) (bs : List ℕ) → w ≡ Cancel → MayWant w (0 ∷ bs) → ⊥
+no_cancel w bs e may = let P : Want → Type 0 = λ v. MayWant v (0 ∷ bs) in subst P e may
 
 no_over : (w : Want) (b : ℕ) (bs : List ℕ) → is_over w ≡ true → MayWant w (suc b ∷ bs) → ⊥
 no_over Sync b bs e may = may
@@ -101,7 +105,7 @@ module _ {A : Type 0} (s : Strands A) (first : List ℤ) (m : Simulation A) (on 
 
   -- ## Where runs come to
 
-  module _ (before after reached : ℕ → A) (st : AreStanding s m before after reached) where
+  module _ (before after reached : ℕ → A) (st : AreStanding s m before after reached) (are : length first ≤ s.elements) where
     abbrev asked : List Node → List ℕ → Option ℤ → List ℕ
     asked = λ us vs w. newest vs
 
@@ -114,20 +118,21 @@ module _ {A : Type 0} (s : Strands A) (first : List ℤ) (m : Simulation A) (on 
         let running = (and_parts (is_running o x) (not (is_dying o x)) free).0 in
         let still : is_free (unstopped o) x ≡ true = ap (λ ss. is_free (record o { stopped = ss }) x) (sym on.stopped) ∙ free in
         let none = no_open_fork s asked first o (at_any first o on.core.reached) before after reached st.states x still in
-        let there = end_reached s t before after reached tree all on.forks (place t x) (stands o tree wl.nested x running).there (place_holds o tree wl.nested x running) none in
+        let named = cancels_name asked first o (at_any first o on.core.reached) in
+        let there = end_reached s t before after reached tree all (length first) are named on.forks (place t x) (stands o tree wl.nested x running).there (place_holds o tree wl.nested x running) none in
         let P : A → Type 0 = λ a. Reached s (levels t (place t x)) a in
         subst P (st.strands x (running_current x running) (running_waits x running)) there
 
   -- a strand that may go on stands where a run comes to
-  pub free_is_reached : HasStates s m → (x : ℕ) → is_free o x ≡ true → Reached s (levels t (place t x)) (m.at x)
-  free_is_reached (before, after, reached, st) = strand_reached before after reached st
+  pub free_is_reached : length first ≤ s.elements → HasStates s m → (x : ℕ) → is_free o x ≡ true → Reached s (levels t (place t x)) (m.at x)
+  free_is_reached are (before, after, reached, st) = strand_reached before after reached st are
 
   -- ## What is wanted there
 
   module _ (strands : AreStrands s (length first)) (has_states : HasStates s m) where
     module _ (x : ℕ) (free : is_free o x ≡ true) where
       may : MayWant (s.want (m.at x)) (levels t (place t x))
-      may = strands.lawful.closes (levels t (place t x)) (m.at x) (free_is_reached has_states x free)
+      may = strands.lawful.closes (levels t (place t x)) (m.at x) (free_is_reached strands.there has_states x free)
 
       running : is_running o x ≡ true
       running = (and_parts (is_running o x) (not (is_dying o x)) free).0
@@ -137,6 +142,11 @@ module _ {A : Type 0} (s : Strands A) (first : List ℤ) (m : Simulation A) (on 
           let P : List ℕ → Type 0 = λ own. MayWant (s.want (m.at x)) own in
           elim (place_levels x running) [ inl z ↦ absurd (no_end (s.want (m.at x)) z.1 e (subst P z.2 may)) | inr z ↦ z.0 ]
 
+      cancels : s.want (m.at x) ≡ Cancel → in_block o x ≡ true
+      cancels e =
+          let P : List ℕ → Type 0 = λ own. MayWant (s.want (m.at x)) own in
+          elim (place_levels x running) [ inl z ↦ absurd (no_cancel (s.want (m.at x)) z.1 e (subst P z.2 may)) | inr z ↦ z.0 ]
+
       over : is_over (s.want (m.at x)) ≡ true → in_block o x ≡ false
       over e =
           let P : List ℕ → Type 0 = λ own. MayWant (s.want (m.at x)) own in
@@ -144,9 +154,11 @@ module _ {A : Type 0} (s : Strands A) (first : List ℤ) (m : Simulation A) (on 
 
     pub wants_hold : HasWants s (length first) m
     wants_hold = record {
+      there = strands.there;
       ends = λ x free. ends x free;
+      cancels = λ x free. cancels x free;
       over = λ x free. over x free;
-      named = λ x free. strands.named (levels t (place t x)) (m.at x) (free_is_reached has_states x free);
+      named = λ x free. strands.named (levels t (place t x)) (m.at x) (free_is_reached strands.there has_states x free);
     }
 
 pub wants_fit : {A : Type 0} (s : Strands A) (first : List ℤ) (m : Simulation A) → AreStrands s (length first) → IsKept s first m → HasWants s (length first) m

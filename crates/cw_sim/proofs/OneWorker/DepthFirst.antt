@@ -4,7 +4,7 @@ use Rattle.std.specs.Prelude.{not, ℤ, Result, Ok, Err, IfOk}
 use Rattle.cw_code.specs.declared.Limits.{Limits}
 use Rattle.cw_code.specs.declared.program.Program.{Program}
 use Rattle.cw_io.specs.declared.schedule.Schedule.{Schedule}
-use Rattle.cw_job.proofs.Room.Elements.{IsUncancelled}
+use Rattle.cw_strand.specs.Programs.{IsCompiled}
 use Rattle.cw_strand.specs.Names.{first_memory}
 use Rattle.cw_strand.specs.Strands.{Strands}
 use Rattle.cw_tree.specs.declared.node.Node.{Node}
@@ -88,7 +88,7 @@ module _ {A : Type 0} (s : Strands A) (first : List ℤ) (room budget limit : �
 
 -- ## Records
 
-module _ (r : Record) (schedule : Schedule) (compiled : IsUncancelled r.program) (takes : TakesWords r.program (length r.words)) (room : 0 < r.limits.strands) (lists : ListsWorkers schedule 1) where
+module _ (r : Record) (schedule : Schedule) (compiled : IsCompiled r.program) (takes : TakesWords r.program (length r.words)) (room : 0 < r.limits.strands) (lists : ListsWorkers schedule 1) where
   abbrev job : Job
   job = job_of_record r
 
@@ -122,18 +122,18 @@ module _ (r : Record) (schedule : Schedule) (compiled : IsUncancelled r.program)
       left_first_depth_first job budget r.tree r.journals r.conflicts r.end (subst T (sym is.tree) (subst J (sym is.journals) (subst C (sym is.conflicts) (subst E (sym is.end) went)))) outputs ended
 
 -- so it is of what is built of a program with its words and limits
-pub built_depth_first : {E : Type 0} (p : Program) (words : List ℤ) (limits : Limits) (workers : ℕ) (schedule : Schedule) → IsUncancelled p → TakesWords p (length words) → 0 < limits.strands → ListsWorkers schedule workers
+pub built_depth_first : {E : Type 0} (p : Program) (words : List ℤ) (limits : Limits) (workers : ℕ) (schedule : Schedule) → IsCompiled p → TakesWords p (length words) → 0 < limits.strands → ListsWorkers schedule workers
     → length (tree (simulation_of (record { program = p; words = words; limits = limits }) workers schedule)) < 2 ^ 32 → (o : Result Record E) → IfOk o (λ r. r.program ≡ p) → IfOk o (λ r. r.words ≡ words) → IfOk o (λ r. r.limits ≡ limits)
     → IfOk o (λ r. IsRecordOf (simulation_of (job_of_record r) workers schedule) r) → IfOk o (λ r. HasItsOutputs r) → workers ≡ 1 → IfOk o (λ r. HasEnded r.end → IsDepthFirst r)
-built_depth_first p words limits workers schedule compiled takes room lists few (Err e) program same limited is outputs one = tt
-built_depth_first p words limits workers schedule compiled takes room lists few (Ok r) program same limited is outputs one =
+built_depth_first p words limits workers schedule compiled takes room named few (Err e) program same limited is outputs one = tt
+built_depth_first p words limits workers schedule compiled takes room named few (Ok r) program same limited is outputs one =
     let taken : TakesWords p (length r.words) = subst (λ (ws : List ℤ). TakesWords p (length ws)) (sym same) takes in
     let asked : Job = record { program = p; words = words; limits = limits } in
     let jobs : asked ≡ job_of_record r =
     ap (λ (q : Program). let j : Job = record { program = q; words = words; limits = limits } in j) (sym program)
     ∙ ap (λ (ws : List ℤ). let j : Job = record { program = r.program; words = ws; limits = limits } in j) (sym same)
     ∙ ap (λ (l : Limits). let j : Job = record { program = r.program; words = r.words; limits = l } in j) (sym limited) in
-    one_depth_first r schedule (subst IsUncancelled (sym program) compiled) (subst (λ (q : Program). TakesWords q (length r.words)) (sym program) taken) (subst (λ (l : Limits). 0 < l.strands) (sym limited) room)
-    (subst (λ n. ListsWorkers schedule n) one lists)
+    one_depth_first r schedule (subst IsCompiled (sym program) compiled) (subst (λ (q : Program). TakesWords q (length r.words)) (sym program) taken) (subst (λ (l : Limits). 0 < l.strands) (sym limited) room)
+    (subst (λ n. ListsWorkers schedule n) one named)
     (subst (λ n. length (tree (simulation_of (job_of_record r) n schedule)) < 2 ^ 32) one (subst (λ (j : Job). length (tree (simulation_of j workers schedule)) < 2 ^ 32) jobs few))
     (subst (λ n. IsRecordOf (simulation_of (job_of_record r) n schedule) r) one is) outputs

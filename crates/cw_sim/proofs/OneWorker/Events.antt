@@ -129,6 +129,7 @@ module _ (first : List ℤ) (k : CoreState) (core : IsCore first k) (none : k.sp
   event_first (event.Access s c w) e =
       access_first s c w (met_by k s c) (next k) (free_lefts s (and_parts (is_free m s && not (waits_for_left k s)) (nat_lt c (length m.lists)) e).0) (is_met k s c)
   event_first (event.Out s v) e = one s (free_lefts s e)
+  event_first (event.Cancel s) e = one s (free_lefts s (and_parts (is_free m s && not (waits_for_left k s)) (in_block m s) e).0)
   event_first (event.Commit s) e =
       let x = and_parts (is_free m s && not (waits_for_left k s) && in_block m s) (not (is_victim t m.conflicts (place t s))) e in
       one s (free_lefts s (and_parts (is_free m s && not (waits_for_left k s)) (in_block m s) x.0).0)
@@ -165,6 +166,7 @@ none_before k (event.Fork s) e = e
 none_before k (event.Begin s) e = e
 none_before k (event.Access s c w) e = e
 none_before k (event.Out s v) e = e
+none_before k (event.Cancel s) e = e
 none_before k (event.Commit s) e = e
 none_before k (event.Roll s) e = e
 none_before k (event.Finish s dead) e = e

@@ -5,7 +5,7 @@ use Rattle.std.specs.List.{list_any}
 use Rattle.cw_io.specs.declared.schedule.Schedule.{Schedule}
 use Rattle.cw_code.specs.declared.Limits.{Limits}
 use Rattle.cw_code.specs.declared.program.Program.{Program}
-use Rattle.cw_job.proofs.Room.Elements.{IsUncancelled}
+use Rattle.cw_strand.specs.Programs.{IsCompiled}
 use Rattle.cw_strand.specs.Names.{first_memory}
 use Rattle.cw_strand.specs.Strands.{Strands}
 use Rattle.cw_tree.specs.declared.closed.Halt.{Halt}
@@ -52,7 +52,7 @@ none_spent s m before after reached budget (Some halt.Memory) spent memory outpu
 none_spent s m before after reached budget None true memory outputs none ends x e = absurd (cc e)
 none_spent s m before after reached budget None false memory outputs none ends x e = absurd (cc e)
 
-module _ (r : Record) (schedule : Schedule) (compiled : IsUncancelled r.program) (takes : TakesWords r.program (length r.words)) (room : 0 < r.limits.strands) (lists : ListsWorkers schedule 1) where
+module _ (r : Record) (schedule : Schedule) (compiled : IsCompiled r.program) (takes : TakesWords r.program (length r.words)) (room : 0 < r.limits.strands) (lists : ListsWorkers schedule 1) where
   abbrev job : Job
   job = job_of_record r
 
@@ -81,10 +81,10 @@ module _ (r : Record) (schedule : Schedule) (compiled : IsUncancelled r.program)
       }
 
 -- so it is of what is built of a program with its words and limits
-pub built_unrefused : {E : Type 0} (p : Program) (words : List ℤ) (limits : Limits) (workers : ℕ) (schedule : Schedule) → IsUncancelled p → TakesWords p (length words) → 0 < limits.strands → ListsWorkers schedule workers → (o : Result Record E)
+pub built_unrefused : {E : Type 0} (p : Program) (words : List ℤ) (limits : Limits) (workers : ℕ) (schedule : Schedule) → IsCompiled p → TakesWords p (length words) → 0 < limits.strands → ListsWorkers schedule workers → (o : Result Record E)
     → IfOk o (λ r. r.program ≡ p) → IfOk o (λ r. r.words ≡ words) → IfOk o (λ r. r.limits ≡ limits) → IfOk o (λ r. IsRecordOf (simulation_of (job_of_record r) workers schedule) r) → workers ≡ 1 → IfOk o (λ r. IsUnrefused r)
 built_unrefused p words limits workers schedule compiled takes room lists (Err e) program same limited is one = tt
 built_unrefused p words limits workers schedule compiled takes room lists (Ok r) program same limited is one =
     let taken : TakesWords p (length r.words) = subst (λ (ws : List ℤ). TakesWords p (length ws)) (sym same) takes in
-    one_record r schedule (subst IsUncancelled (sym program) compiled) (subst (λ (q : Program). TakesWords q (length r.words)) (sym program) taken) (subst (λ (l : Limits). 0 < l.strands) (sym limited) room)
+    one_record r schedule (subst IsCompiled (sym program) compiled) (subst (λ (q : Program). TakesWords q (length r.words)) (sym program) taken) (subst (λ (l : Limits). 0 < l.strands) (sym limited) room)
     (subst (λ n. ListsWorkers schedule n) one lists) (subst (λ n. IsRecordOf (simulation_of (job_of_record r) n schedule) r) one is)

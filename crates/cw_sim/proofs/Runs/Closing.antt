@@ -4,7 +4,7 @@ use Rattle.std.proofs.Common.{ℕ, ◌<◌, ◌^◌, List, length, refl, sym, su
 use Rattle.std.specs.Prelude.{ℤ, not}
 use Rattle.cw_io.specs.declared.schedule.Schedule.{Schedule}
 use Rattle.cw_strand.specs.Names.{first_memory}
-use Rattle.cw_job.proofs.Room.Elements.{IsUncancelled}
+use Rattle.cw_strand.specs.Programs.{IsCompiled}
 use Rattle.cw_strand.specs.Strands.{Strands}
 use Rattle.cw_tree.specs.declared.node.Node.{Node}
 use Rattle.cw_tree.specs.declared.access.Entry.{Entry}
@@ -56,7 +56,7 @@ module _ {A : Type 0} (s : Strands A) where
 
 -- ## Of a job
 
-module _ (job : Job) (workers : ℕ) (schedule : Schedule) (compiled : IsUncancelled job.program) (takes : TakesWords job.program (length job.words)) (room : 0 < job.limits.strands) (some : 0 < workers) (lists : ListsWorkers schedule workers) where
+module _ (job : Job) (workers : ℕ) (schedule : Schedule) (compiled : IsCompiled job.program) (takes : TakesWords job.program (length job.words)) (room : 0 < job.limits.strands) (some : 0 < workers) (lists : ListsWorkers schedule workers) where
   abbrev s : Strands StrandState
   s = strands_of_job job
 
@@ -86,8 +86,7 @@ module _ (job : Job) (workers : ℕ) (schedule : Schedule) (compiled : IsUncance
 -- ## Its record
 
 pub records_coherent : RecordsAreCoherent
-records_coherent r workers schedule is_compiled without takes room some lists few is =
-    let compiled : IsUncancelled r.program = record { compiled = is_compiled; cancels = without } in
+records_coherent r workers schedule compiled takes room some lists few is =
     let job = job_of_record r in
     let first = first_memory r.program.cells in
     let budget = r.limits.aborts in

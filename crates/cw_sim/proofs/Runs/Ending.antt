@@ -142,7 +142,7 @@ module _ {A : Type 0} (s : Strands A) where
         act w (want.Out v) e = inl (still m.core (event.Out x v) refl refl ∙ off)
         act w want.Begin e = inl (still m.core (event.Begin x) refl refl ∙ off)
         act w want.End e = inl (still m.core (event.Commit x) refl refl ∙ off)
-        act w want.Cancel e = inl off
+        act w want.Cancel e = inl (still m.core (event.Cancel x) refl refl ∙ off)
         act w want.Fork e = inl (still m.core (event.Fork x) refl refl ∙ off)
         act w want.Sync e = finish w x false (λ q. refl)
         act w want.Done e = finish w x false (λ q. refl)

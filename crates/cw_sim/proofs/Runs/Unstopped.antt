@@ -88,6 +88,7 @@ module _ {A : Type 0} where
         by_reply (reply.Forked l r f) n h = stops n h
         by_reply (reply.Inline l r) n h = stops n h
         by_reply (reply.Early b) n h = stops n h
+        by_reply (reply.Back list) n h = stops n h
 
     acts_goes : (w x : ℕ) (a : Want) (m : Simulation A) → Goes m → Goes (acts s w x a m)
     acts_goes w x (want.Load c) m g = access_goes x c None m g

@@ -64,6 +64,7 @@ plain_state (kind.Read c v) e = refl
 plain_state (kind.Write c v) e = refl
 plain_state (kind.Out v) e = refl
 plain_state (kind.Tried c) e = refl
+plain_state (kind.Cancel back) e = refl
 
 -- a node that is no block is as it was made
 pub plain_last : (t : List Node) (p : ℕ) (x : Node) → is_block (t ++ fresh_node p x.kind x.stamp ∷ []) (length t) ≡ false → IsPlain x → fresh_node p x.kind x.stamp ≡ record x { parent = p }

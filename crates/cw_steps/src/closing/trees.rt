@@ -8,14 +8,14 @@ ghost use Rattle.cw_steps.specs.Leaving.{logs_of_track, HasBases, IsPlain};
 
 use super::bases::Bases;
 use crate::Track;
-use cw_base::OutOfMemory;
+use cw_base::{OutOfMemory, Seq};
 use cw_tree::{BlockState, Kind, Node, Tree};
 use std::alloc::Global;
 
-fn copied(kind: &Kind) -> Kind
-    ensures { result ≡ kind.now }
+fn copied(alloc: Global, kind: &Kind) -> Result<Kind, OutOfMemory>
+    ensures { IfOk result (λ k. k ≡ kind.now) }
 {
-    match kind {
+    Ok(match kind {
         Kind::Strand => Kind::Strand,
         Kind::Fork => Kind::Fork,
         Kind::Block => Kind::Block,
@@ -29,7 +29,10 @@ fn copied(kind: &Kind) -> Kind
         },
         Kind::Out { value } => Kind::Out { value: *value },
         Kind::Tried { cell } => Kind::Tried { cell: *cell },
-    }
+        Kind::Cancel { back } => Kind::Cancel {
+            back: Seq::from_vec(Vec::from_slice(alloc, back.as_slice())?),
+        },
+    })
 }
 
 /// Whether a node is committed and has no end.
@@ -47,13 +50,13 @@ fn is_root(node: &Node) -> bool
 }
 
 /// One node more, beneath another, if that is there.
-fn hang(tree: &mut Tree, parent: u32, node: &Node) -> Result<(), OutOfMemory>
+fn hang(alloc: Global, tree: &mut Tree, parent: u32, node: &Node) -> Result<(), OutOfMemory>
     ensures { OnOk result (tree.new ≡ tree.old ++ record node.now { parent = parent } ∷ []) }
 {
     if parent as usize >= tree.nodes().len() {
         return Err(OutOfMemory);
     }
-    let number = tree.add(parent, copied(&node.kind), node.stamp)?;
+    let number = tree.add(parent, copied(alloc, &node.kind)?, node.stamp)?;
     if tree.is_block(number) {
         tree.close(number, node.state, node.end);
         Ok(())
@@ -65,28 +68,28 @@ fn hang(tree: &mut Tree, parent: u32, node: &Node) -> Result<(), OutOfMemory>
 }
 
 /// The nodes of a log behind its first, which has this number.
-fn hang_all(tree: &mut Tree, base: u32, nodes: &[Node]) -> Result<(), OutOfMemory>
+fn hang_all(alloc: Global, tree: &mut Tree, base: u32, nodes: &[Node]) -> Result<(), OutOfMemory>
     ensures { OnOk result (tree.new ≡ tree.old ++ map (λ (y : Node). record y { parent = base + y.parent }) nodes.now) }
 {
     for node in nodes {
         let Some(parent) = base.checked_add(node.parent) else {
             return Err(OutOfMemory);
         };
-        hang(tree, parent, node)?;
+        hang(alloc, tree, parent, node)?;
     }
     Ok(())
 }
 
 /// The nodes of a log, the first of which is its strand, beneath a fork.
-fn hang_log(tree: &mut Tree, under: u32, nodes: &[Node]) -> Result<(), OutOfMemory>
+fn hang_log(alloc: Global, tree: &mut Tree, under: u32, nodes: &[Node]) -> Result<(), OutOfMemory>
     ensures { OnOk result (tree.new ≡ tree.old ++ hung (length tree.old) under nodes.now) }
 {
     let base = tree.nodes().len() as u32;
     let Some((first, rest)) = nodes.split_first() else {
         return Ok(());
     };
-    hang(tree, under, first)?;
-    hang_all(tree, base, rest)
+    hang(alloc, tree, under, first)?;
+    hang_all(alloc, tree, base, rest)
 }
 
 /// The nodes of the root's log.
@@ -100,7 +103,7 @@ fn root_log(alloc: Global, nodes: &[Node]) -> Result<Tree, OutOfMemory>
         return Err(OutOfMemory);
     }
     let mut tree = Tree::new(alloc)?;
-    hang_all(&mut tree, 0, rest)?;
+    hang_all(alloc, &mut tree, 0, rest)?;
     Ok(tree)
 }
 
@@ -114,7 +117,7 @@ pub(crate) fn tree_of(alloc: Global, track: &Track, bases: &Bases) -> Result<Tre
     let mut tree = root_log(alloc, track.nodes.as_slice())?;
     for log in track.joined.iter() {
         let under = bases.number(log.from, log.fork)?;
-        hang_log(&mut tree, under, log.nodes.as_slice())?;
+        hang_log(alloc, &mut tree, under, log.nodes.as_slice())?;
     }
     Ok(tree)
 }

@@ -5,7 +5,7 @@ use Rattle.std.specs.List.{find, filter, slice_get}
 use Rattle.std.proofs.lemmas.List.Elements.{filter-append}
 use Rattle.cw_tree.specs.declared.node.Node.{Node}
 use Rattle.cw_tree.specs.declared.node.Kind.{Kind}
-use Rattle.cw_tree.specs.declared.node.Kind.TheVariants.{Strand, Fork, Block, Read, Write, Out, Tried}
+use Rattle.cw_tree.specs.declared.node.Kind.TheVariants.{Strand, Fork, Block, Read, Write, Out, Tried, Cancel}
 use Rattle.cw_tree.specs.Nodes.{below, is_fork, is_strand, is_pending, is_fork_kind, is_block_kind, is_strand_kind, is_pending_state, passes}
 use Rattle.cw_tree.proofs.Lists.{lt_or}
 use Rattle.cw_trace.specs.Stands.{fork_column}
@@ -67,6 +67,7 @@ pending_no_fork t n e = by_node (slice_get t n) e where
   by_kind (Write c v) b h = refl
   by_kind (Out v) b h = refl
   by_kind (Tried c) b h = refl
+  by_kind (Cancel back) b h = refl
 
   by_node : (o : Option Node) → passes (λ x. is_block_kind x.kind && is_pending_state x.state) o ≡ true → passes (λ x. is_fork_kind x.kind) o ≡ false
   by_node None h = refl
@@ -124,6 +125,7 @@ pending_no_strand t n e = by_node (slice_get t n) e where
   by_kind (Write c v) b h = refl
   by_kind (Out v) b h = refl
   by_kind (Tried c) b h = refl
+  by_kind (Cancel back) b h = refl
 
   by_node : (o : Option Node) → passes (λ x. is_block_kind x.kind && is_pending_state x.state) o ≡ true → passes (λ x. is_strand_kind x.kind) o ≡ false
   by_node None h = refl

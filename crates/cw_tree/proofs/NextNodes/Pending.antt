@@ -134,6 +134,7 @@ no_other Block e = absurd (cc e)
 no_other (Read c v) e = absurd (cc e)
 no_other (Write c v) e = absurd (cc e)
 no_other (Out v) e = absurd (cc e)
+no_other _ e = absurd (cc e)
 
 pub sound_refuses : SoundRefuses
 sound_refuses t p kind s w tried =

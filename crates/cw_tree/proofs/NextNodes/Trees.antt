@@ -57,6 +57,7 @@ only_fork t n e = by (slice_get t n) e where
   kinds (Write c v) f = absurd (cc f)
   kinds (Out v) f = absurd (cc f)
   kinds (Tried c) f = absurd (cc f)
+  kinds _ f = absurd (cc f)
 
   by : (o : Option Node) → passes (λ x. is_fork_kind x.kind) o ≡ true → (passes (λ x. is_strand_kind x.kind) o || passes (λ x. is_block_kind x.kind) o) ≡ false
   by None f = absurd (cc f)

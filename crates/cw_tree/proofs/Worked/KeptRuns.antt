@@ -9,6 +9,7 @@ use Rattle.cw_tree.specs.Accesses.{live_accesses}
 use Rattle.cw_tree.specs.Journals.{AllEndedBetween, JournalsEnded}
 use Rattle.cw_tree.specs.Worked.{apart}
 use Rattle.cw_tree.specs.WorkedRun.{two_blocks, refused_write, entry, two_writes, AllHold, Stops, Breaks}
+use Rattle.cw_tree.proofs.Cancels.{no_cancels}
 use Rattle.cw_tree.proofs.Worked.Checks.{each_below, is_tree, are_stamps, pending_last, are_refusals, rolls_back}
 use Rattle.cw_tree.proofs.Worked.KeptParts.{are_journals, is_entry, ended_between, recorded}
 
@@ -28,6 +29,7 @@ holds = record {
     cells = each_below _ 12 refl;
     journals = are_journals two_blocks (pos 0 ∷ []) (two_writes ∷ []) ((is_entry two_blocks (pos 0) 4 _ refl refl refl refl refl, (is_entry two_blocks (pos 1) 11 _ refl refl refl refl refl, tt)), tt);
     ended = ended_one two_blocks (ended_between two_blocks 4 11 refl, tt);
+    cancels = no_cancels two_blocks (pos 0 ∷ []) refl;
     refusals = are_refusals two_blocks (refused_write ∷ []) refl (recorded two_blocks refused_write 4 3 (refl, refl, refl, refl, refl, refl, refl, refl, refl) (refl, refl, refl)) refl refl;
     rolls_back = rolls_back two_blocks (refused_write ∷ []) refl refl;
   };
@@ -43,6 +45,7 @@ stops = record {
     cells = each_below _ 9 refl;
     journals = are_journals apart (pos 0 ∷ []) ((entry 1 3 (pos 1) (pos 0) ∷ []) ∷ []) ((is_entry apart (pos 0) 4 _ refl refl refl refl refl, tt), tt);
     ended = ended_one apart tt;
+    cancels = no_cancels apart (pos 0 ∷ []) refl;
     refusals = are_refusals apart (refused_write ∷ []) refl (recorded apart refused_write 4 3 (refl, refl, refl, refl, refl, refl, refl, refl, refl) (refl, refl, refl)) refl refl;
     rolls_back = rolls_back apart (refused_write ∷ []) refl refl;
   };

@@ -5,7 +5,8 @@ ghost use Rattle.cw_tree.specs.Series.{children, depth_first};
 ghost use Rattle.cw_tree.specs.Links.{last_child, child_before};
 
 use crate::{Kind, Node, Tree};
-use cw_base::OutOfMemory;
+use cw_base::{OutOfMemory, Seq};
+use std::alloc::Global;
 
 /// For each node its last child, and the last earlier child of its parent.
 #[derive(Drop)]
@@ -79,7 +80,7 @@ impl Tree {
         let numbers = self.numbers(order.as_slice())?;
         let mut nodes = Vec::with_capacity(*self.nodes.allocator(), order.len())?;
         for n in order.as_slice() {
-            nodes.push(self.renamed_node(numbers.as_slice(), *n))?;
+            nodes.push(self.renamed_node(numbers.as_slice(), *n)?)?;
         }
         Ok((Tree { nodes }, numbers))
     }
@@ -114,27 +115,27 @@ impl Tree {
     }
 
     // A node as it stands in the tree that is numbered anew.
-    fn renamed_node(&self, numbers: &[u32], n: u32) -> Node
+    fn renamed_node(&self, numbers: &[u32], n: u32) -> Result<Node, OutOfMemory>
         requires there { n < length self.now }
         requires numbers { numbers.now ≡ map (renamed self.now) (all_nodes self.now) }
-        ensures { result ≡ node_in_order self.now n }
+        ensures { IfOk result (λ x. x ≡ node_in_order self.now n) }
     {
         let node = self.node(n);
-        Node {
+        Ok(Node {
             parent: self.renamed(numbers, node.parent),
-            kind: copied(&node.kind),
+            kind: copied(*self.nodes.allocator(), &node.kind)?,
             state: node.state,
             stamp: node.stamp,
             end: node.end,
-        }
+        })
     }
 }
 
-// The same kind: it holds no more than numbers.
-fn copied(kind: &Kind) -> Kind
-    ensures { result ≡ kind.now }
+// The same kind.
+fn copied(alloc: Global, kind: &Kind) -> Result<Kind, OutOfMemory>
+    ensures { IfOk result (λ k. k ≡ kind.now) }
 {
-    match kind {
+    Ok(match kind {
         Kind::Strand => Kind::Strand,
         Kind::Fork => Kind::Fork,
         Kind::Block => Kind::Block,
@@ -148,5 +149,8 @@ fn copied(kind: &Kind) -> Kind
         },
         Kind::Out { value } => Kind::Out { value: *value },
         Kind::Tried { cell } => Kind::Tried { cell: *cell },
-    }
+        Kind::Cancel { back } => Kind::Cancel {
+            back: Seq::from_vec(Vec::from_slice(alloc, back.as_slice())?),
+        },
+    })
 }

@@ -1,6 +1,6 @@
 ghost use Rattle.std.specs.Prelude.{◌<◌};
 
-use cw_code::Limits;
+use cw_code::{Back, Limits};
 use cw_core::{Core, Event, Reply};
 use cw_tree::{Closed, Conflict, Halt};
 use std::alloc::Global;
@@ -12,6 +12,7 @@ fn told(alloc: Global, reply: &Reply) -> Result<String, Fail> {
         Reply::Done => format!(in alloc; "done ")?,
         Reply::Value(value) => format!(in alloc; "{value} ")?,
         Reply::Conflict(conflict) => conflict_told(alloc, conflict)?,
+        Reply::Back(list) => back_told(alloc, list.as_slice())?,
         Reply::Forked { left, right, fork } => format!(in alloc; "fork {fork} {left} {right} ")?,
         Reply::Inline { left, right } => format!(in alloc; "inline {left} {right} ")?,
         Reply::Early { before } => format!(in alloc; "early {before} ")?,
@@ -30,6 +31,15 @@ fn conflict_told(alloc: Global, conflict: &Conflict) -> Result<String, Fail> {
         ..
     } = conflict;
     Ok(format!(in alloc; "conflict {cell} {last} {asker} {block} {victim} {attempt} {chain:?} ")?)
+}
+
+fn back_told(alloc: Global, list: &[Back]) -> Result<String, Fail> {
+    let mut text = format!(in alloc; "back ")?;
+    for back in list {
+        let line = format!(in alloc; "{}={} ", back.cell, back.value)?;
+        text.push_str(line.as_str())?;
+    }
+    Ok(text)
 }
 
 /// The replies to a list of events, each of which is made if it fits, and then the stamp of the newest node.
@@ -84,6 +94,137 @@ fn write(strand: u32, cell: u32, value: i64) -> Event {
         cell,
         write: Some(value),
     }
+}
+
+const CANCEL_0: Event = Event::Cancel { strand: 0 };
+
+const CANCEL_3: Event = Event::Cancel { strand: 3 };
+
+#[test]
+fn replies_to_cancels(rt: HostRuntime) -> Result<(), Fail> {
+    let table: [(&[i64], &[Event], &str); 5] = [
+        // the writes of joined strands are put back, too, and again as long as the block is pending
+        (
+            &[1, 2],
+            &[
+                Event::Begin { strand: 0 },
+                Event::Fork { strand: 0 },
+                Event::Split { fork: 2 },
+                Event::Begin { strand: 4 },
+                write(4, 1, 8),
+                Event::Commit { strand: 4 },
+                Event::Finish {
+                    strand: 4,
+                    dead: false,
+                },
+                write(3, 0, 7),
+                Event::Finish {
+                    strand: 3,
+                    dead: false,
+                },
+                Event::Join { fork: 2 },
+                CANCEL_0,
+                CANCEL_0,
+                write(0, 0, 1),
+                CANCEL_0,
+            ],
+            "done fork 2 3 4 done done 8 done done 7 done done back 0=1 1=2 back 0=1 1=2 1 back 0=1 1=2 10 ",
+        ),
+        // the value is that from before the block, whose first access may be a read; what is only read is not put back
+        (
+            &[5],
+            &[
+                write(0, 0, 6),
+                Event::Begin { strand: 0 },
+                read(0, 0),
+                write(0, 0, 7),
+                Event::Begin { strand: 0 },
+                write(0, 0, 8),
+                Event::Commit { strand: 0 },
+                CANCEL_0,
+                write(0, 0, 6),
+                Event::Commit { strand: 0 },
+                Event::Begin { strand: 0 },
+                read(0, 0),
+                CANCEL_0,
+            ],
+            "6 done 6 7 done 8 done back 0=6 6 done done 6 back 13 ",
+        ),
+        // a block that is rolled back leaves nothing to put back
+        (
+            &[0, 0],
+            &[
+                Event::Fork { strand: 0 },
+                Event::Split { fork: 1 },
+                Event::Begin { strand: 2 },
+                write(2, 0, 9),
+                Event::Begin { strand: 3 },
+                Event::Begin { strand: 3 },
+                write(3, 1, 5),
+                CANCEL_3,
+                write(3, 1, 0),
+                Event::Commit { strand: 3 },
+                write(3, 0, 1),
+                CANCEL_3,
+                Event::Roll { strand: 3 },
+                Event::Begin { strand: 3 },
+                CANCEL_3,
+                read(3, 1),
+            ],
+            "fork 1 2 3 done done 9 done done 5 back 1=0 0 done conflict 0 3 11 2 4 1 [3] no done done back 0 13 ",
+        ),
+        // nor does an attempt that was rolled back beneath it
+        (
+            &[1, 2],
+            &[
+                Event::Begin { strand: 0 },
+                Event::Fork { strand: 0 },
+                Event::Split { fork: 2 },
+                Event::Begin { strand: 3 },
+                write(3, 0, 7),
+                Event::Begin { strand: 4 },
+                write(4, 1, 8),
+                write(4, 0, 9),
+                Event::Roll { strand: 4 },
+                Event::Commit { strand: 3 },
+                Event::Finish {
+                    strand: 3,
+                    dead: false,
+                },
+                Event::Begin { strand: 4 },
+                write(4, 0, 9),
+                Event::Commit { strand: 4 },
+                Event::Finish {
+                    strand: 4,
+                    dead: false,
+                },
+                Event::Join { fork: 2 },
+                CANCEL_0,
+            ],
+            "done fork 2 3 4 done done 7 done 8 conflict 0 4 9 3 5 1 [4] done done done done 9 done done done back 0=1 12 ",
+        ),
+        // before any begin; by a left strand in its parent's block; by a strand that waits; after a stop
+        (
+            &[0],
+            &[
+                CANCEL_0,
+                Event::Begin { strand: 0 },
+                Event::Fork { strand: 0 },
+                CANCEL_3,
+                CANCEL_0,
+                Event::Begin { strand: 3 },
+                CANCEL_3,
+                Event::Stop { halt: Halt::Memory },
+                CANCEL_3,
+            ],
+            "no done fork 2 3 4 no no done back done no 4 ",
+        ),
+    ];
+    for (first, events, wanted) in table {
+        let text = replies(rt.alloc(), first, 5, 9, events)?;
+        assert_eq!(rt; text.as_str(), wanted);
+    }
+    Ok(())
 }
 
 #[test]

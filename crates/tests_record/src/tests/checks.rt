@@ -17,7 +17,7 @@ const ALONE: &str = "cell c; fn main() { atomic { spawn { atomic { c = 1; } } c 
 const COUNTS: &str = "cell c; fn main() { c = c + 1; out c; }";
 
 // What a check says of a run of that program with that budget, of this tree and these conflicts, that ended so, in its own order.
-fn said(
+pub fn said(
     alloc: Global,
     text: &str,
     aborts: u32,

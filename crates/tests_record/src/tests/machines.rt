@@ -1,5 +1,6 @@
 ghost use Rattle.std.specs.Prelude.{IfOk};
 ghost use Rattle.cw_job.specs.Jobs.{TakesWords};
+ghost use Rattle.cw_strand.specs.Programs.{IsCompiled};
 
 use cw_base::Seq;
 use cw_compile::compile;
@@ -28,7 +29,8 @@ const fn name(parent: u32, fork: u32, right: bool) -> Name {
 const BOTH: &str = "cell c; fn main() { atomic { spawn { c = c + 1; } c = c + 1; } }";
 
 pub fn program(alloc: Global, text: &str) -> Result<Program, Fail>
-    ensures { IfOk result (λ p. TakesWords p 0) }
+    ensures words { IfOk result (λ p. TakesWords p 0) }
+    ensures compiled { IfOk result (λ p. IsCompiled p) }
 {
     let program = compile(alloc, &read_program(alloc, text.as_bytes())?)?;
     if takes_words(&program, 0) {

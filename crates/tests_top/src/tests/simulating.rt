@@ -1,4 +1,4 @@
-use super::answer;
+use super::{answer, ask};
 use cw_io::{SureSink, SureSource};
 use cw_record::Record;
 use std::sync::Wait;
@@ -32,6 +32,23 @@ fn a_refused_access_is_kept(rt: HostRuntime) -> Result<(), Fail> {
         let refused = run.conflicts.as_slice().first().ok_or("none is kept")?;
         assert_eq!(rt; (refused.last, refused.block), (3, 2));
         assert_eq!(rt; (refused.victim, refused.attempt), (4, 1));
+    }
+    Ok(())
+}
+
+// A simulation gives up blocks. Running threads give up none, so no other command reads such a source.
+const GIVEN_UP: &[u8] =
+    b"language 2; cell c = 5; fn main() { atomic { c = 9; out c; cancel; out 1; } out c; }";
+
+#[test]
+fn only_a_simulation_gives_up_blocks(rt: HostRuntime) -> Result<(), Fail> {
+    let told = b"out 9\nout 5\nc = 5\nend\n".as_slice();
+    for (command, status, text) in [("sim", 0, told), ("run", 5, b"")] {
+        let mut source = SureSource::new(GIVEN_UP.to_vec(rt.alloc())?, 9);
+        let mut sink = SureSink::with_room(rt.alloc(), 100)?;
+        let said = ask(&rt, &[command], &mut source, &mut sink)?;
+        assert_eq!(rt; said.status, status, "{command}");
+        assert_eq!(rt; sink.taken(), text, "{command}");
     }
     Ok(())
 }

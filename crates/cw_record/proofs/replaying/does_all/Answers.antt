@@ -33,10 +33,12 @@ returns-then-not-is_item c =
     let stands = c.loop-place.invariant.0 in
     let item = c.at-in-loop-place.result.now in
     let there = listed_at r c.loop-place.place c.at-in-loop-place.result.now (all_listed r c.from_vec-items.ensures c.in_ok-items.ensures.items c.as_slice.ensures) c.at-in-loop-place.ensures in
-    let memory : c.memory.result.now ≡ stands.machine.memory = sym (c.memory.ensures (job_of_record r) r.order.names stands.machine (c.in_ok-want.ensures.same (job_of_record r) r.order.names stands.machine stands.is)) in (
+    let is = c.in_ok-want.ensures.same (job_of_record r) r.order.names stands.machine stands.is in
+    let memory : c.memory.result.now ≡ stands.machine.memory = sym (c.memory.ensures (job_of_record r) r.order.names stands.machine is) in
+    let back = c.in_ok-back.ensures (job_of_record r) r.order.names stands.machine is in (
       λ h. absurd (cc h),
       λ h. absurd (other_want r c.nodes.ensures.numbered c.requires.order c.loop-place.play c.at.new.self c.loop-place.place item there c.at-name.result.now c.at-name.ensures stands c.in_ok-want.want (c.in_ok-want.ensures.want (job_of_record r) r.order.names stands.machine stands.is)
-          (λ here. let yes = (c.is_item.ensures stands.machine (sym memory)).1 here in let no = c.if-not-is_item.true in cc) h),
+          (λ here. let yes = (c.is_item.ensures stands.machine (sym memory) back).1 here in let no = c.if-not-is_item.true in cc) h),
     )
 
 pub returns-then-not-branch : goal.returns-then-not-branch
@@ -59,7 +61,8 @@ loop-place-preserved c =
     let there = listed_at r c.loop-place.place c.at-in-loop-place.result.now (all_listed r c.from_vec-items.ensures c.in_ok-items.ensures.items c.as_slice.ensures) c.at-in-loop-place.ensures in
     let is = c.in_ok-want.ensures.same (job_of_record r) r.order.names stands.machine stands.is in
     let memory : c.memory.result.now ≡ stands.machine.memory = sym (c.memory.ensures (job_of_record r) r.order.names stands.machine is) in
-    let here = (c.is_item.ensures stands.machine (sym memory)).0 c.if-not-is_item.false in (
+    let back = c.in_ok-back.ensures (job_of_record r) r.order.names stands.machine is in
+    let here = (c.is_item.ensures stands.machine (sym memory) back).0 c.if-not-is_item.false in (
       does_item r c.nodes.ensures.numbered c.requires.order c.loop-place.play c.pick.new.self c.loop-place.place item there c.at-name.result.now c.at-name.ensures stands c.in_ok-want.want
           (c.in_ok-want.ensures.want (job_of_record r) r.order.names stands.machine stands.is) here ((rw c.if-not-branch.false at c.in_ok-pick.ensures.picks) (job_of_record r) r.order.names stands.machine refl is),
       c.in_ok-pick.ensures.runs,

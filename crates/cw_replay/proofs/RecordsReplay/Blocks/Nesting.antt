@@ -2,10 +2,11 @@
 use Rattle.std.proofs.Common.{◌≡◌, ℕ, zero, suc, ◌<◌, List, [], ◌∷◌, ◌++◌, length, refl, ap, sym, ◌∙◌, Bool, true, cond, Option, Some, None, inl, inr, subst, append_assoc, append-nil, arith}
 use Rattle.std.specs.Prelude.{◌⊎◌, ◌&&◌, slice_get}
 use Rattle.std.specs.List.{flat_map}
-use Rattle.std.proofs.lemmas.Bool.{and_from, cases_Bool}
+use Rattle.std.proofs.lemmas.Bool.{and_from, cases_Bool, cases_eq}
+use Rattle.cw_code.specs.declared.Back.{Back}
 use Rattle.cw_tree.specs.declared.node.Node.{Node}
 use Rattle.cw_tree.specs.declared.node.Kind.{Kind}
-use Rattle.cw_tree.specs.declared.node.Kind.TheVariants.{Read, Write, Out}
+use Rattle.cw_tree.specs.declared.node.Kind.TheVariants.{Read, Write, Out, Cancel}
 use Rattle.cw_tree.specs.declared.picks.Turn.{Turn}
 use Rattle.cw_tree.specs.Nodes.{is_strand, is_block, is_pending, is_committed, passes}
 use Rattle.cw_tree.specs.Walks.{is_ancestor, is_above}
@@ -24,9 +25,26 @@ use Rattle.cw_record.specs.Replay.{doer}
 use Rattle.cw_record.proofs.Orders.Names.{name_strand, name_other, name_of_strand}
 use Rattle.cw_replay.proofs.RecordsReplay.Machine.Acts.{Picks, blocks, wanted_kind, wanted_node}
 use Rattle.cw_replay.proofs.RecordsReplay.Tasks.Sorts.{act_sort, committed_sort}
-use Rattle.cw_replay.proofs.RecordsReplay.Ordered.Entries.{Laid, Entry, member_entry, member_kind, open_entry, level_over, Segment, Order}
+use Rattle.cw_replay.proofs.RecordsReplay.Ordered.Entries.{Laid, Entry, Stays, AllStay, outside, member_entry, member_kind, open_entry, level_over, Segment, Order}
 
-module _ (t : List Node) (p : ℕ) (g : Laid t p) where
+-- all blocks around what stands at a level stand in the order
+abbrev pub LevelStays : (t : List Node) (p : ℕ) → Laid t p → Option ℕ → Type 0
+LevelStays t p g None = Unit {0}
+LevelStays t p g (Some m) = AllStay t p g m
+
+-- a cancel stands in the block of its level, which its strand began
+abbrev pub CancelsStand : (t : List Node) (p : ℕ) → Laid t p → Type 0
+CancelsStand t p g =
+    (b : Option ℕ) (n : ℕ) (x : Node) (back : List Back) → slice_get t n ≡ Some x → x.kind ≡ Cancel back → Entry t p g b n → LevelStays t p g b → (m : ℕ) × (b ≡ Some m) × (strand_of t n ≡ strand_of t m)
+
+-- so it is of an entry of such a level
+pub entry_stays : (t : List Node) (p : ℕ) (g : Laid t p) (b : Option ℕ) (m : ℕ) → Entry t p g b m → LevelStays t p g b → AllStay t p g m
+entry_stays t p g b m e l a f over = elim (cases_eq a m) [
+  | inl q ↦ (let P : ℕ → Type 0 = λ x. Stays t p g x in subst P (sym q) e.stays)
+  | inr ne ↦ (let z = outside t p g b m a e f over ne in let P : Option ℕ → Type 0 = λ o. LevelStays t p g o in subst P z.1 l a f z.2)
+]
+
+module _ (t : List Node) (p : ℕ) (g : Laid t p) (stand : CancelsStand t p g) where
   abbrev strand_name : ℕ → List Turn
   strand_name n = name_of t (strand_of t n)
 
@@ -49,28 +67,35 @@ module _ (t : List Node) (p : ℕ) (g : Laid t p) where
 
   -- ## Blocks
 
-  act_blocks : (n : ℕ) (bs : List Begun) → is_act t n ≡ true → blocks t (Does n) bs ≡ Some bs
-  act_blocks n bs e = by (slice_get t n) e where
-    kinds : (k : Kind) → is_act_kind k ≡ true → blocks_after (record { strand = doer t (Does n) }) (λ b. same_name b.strand (doer t (Does n))) (wanted_kind k) bs ≡ Some bs
-    kinds (Read c v) e = refl
-    kinds (Write c v) e = refl
-    kinds (Out v) e = refl
-    kinds _ e = absurd (cc e)
-
-    by : (o : Option Node) → passes (λ x. is_act_kind x.kind) o ≡ true → blocks_after (record { strand = doer t (Does n) }) (λ b. same_name b.strand (doer t (Does n))) (wanted_node o) bs ≡ Some bs
-    by None e = absurd (cc e)
-    by (Some x) e = kinds x.kind e
-
   abbrev begun : ℕ → List Begun → List Begun
   begun n bs = record { strand = strand_name n } ∷ bs
-
-  end_blocks : (n : ℕ) (bs : List Begun) → blocks t (Ends n) (begun n bs) ≡ Some bs
-  end_blocks n bs = ap (λ b. cond b (Some bs) None) (name_itself (strand_name n))
 
   -- the innermost begun block is that of the level
   abbrev Top : Option ℕ → List Begun → Type 0
   Top None bs = bs ≡ []
   Top (Some n) bs = (cs : List Begun) × (bs ≡ begun n cs)
+
+  act_blocks : (b : Option ℕ) (n : ℕ) (bs : List Begun) → Entry t p g b n → LevelStays t p g b → Top b bs → is_act t n ≡ true → blocks t (Does n) bs ≡ Some bs
+  act_blocks b n bs entry stays top e = by (slice_get t n) refl e where
+    kinds : (x : Node) → slice_get t n ≡ Some x → (k : Kind) → x.kind ≡ k → is_act_kind k ≡ true → blocks_after (record { strand = doer t (Does n) }) (λ b. same_name b.strand (doer t (Does n))) (wanted_kind k) bs ≡ Some bs
+    kinds x is (Read c v) q e = refl
+    kinds x is (Write c v) q e = refl
+    kinds x is (Out v) q e = refl
+    kinds x is (Cancel back) q e =
+        let (m, level, same) = stand b n x back is q entry stays in
+        let P : Option ℕ → Type 0 = λ o. Top o bs in
+        let z = subst P level top in
+        let own : same_name (strand_name m) (strand_name n) ≡ true = ap (λ a. same_name (strand_name m) (name_of t a)) same ∙ name_itself (strand_name m) in
+        ap (λ xs. blocks_after (record { strand = doer t (Does n) }) (λ b. same_name b.strand (doer t (Does n))) (wanted_kind (Cancel back)) xs) z.1
+        ∙ ap (λ o. cond o (Some (begun m z.0)) None) own ∙ ap Some (sym z.1)
+    kinds x is _ q e = absurd (cc e)
+
+    by : (o : Option Node) → slice_get t n ≡ o → passes (λ x. is_act_kind x.kind) o ≡ true → blocks_after (record { strand = doer t (Does n) }) (λ b. same_name b.strand (doer t (Does n))) (wanted_node o) bs ≡ Some bs
+    by None is e = absurd (cc e)
+    by (Some x) is e = kinds x is x.kind refl e
+
+  end_blocks : (n : ℕ) (bs : List Begun) → blocks t (Ends n) (begun n bs) ≡ Some bs
+  end_blocks n bs = ap (λ b. cond b (Some bs) None) (name_itself (strand_name n))
 
   entry_pick : (b : Option ℕ) (m : ℕ) (bs : List Begun) → Entry t p g b m → Top b bs → may_pick bs (strand_name m) ≡ true
   entry_pick None m bs e q = let P : List Begun → Type 0 = λ x. may_pick x (strand_name m) ≡ true in subst P (sym q) refl
@@ -81,7 +106,7 @@ module _ (t : List Node) (p : ℕ) (g : Laid t p) where
       subst P (sym q.1) (names_beneath n m (omega (arith, z.2)) hm z.1)
 
   -- no pending block is right in a committed one
-  no_open : (m : ℕ) → m < length t → is_committed t m ≡ true → open_member t p (Some m) ≡ None
+  pub no_open : (m : ℕ) → m < length t → is_committed t m ≡ true → open_member t p (Some m) ≡ None
   no_open m h c = by (open_member t p (Some m)) refl where
     by : (o : Option ℕ) → open_member t p (Some m) ≡ o → o ≡ None
     by None e = refl
@@ -95,13 +120,13 @@ module _ (t : List Node) (p : ℕ) (g : Laid t p) where
   -- ## Levels
 
   abbrev Closes : ℕ → Type 0
-  Closes k = (m : ℕ) (cs : List Begun) (rest : List OrderItem) → Top (Some m) cs → open_member t p (Some m) ≡ None → Picks t cs rest → Picks t cs (items_in t p k (Some m) ++ rest)
+  Closes k = (m : ℕ) (cs : List Begun) (rest : List OrderItem) → AllStay t p g m → Top (Some m) cs → open_member t p (Some m) ≡ None → Picks t cs rest → Picks t cs (items_in t p k (Some m) ++ rest)
 
-  module _ (k : ℕ) (b : Option ℕ) (bs : List Begun) (more : Closes k) (top : Top b bs) where
+  module _ (k : ℕ) (b : Option ℕ) (bs : List Begun) (more : Closes k) (stays : LevelStays t p g b) (top : Top b bs) where
     member_pick : (m : ℕ) → Entry t p g b m → (is_act t m ≡ true) ⊎ (is_committed t m ≡ true) → (xs : List OrderItem) → Picks t bs xs → Picks t bs (Segment t p g k m ++ xs)
     member_pick m e (inl d) xs r =
         let P : Bool → Type 0 = λ o. Picks t bs (as_items o m (items_in t p k (Some m)) ++ xs) in
-        subst P (sym (act_sort t m d).block) (entry_pick b m bs e top, bs, act_blocks m bs d, r)
+        subst P (sym (act_sort t m d).block) (entry_pick b m bs e top, bs, act_blocks b m bs e stays top d, r)
     member_pick m e (inr d) xs r =
         let P : Bool → Type 0 = λ o. Picks t bs (as_items o m (items_in t p k (Some m)) ++ xs) in
         let Q : List OrderItem → Type 0 = λ ys. Picks t (begun m bs) ys in
@@ -109,7 +134,7 @@ module _ (t : List Node) (p : ℕ) (g : Laid t p) where
           entry_pick b m bs e top,
           begun m bs,
           refl,
-          subst Q (sym (append_assoc (items_in t p k (Some m)) (Ends m ∷ []) xs)) (more m (begun m bs) (Ends m ∷ xs) (bs, refl) (no_open m e.there d) (itself (strand_name m), bs, end_blocks m bs, r)),
+          subst Q (sym (append_assoc (items_in t p k (Some m)) (Ends m ∷ []) xs)) (more m (begun m bs) (Ends m ∷ xs) (entry_stays t p g b m e stays) (bs, refl) (no_open m e.there d) (itself (strand_name m), bs, end_blocks m bs, r)),
         )
 
     members_pick : (ms : List ℕ) → ((m : ℕ) → In m ms → Entry t p g b m × ((is_act t m ≡ true) ⊎ (is_committed t m ≡ true))) → (rest : List OrderItem) → Picks t bs rest → Picks t bs (flat_map (Segment t p g k) ms ++ rest)
@@ -123,21 +148,21 @@ module _ (t : List Node) (p : ℕ) (g : Laid t p) where
     level_members = members_pick (by_key (key t) (members t b)) (λ m h. (member_entry t p g b m h, member_kind t p g b m h))
 
   closed_pick : (k : ℕ) → Closes k
-  closed_pick zero m cs rest top o r = r
-  closed_pick (suc k) m cs rest top o r =
+  closed_pick zero m cs rest stays top o r = r
+  closed_pick (suc k) m cs rest stays top o r =
       let P : List OrderItem → Type 0 = λ xs. Picks t cs xs in
       let Q : Option ℕ → Type 0 = λ q. Picks t cs (last_open q (items_in t p k q) ++ rest) in
       subst P (sym (append_assoc (flat_map (Segment t p g k) (by_key (key t) (members t (Some m)))) (last_open (open_member t p (Some m)) (items_in t p k (open_member t p (Some m)))) rest))
-      (level_members k (Some m) cs (closed_pick k) top (last_open (open_member t p (Some m)) (items_in t p k (open_member t p (Some m))) ++ rest) (subst Q (sym o) r))
+      (level_members k (Some m) cs (closed_pick k) stays top (last_open (open_member t p (Some m)) (items_in t p k (open_member t p (Some m))) ++ rest) (subst Q (sym o) r))
 
-  level_picks : (k : ℕ) (b : Option ℕ) (bs : List Begun) → Top b bs → Picks t bs (items_in t p k b)
-  level_picks zero b bs top = tt
-  level_picks (suc k) b bs top =
-      level_members k b bs (closed_pick k) top (last_open (open_member t p b) (items_in t p k (open_member t p b))) (by (open_member t p b) refl (λ m cs. level_picks k (Some m) cs)) where
-        by : (o : Option ℕ) → open_member t p b ≡ o → ((m : ℕ) (cs : List Begun) → Top (Some m) cs → Picks t cs (items_in t p k (Some m))) → Picks t bs (last_open o (items_in t p k o))
+  level_picks : (k : ℕ) (b : Option ℕ) (bs : List Begun) → LevelStays t p g b → Top b bs → Picks t bs (items_in t p k b)
+  level_picks zero b bs stays top = tt
+  level_picks (suc k) b bs stays top =
+      level_members k b bs (closed_pick k) stays top (last_open (open_member t p b) (items_in t p k (open_member t p b))) (by (open_member t p b) refl (λ m cs. level_picks k (Some m) cs)) where
+        by : (o : Option ℕ) → open_member t p b ≡ o → ((m : ℕ) (cs : List Begun) → AllStay t p g m → Top (Some m) cs → Picks t cs (items_in t p k (Some m))) → Picks t bs (last_open o (items_in t p k o))
         by None e more = tt
-        by (Some m) e more = (entry_pick b m bs (open_entry t p g b m e).entry top, begun m bs, refl, more m (begun m bs) (bs, refl))
+        by (Some m) e more = (entry_pick b m bs (open_entry t p g b m e).entry top, begun m bs, refl, more m (begun m bs) (entry_stays t p g b m (open_entry t p g b m e).entry stays) (bs, refl))
 
   -- each item of the order may be picked where it comes
   pub order_picks : Picks t [] (Order t p g)
-  order_picks = level_picks (length t) None [] refl
+  order_picks = level_picks (length t) None [] tt refl

@@ -10,7 +10,6 @@ use Rattle.cw_tree.specs.declared.conflict.Conflict.{Conflict}
 use Rattle.cw_tree.specs.Accesses.{live_accesses, cell_value, written}
 use Rattle.cw_tree.specs.Histories.{IsHistory}
 use Rattle.cw_tree.proofs.Lists.{In}
-use Rattle.cw_tree.proofs.Ahead.{Ahead, never_itself}
 use Rattle.cw_serial.specs.StrandTree.{at}
 use Rattle.cw_serial.specs.Machine.{Machine, initial}
 use Rattle.cw_serial.specs.Wants.{outputs_after}
@@ -27,8 +26,10 @@ use Rattle.cw_replay.proofs.RecordsReplay.Machine.Acts.{stop, act_name, Remember
 use Rattle.cw_replay.proofs.RecordsReplay.Tasks.Sorts.{committed_sort}
 use Rattle.cw_replay.proofs.RecordsReplay.Ordered.Entries.{IsOfNode, placed, Order}
 use Rattle.cw_replay.proofs.RecordsReplay.Blocks.Nesting.{order_picks}
-use Rattle.cw_replay.proofs.RecordsReplay.Memory.Remembering.{Tracks, remembers, tracks_after, memory_length, read_back}
-use Rattle.cw_replay.proofs.RecordsReplay.Memory.Journaling.{journal_once, journals_respected}
+use Rattle.cw_replay.proofs.RecordsReplay.Memory.Given.{cancels_stand, order_puts_back}
+use Rattle.cw_replay.proofs.RecordsReplay.Memory.Journaling.{journals_respected}
+use Rattle.cw_replay.proofs.RecordsReplay.Memory.Remembering.{Tracks, remembers, memory_length}
+use Rattle.cw_replay.proofs.RecordsReplay.Memory.Tracking.{first_track, front_tracks, no_twice, start as first_value}
 use Rattle.cw_replay.proofs.RecordsReplay.Ordered.Runs.{Run}
 use Rattle.cw_replay.proofs.RecordsReplay.Ordered.Respecting.{order_plays, start, stop_next, Items, seen_in, deeds}
 
@@ -59,37 +60,18 @@ module _ {A : Type 0} (s : Strands A) (deep : IsDeep s) (t : List Node) (p : ℕ
   abbrev pub total : ℕ → ℤ
   total c = cell_value (unwrap_or (slice_get first c) (pos 0)) (map (written t) (live_accesses t c))
 
-  first_track : Tracks t (length first) h.cells total (λ i. ⊥) first
-  first_track c low =
-      let v = get_some first c low in
-      let es = get_some kept c (omega (arith, h.journals.len)) in
-      record {
-        left = live_accesses t c;
-        value = v.0;
-        memory = v.1;
-        back = read_back t v.0 (live_accesses t c) es.0 (h.journals.each c v.0 es.0 v.1 es.1);
-        unseen = λ u g q. q;
-        all = λ u g q. g;
-        part = λ u g. g;
-        order = λ u n g. g;
-        sums = ap (λ o. cell_value (unwrap_or o (pos 0)) (map (written t) (live_accesses t c))) (sym v.1);
-      }
-
-  no_twice : (c u : ℕ) → Ahead u u (live_accesses t c) → ⊥
-  no_twice c u e = never_itself u (live_accesses t c) (journal_once s t p r c) e
-
   pub order_remembers : Remembers t first (Order t p r.laid)
-  order_remembers = remembers t (length first) h.cells total no_twice (Order t p r.laid) (λ i. ⊥) first first_track (journals_respected s t p r (length first) h.cells h.ended)
+  order_remembers = remembers t (length first) h.cells (first_value s t p r first kept cs h) (no_twice s t p r first kept cs h) (Order t p r.laid) (λ i. ⊥) first (first_track s t p r first kept cs h) (journals_respected s t p r (length first) h.cells h.ended)
 
   -- the machine behind all items
   abbrev pub last_machine : Machine A
-  last_machine = machine_after s deep t r.account.stop.wants (initial s first) (start s t p r deep) (Order t p r.laid) (order_plays s t p r deep) (order_picks t p r.laid)
+  last_machine = machine_after s deep t r.account.stop.wants (initial s first) (start s t p r deep) (Order t p r.laid) (order_plays s t p r deep) (order_picks t p r.laid (cancels_stand s t p r first kept cs h))
 
   pub order_done : DoesAll s t (initial s first) (Order t p r.laid) last_machine
-  order_done = does_all s deep t r.account.stop.wants (Order t p r.laid) (start s t p r deep) (initial s first) refl (order_plays s t p r deep) (order_picks t p r.laid) order_remembers
+  order_done = does_all s deep t r.account.stop.wants (Order t p r.laid) (start s t p r deep) (initial s first) refl (order_plays s t p r deep) (order_picks t p r.laid (cancels_stand s t p r first kept cs h)) order_remembers (order_puts_back s t p r first kept cs h)
 
   pub last_strands : last_machine.strands ≡ threads (deeds s t p r deep) (way_after (deeds s t p r deep) (start s t p r deep) (Items s t p r) (order_plays s t p r deep))
-  last_strands = threads_after s deep t r.account.stop.wants (Order t p r.laid) (start s t p r deep) (initial s first) refl (order_plays s t p r deep) (order_picks t p r.laid) order_remembers
+  last_strands = threads_after s deep t r.account.stop.wants (Order t p r.laid) (start s t p r deep) (initial s first) refl (order_plays s t p r deep) (order_picks t p r.laid (cancels_stand s t p r first kept cs h)) order_remembers
 
   -- where a strand stopped, it stands at what it wants
   pub stands_stopped : (n : ℕ) → r.account.stop.at n ≡ true → wants_fork r.account.stop.wants ≡ false → (b : A) × (at s last_machine.strands (act_name t (stop n)) ≡ Some b) × (s.want b ≡ r.account.stop.wants)
@@ -97,15 +79,15 @@ module _ {A : Type 0} (s : Strands A) (deep : IsDeep s) (t : List Node) (p : ℕ
       let z = stop_next s t p r deep n e in
       (z.state, ap (λ x. at s x (act_name t (stop n))) last_strands ∙ here_at s deep t r.account.stop.wants (way_after (deeds s t p r deep) (start s t p r deep) (Items s t p r) (order_plays s t p r deep)) (stop n) z (r.account.not_over, f), z.wants)
 
-  last_tracks : Tracks t (length first) h.cells total (SeenAfter (λ i. ⊥) (Order t p r.laid)) (memory_all t first (Order t p r.laid))
-  last_tracks = tracks_after t (length first) h.cells total no_twice (Order t p r.laid) (λ i. ⊥) first first_track (journals_respected s t p r (length first) h.cells h.ended)
+  last_tracks : Tracks t (length first) h.cells (first_value s t p r first kept cs h) (SeenAfter (λ i. ⊥) (Order t p r.laid)) (memory_all t first (Order t p r.laid))
+  last_tracks = front_tracks s t p r first kept cs h (Order t p r.laid) [] (sym (append-nil (Order t p r.laid)))
 
   pub last_memory : last_machine.memory ≡ memory_all t first (Order t p r.laid)
-  last_memory = memory_of s deep t r.account.stop.wants (Order t p r.laid) (initial s first) (start s t p r deep) (order_plays s t p r deep) (order_picks t p r.laid)
+  last_memory = memory_of s deep t r.account.stop.wants (Order t p r.laid) (initial s first) (start s t p r deep) (order_plays s t p r deep) (order_picks t p r.laid (cancels_stand s t p r first kept cs h))
 
   pub last_outputs : last_machine.outputs ≡ outputs_shown t (Order t p r.laid)
   last_outputs =
-      outputs_of s deep t r.account.stop.wants (Order t p r.laid) (initial s first) (start s t p r deep) (order_plays s t p r deep) (order_picks t p r.laid)
+      outputs_of s deep t r.account.stop.wants (Order t p r.laid) (initial s first) (start s t p r deep) (order_plays s t p r deep) (order_picks t p r.laid (cancels_stand s t p r first kept cs h))
       ∙ all_shown t [] (Order t p r.laid) (λ i g. (placed t p r.laid (length t) None i g).proper)
 
   -- a cell of which all live accesses stand in the order holds what they leave
@@ -113,7 +95,7 @@ module _ {A : Type 0} (s : Strands A) (deep : IsDeep s) (t : List Node) (p : ℕ
   cell_holds c low there =
       let k = last_tracks c low in
       let none = nothing_left k.left k.part k.unseen in
-      ap (λ m. slice_get m c) last_memory ∙ k.memory ∙ ap Some (sym (ap (λ xs. cell_value k.value (map (written t) xs)) none) ∙ k.sums) where
+      ap (λ m. slice_get m c) last_memory ∙ k.memory ∙ ap Some (sym k.spent ∙ ap (λ xs. cell_value (first_value s t p r first kept cs h c) (map (written t) xs)) (sym (append-nil k.done) ∙ ap (λ xs. k.done ++ xs) (sym none) ∙ k.whole)) where
         nothing_left : (left : List ℕ) → ((u : ℕ) → In u left → In u (live_accesses t c)) → ((u : ℕ) → In u left → SeenAfter (λ (i : OrderItem). ⊥) (Order t p r.laid) (Does u) → ⊥) → left ≡ []
         nothing_left [] q n = refl
         nothing_left (u ∷ us) q n = absurd (n u (inl refl) (seen_in (λ (i : OrderItem). ⊥) (Order t p r.laid) (Does u) (inl (there u (q u (inl refl))))))

@@ -70,6 +70,10 @@ module _ {A : Type 0} (s : Strands A) (t : List Node) (p : ℕ) (r : Run s t p) 
       let ne : stamp_of t u ≢ stamp_of t v = λ e. d.0 (inl (r.laid.stamps.distinct u v a.there b.there (stamp_some s t p r u a.there (inl a.act)) e)) in
       (omega arith, strictly (v ∷ us) (λ n h. l n (inr h)) z.1 d.1)
 
+  -- an act of the order is live
+  pub acts_live : (x : ℕ) → In (Does x) (Order t p r.laid) → is_live t x ≡ true
+  acts_live x h = all_from (λ m. not (is_aborted t m)) (above t x) (λ a g. not_from_false (is_aborted t a) (order_kept s t p r (Does x) h a (above_ancestor t a x (in_above t a x g))).0)
+
   pub journal_once : (c : ℕ) → Apart (live_accesses t c)
   journal_once c = apart_by_key (stamp_of t) (filter (λ n. touches t c n && is_live t n) (all_nodes t)) (rises_apart (filter (λ n. touches t c n && is_live t n) (all_nodes t)) (rises_filter (λ n. touches t c n && is_live t n) (all_nodes t) (below_rises (length t))))
 
@@ -78,23 +82,23 @@ module _ {A : Type 0} (s : Strands A) (t : List Node) (p : ℕ) (r : Run s t p) 
 
   module _ (cells : ℕ) (fits : FitsCells t cells) (ended : JournalsEnded t cells) where
     module _ (c u n : ℕ) (hc : c < cells) (e : Ahead u n (live_accesses t c)) where
-      lu : Live u
+      pub lu : Live u
       lu = live_of c u (first_in u n (live_accesses t c) e)
 
-      ln : Live n
+      pub ln : Live n
       ln = live_of c n (second_in u n (live_accesses t c) e)
 
       between : EndedBetween t u n × (stamp_of t u < stamp_of t n)
       between = ended_between t (live_accesses t c) u n (ended c hc) (journal_rises c) e
 
       -- a block around the earlier access and not around the later one has ended before the later one
-      block_ended : (m : ℕ) → m < length t → is_block t m ≡ true → is_ancestor t m u ≡ true → is_ancestor t m n ≡ false → (is_committed t m ≡ true) × (end_of t m < stamp_of t n)
+      pub block_ended : (m : ℕ) → m < length t → is_block t m ≡ true → is_ancestor t m u ≡ true → is_ancestor t m n ≡ false → (is_committed t m ≡ true) × (end_of t m < stamp_of t n)
       block_ended m h b over aside =
           let ne : u ≡ m → ⊥ = λ q. (let P : ℕ → Type 0 = λ x. is_block t x ≡ false in absurd (cc (b, subst P q (act_sort t u lu.act).block))) in
           let outside : is_above t m n ≡ false = false_from_ne_true (is_above t m n) (λ q. absurd (cc (aside, above_ancestor t m n q))) in
           between.0 m h (and_from (is_block t m && is_above t m u) (not (is_above t m n)) (and_from (is_block t m) (is_above t m u) b (sym (ancestor_above t m u ne) ∙ over)) (not_from_false (is_above t m n) outside))
 
-      smaller : (b : Option ℕ) (m x : ℕ) → Entry t p r.laid b m → Entry t p r.laid b x → (m ≡ x → ⊥) → Over t p r.laid m (Does u) → Over t p r.laid x (Does n) → (is_act t x ≡ true) ⊎ (is_committed t x ≡ true) → (key t m < key t x) × (is_pending t m ≡ true → ⊥)
+      pub smaller : (b : Option ℕ) (m x : ℕ) → Entry t p r.laid b m → Entry t p r.laid b x → (m ≡ x → ⊥) → Over t p r.laid m (Does u) → Over t p r.laid x (Does n) → (is_act t x ≡ true) ⊎ (is_committed t x ≡ true) → (key t m < key t x) × (is_pending t m ≡ true → ⊥)
       smaller b m x em ex ne au an k = by em.stays where
         low_key : stamp_of t n ≤ key t x
         low_key = key_least s t p r x n ex.there ln.there an.0 k
@@ -142,7 +146,7 @@ module _ {A : Type 0} (s : Strands A) (t : List Node) (p : ℕ) (r : Run s t p) 
           is_there (Ends x) h = tt
           is_there (Does x) h =
               let z = placed t p r.laid (length t) None (Does x) h in
-              (z.there, z.proper, all_from (λ m. not (is_aborted t m)) (above t x) (λ a g. not_from_false (is_aborted t a) (order_kept s t p r (Does x) h a (above_ancestor t a x (in_above t a x g))).0))
+              (z.there, z.proper, acts_live x h)
 
           by : (i j : OrderItem) → In j (Order t p r.laid) → Precedes t cells fits i j → Ahead i j (Order t p r.laid)
           by i j h (precedes c u n hc q f e) =

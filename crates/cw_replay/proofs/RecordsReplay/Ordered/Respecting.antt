@@ -54,7 +54,7 @@ seen_in seen (j ∷ js) i (inl (inl q)) = seen_in (λ i. (i ≡ j) ⊎ seen i) j
 seen_in seen (j ∷ js) i (inl (inr h)) = seen_in (λ i. (i ≡ j) ⊎ seen i) js i (inl h)
 seen_in seen (j ∷ js) i (inr h) = seen_in (λ i. (i ≡ j) ⊎ seen i) js i (inr (inr h))
 
-in_seen : {I : Type 0} (seen : I → Type 0) (js : List I) (i : I) → SeenAfter seen js i → In i js ⊎ seen i
+pub in_seen : {I : Type 0} (seen : I → Type 0) (js : List I) (i : I) → SeenAfter seen js i → In i js ⊎ seen i
 in_seen seen [] i h = inr h
 in_seen seen (j ∷ js) i h = elim (in_seen (λ i. (i ≡ j) ⊎ seen i) js i h) [ inl x ↦ inl (inr x) | inr x ↦ elim x [ inl q ↦ inl (inl q) | inr y ↦ inr y ] ]
 

@@ -1,9 +1,9 @@
--- What a node is: a strand, a fork, an access or output that was made, a refused access, or a block of one of three states.
+-- What a node is: a strand, a fork, an access, output or cancel that was made, a refused access, or a block of one of three states.
 use Rattle.std.proofs.Common.{◌≡◌, ℕ, ◌<◌, List, length, refl, ap, sym, ◌∙◌, Bool, true, false, Some, inl, inr, subst}
 use Rattle.std.specs.Prelude.{◌⊎◌, slice_get, ◌&&◌}
 use Rattle.cw_tree.specs.declared.node.Node.{Node}
 use Rattle.cw_tree.specs.declared.node.Kind.{Kind}
-use Rattle.cw_tree.specs.declared.node.Kind.TheVariants.{Strand, Fork, Block, Read, Write, Out, Tried}
+use Rattle.cw_tree.specs.declared.node.Kind.TheVariants.{Strand, Fork, Block, Read, Write, Out, Cancel, Tried}
 use Rattle.cw_tree.specs.declared.node.BlockState.{BlockState}
 use Rattle.cw_tree.specs.declared.node.BlockState.TheVariants.{Pending, Committed, Aborted}
 use Rattle.cw_tree.specs.Nodes.{passes, is_node, is_strand, is_fork, is_block, is_tried, is_pending, is_committed, is_aborted, is_strand_kind, is_fork_kind, is_block_kind, is_tried_kind, is_pending_state, is_committed_state, is_aborted_state}
@@ -66,6 +66,7 @@ sort_of Block b = block_sort b
 sort_of (Read c v) b = act
 sort_of (Write c v) b = act
 sort_of (Out v) b = act
+sort_of (Cancel back) b = act
 sort_of (Tried c) b = tried
 
 -- node n is of this sort, and of no other

@@ -7,7 +7,7 @@ use Rattle.cw_strand.specs.declared.want.Given.TheVariants.{Nothing}
 use Rattle.cw_strand.specs.Strands.{Strands}
 use Rattle.cw_tree.specs.declared.node.Node.{Node}
 use Rattle.cw_tree.specs.declared.node.Kind.{Kind}
-use Rattle.cw_tree.specs.declared.node.Kind.TheVariants.{Strand, Fork, Block, Read, Write, Out, Tried}
+use Rattle.cw_tree.specs.declared.node.Kind.TheVariants.{Strand, Fork, Block, Read, Write, Out, Cancel, Tried}
 use Rattle.cw_tree.specs.declared.node.BlockState.{BlockState}
 use Rattle.cw_tree.specs.declared.node.BlockState.TheVariants.{Pending, Committed, Aborted}
 use Rattle.cw_tree.specs.Nodes.{is_strand}
@@ -46,6 +46,7 @@ module _ (z : Stop) where
   work_kind inner strand cs n (Read c v) b w = act (item (Does n)) w
   work_kind inner strand cs n (Write c v) b w = act (item (Does n)) w
   work_kind inner strand cs n (Out v) b w = act (item (Does n)) w
+  work_kind inner strand cs n (Cancel back) b w = act (item (Does n)) w
   work_kind inner strand cs n (Tried c) b w = w
 
   abbrev pub work_node : (Work Act → Work Act) → (ℕ → Work Act) → List ℕ → ℕ → Option Node → Work Act → Work Act
@@ -122,6 +123,7 @@ module _ {A : Type 0} (s : Strands A) (t : List Node) (w : Account s t) where
   by_kind k c (Read d x) b z = acts z.sort z.works_as (z.fits.0 ∙ sym z.wants) (z.fits.1 ∙ ap (s.answer (w.before c)) (sym z.gives))
   by_kind k c (Write d x) b z = acts z.sort z.works_as (z.fits.0 ∙ sym z.wants) (z.fits.1 ∙ ap (s.answer (w.before c)) (sym z.gives))
   by_kind k c (Out x) b z = acts z.sort z.works_as (z.fits.0 ∙ sym z.wants) (z.fits.1 ∙ ap (s.answer (w.before c)) (sym z.gives))
+  by_kind k c (Cancel x) b z = acts z.sort z.works_as (z.fits.0 ∙ sym z.wants) (z.fits.1 ∙ ap (s.answer (w.before c)) (sym z.gives))
   by_kind k c (Tried d) b z = skipped (refused z.sort) z.works_as z.fits.1
 
   pub view : (k c : ℕ) → c < length t → View k c

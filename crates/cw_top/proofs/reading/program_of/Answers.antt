@@ -11,5 +11,7 @@ returns-clause-spelled c = (source_of c.in_ok-ast.ast, (c.in_ok-ast.ensures.exac
 
 pub returns-clause-cancels : goal.returns-clause-cancels
 returns-clause-cancels c =
+    λ one.
     let source = source_of c.in_ok-ast.ast in
-    ap (λ (x : Code). cancels x) c.in_ok-compile.ensures.compiled.code ∙ (code_has_its_cancels source.items ∙ newest_one_has_none c.args.bytes.now source c.in_ok-ast.ensures.exact)
+    let exact = rw one at c.in_ok-ast.ensures.exact in
+    ap (λ (x : Code). cancels x) c.in_ok-compile.ensures.compiled.code ∙ (code_has_its_cancels source.items ∙ newest_one_has_none c.args.bytes.now source exact)

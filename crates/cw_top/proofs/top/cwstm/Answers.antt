@@ -38,7 +38,7 @@ pub returns-clause-write_fault : goal.returns-clause-write_fault
 returns-clause-write_fault g c = statuses.write_fault _ _ _ _ _ _ _ c.answer.ensures.status c.answer.ensures.cause
 
 pub returns-clause-refused : goal.returns-clause-refused
-returns-clause-refused g c = statuses.refused _ _ _ _ _ _ _ c.answer.ensures.status c.answer.ensures.cause
+returns-clause-refused g c = let cause = rw c.in-Ok.ensures.exact at c.answer.ensures.cause in statuses.refused _ _ _ _ _ _ _ c.answer.ensures.status cause
 
 pub returns-clause-complete : goal.returns-clause-complete
 returns-clause-complete g c =

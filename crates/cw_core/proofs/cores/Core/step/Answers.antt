@@ -45,6 +45,17 @@ returns-in-Out-clause-chains c =
     let ok : OnOk c.output.result (c.output.new.self ≡ after_event c.args.self.now c.args.event) = search rules in
     chains c.args.self.now c.hint.ensures c.args.event c.requires c.output.result c.output.new.self c.args.event refl ok c.output.ensures.err
 
+pub returns-in-Cancel-clause-run : goal.returns-in-Cancel-clause-run
+returns-in-Cancel-clause-run c = runs c.args.self.now c.hint.ensures c.args.event c.requires
+
+pub returns-in-Cancel-clause-stands : goal.returns-in-Cancel-clause-stands
+returns-in-Cancel-clause-stands c = stands c.args.self.now c.hint.ensures c.args.event c.requires c.cancel.result c.cancel.new.self
+    (event.Cancel c.in-Cancel.strand) c.in-Cancel.is c.cancel.ensures.ok c.cancel.ensures.err
+
+pub returns-in-Cancel-clause-chains : goal.returns-in-Cancel-clause-chains
+returns-in-Cancel-clause-chains c = chains c.args.self.now c.hint.ensures c.args.event c.requires c.cancel.result c.cancel.new.self
+    (event.Cancel c.in-Cancel.strand) c.in-Cancel.is c.cancel.ensures.ok c.cancel.ensures.err
+
 pub returns-in-Commit-clause-run : goal.returns-in-Commit-clause-run
 returns-in-Commit-clause-run c = runs c.args.self.now c.hint.ensures c.args.event c.requires
 

@@ -13,7 +13,7 @@ returns-clause-acts c =
     let memory = self.memory.items in
     elim c.match-want.branch [
       | in-Store+in_ok-writes-in-Store v ↦ elim v.match-get_mut.branch [
-        | in-Some w ↦ record { task = search rules; branches = search rules; memory = search rules; outputs = search rules; drawing = search rules }
+        | in-Some w ↦ record { task = search rules; branches = search rules; memory = search rules; outputs = search rules; undo = search rules; drawing = λ since looks. search rules }
         | in_default w ↦ (
             -- an element that is not there is not written
             let wanted = sym (c.want.ensures (job_of_task self.task)) ∙ v.in-Store.is in
@@ -26,10 +26,11 @@ returns-clause-acts c =
                   ap (λ m. m.memory.items) v.self-is
                   ∙ (ap (λ m. m.memory.items) w.self-is ∙ sym (ap (λ x. memory_after x memory) wanted ∙ set_past memory v.in-Store.element v.in-Store.value past));
               outputs = search rules;
-              drawing = search rules;
+              undo = search rules;
+              drawing = λ since looks. search rules;
             })
       ]
-      | in-Out+in_ok-push-in-Out+in_ok-outputs-in-Out v ↦ record { task = search rules; branches = search rules; memory = search rules; outputs = search rules; drawing = search rules }
-      | in-Begin+in_ok-begins-in-Begin v ↦ record { task = search rules; branches = search rules; memory = search rules; outputs = search rules; drawing = search rules }
-      | in-End+in_ok-ends-in-End v ↦ record { task = search rules; branches = search rules; memory = search rules; outputs = search rules; drawing = search rules }
+      | in-Out+in_ok-push-in-Out+in_ok-outputs-in-Out v ↦ record { task = search rules; branches = search rules; memory = search rules; outputs = search rules; undo = search rules; drawing = λ since looks. search rules }
+      | in-Begin+in_ok-begins-in-Begin v ↦ record { task = search rules; branches = search rules; memory = search rules; outputs = search rules; undo = search rules; drawing = λ since looks. search rules }
+      | in-End+in_ok-ends-in-End v ↦ record { task = search rules; branches = search rules; memory = search rules; outputs = search rules; undo = search rules; drawing = λ since looks. search rules }
     ]

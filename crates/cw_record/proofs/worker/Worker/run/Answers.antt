@@ -1,17 +1,17 @@
 use Rattle.cw_job.proofs.Room.Lawful.{closes_of}
-use Rattle.cw_job.proofs.Room.Elements.{wants_there}
 use Rattle.cw_record.specs.OneWorker.{unstarted}
-use Rattle.cw_record.proofs.OneWorker.Conditions.{wanted_by, over_by, answered_by, keeps_by}
+use Rattle.cw_record.proofs.OneWorker.AccessesThere.{accesses_there}
+use Rattle.cw_record.proofs.OneWorker.Conditions.{wanted_by, over_by, answered_by}
 use Rattle.cw_record.proofs.OneWorker.Leaving.{runs_first}
 use Rattle.cw_record.proofs.OneWorker.Shaped.{to_come_there}
-use Rattle.cw_record.proofs.OneWorker.Turning.{first_fork_there, act_run, fork_run, turn_run, join_run, finish_answer, fault_answer, end_at_block, none_given_up}
+use Rattle.cw_record.proofs.OneWorker.Turning.{first_fork_there, act_run, fork_run, turn_run, join_run, finish_answer, fault_answer, follow_run, act_ready}
 use Rattle.cw_record.proofs.OneWorker.Standings.{act_stands, turn_stands, join_stands}
 use Rattle.cw_record.proofs.worker.Worker.run.Goals as goal
 
 pub wants-init : goal.wants-init
 wants-init c =
     let e = c.in_ok-worker.ensures in
-    (runs_first _ c.in_ok-worker.worker c.requires.compiled e.job e.memory e.outputs e.drawing e.strand e.branches, e.stands)
+    (runs_first _ c.in_ok-worker.worker c.requires.compiled e.job e.memory e.outputs e.undo e.drawing e.strand e.branches, e.stands)
 
 -- ## A fork
 
@@ -27,18 +27,18 @@ fork-requires-clause-there c = let (w, r) = c.wants.invariant.0 in r.draws.built
 pub wants-preserved-in-Continue-branch-2 : goal.wants-preserved-in-Continue-branch-2
 wants-preserved-in-Continue-branch-2 c =
     let e = c.in_ok-fork-in-Fork.ensures in
-    ((fork_run c.wants.invariant.0.1 (closes_of _ c.requires.compiled c.requires.words) (wants_there _ c.requires.compiled c.requires.cancels) e.keeps (wanted_by c.wants.worker c.want.ensures c.in-Fork.is) e.drawing e.left e.right).0, e.stands c.wants.invariant.1.branches)
+    ((fork_run c.wants.invariant.0.1 (closes_of _ c.requires.compiled c.requires.words) (accesses_there _ c.requires.compiled) e.keeps (wanted_by c.wants.worker c.want.ensures c.in-Fork.is) e.drawing e.left e.right).0, e.stands c.wants.invariant.1.branches)
 
 pub wants-smaller-in-Continue-branch-2 : goal.wants-smaller-in-Continue-branch-2
 wants-smaller-in-Continue-branch-2 c =
     let e = c.in_ok-fork-in-Fork.ensures in
-    (fork_run c.wants.invariant.0.1 (closes_of _ c.requires.compiled c.requires.words) (wants_there _ c.requires.compiled c.requires.cancels) e.keeps (wanted_by c.wants.worker c.want.ensures c.in-Fork.is) e.drawing e.left e.right).1
+    (fork_run c.wants.invariant.0.1 (closes_of _ c.requires.compiled c.requires.words) (accesses_there _ c.requires.compiled) e.keeps (wanted_by c.wants.worker c.want.ensures c.in-Fork.is) e.drawing e.left e.right).1
 
 -- ## The end of a strand
 
 pub returns-in-None : goal.returns-in-None
 returns-in-None c =
-    finish_answer c.wants.invariant.0.1 (closes_of _ c.requires.compiled c.requires.words) (wants_there _ c.requires.compiled c.requires.cancels) (over_by c.wants.worker c.want.ensures c.in-Sync.is) c.in-None.ensures.0 c.finished.result c.finished.ensures.drawing c.finished.ensures.end
+    finish_answer c.wants.invariant.0.1 (closes_of _ c.requires.compiled c.requires.words) (accesses_there _ c.requires.compiled) (over_by c.wants.worker c.want.ensures c.in-Sync.is) c.in-None.ensures.0 c.finished.result c.finished.ensures.drawing c.finished.ensures.end
 
 pub turn-requires : goal.turn-requires
 turn-requires c = first_fork_there c.wants.invariant.0.1 c.in-Some-Left.ensures c.in-Some-Left.field-0-is
@@ -52,22 +52,22 @@ join-requires-clause-stands c = c.wants.invariant.1.strand
 pub wants-preserved-in-Continue-branch-3 : goal.wants-preserved-in-Continue-branch-3
 wants-preserved-in-Continue-branch-3 c =
     let e = c.in_ok-turn-in-Some-Left.ensures in
-    ((turn_run c.wants.invariant.0.1 (closes_of _ c.requires.compiled c.requires.words) (wants_there _ c.requires.compiled c.requires.cancels) c.in-Some-Left.ensures (over_by c.wants.worker c.want.ensures c.in-Sync.is) e.keeps c.in-Some-Left.field-0-is e.drawing e.strand e.branches).0, turn_stands c.wants.worker c.wants.invariant.1 c.in-Some-Left.ensures e.keeps c.in-Some-Left.field-0-is e.strand e.branches)
+    ((turn_run c.wants.invariant.0.1 (closes_of _ c.requires.compiled c.requires.words) (accesses_there _ c.requires.compiled) c.in-Some-Left.ensures (over_by c.wants.worker c.want.ensures c.in-Sync.is) e.keeps c.in-Some-Left.field-0-is e.drawing e.strand e.branches).0, turn_stands c.wants.worker c.wants.invariant.1 c.in-Some-Left.ensures e.keeps c.in-Some-Left.field-0-is e.strand e.branches)
 
 pub wants-smaller-in-Continue-branch-3 : goal.wants-smaller-in-Continue-branch-3
 wants-smaller-in-Continue-branch-3 c =
     let e = c.in_ok-turn-in-Some-Left.ensures in
-    (turn_run c.wants.invariant.0.1 (closes_of _ c.requires.compiled c.requires.words) (wants_there _ c.requires.compiled c.requires.cancels) c.in-Some-Left.ensures (over_by c.wants.worker c.want.ensures c.in-Sync.is) e.keeps c.in-Some-Left.field-0-is e.drawing e.strand e.branches).1
+    (turn_run c.wants.invariant.0.1 (closes_of _ c.requires.compiled c.requires.words) (accesses_there _ c.requires.compiled) c.in-Some-Left.ensures (over_by c.wants.worker c.want.ensures c.in-Sync.is) e.keeps c.in-Some-Left.field-0-is e.drawing e.strand e.branches).1
 
 pub wants-preserved-in-Continue-branch-4 : goal.wants-preserved-in-Continue-branch-4
 wants-preserved-in-Continue-branch-4 c =
     let e = c.in_ok-join-in-Some-Right.ensures in
-    ((join_run c.wants.invariant.0.1 (closes_of _ c.requires.compiled c.requires.words) (wants_there _ c.requires.compiled c.requires.cancels) c.in-Some-Right.ensures (over_by c.wants.worker c.want.ensures c.in-Sync.is) e.keeps c.in-Some-Right.field-0-is e.drawing e.branches e.strand).0, join_stands c.wants.worker c.wants.invariant.1 c.in-Some-Right.ensures e.keeps e.stands e.branches)
+    ((join_run c.wants.invariant.0.1 (closes_of _ c.requires.compiled c.requires.words) (accesses_there _ c.requires.compiled) c.in-Some-Right.ensures (over_by c.wants.worker c.want.ensures c.in-Sync.is) e.keeps c.in-Some-Right.field-0-is e.drawing e.branches e.strand).0, join_stands c.wants.worker c.wants.invariant.1 c.in-Some-Right.ensures e.keeps e.stands e.branches)
 
 pub wants-smaller-in-Continue-branch-4 : goal.wants-smaller-in-Continue-branch-4
 wants-smaller-in-Continue-branch-4 c =
     let e = c.in_ok-join-in-Some-Right.ensures in
-    (join_run c.wants.invariant.0.1 (closes_of _ c.requires.compiled c.requires.words) (wants_there _ c.requires.compiled c.requires.cancels) c.in-Some-Right.ensures (over_by c.wants.worker c.want.ensures c.in-Sync.is) e.keeps c.in-Some-Right.field-0-is e.drawing e.branches e.strand).1
+    (join_run c.wants.invariant.0.1 (closes_of _ c.requires.compiled c.requires.words) (accesses_there _ c.requires.compiled) c.in-Some-Right.ensures (over_by c.wants.worker c.want.ensures c.in-Sync.is) e.keeps c.in-Some-Right.field-0-is e.drawing e.branches e.strand).1
 
 -- ## A fault
 
@@ -78,29 +78,32 @@ faulted-requires-clause-forks c =
 
 pub returns-in-Fault : goal.returns-in-Fault
 returns-in-Fault c =
-    fault_answer c.wants.invariant.0.1 (closes_of _ c.requires.compiled c.requires.words) (wants_there _ c.requires.compiled c.requires.cancels) c.in-Fault.kind (wanted_by c.wants.worker c.want.ensures c.in-Fault.is) c.faulted.result c.faulted.ensures.tree c.faulted.ensures.journals c.faulted.ensures.end
+    fault_answer c.wants.invariant.0.1 (closes_of _ c.requires.compiled c.requires.words) (accesses_there _ c.requires.compiled) c.in-Fault.kind (wanted_by c.wants.worker c.want.ensures c.in-Fault.is) c.faulted.result c.faulted.ensures.tree c.faulted.ensures.journals c.faulted.ensures.end
 
 -- ## A want that is done
+
+pub follow-requires : goal.follow-requires
+follow-requires c =
+    let (w, r) = c.wants.invariant.0 in
+    record { done = follow_run r (closes_of _ c.requires.compiled c.requires.words) (accesses_there _ c.requires.compiled) (answered_by c.wants.worker c.want.ensures c.in-Load.is) }
 
 pub act-requires : goal.act-requires
 act-requires c =
     let (w, r) = c.wants.invariant.0 in
-    record { there = r.draws.built.there; answered = answered_by c.wants.worker c.want.ensures c.in-Load.is; keeps = keeps_by c.wants.worker c.want.ensures c.in-Load.is; block = end_at_block r (closes_of _ c.requires.compiled c.requires.words) (wants_there _ c.requires.compiled c.requires.cancels); stands = c.wants.invariant.1.strand }
+    let ready = act_ready r (closes_of _ c.requires.compiled c.requires.words) (accesses_there _ c.requires.compiled) c.follow.new.self c.in_ok-follow-in-Load.ensures (answered_by c.wants.worker c.want.ensures c.in-Load.is) c.wants.invariant.1.strand in
+    record { there = ready.there; answered = ready.answered; block = ready.block; stands = ready.stands }
 
 pub wants-preserved : goal.wants-preserved
 wants-preserved c =
-    let e = c.in_ok-act-in-Load.ensures in (
-      (act_run c.wants.invariant.0.1 (closes_of _ c.requires.compiled c.requires.words) (wants_there _ c.requires.compiled c.requires.cancels) c.act.new.self (answered_by c.wants.worker c.want.ensures c.in-Load.is)
-          (record { done = e.acts; strand = e.strand })).0,
-      act_stands c.wants.worker c.wants.invariant.1 c.act.new.self e.acts e.stands,
+    let e = c.in_ok-act-in-Load.ensures in
+    let follows = c.in_ok-follow-in-Load.ensures in (
+      (act_run c.wants.invariant.0.1 (closes_of _ c.requires.compiled c.requires.words) (accesses_there _ c.requires.compiled) c.follow.new.self c.act.new.self (answered_by c.wants.worker c.want.ensures c.in-Load.is)
+          (record { follows = follows; done = e.acts; strand = e.strand })).0,
+      act_stands c.wants.worker c.wants.invariant.1 c.follow.new.self c.act.new.self follows e.acts e.stands,
     )
 
 pub wants-smaller : goal.wants-smaller
 wants-smaller c =
     let e = c.in_ok-act-in-Load.ensures in
-    (act_run c.wants.invariant.0.1 (closes_of _ c.requires.compiled c.requires.words) (wants_there _ c.requires.compiled c.requires.cancels) c.act.new.self (answered_by c.wants.worker c.want.ensures c.in-Load.is)
-    (record { done = e.acts; strand = e.strand })).1
-
-pub unreachable-requires : goal.unreachable-requires
-unreachable-requires c =
-    none_given_up c.wants.invariant.0.1 (closes_of _ c.requires.compiled c.requires.words) (wants_there _ c.requires.compiled c.requires.cancels) (wanted_by c.wants.worker c.want.ensures c.in-Cancel.is)
+    (act_run c.wants.invariant.0.1 (closes_of _ c.requires.compiled c.requires.words) (accesses_there _ c.requires.compiled) c.follow.new.self c.act.new.self (answered_by c.wants.worker c.want.ensures c.in-Load.is)
+    (record { follows = c.in_ok-follow-in-Load.ensures; done = e.acts; strand = e.strand })).1

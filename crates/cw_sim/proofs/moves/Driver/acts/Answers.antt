@@ -25,6 +25,9 @@ begins-requires c = (c.requires.0, may_do c.args.self.now c.args.w c.args.strand
 pub ends-requires : goal.ends-requires
 ends-requires c = (c.requires.0, may_do c.args.self.now c.args.w c.args.strand c.args.want c.requires.0 c.requires.1 _ c.in-End.is)
 
+pub gives_up-requires : goal.gives_up-requires
+gives_up-requires c = (c.requires.0, may_do c.args.self.now c.args.w c.args.strand c.args.want c.requires.0 c.requires.1 _ c.in-Cancel.is)
+
 pub forks-requires : goal.forks-requires
 forks-requires c = (c.requires.0, may_fork c.args.self.now c.args.w c.args.strand c.args.want c.requires.0 c.requires.1 _ c.in-Fork.is refl)
 
@@ -71,6 +74,12 @@ returns-in-End c =
     on_ok_weaker c.ends.result
     (λ comes z may. let is = c.in-End.is in acts_so c.args.self.now c.args.w c.args.strand c.args.want z may _ is c.ends.new.self (comes z (may_do c.args.self.now c.args.w c.args.strand c.args.want z may _ is)))
     c.ends.ensures.comes
+
+pub returns-in-Cancel : goal.returns-in-Cancel
+returns-in-Cancel c =
+    on_ok_weaker c.gives_up.result
+    (λ comes z may. let is = c.in-Cancel.is in acts_so c.args.self.now c.args.w c.args.strand c.args.want z may _ is c.gives_up.new.self (comes z (may_do c.args.self.now c.args.w c.args.strand c.args.want z may _ is)))
+    c.gives_up.ensures
 
 pub returns-in-Fork : goal.returns-in-Fork
 returns-in-Fork c =

@@ -25,7 +25,7 @@ moves-requires c =
     let is = now.invariant.0 in
     let w = c.worker_at-w in (
       z job turns.workers turns.schedule.now now.self now.n is,
-      may_move job turns.workers turns.schedule.now now.self now.n is c.is_over.result c.is_over.ensures (record { compiled = c.requires.compiled; cancels = c.requires.cancels }) c.requires.words c.if-is_over.false now.turns now.invariant.1
+      may_move job turns.workers turns.schedule.now now.self now.n is c.is_over.result c.is_over.ensures c.requires.compiled c.requires.words c.if-is_over.false now.turns now.invariant.1
           w.result w.ensures.worker w.ensures.low,
     )
 
@@ -37,9 +37,9 @@ loop-n-preserved c =
     let is = now.invariant.0 in
     let w = c.worker_at-w in
     let may =
-    may_move job turns.workers turns.schedule.now now.self now.n is c.is_over.result c.is_over.ensures (record { compiled = c.requires.compiled; cancels = c.requires.cancels }) c.requires.words c.if-is_over.false now.turns now.invariant.1
+    may_move job turns.workers turns.schedule.now now.self now.n is c.is_over.result c.is_over.ensures c.requires.compiled c.requires.words c.if-is_over.false now.turns now.invariant.1
     w.result w.ensures.worker w.ensures.low in (
-      comes_next job turns.workers turns.schedule.now now.self now.n is c.is_over.result c.is_over.ensures (record { compiled = c.requires.compiled; cancels = c.requires.cancels }) c.requires.words c.if-is_over.false now.turns now.invariant.1
+      comes_next job turns.workers turns.schedule.now now.self now.n is c.is_over.result c.is_over.ensures c.requires.compiled c.requires.words c.if-is_over.false now.turns now.invariant.1
           w.result w.ensures.worker w.ensures.low c.moves.new.self c.loop-n-test.true (c.in_ok-moves.ensures (z job turns.workers turns.schedule.now now.self now.n is) may),
       along_next job turns.workers turns.schedule.now now.turns w.new.self now.n now.invariant.1 w.ensures.at w.ensures.schedule w.ensures.workers,
     )

@@ -22,8 +22,8 @@ loop-n-preserved c =
     let xs = c.as_slice-n-items.result.now in
     let i = c.loop-n.n-index in
     c.in_ok-push.ensures.items
-    ∙ ap (λ ns. ns ++ c.renamed_node.result ∷ []) c.loop-n.invariant
-    ∙ ap (λ n. map (node_in_order t) (take i xs) ++ n ∷ []) c.renamed_node.ensures
+    ∙ ap (λ ns. ns ++ c.in_ok-renamed_node.field-0 ∷ []) c.loop-n.invariant
+    ∙ ap (λ n. map (node_in_order t) (take i xs) ++ n ∷ []) c.in_ok-renamed_node.ensures
     ∙ sym (map_take_more (node_in_order t) xs i 0 (omega arith))
 
 pub invariant_of-result : goal.invariant_of-result

@@ -1,0 +1,4 @@
+pub mod InOrder
+pub mod Listing
+pub mod Noting
+pub mod PuttingBack
