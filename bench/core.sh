@@ -1,6 +1,7 @@
 #!/usr/bin/env bash
 # Measures a core, by a program in a copy of the crates that drives 100,000 and 1,000,000 events of each kind, each of which is made where
-# it fits: accesses of a few cells; outputs; blocks that begin and commit; forks that are split and joined, one after another; refusals of an
+# it fits: accesses of a few cells; outputs; blocks that begin and commit; blocks of seven accesses of one cell, each with an output (shown) or
+# given up by a cancel (cancelled); forks that are split and joined, one after another; refusals of an
 # access in 2,000 blocks, which then roll back one by one; and 10,000 and 100,000 refusals of one in 2,000 forks, where no block has to fall,
 # so that each is a walk over 4,000 nodes. Prints ns an event (the median of seven runs, without the time of a run
 # of no events) and the time of all; the machine is named last.
@@ -54,6 +55,22 @@ fn blocks(core: &mut Core, events: u32) -> u64 {
     let mut count = 0;
     for k in 0..events {
         let event = if k % 2 == 0 { Event::Begin { strand: 0 } } else { Event::Commit { strand: 0 } };
+        count = drive(core, event, count);
+    }
+    count
+}
+
+/// Blocks of ten events: a begin, seven accesses of one cell, an output or a cancel, and a commit.
+fn tenths(core: &mut Core, events: u32, cancelled: bool) -> u64 {
+    let mut count = 0;
+    for k in 0..events {
+        let event = match k % 10 {
+            0 => Event::Begin { strand: 0 },
+            8 if cancelled => Event::Cancel { strand: 0 },
+            8 => Event::Out { strand: 0, value: 1 },
+            9 => Event::Commit { strand: 0 },
+            at => access(0, 0, if at == 1 { Some(i64::from(k)) } else { None }),
+        };
         count = drive(core, event, count);
     }
     count
@@ -149,6 +166,8 @@ fn main(rt: HostRuntime) -> io::Result<()> {
             "accesses" => accesses(&mut core, events),
             "outputs" => outputs(&mut core, events),
             "blocks" => blocks(&mut core, events),
+            "shown" => tenths(&mut core, events, false),
+            "cancelled" => tenths(&mut core, events, true),
             "turns" => turns(&mut core, events),
             "refusals" => refusals(&mut core, events),
             _ => forks(&mut core, events),
@@ -171,7 +190,7 @@ took() {
   done | sort -n | sed -n 4p
 }
 
-for kind in accesses outputs blocks turns refusals; do
+for kind in accesses outputs blocks shown cancelled turns refusals; do
   for events in 100000 1000000; do
     all=$(took "$kind" "$events")
     echo "$kind: $("$program" "$kind" "$events") events, $(((all - $(took "$kind" 0)) / events)) ns an event, $((all / 1000000)) ms in all"

@@ -142,9 +142,21 @@ try 'the first language' 0 $'language = 2\nend\n' '' run
 try 'the first language, simulated' 0 $'language = 2\nend\n' '' sim
 printf 'language\n2; cell c; fn main() { atomic { c = 1; cancel; } }' > source
 try 'the second language is not run yet' 5 '' $'cwstm: line 2: Unexpected\n' run
-try 'nor simulated' 5 '' $'cwstm: line 2: Unexpected\n' sim
+try 'but simulated' 0 $'c = 0\nend\n' '' sim
 printf 'language 1; fn main() { atomic { cancel; } }' > source
 try 'a block is not given up in the first language' 5 '' $'cwstm: line 1: Unexpected\n' run
+try 'nor where it is simulated' 5 '' $'cwstm: line 1: Unexpected\n' sim
+printf 'language 3; fn main() {}' > source
+try 'there is no third language' 5 '' $'cwstm: line 1: Unexpected\n' sim
+printf 'language 2; fn main() { cancel; }' > source
+try 'no block to give up' 5 '' $'cwstm: line 1: CancelOutside\n' sim
+printf 'language 2; cell c = 5; fn main() { atomic { c = 9; out c; cancel; out 1; } out c; }' > source
+try 'what was put out stays' 0 $'out 9\nout 5\nc = 5\nend\nreport 1\nstrands 1\nblocks 1 0\nconflicts 0\nend report\n' '' sim --workers 1 --report 1
+printf 'language 2; cell a = 1; cell b = 2; fn main() { atomic { spawn { a = 7; } atomic { b = 8; } cancel; } }' > source
+try 'what its strands wrote is put back' 0 $'a = 1\nb = 2\nend\n' '' sim --workers 2 --schedule 0,0,1,1,1,1,0,0,1
+try 'where forks wait inline, too' 0 $'a = 1\nb = 2\nend\n' '' sim --strands 1
+printf 'language 2; cell c; fn f(n) { atomic { c = n; if n { f(n - 1); } cancel; } } fn main() { f(5000); out c; }' > source
+within 2 300 '5,000 blocks in each other, each given up' 0 $'out 0\nc = 0\nend\n' '' sim --workers 1
 
 printf 'fn main() { out 9223372036854775807 + 1; }' > source
 try 'a fault of main' 6 $'fault Overflow in 0\n' '' run
