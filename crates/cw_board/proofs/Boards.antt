@@ -2,6 +2,7 @@
 use Rattle.std.proofs.Common.{◌≡◌, ℕ, ◌+◌, ◌-◌, ◌*◌, ◌<◌, ◌≤◌, ◌∙◌, List, [], ◌∷◌, length, length-append, arith, ap, sym, refl, subst, true}
 use Rattle.std.specs.Prelude.{ℤ, Bool, false, All, IsTrue, is_some, if◌then◌else◌}
 use Rattle.std.proofs.lemmas.List.Elements.{All-nil, All-head, All-tail}
+use Rattle.cw_tree.specs.declared.access.Entry.{Entry}
 use Rattle.cw_tree.specs.declared.conflict.Conflict.{Conflict}
 use Rattle.cw_log.specs.declared.token.Open.{Open}
 use Rattle.cw_log.specs.declared.token.Token.{Token}
@@ -12,7 +13,7 @@ use Rattle.cw_steps.specs.declared.view.Whereabouts.{Whereabouts}
 use Rattle.cw_steps.specs.Tracks.{state_of_end, track_of, HasRoom, IsBeside, WaitsBeside}
 use Rattle.cw_steps.specs.Stands.{opens, stands_for, token_of}
 use Rattle.cw_steps.specs.Around.{caught_up, outwards}
-use Rattle.cw_steps.specs.Views.{held_by, root_view, view_of, drew_view, marked_view, told_view, halted_view, joined_view, both_view, stood_at, further_out, share, IsTokenOf}
+use Rattle.cw_steps.specs.Views.{cells_of, held_by, root_view, view_of, drew_view, marked_view, told_view, halted_view, joined_view, both_view, stood_at, further_out, share, IsTokenOf}
 use Rattle.cw_steps.specs.declared.draw.Draw.TheVariants as draw
 use Rattle.cw_tree.specs.declared.node.Kind.TheVariants as kind
 use Rattle.cw_tree.specs.declared.closed.Halt.{Halt}
@@ -25,7 +26,11 @@ use Rattle.cw_log.specs.Tokens.{made, began, ended, halted, was_told, turned, tu
 use Rattle.cw_board.proofs.Sound.{sound_made, sound_began, sound_ended, sound_told, sound_halted, sound_turned, sound_phase, sound_joined}
 use Rattle.cw_steps.proofs.Tracks.{here_both}
 use Rattle.cw_board.specs.declared.board.Board.{Board}
-use Rattle.cw_board.specs.Boards.{columns_of, IsOf}
+use Rattle.atomic_table.specs.Table.{Me}
+use Rattle.cw_steps.specs.declared.view.Key.{Key}
+use Rattle.cw_steps.specs.declared.view.Slot.{Slot}
+use Rattle.cw_steps.specs.Leaving.{AreJournals}
+use Rattle.cw_board.specs.Boards.{columns_of, AreOfCells, IsOf}
 use Rattle.cw_board.specs.Sound.{AreLow, IsSound}
 
 -- the token has this view now, and stands for this
@@ -159,3 +164,10 @@ joined_is b t u t' h g f table view slots room token =
 pub weighed_is : (b : Board) (t t' : StrandToken) → IsOf b t → IsTokenOf b.shared t' → t'.seat.me ≡ t.seat.me → t'.track ≡ t.track → token_of t' ≡ token_of t → IsOf b t'
 weighed_is b t t' h table me track token =
     is_now b t' (view_of t) (token_of t) table (ap (λ m. m.0) me) token (ap (λ m. m.1) me ∙ h.slots) (subst HasRoom (sym track) h.room) h.here h.turns h.gap h.gaps h.lists h.sound
+
+-- what a closed table leaves of its cells
+pub cells_left : (key : Key) (me : Me Slot View) (js : List (List Entry)) → AreJournals key me js → AreOfCells (cells_of key) js
+cells_left key me js h = record {
+  many = h.many;
+  each = λ n es e. let j = h.each n es e in record { first = j.cell.first; rising = j.rising; steps = j.steps };
+}

@@ -13,6 +13,8 @@ use Rattle.cw_steps.specs.declared.draw.Home.TheVariants as home
 use Rattle.cw_steps.specs.declared.table.StrandToken.{StrandToken}
 use Rattle.cw_steps.specs.declared.track.Ahead.{Ahead}
 use Rattle.cw_steps.specs.declared.view.Slot.{Slot}
+use Rattle.cw_steps.specs.declared.view.Slot.TheVariants as slot
+use Rattle.cw_trace.specs.Traces.{Traces}
 use Rattle.cw_steps.specs.declared.view.Turn.{Turn}
 use Rattle.cw_steps.specs.declared.view.View.{View}
 use Rattle.cw_steps.specs.declared.view.Whereabouts.{Whereabouts}
@@ -20,7 +22,10 @@ use Rattle.cw_steps.specs.Stands.{drawn_token, right_token, token_of}
 use Rattle.cw_steps.specs.declared.track.Track.{Track}
 use Rattle.cw_steps.specs.Tracks.{TrackParts, brought, track_of, CanPart, HasRoom, HasSpare}
 use Rattle.cw_steps.specs.Around.{caught_up, innermost}
-use Rattle.cw_steps.specs.Views.{columns_for, drew_view, gave_view, held_by, key_of, newest_slot, newest_used, older, parted_view, new_seat_view, right_view, cells_of, CanFork, Holding, IsTierOf, IsWhole, share, view_of, with_more, IsTokenOf}
+use Rattle.cw_steps.specs.Homes.{ComesHome, MayGive}
+use Rattle.cw_steps.specs.declared.draw.Aim.{Aim}
+use Rattle.cw_steps.specs.declared.draw.Aim.TheVariants as aims
+use Rattle.cw_steps.specs.Views.{columns_for, drew_view, gave_view, held_by, key_of, newest_aim, newest_slot, newest_tier, newest_used, older, parted_view, new_seat_view, right_view, cells_of, CanFork, IsTierOf, share, tier_with, view_of, with_more, IsTokenOf}
 use Rattle.cw_board.specs.declared.board.Board.{Board}
 use Rattle.cw_board.specs.Boards.{cells_in, columns_of, IsOf}
 use Rattle.cw_board.specs.Sound.{IsSound}
@@ -29,17 +34,27 @@ use Rattle.cw_board.proofs.Boards.{is_now}
 use Rattle.cw_board.proofs.Holding.{lists_held}
 use Rattle.cw_board.proofs.Sound.{sound_branched, sound_forked, sound_later, sound_right}
 
-pub newest_more : (k : ℕ) (ts : List Turn) → newest_slot (with_more k ts) ≡ newest_slot ts
-newest_more k [] = refl
-newest_more k (t ∷ ts) = refl
+-- a fork takes so many columns more, of a strand in column c with this word
+module _ (k w c : ℕ) where
+  pub newest_more : (ts : List Turn) → newest_slot (with_more k w c ts) ≡ newest_slot ts
+  newest_more [] = refl
+  newest_more (t ∷ ts) = refl
 
-pub older_more : (k : ℕ) (ts : List Turn) → older (with_more k ts) ≡ older ts
-older_more k [] = refl
-older_more k (t ∷ ts) = refl
+  pub older_more : (ts : List Turn) → older (with_more k w c ts) ≡ older ts
+  older_more [] = refl
+  older_more (t ∷ ts) = refl
 
-pub used_more : (k n : ℕ) (ts : List Turn) → newest_slot ts ≡ Some n → newest_used (with_more k ts) ≡ newest_used ts + k
-used_more k n [] e = absurd (cc e)
-used_more k n (t ∷ ts) e = refl
+  pub used_more : (n : ℕ) (ts : List Turn) → newest_slot ts ≡ Some n → newest_used (with_more k w c ts) ≡ newest_used ts + k
+  used_more n [] e = absurd (cc e)
+  used_more n (t ∷ ts) e = refl
+
+  pub aim_more : (ts : List Turn) → newest_aim (with_more k w c ts) ≡ newest_aim ts
+  aim_more [] = refl
+  aim_more (t ∷ ts) = refl
+
+  pub tier_more : (n : ℕ) (ts : List Turn) → newest_slot ts ≡ Some n → newest_tier (with_more k w c ts) ≡ tier_with k w c (newest_tier ts)
+  tier_more n [] e = absurd (cc e)
+  tier_more n (t ∷ ts) e = refl
 
 -- what comes home with a plain turn
 pub plain_home : (m : Home) (v : View) → BringsNothing m → gave_view m v ≡ gave_view home.Plain v
@@ -61,7 +76,7 @@ module _ (b : Board) (left right gap stamp : ℕ) (y : Slot) (t u u' : StrandTok
   here_now = ap (λ (v : View). v.here) h.rest ∙ h.was.here
 
   turns_now : now.turns ≡ []
-  turns_now = older_more (columns_for left right) (view_of u).turns ∙ h.alone
+  turns_now = older_more (columns_for left right) (view_of u).word (view_of u).column (view_of u).turns ∙ h.alone
 
   own_gap : (view_of u).gap < columns_of b
   own_gap = subst (λ (n : ℕ). n < columns_of b) (sym (ap (λ (v : View). v.gap) h.rest)) h.was.gap
@@ -143,45 +158,59 @@ module _ (b : Board) (left right gap stamp : ℕ) (y : Slot) (t u u' : StrandTok
 
 -- ## What a fork asks
 
-pub can_fork_two : (key : Key) (v : View) (left right gap : ℕ) → newest_slot v.turns ≡ Some (cells_of key) → left ≡ newest_used v.turns → right ≡ left + 1 → left + 2 ≤ key.columns → gap ≤ left → CanFork key v left right gap
-can_fork_two key v left right gap turn first next few low =
+pub can_fork_two : (key : Key) (v : View) (left right gap : ℕ) → newest_slot v.turns ≡ Some (cells_of key) → newest_aim v.turns ≡ aims.Fork → left ≡ newest_used v.turns → right ≡ left + 1 → left + 2 ≤ key.columns → gap ≤ left
+    → gap ≡ (if v.word == 0 then v.gap else left) → CanFork key v left right gap
+can_fork_two key v left right gap turn aim first next few low used =
     let off : (left == right) ≡ false = ne_eqb left right (λ e. omega arith) in
     let two : columns_for left right ≡ 2 = ap {B = ℕ} (λ (r : Bool). if r then 0 else 2) off in
     record {
       turn = turn;
+      aim = aim;
       one = first ∙ sym (ap {B = ℕ} (λ (r : Bool). if r then v.column else newest_used v.turns) off);
       other = omega (arith, next, ap {B = ℕ} (λ (r : Bool). if r then left else suc left) off);
       few = omega (arith, first, few, two);
       within = omega (arith, first, low, two);
+      full = λ e. absurd (omega (arith, next, e));
+      gap_used = used ∙ sym (ap {B = ℕ} (λ (r : Bool). if r then v.gap else if v.word == 0 then v.gap else left) off);
     }
 
-pub can_fork_inline : (key : Key) (v : View) → newest_slot v.turns ≡ Some (cells_of key) → newest_used v.turns ≤ key.columns → v.gap < newest_used v.turns → CanFork key v v.column v.column v.gap
-can_fork_inline key v turn few low =
+pub can_fork_inline : (key : Key) (v : View) → newest_slot v.turns ≡ Some (cells_of key) → newest_aim v.turns ≡ aims.Fork → newest_used v.turns ≤ key.columns → v.gap < newest_used v.turns → key.columns < newest_used v.turns + 2
+    → CanFork key v v.column v.column v.gap
+can_fork_inline key v turn aim few low full =
     let on : (v.column == v.column) ≡ true = eq-eqb v.column v.column refl in
     let none : columns_for v.column v.column ≡ 0 = ap {B = ℕ} (λ (r : Bool). if r then 0 else 2) on in
     record {
       turn = turn;
+      aim = aim;
       one = sym (ap {B = ℕ} (λ (r : Bool). if r then v.column else newest_used v.turns) on);
       other = sym (ap {B = ℕ} (λ (r : Bool). if r then v.column else suc v.column) on);
       few = omega (arith, few, none);
       within = omega (arith, low, none);
+      full = λ e. full;
+      gap_used = sym (ap {B = ℕ} (λ (r : Bool). if r then v.gap else if v.word == 0 then v.gap else v.column) on);
     }
 
 -- as `give` asks it
-pub gives_fork : (b : Board) (left right gap n behind : ℕ) (second : Bool) (y z : Slot) (t u v : StrandToken) → IsHolding b (cells_in b) y t u
-    → view_of v ≡ drew_view (draw.Fork left right gap) behind second n (view_of u) → held_by v ≡ (cells_in b, z) ∷ [] → IsTierOf (columns_of b) (newest_used (view_of u).turns + columns_for left right) z
-    → (x : Slot) × Holding v (cells_in b) x × IsWhole (key_of b.shared) (view_of v).seen (newest_used (view_of v).turns) (cells_in b) x
-gives_fork b left right gap n behind second y z t u v h view slots tier = (
-  z,
-  record {
-    turn = ap (λ (w : View). newest_slot w.turns) view ∙ newest_more (columns_for left right) (view_of u).turns ∙ h.turn;
-    slot = slots ∙ ap (λ ys. (cells_in b, z) ∷ rest ys) (sym slots);
-  },
-  record {
-    cell = λ less. absurd (omega (arith, less));
-    tier = λ e. subst (λ (k : ℕ). IsTierOf (columns_of b) k z) (sym (ap (λ (w : View). newest_used w.turns) view ∙ used_more (columns_for left right) (cells_in b) (view_of u).turns h.turn)) tier;
-  },
-)
+pub gives_fork : (b : Board) (left right gap n behind : ℕ) (second : Bool) (y : Slot) (x : Traces) (m : Home) (t u v : StrandToken) → IsHolding b (cells_in b) y t u
+    → view_of v ≡ drew_view (draw.Fork left right gap) behind second n (view_of u) → held_by v ≡ (cells_in b, slot.Tier x) ∷ [] → IsTierOf (columns_of b) (newest_used (view_of u).turns + columns_for left right) (slot.Tier x)
+    → ComesHome (view_of u).fork (view_of u).phase (newest_aim (view_of u).turns) m (tier_with (columns_for left right) (view_of u).word (view_of u).column (newest_tier (view_of u).turns)) (slot.Tier x) → MayGive (key_of b.shared) v (cells_in b) m
+gives_fork b left right gap n behind second y x m t u v h view slots tier brings =
+    let k : ℕ = columns_for left right in
+    let w : View = view_of u in record {
+      lies = slot.Tier x;
+      held = record {
+        turn = ap (λ (a : View). newest_slot a.turns) view ∙ newest_more k w.word w.column w.turns ∙ h.turn;
+        slot = slots ∙ ap (λ ys. (cells_in b, slot.Tier x) ∷ rest ys) (sym slots);
+      };
+      whole = record {
+        cell = λ less. absurd (omega (arith, less));
+        tier = λ e. subst (λ (i : ℕ). IsTierOf (columns_of b) i (slot.Tier x)) (sym (ap (λ (a : View). newest_used a.turns) view ∙ used_more k w.word w.column (cells_in b) w.turns h.turn)) tier;
+      };
+      tier = subst (λ (a : View). ComesHome a.fork a.phase (newest_aim a.turns) m (newest_tier a.turns) (slot.Tier x)) (sym view)
+          (subst (λ (a : Aim). ComesHome w.fork w.phase a m (newest_tier (with_more k w.word w.column w.turns)) (slot.Tier x)) (sym (aim_more k w.word w.column w.turns))
+          (subst (λ o. ComesHome w.fork w.phase (newest_aim w.turns) m o (slot.Tier x)) (sym (tier_more k w.word w.column (cells_in b) w.turns h.turn)) brings));
+      cell = tt;
+    }
 
 -- ## Room for what a right strand begins with
 

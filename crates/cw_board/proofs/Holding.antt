@@ -1,6 +1,6 @@
 -- Serves `HasWaited` and `HasTaken`: a token that waits for a turn.
-use Rattle.std.proofs.Common.{◌≡◌, ◌∙◌, ◌+◌, ◌∷◌, [], List, length, ◌<◌, ◌≤◌, ℕ, ap, refl, sym, subst, arith}
-use Rattle.std.specs.Prelude.{All, IsTrue, is_some, Result, Ok, Err, OnOk, OnErr}
+use Rattle.std.proofs.Common.{◌≡◌, ◌∙◌, ◌+◌, ◌∷◌, [], List, length, ◌<◌, ◌≤◌, ℕ, ap, refl, sym, subst, arith, inl}
+use Rattle.std.specs.Prelude.{All, IsTrue, is_some, IsSomeAnd, Some, Result, Ok, Err, OnOk, OnErr}
 use Rattle.cw_steps.specs.declared.draw.Home.{Home}
 use Rattle.cw_steps.specs.declared.view.Whereabouts.{Whereabouts}
 use Rattle.cw_steps.specs.Tracks.{HasRoom}
@@ -17,11 +17,14 @@ use Rattle.cw_steps.specs.declared.view.View.{View}
 use Rattle.cw_steps.specs.declared.draw.Aim.{Aim}
 use Rattle.cw_steps.specs.declared.table.StrandToken.{StrandToken}
 use Rattle.cw_steps.specs.Stands.{brought_token, token_of}
-use Rattle.cw_steps.specs.Views.{gap_home, gave_view, held_by, key_of, newest_slot, newest_used, noted_view, older, took_view, view_of, IsLowCell, IsTierOf, IsTokenOf, IsWhole, Holding, LeavesIt, TakesIt}
+use Rattle.cw_stack.specs.Cells.{CellParts}
+use Rattle.cw_steps.specs.declared.draw.Aim.TheVariants as aims
+use Rattle.cw_steps.specs.Homes.{CellComesHome, ComesHome, IsAsItLay, IsOfCell, LeavesCell, MayGive}
+use Rattle.cw_steps.specs.Views.{cell_in, gap_home, gave_view, held_by, key_of, newest_aim, newest_cell, newest_slot, newest_tier, newest_used, noted_view, older, tier_of, took_view, view_of, IsLowCell, IsTierOf, IsTokenOf, Holding, LeavesIt, TakesIt}
 use Rattle.cw_board.specs.Boards.{cells_in, columns_of, IsOf}
 use Rattle.cw_board.specs.declared.board.Board.{Board}
 use Rattle.cw_board.specs.Sound.{IsSound}
-use Rattle.cw_board.specs.Turns.{at_rest, HasTier, HasTierOver, HasWaited, HasTaken, IsHolding, IsOfTier}
+use Rattle.cw_board.specs.Turns.{at_rest, HasCell, HasTier, HasTierOver, HasWaited, HasTaken, IsHolding, IsOfTier}
 use Rattle.cw_steps.specs.Leaving.{HasReturned}
 use Rattle.cw_board.proofs.Sound.{sound_brought, sound_later}
 use Rattle.cw_board.proofs.Boards.{is_now}
@@ -50,9 +53,9 @@ takes_then b aim n t u u' h takes track stop token = record {
 
 -- ## What lies in the slot
 
-module _ (b : Board) (aim : Aim) (n : ℕ) (t u : StrandToken) (h : HasTaken b aim n t u) where
+module _ (b : Board) (why : Aim) (n : ℕ) (t u : StrandToken) (h : HasTaken b why n t u) where
   abbrev now : View
-  now = took_view n aim h.takes.lay h.takes.used h.takes.clock (record (view_of t) { notes = h.notes })
+  now = took_view n why h.takes.lay h.takes.used h.takes.clock (record (view_of t) { notes = h.notes })
 
   view_now : view_of u ≡ now
   view_now = ap (λ m. m.0) h.takes.after
@@ -72,6 +75,15 @@ module _ (b : Board) (aim : Aim) (n : ℕ) (t u : StrandToken) (h : HasTaken b a
 
   pub low_now : n < cells_in b → IsLowCell (view_of u).seen h.takes.lay
   low_now less = subst (λ (v : View). IsLowCell v.seen h.takes.lay) (sym view_now) (h.takes.whole.cell less)
+
+  pub lay_now : newest_tier (view_of u).turns ≡ tier_of h.takes.lay
+  lay_now = ap (λ (v : View). newest_tier v.turns) view_now
+
+  pub cell_now : newest_cell (view_of u).turns ≡ cell_in h.takes.lay
+  cell_now = ap (λ (v : View). newest_cell v.turns) view_now
+
+  pub aim_now : newest_aim (view_of u).turns ≡ why
+  aim_now = ap (λ (v : View). newest_aim v.turns) view_now
 
   pub tier_now : n ≡ cells_in b → HasTier b h.takes.lay u
   tier_now last = record {
@@ -213,26 +225,49 @@ given_is b n y t u u' m h table view slots room token home gap =
     (subst (λ x. IsSound x (view_of u).room (view_of u).seen) (sym h.token)
     (subst (λ r. IsSound (token_of t) r (view_of u).seen) (sym (ap (λ (v : View). v.room) h.rest)) (sound_later (token_of t) (view_of t).room (view_of t).seen (view_of u).seen h.later h.was.sound))))
 
+-- a cell that is as it lay may come home, whatever the turn was taken for
+pub as_it_lay : (a : Aim) (c d : CellParts) → IsAsItLay c d → LeavesCell a c d
+as_it_lay aims.Undo c d same = inl same
+as_it_lay aims.Access c d same = same
+as_it_lay aims.Look c d same = same
+as_it_lay aims.Fork c d same = same
+as_it_lay aims.Split c d same = same
+as_it_lay aims.Merge c d same = same
+
+pub cell_comes : (n : ℕ) (m : Home) (a : Aim) (x : CellParts) (u : StrandToken) → IsOfCell n m → HasCell a x u → CellComesHome n m (newest_aim (view_of u).turns) (newest_cell (view_of u).turns) (slot.Cell x)
+cell_comes n m a x u of h = (of, subst (λ o. IsSomeAnd o (λ y. LeavesCell (newest_aim (view_of u).turns) y x)) (sym h.there) (as_it_lay (newest_aim (view_of u).turns) h.lay x h.same))
+
 -- as `give` asks it
-pub gives_cell : (b : Board) (n : ℕ) (y : Slot) (t u : StrandToken) → IsHolding b n y t u → n < cells_in b → IsLowCell (view_of u).seen y
-    → (z : Slot) × Holding u n z × IsWhole (key_of b.shared) (view_of u).seen (newest_used (view_of u).turns) n z
-gives_cell b n y t u h less low = (
-  y,
-  record { turn = h.turn; slot = h.slots ∙ ap (λ ys. (n, y) ∷ rest ys) (sym h.slots) },
-  record { cell = λ z. low; tier = λ e. absurd (omega (arith, less, e)) },
-)
+pub gives_cell : (b : Board) (n : ℕ) (x : CellParts) (m : Home) (t u : StrandToken) → IsHolding b n (slot.Cell x) t u → n < cells_in b → IsLowCell (view_of u).seen (slot.Cell x)
+    → CellComesHome n m (newest_aim (view_of u).turns) (newest_cell (view_of u).turns) (slot.Cell x) → MayGive (key_of b.shared) u n m
+gives_cell b n x m t u h less low comes = record {
+  lies = slot.Cell x;
+  held = holding b n (slot.Cell x) t u h;
+  whole = record { cell = λ z. low; tier = λ e. absurd (omega (arith, less, e)) };
+  tier = tt;
+  cell = comes;
+}
 
-pub gives_tier : (b : Board) (y : Slot) (t u : StrandToken) → IsHolding b (cells_in b) y t u → HasTier b y u
-    → (z : Slot) × Holding u (cells_in b) z × IsWhole (key_of b.shared) (view_of u).seen (newest_used (view_of u).turns) (cells_in b) z
-gives_tier b y t u h tier = (
-  y,
-  record { turn = h.turn; slot = h.slots ∙ ap (λ ys. (cells_in b, y) ∷ rest ys) (sym h.slots) },
-  record { cell = λ less. absurd (omega (arith, less)); tier = λ e. tier.whole },
-)
+pub gives_tier : (b : Board) (x : Traces) (m : Home) (t u : StrandToken) → IsHolding b (cells_in b) (slot.Tier x) t u → HasTier b (slot.Tier x) u → ComesHome (view_of u).fork (view_of u).phase (newest_aim (view_of u).turns) m (newest_tier (view_of u).turns) (slot.Tier x)
+    → MayGive (key_of b.shared) u (cells_in b) m
+gives_tier b x m t u h tier brings = record {
+  lies = slot.Tier x;
+  held = holding b (cells_in b) (slot.Tier x) t u h;
+  whole = record { cell = λ less. absurd (omega (arith, less)); tier = λ e. tier.whole };
+  tier = brings;
+  cell = tt;
+}
 
-pub gives_over : (b : Board) (y : Slot) (t u : StrandToken) → HasTierOver b y t u → HasTier b y u
-    → (z : Slot) × Holding u (cells_in b) z × IsWhole (key_of b.shared) (view_of u).seen (newest_used (view_of u).turns) (cells_in b) z
-gives_over b y t u h tier = (y, holding_over b y t u h, record { cell = λ less. absurd (omega (arith, less)); tier = λ e. tier.whole })
+-- the tier that was only looked at
+pub gives_over : (b : Board) (x : Traces) (t u : StrandToken) → HasTierOver b (slot.Tier x) t u → HasTier b (slot.Tier x) u → newest_tier (view_of u).turns ≡ Some x
+    → MayGive (key_of b.shared) u (cells_in b) home.Plain
+gives_over b x t u h tier lay = record {
+  lies = slot.Tier x;
+  held = holding_over b (slot.Tier x) t u h;
+  whole = record { cell = λ less. absurd (omega (arith, less)); tier = λ e. tier.whole };
+  tier = subst (λ o. ComesHome (view_of u).fork (view_of u).phase (newest_aim (view_of u).turns) home.Plain o (slot.Tier x)) (sym lay) refl;
+  cell = tt;
+}
 
 -- the tier was only looked at
 pub gives_back : (b : Board) (y : Slot) (t u u' : StrandToken) → HasTierOver b y t u → view_of u' ≡ gave_view home.Plain (view_of u) → held_by u' ≡ rest (held_by u) → HasReturned t.seat.me u'.seat.me

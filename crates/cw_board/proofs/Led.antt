@@ -1,6 +1,6 @@
 -- Serves `IsLed`: a strand that a test leads from call to call.
-use Rattle.std.proofs.Common.{◌≡◌, ◌∙◌, ℕ, ◌<◌, List, [], ◌∷◌, ◌++◌, length, map, ap, refl, sym, subst, arith, inl, inr, zero, suc}
-use Rattle.std.specs.Prelude.{◌⊎◌, ℤ, All, Bool, true, false, Contains, Option, None, reverse, ◌||◌, if◌then◌else◌}
+use Rattle.std.proofs.Common.{◌≡◌, ◌∙◌, ℕ, List, [], ◌∷◌, ◌++◌, map, ap, refl, sym, subst, arith, inl, inr, suc}
+use Rattle.std.specs.Prelude.{◌⊎◌, ℤ, All, Bool, false, Contains, Option, None, reverse, ◌||◌, if◌then◌else◌}
 use Rattle.std.proofs.lemmas.List.Elements.{All-append, All-head, All-tail, Contains-push_cases}
 use Rattle.atomic_table.specs.Seated.{TableId}
 use Rattle.cw_tree.specs.declared.conflict.Conflict.{Conflict}
@@ -12,7 +12,6 @@ use Rattle.cw_log.specs.declared.token.Open.{Open}
 use Rattle.cw_log.specs.declared.token.Phase.{Phase}
 use Rattle.cw_log.specs.declared.token.Phase.TheVariants.{Going, Parted}
 use Rattle.cw_log.specs.declared.token.Side.TheVariants.{Beside}
-use Rattle.cw_log.specs.declared.token.Stop.{Stop}
 use Rattle.cw_log.specs.declared.token.Token.{Token}
 use Rattle.cw_log.specs.Answers.{Meets}
 use Rattle.cw_log.specs.Tokens.{conflicts_in, kept_stop, left_behind, taken_in, AreOfOneFork}

@@ -1,10 +1,9 @@
 -- Serves `HasRead` and `ToldBy`: a token that reads words while it has a turn.
-use Rattle.std.proofs.Common.{◌≡◌, ◌∙◌, ℕ, ◌+◌, ◌-◌, ◌<◌, ◌≤◌, List, [], ◌∷◌, ◌++◌, length, length-append, take, ap, refl, sym, subst, arith, append_assoc}
-use Rattle.std.specs.Prelude.{All, Bool, Option, Some, None}
+use Rattle.std.proofs.Common.{◌≡◌, ◌∙◌, ℕ, ◌-◌, ◌<◌, ◌≤◌, List, [], ◌∷◌, ◌++◌, length, length-append, take, ap, refl, sym, subst, arith, append_assoc}
+use Rattle.std.specs.Prelude.{Bool, Option, Some, None}
 use Rattle.std.specs.Borrow.{MutBor}
 use Rattle.std.proofs.lemmas.List.{take_at}
-use Rattle.std.proofs.lemmas.List.Elements.{All-weaker, Contains-append_left, Contains-append_right, Contains-push}
-use Rattle.cw_tree.specs.declared.access.Entry.{Entry}
+use Rattle.std.proofs.lemmas.List.Elements.{Contains-append_left, Contains-append_right, Contains-push}
 use Rattle.cw_trace.specs.Columns.{ColumnTable}
 use Rattle.cw_trace.specs.Columns as columns
 use Rattle.cw_trace.specs.Traces.{Traces}
@@ -17,18 +16,13 @@ use Rattle.cw_steps.specs.declared.view.Note.{Note}
 use Rattle.cw_steps.specs.declared.view.Slot.{Slot}
 use Rattle.cw_steps.specs.declared.view.Slot.TheVariants as slot
 use Rattle.cw_steps.specs.declared.view.View.{View}
-use Rattle.cw_steps.specs.declared.view.Whereabouts.{Whereabouts}
 use Rattle.cw_steps.specs.Places.{gap_word}
 use Rattle.cw_steps.specs.Stands.{token_of}
-use Rattle.cw_steps.specs.Tracks.{HasRoom}
-use Rattle.cw_steps.specs.Views.{held_by, newest_slot, newest_used, noted_view, older, view_of, IsLowCell, IsTierOf, IsTokenOf}
+use Rattle.cw_steps.specs.Views.{held_by, newest_slot, newest_used, noted_view, older, view_of, IsTierOf, IsTokenOf}
 use Rattle.cw_board.specs.declared.board.Board.{Board}
-use Rattle.cw_board.specs.Boards.{cells_in, columns_of, IsOf}
-use Rattle.cw_board.specs.Sound.{IsSound}
-use Rattle.cw_board.specs.Turns.{at_rest, HasTier, HasTierOver, IsHolding}
+use Rattle.cw_board.specs.Boards.{cells_in, columns_of}
+use Rattle.cw_board.specs.Turns.{at_rest, HasTier, HasTierOver}
 use Rattle.cw_board.specs.Asked.{noted_since, HasRead, IsAnswered, IsReading, Question, ReadsFor, ToldBy, ToldFor}
-use Rattle.cw_board.proofs.Boards.{is_now}
-use Rattle.cw_board.proofs.Sound.{sound_later}
 
 pub reads_not : (t : StrandToken) → HasRead t t
 reads_not t = record { notes = []; me = refl; table = refl; track = refl; token = refl }

@@ -1,18 +1,20 @@
 -- Serves `HasReturned`: a token that took turns and gave them back.
 use Rattle.std.proofs.Common.{◌≡◌, ℕ, ◌≤◌, ◌∙◌, ap, sym, subst, arith}
-use Rattle.std.specs.Prelude.{All, IsTrue, is_some}
+use Rattle.std.specs.Prelude.{IsTrue, is_some}
 use Rattle.std.proofs.lemmas.List.Elements.{All-weaker}
 use Rattle.cw_tree.specs.declared.access.Entry.{Entry}
 use Rattle.cw_steps.specs.Leaving.{HasReturned}
+use Rattle.cw_steps.specs.declared.draw.Aim.{Aim}
 use Rattle.cw_steps.specs.declared.table.StrandToken.{StrandToken}
 use Rattle.cw_steps.specs.declared.view.Slot.{Slot}
 use Rattle.cw_steps.specs.declared.view.Slot.TheVariants as slot
 use Rattle.cw_steps.specs.Stands.{token_of}
 use Rattle.cw_steps.specs.Tracks.{HasRoom}
-use Rattle.cw_steps.specs.Views.{held_by, newest_slot, older, view_of, IsLowCell, IsTokenOf}
+use Rattle.cw_steps.specs.Views.{held_by, newest_aim, newest_cell, newest_slot, older, view_of, IsLowCell, IsTokenOf}
 use Rattle.cw_board.specs.declared.board.Board.{Board}
 use Rattle.cw_board.specs.Boards.{IsOf}
-use Rattle.cw_board.specs.Turns.{at_rest, IsHolding}
+use Rattle.cw_stack.specs.Cells.{CellParts}
+use Rattle.cw_board.specs.Turns.{at_rest, HasCell, IsHolding}
 use Rattle.cw_board.proofs.Boards.{is_now}
 use Rattle.cw_board.proofs.Sound.{sound_later}
 
@@ -46,6 +48,10 @@ pub returned_low : (t t' : StrandToken) → HasReturned t.seat.me t'.seat.me →
 returned_low t t' h (slot.Cell x) low = All-weaker (λ (e : Entry). e.mark.stamp ≤ (view_of t).seen) (λ (e : Entry). e.mark.stamp ≤ (view_of t').seen) (λ e l. omega (arith, l, returned_later t t' h)) x.entries low
 returned_low t t' h (slot.Tier x) low = absurd low
 returned_low t t' h slot.Empty low = absurd low
+
+-- it still has the cell that it had
+pub returned_cell : (a : Aim) (x : CellParts) (t t' : StrandToken) → HasCell a x t → HasReturned t.seat.me t'.seat.me → HasCell a x t'
+returned_cell a x t t' g h = record { lay = g.lay; aim = ap (λ m. newest_aim m.0.turns) h.after ∙ g.aim; there = ap (λ m. newest_cell m.0.turns) h.after ∙ g.there; same = g.same }
 
 -- it still has the turn that it had
 pub returned_holds : (b : Board) (n : ℕ) (y : Slot) (s t t' : StrandToken) → IsHolding b n y s t → IsTokenOf b.shared t' → HasReturned t.seat.me t'.seat.me → t'.track ≡ t.track → token_of t' ≡ token_of t → IsHolding b n y s t'

@@ -1,5 +1,5 @@
 -- Serves `roll`: a token that takes accesses out of cells, while its joined logs are lent.
-use Rattle.std.proofs.Common.{◌≡◌, ℕ, Bool, ◌≤◌, ◌+◌, ◌∙◌, ◌∷◌, ◌++◌, [], List, length, ap, refl, sym, subst, arith}
+use Rattle.std.proofs.Common.{◌≡◌, ℕ, Bool, ◌≤◌, ◌∙◌, ◌∷◌, ◌++◌, [], List, ap, sym, subst, arith, nat_lt, inl, inr}
 use Rattle.std.specs.Prelude.{All, IsTrue, is_some, filter}
 use Rattle.std.proofs.lemmas.List.Elements.{All-nil, All-cons, All-head, All-tail, All-filter}
 use Rattle.cw_tree.specs.declared.conflict.Conflict.{Conflict}
@@ -8,10 +8,12 @@ use Rattle.cw_log.specs.Tokens.{conflicts_in}
 use Rattle.cw_stack.specs.Cells.{CellParts}
 use Rattle.cw_tree.specs.declared.access.Entry.{Entry}
 use Rattle.cw_steps.specs.declared.view.Slot.TheVariants as slot
+use Rattle.cw_steps.specs.declared.draw.Aim.TheVariants as aims
 use Rattle.cw_steps.specs.declared.draw.Home.TheVariants as home
 use Rattle.cw_steps.specs.declared.table.StrandToken.{StrandToken}
 use Rattle.cw_steps.specs.declared.view.Slot.{Slot}
 use Rattle.cw_steps.specs.declared.view.View.{View}
+use Rattle.cw_steps.specs.Homes.{IsAsItLay, LeavesCell}
 use Rattle.cw_steps.specs.Leaving.{HasReturned}
 use Rattle.cw_steps.specs.Stands.{token_of}
 use Rattle.cw_steps.specs.Views.{gave_view, view_of, IsLowCell}
@@ -67,3 +69,8 @@ module _ (b : Board) (t u v t' : StrandToken) (lent : u.seat ≡ t.seat) (g : Ha
 
 pub low_kept : (most : ℕ) (x y : CellParts) (p : Entry → Bool) → y.entries ≡ filter p x.entries → IsLowCell most (slot.Cell x) → IsLowCell most (slot.Cell y)
 low_kept most x y p e low = subst (All (λ (k : Entry). k.mark.stamp ≤ most)) (sym e) (All-filter p (λ (k : Entry). k.mark.stamp ≤ most) x.entries low)
+
+-- what was undone of a cell that is as it lay was undone of what lay there
+pub undone_since : (c d e : CellParts) → IsAsItLay c d → LeavesCell aims.Undo d e → LeavesCell aims.Undo c e
+undone_since c d e same (inl kept) = inl (kept.0 ∙ same.0, kept.1 ∙ same.1)
+undone_since c d e same (inr cut) = inr (record { stamp = cut.stamp; first = cut.first ∙ same.0; entries = cut.entries ∙ ap (filter (λ (x : Entry). nat_lt x.mark.stamp cut.stamp)) same.1 })

@@ -1,9 +1,13 @@
 -- Boards and their tokens.
-use Rattle.std.specs.Prelude.{◌≡◌, ℕ, ◌+◌, ◌<◌, ◌≤◌, ◌==◌, true, All, [], length, if◌then◌else◌}
+use Rattle.std.specs.Prelude.{◌≡◌, ℕ, ℤ, ◌+◌, ◌<◌, ◌≤◌, ◌==◌, true, All, List, [], length, slice_get, Some, if◌then◌else◌}
+use Rattle.std.specs.List.Sorted.{IsStrictlyIncreasing}
 use Rattle.atomic_table.specs.Seated.{TableId}
 use Rattle.cw_steps.specs.declared.table.StrandToken.{StrandToken}
 use Rattle.cw_steps.specs.declared.view.Whereabouts.{Whereabouts}
+use Rattle.cw_tree.specs.declared.access.Entry.{Entry}
+use Rattle.cw_tree.specs.AccessStacks.{stamps}
 use Rattle.cw_tree.specs.Nodes.{stamp_of}
+use Rattle.cw_stack.specs.Cells.{AreSteps}
 use Rattle.cw_steps.specs.Tracks.{TrackParts, HasRoom}
 use Rattle.cw_steps.specs.Stands.{token_of}
 use Rattle.cw_steps.specs.Views.{cells_of, held_by, key_of, view_of}
@@ -40,6 +44,17 @@ no_table = record { words = 0; slots = 0; views_name = 0; atom = 0; block = 0; o
 pub record Extent : Type 0 where
   pub cells : ℕ
   pub budget : ℕ
+
+-- entries that could be one cell's, from some first value on: their stamps rise, and each has the value that those before it left
+pub record IsOfOneCell (es : List Entry) : Type 0 where
+  pub first : ℤ
+  pub rising : IsStrictlyIncreasing (stamps es)
+  pub steps : AreSteps first es
+
+-- one list of entries for each cell
+pub record AreOfCells (cells : ℕ) (js : List (List Entry)) : Type 0 where
+  pub many : length js ≡ cells
+  pub each : (n : ℕ) (es : List Entry) → slice_get js n ≡ Some es → IsOfOneCell es
 
 -- A token at this table, with so many columns, between two calls: it has no turn, the gaps that it and the strands that wait use are there, and
 -- it owns a column for each of its logs.

@@ -10,7 +10,9 @@ use Rattle.cw_steps.specs.declared.view.Slot.{Slot}
 use Rattle.cw_steps.specs.declared.view.View.{View}
 use Rattle.cw_steps.specs.declared.draw.Draw.TheVariants as draw
 use Rattle.cw_steps.specs.Tracks.{drawn, track_of}
-use Rattle.cw_steps.specs.Views.{drew_view, gave_view, held_by, key_of, newest_slot, newest_used, older, view_of, CanFork, IsTierOf, IsTokenOf, TakesIt}
+use Rattle.cw_stack.specs.Cells.{CellParts}
+use Rattle.cw_steps.specs.Homes.{IsAsItLay}
+use Rattle.cw_steps.specs.Views.{drew_view, gave_view, held_by, key_of, newest_aim, newest_cell, newest_slot, newest_used, older, view_of, CanFork, IsTierOf, IsTokenOf, TakesIt}
 use Rattle.cw_board.specs.Boards.{cells_in, columns_of, IsOf}
 use Rattle.cw_log.specs.declared.board.Forked.{Forked}
 use Rattle.cw_log.specs.declared.board.Forked.TheVariants.{Two, Inline}
@@ -65,6 +67,13 @@ pub record HasTier (b : Board) (y : Slot) (u : StrandToken) : Type 0 where
   pub column : (view_of u).column < newest_used (view_of u).turns
   pub gap : (view_of u).gap < newest_used (view_of u).turns
   pub whole : IsTierOf (columns_of b) (newest_used (view_of u).turns) y
+
+-- It has this cell, which lay in the slot of its newest turn, but for its room and how many entries were cleaned; it took the turn for this.
+pub record HasCell (a : Aim) (x : CellParts) (u : StrandToken) : Type 0 where
+  pub lay : CellParts
+  pub aim : newest_aim (view_of u).turns ≡ a
+  pub there : newest_cell (view_of u).turns ≡ Some lay
+  pub same : IsAsItLay lay x
 
 -- it comes with the tier's turn
 abbrev pub IsOfTier : Home → Type 0

@@ -1,6 +1,7 @@
 //! Accesses, which are made or refused.
 ghost use Rattle.std.specs.Prelude.{◌≡◌, ◌<◌, IfOk, OnErr, OnOk, length};
 ghost use Rattle.cw_steps.specs.declared.table.StrandToken.{StrandToken};
+ghost use Rattle.cw_steps.specs.declared.draw.Aim.TheVariants as aims;
 ghost use Rattle.cw_steps.specs.declared.view.Slot.{Slot};
 ghost use Rattle.cw_steps.specs.declared.view.Slot.TheVariants as slot;
 ghost use Rattle.cw_log.specs.Answers.{IsAround, Meets};
@@ -10,7 +11,7 @@ ghost use Rattle.cw_steps.specs.Tracks.{one_more, track_of, tries_of, IsReady};
 ghost use Rattle.cw_steps.specs.Views.{view_of, IsLowCell};
 ghost use Rattle.cw_board.specs.Asked.{IsRefusedAfter};
 ghost use Rattle.cw_board.specs.Boards.{budget_of, cells_in, IsOf};
-ghost use Rattle.cw_board.specs.Turns.{IsHolding};
+ghost use Rattle.cw_board.specs.Turns.{HasCell, IsHolding};
 ghost use Rattle.cw_board.specs.Victims.{attempt_of, begin_of, conflict_with, Refuses};
 ghost use Rattle.cw_tree.specs.AccessStacks.{stamps};
 ghost use Rattle.cw_tree.specs.Newest.{last_eight};
@@ -64,11 +65,14 @@ impl Board {
         requires cell { cell < cells_in self.now }
         requires held { (t : StrandToken) × (y : Slot) × IsHolding self.now cell y t token.old }
         requires low { IsLowCell (view_of token.old).seen (slot.Cell held) }
+        requires lies { HasCell aims.Access held token.old }
         requires ready { IsReady token.old.track 1 }
         requires around { IsAround (token_of token.old) conflict.victim }
+        requires names { conflict.cell ≡ cell }
         ensures of { IsOf self.now token.new }
         ensures token { token_of token.new ≡ refused (token_of token.old) (record conflict { asker = length (token_of token.old).own.nodes }) }
         ensures notes { (view_of token.new).notes ≡ (view_of token.old).notes }
+        ensures word { (track_of token.new.track).word ≡ (track_of token.old.track).word }
     {
         self.shared.swap_cell(token, cell, Some(held));
         self.shared.give(token, cell, Home::Refused(conflict));
@@ -86,12 +90,14 @@ impl Board {
         requires cell { cell < cells_in self.now }
         requires held { (t : StrandToken) × (y : Slot) × IsHolding self.now cell y t token.old }
         requires low { IsLowCell (view_of token.old).seen (slot.Cell held) }
+        requires lies { HasCell aims.Access held token.old }
         requires ready { IsReady token.old.track 1 }
         requires around { IsAround (token_of token.old) (begin_of barrier.victim) }
         ensures of { IsOf self.now token.new }
         ensures ok { IfOk result (λ a. Refuses (token_of token.old) (token_of token.new) cell last barrier (one_more (tries_of (track_of token.old.track).tail cell)) (last_eight (stamps held.entries)) a) }
         ensures err { OnErr result (token_of token.new ≡ token_of token.old) }
         ensures notes { OnOk result ((view_of token.new).notes ≡ (view_of token.old).notes) }
+        ensures word { (track_of token.new.track).word ≡ (track_of token.old.track).word }
     {
         let asker = token.nodes().len() as u32;
         let attempt = token.attempt(cell);
@@ -117,12 +123,14 @@ impl Board {
         requires cell { cell < cells_in self.now }
         requires held { (t : StrandToken) × (y : Slot) × IsHolding self.now cell y t token.old }
         requires low { IsLowCell (view_of token.old).seen (slot.Cell held) }
+        requires lies { HasCell aims.Access held token.old }
         requires room { 0 < held.room }
         requires ready { IsReady token.old.track 1 }
         ensures of { IsOf self.now token.new }
         ensures ok { IfOk result (λ a. Meets (token_of token.old) (token_of token.new) cell write a) }
         ensures against { IfOk result (λ a. IsRefusedAfter (cells_in self.now) (track_of token.old.track).column token.new a) }
         ensures err { OnErr result (token_of token.new ≡ token_of token.old) }
+        ensures word { (track_of token.new.track).word ≡ (track_of token.old.track).word }
     {
         let Some(last) = held.last() else {
             return Ok(Access::Value(self.make_access(token, cell, held, write)));
@@ -148,6 +156,7 @@ impl Board {
         ensures ok { IfOk result (λ a. Meets (token_of token.old) (token_of token.new) cell write a) }
         ensures against { IfOk result (λ a. IsRefusedAfter (cells_in self.now) (track_of token.old.track).column token.new a) }
         ensures err { OnErr result (token_of token.new ≡ token_of token.old) }
+        ensures word { (track_of token.new.track).word ≡ (track_of token.old.track).word }
     {
         token.reserve(1)?;
         let mut held = self.hold_cell(rt, token, cell, Aim::Access);

@@ -50,6 +50,7 @@ impl Board {
         ensures of { IsOf self.now token.new }
         ensures ok { OnOk result ((stamp : ℕ) × (token_of token.new ≡ made (token_of token.old) (kind.Out value) stamp)) }
         ensures err { OnErr result (token_of token.new ≡ token_of token.old) }
+        ensures word { (track_of token.new.track).word ≡ (track_of token.old.track).word }
     {
         token.reserve(1)?;
         self.put_out(token, value);
@@ -71,6 +72,7 @@ impl Board {
         requires ready { IsReady token.old.track 1 }
         ensures of { IsOf self.now token.new }
         ensures token { (stamp : ℕ) × (token_of token.new ≡ made (token_of token.old) (kind.Out value) stamp) }
+        ensures word { (track_of token.new.track).word ≡ (track_of token.old.track).word }
     {
         self.shared.draw(token, Draw::Out { value });
     }

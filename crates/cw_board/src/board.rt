@@ -16,9 +16,10 @@ pub struct Board {
 impl Board {
     ghost use Rattle.cw_log.specs.Tokens.{root_token};
     ghost use Rattle.cw_steps.specs.Stands.{token_of};
+    ghost use Rattle.cw_steps.specs.Views.{key_of};
     ghost use Rattle.cw_board.specs.Boards.{budget_of, cells_in, IsOf};
 
-    /// A board with these cells, whose tier may have as many columns as the limits say, and the root's token.
+    /// A board whose cells have these first values, whose tier may have as many columns as the limits say, and the root's token.
     pub fn new(
         alloc: Global,
         init: &[i64],
@@ -27,6 +28,7 @@ impl Board {
         requires { 0 < limits.strands }
         ensures of { IfOk result (λ r. IsOf r.0 r.1) }
         ensures board { IfOk result (λ r. (cells_in r.0 ≡ length init.now) × (budget_of r.0 ≡ limits.aborts)) }
+        ensures key { IfOk result (λ r. key_of r.0.shared ≡ record { first = init.now; columns = limits.strands; aborts = limits.aborts }) }
         ensures token { IfOk result (λ r. token_of r.1 ≡ root_token) }
     {
         let (shared, token) = Shared::new(alloc, init, limits)?;

@@ -1,16 +1,19 @@
 //! Cells, under their turns.
-ghost use Rattle.std.specs.Prelude.{◌≡◌, ◌<◌, ℕ};
+ghost use Rattle.std.specs.Prelude.{◌≡◌, ◌<◌, ℕ, unwrap_or};
+ghost use Rattle.cw_stack.specs.Cells.{entries_value};
 ghost use Rattle.cw_steps.specs.declared.table.StrandToken.{StrandToken};
 ghost use Rattle.cw_steps.specs.declared.view.Slot.{Slot};
 ghost use Rattle.cw_steps.specs.declared.view.Slot.TheVariants as slot;
 ghost use Rattle.cw_log.specs.Answers.{access_kind, IsWritten};
 ghost use Rattle.cw_log.specs.Tokens.{made};
 ghost use Rattle.cw_steps.specs.Stands.{token_of};
-ghost use Rattle.cw_steps.specs.Tracks.{IsReady};
+ghost use Rattle.cw_steps.specs.Tracks.{track_of, IsReady};
+ghost use Rattle.cw_steps.specs.declared.draw.Aim.TheVariants as aims;
 ghost use Rattle.cw_steps.specs.declared.draw.Home.TheVariants as home;
-ghost use Rattle.cw_steps.specs.Views.{gave_view, view_of, IsLowCell};
+ghost use Rattle.cw_steps.specs.Homes.{CellComesHome};
+ghost use Rattle.cw_steps.specs.Views.{gave_view, newest_aim, newest_cell, view_of, IsLowCell};
 ghost use Rattle.cw_board.specs.Boards.{cells_in, IsOf};
-ghost use Rattle.cw_board.specs.Turns.{IsHolding};
+ghost use Rattle.cw_board.specs.Turns.{HasCell, IsHolding};
 
 use crate::Board;
 use cw_base::OutOfMemory;
@@ -18,6 +21,16 @@ use cw_stack::Cell;
 use cw_steps::{Aim, Draw, Home, StrandToken};
 use cw_tree::Mark;
 use std::sync::Wait;
+
+/// The value of a cell after an access that reads, or writes a value.
+fn value_after(held: &Cell, write: Option<i64>) -> i64
+    ensures { result ≡ unwrap_or write (entries_value held.now) }
+{
+    match write {
+        Some(value) => value,
+        None => held.value(),
+    }
+}
 
 impl Board {
     /// Waits for a cell's turn, and takes the cell.
@@ -32,6 +45,8 @@ impl Board {
         requires cell { cell < cells_in self.now }
         ensures held { IsHolding self.now cell slot.Empty token.old token.new }
         ensures low { IsLowCell (view_of token.new).seen (slot.Cell result) }
+        ensures cell { HasCell aim result token.new }
+        ensures word { (track_of token.new.track).word ≡ (track_of token.old.track).word }
     {
         self.take_turn(rt, token, cell, aim);
         match self.shared.swap_cell(token, cell, None) {
@@ -40,14 +55,16 @@ impl Board {
         }
     }
 
-    /// Puts a cell where it lay, and gives its turn back.
+    /// Puts a cell where it lay, as it lay there or undone, and gives its turn back.
     pub(crate) fn leave_cell(&self, token: &mut StrandToken, cell: u32, held: Cell)
         requires cell { cell < cells_in self.now }
         requires held { (t : StrandToken) × (y : Slot) × IsHolding self.now cell y t token.old }
         requires low { IsLowCell (view_of token.old).seen (slot.Cell held) }
+        requires comes { CellComesHome cell home.Plain (newest_aim (view_of token.old).turns) (newest_cell (view_of token.old).turns) (slot.Cell held) }
         ensures of { IsOf self.now token.new }
         ensures view { view_of token.new ≡ gave_view home.Plain (view_of token.old) }
         ensures token { token_of token.new ≡ token_of token.old }
+        ensures word { (track_of token.new.track).word ≡ (track_of token.old.track).word }
     {
         self.shared.swap_cell(token, cell, Some(held));
         self.shared.give(token, cell, Home::Plain);
@@ -64,14 +81,16 @@ impl Board {
         requires cell { cell < cells_in self.now }
         requires held { (t : StrandToken) × (y : Slot) × IsHolding self.now cell y t token.old }
         requires low { IsLowCell (view_of token.old).seen (slot.Cell held) }
+        requires lies { HasCell aims.Access held token.old }
         requires room { 0 < held.room }
         requires ready { IsReady token.old.track 1 }
         ensures of { IsOf self.now token.new }
         ensures written { IsWritten write result }
         ensures token { (stamp : ℕ) × (token_of token.new ≡ made (token_of token.old) (access_kind cell write result) stamp) }
+        ensures word { (track_of token.new.track).word ≡ (track_of token.old.track).word }
     {
         let wrote = write.is_some();
-        let value = write.unwrap_or(held.value());
+        let value = value_after(&held, write);
         let draw = Draw::Access { cell, wrote, value };
         let stamp = self.shared.draw(token, draw);
         let mark = Mark {
@@ -96,6 +115,7 @@ impl Board {
         requires cell { cell < cells_in self.now }
         ensures of { IsOf self.now token.new }
         ensures token { token_of token.new ≡ token_of token.old }
+        ensures word { (track_of token.new.track).word ≡ (track_of token.old.track).word }
     {
         let held = self.hold_cell(rt, token, cell, Aim::Look);
         let chain = held.chain();

@@ -1,14 +1,17 @@
 //! Forks, and what splits and merges make of the tier, under its turn.
-ghost use Rattle.std.specs.Prelude.{◌≡◌, ◌+◌, ◌<◌, ◌≤◌, ◌==◌, ℕ, IfOk, IfErr, OnOk, OnErr, if◌then◌else◌};
+ghost use Rattle.std.specs.Prelude.{◌≡◌, ◌+◌, ◌<◌, ◌≤◌, ◌==◌, ℕ, Bool, Some, IfOk, IfErr, OnOk, OnErr, if◌then◌else◌};
 ghost use Rattle.cw_trace.specs.Columns as columns;
+ghost use Rattle.cw_trace.specs.Traces.{Traces};
 ghost use Rattle.cw_log.specs.Tokens.{merged, once_split, Goes, IsOn, MayMerge, MaySplit};
 ghost use Rattle.cw_log.specs.Answers.{Forks};
+ghost use Rattle.cw_steps.specs.declared.draw.Aim.TheVariants as aims;
 ghost use Rattle.cw_steps.specs.declared.table.StrandToken.{StrandToken};
 ghost use Rattle.cw_steps.specs.declared.view.Slot.{Slot};
 ghost use Rattle.cw_steps.specs.declared.view.Slot.TheVariants as slot;
+ghost use Rattle.cw_steps.specs.Homes.{ComesHome, IsForkThere, IsMergedNow, IsSplitNow, IsTooEarly};
 ghost use Rattle.cw_steps.specs.Stands.{brought_token, token_of};
 ghost use Rattle.cw_steps.specs.Tracks.{CanPart, IsReady};
-ghost use Rattle.cw_steps.specs.Views.{columns_for, key_of, newest_used, view_of, CanFork, IsTierOf};
+ghost use Rattle.cw_steps.specs.Views.{columns_for, key_of, newest_aim, newest_tier, newest_used, tier_with, view_of, CanFork, IsTierOf};
 ghost use Rattle.cw_board.specs.Boards.{budget_of, cells_in, columns_of, IsOf};
 ghost use Rattle.cw_board.specs.Turns.{AreOf, BringsNothing, HasForked, HasTier, IsHolding, IsOfTier};
 
@@ -19,15 +22,28 @@ use cw_steps::{Aim, Draw, Home, StrandToken};
 use cw_trace::{Early, Tier};
 use std::sync::Wait;
 
+/// Whether a fork of a tier is split there, or `None` where there is no such fork.
+fn split_state(tier: &Tier, fork: u32) -> Option<bool>
+    ensures there { (split : Bool) → result ≡ Some split → IsForkThere split tier.now.columns fork }
+    ensures found { (split : Bool) → IsForkThere split tier.now.columns fork → result ≡ Some split }
+{
+    if fork < tier.used() && fork % 2 == 1 {
+        Some(tier.is_trace(fork))
+    } else {
+        None
+    }
+}
+
 /// Splits a fork of a tier, if it is whole there. No rule of the table says yet that it is.
 fn split_in(tier: &mut Tier, fork: u32) -> Result<(), Early>
     ensures used { columns.used tier.new.columns ≡ columns.used tier.old.columns }
     ensures room { tier.new.columns.room ≡ tier.old.columns.room }
+    ensures ok { OnOk result (IsSplitNow fork tier.old.columns tier.new.columns) }
+    ensures early { IfErr result (λ e. IsTooEarly fork e.before tier.old.columns tier.new.columns) }
 {
-    if fork < tier.used() && fork % 2 == 1 && !tier.is_trace(fork) {
-        tier.split(fork)
-    } else {
-        Err(Early { before: fork })
+    match split_state(tier, fork) {
+        Some(false) => tier.split(fork),
+        Some(true) | None => Err(Early { before: fork }),
     }
 }
 
@@ -35,9 +51,11 @@ fn split_in(tier: &mut Tier, fork: u32) -> Result<(), Early>
 fn merge_in(tier: &mut Tier, fork: u32)
     ensures used { columns.used tier.new.columns ≡ columns.used tier.old.columns }
     ensures room { tier.new.columns.room ≡ tier.old.columns.room }
+    ensures merged { IsMergedNow fork tier.old.columns tier.new.columns }
 {
-    if fork < tier.used() && fork % 2 == 1 && tier.is_trace(fork) {
-        tier.merge(fork);
+    match split_state(tier, fork) {
+        Some(true) => tier.merge(fork),
+        Some(false) | None => {}
     }
 }
 
@@ -54,6 +72,8 @@ impl Board {
         requires { IsOf self.now token.old }
         ensures held { IsHolding self.now (cells_in self.now) slot.Empty token.old token.new }
         ensures tier { HasTier self.now (slot.Tier result) token.new }
+        ensures lay { newest_tier (view_of token.new).turns ≡ Some result }
+        ensures aim { newest_aim (view_of token.new).turns ≡ aim }
     {
         self.tier_over(rt, token, aim)
     }
@@ -63,6 +83,7 @@ impl Board {
         requires held { (t : StrandToken) × (y : Slot) × IsHolding self.now (cells_in self.now) y t token.old }
         requires tier { HasTier self.now (slot.Tier tier) token.old }
         requires home { IsOfTier home }
+        requires brings { ComesHome (view_of token.old).fork (view_of token.old).phase (newest_aim (view_of token.old).turns) home (newest_tier (view_of token.old).turns) (slot.Tier tier) }
         ensures of { IsOf self.now token.new }
         ensures token { token_of token.new ≡ brought_token home (token_of token.old) }
     {
@@ -141,6 +162,8 @@ impl Board {
     /// A fork whose strands have the next two columns.
     fn fork_two(&self, token: StrandToken, tier: Tier, left: u32) -> Forked<StrandToken>
         requires held { (t : StrandToken) × (y : Slot) × IsHolding self.now (cells_in self.now) y t token }
+        requires aim { newest_aim (view_of token).turns ≡ aims.Fork }
+        requires forked { (lay : Traces) × (newest_tier (view_of token).turns ≡ Some lay) × (tier.columns ≡ columns.forked (view_of token).word (view_of token).column lay.columns) }
         requires columns { (left ≡ newest_used (view_of token).turns) × (left + 2 ≤ columns_of self.now) × ((view_of token).gap < left) }
         requires tier { IsTierOf (columns_of self.now) (left + 2) (slot.Tier tier) }
         requires ready { IsReady token.track 3 × CanPart token.track }
@@ -162,6 +185,9 @@ impl Board {
     fn fork_inline(&self, token: StrandToken, tier: Tier) -> Forked<StrandToken>
         requires held { (t : StrandToken) × (y : Slot) × IsHolding self.now (cells_in self.now) y t token }
         requires tier { HasTier self.now (slot.Tier tier) token }
+        requires aim { newest_aim (view_of token).turns ≡ aims.Fork }
+        requires lay { newest_tier (view_of token).turns ≡ Some tier }
+        requires full { columns_of self.now < newest_used (view_of token).turns + 2 }
         requires ready { IsReady token.track 3 × CanPart token.track }
         ensures of { AreOf self.now result }
         ensures forks { Forks token_of (token_of token) result }
@@ -188,6 +214,7 @@ impl Board {
         requires fits { CanFork (key_of self.now.shared) (view_of token.old) left right gap }
         requires tier { IsTierOf (columns_of self.now) (newest_used (view_of token.old).turns + columns_for left right) (slot.Tier tier) }
         requires home { BringsNothing home }
+        requires brings { ComesHome (view_of token.old).fork (view_of token.old).phase (newest_aim (view_of token.old).turns) home (tier_with (columns_for left right) (view_of token.old).word (view_of token.old).column (newest_tier (view_of token.old).turns)) (slot.Tier tier) }
         requires ready { IsReady token.old.track 3 × CanPart token.old.track }
         ensures made { (stamp : ℕ) × HasForked self.now left right gap stamp token.old token.new }
         ensures spare { CanPart token.new.track }

@@ -2,6 +2,7 @@
 ghost use Rattle.std.specs.Prelude.{◌≡◌};
 ghost use Rattle.cw_log.specs.Tokens.{halted, was_told, MayHalt};
 ghost use Rattle.cw_steps.specs.Stands.{token_of};
+ghost use Rattle.cw_steps.specs.Tracks.{track_of};
 ghost use Rattle.cw_board.specs.Boards.{budget_of, IsOf};
 
 use crate::Board;
@@ -15,15 +16,17 @@ impl Board {
         requires may { MayHalt (budget_of self.now) (token_of token.old) halt }
         ensures of { IsOf self.now token.new }
         ensures token { token_of token.new ≡ halted (token_of token.old) halt }
+        ensures word { (track_of token.new.track).word ≡ (track_of token.old.track).word }
     {
         self.shared.stop(token, halt);
     }
 
-    /// Whether some strand has stopped.
+    /// Whether some strand was found to have stopped; false tells nothing.
     pub fn halted(&self, token: &mut StrandToken) -> bool
         requires { IsOf self.now token.old }
         ensures of { IsOf self.now token.new }
         ensures token { token_of token.new ≡ was_told (token_of token.old) result }
+        ensures word { (track_of token.new.track).word ≡ (track_of token.old.track).word }
     {
         self.shared.stopped(token)
     }

@@ -3,7 +3,7 @@ ghost use Rattle.std.specs.Prelude.{◌≡◌, IfOk, IfErr};
 ghost use Rattle.cw_course.specs.Closings.{IsPutTogether};
 ghost use Rattle.cw_log.specs.Tokens.{logs};
 ghost use Rattle.cw_steps.specs.Stands.{token_of};
-ghost use Rattle.cw_board.specs.Boards.{budget_of, cells_in, columns_of, table_of, IsOf};
+ghost use Rattle.cw_board.specs.Boards.{budget_of, cells_in, columns_of, table_of, AreOfCells, IsOf};
 
 use crate::Board;
 use cw_base::OutOfMemory;
@@ -97,6 +97,7 @@ impl<N: Naming> NamedBoard<N> {
         token: NamedToken<N>,
     ) -> Result<Closed, (NamedBoard<N>, NamedToken<N>, OutOfMemory)>
         ensures together { IfOk result (λ c. IsPutTogether (logs token) token.stop c) }
+        ensures journals { IfOk result (λ c. AreOfCells self.cells c.journals) }
         ensures err { IfErr result (λ e. (e.0 ≡ self) × (e.1 ≡ token)) }
     {
         let NamedBoard { board, .. } = self;

@@ -5,6 +5,8 @@ ghost use Rattle.std.specs.Prelude.{◌≡◌, ◌<◌, ℕ, filter, nat_lt, dro
 ghost use Rattle.cw_tree.specs.declared.node.BlockState.TheVariants.{Aborted};
 ghost use Rattle.cw_tree.specs.AccessStacks.{stamps};
 ghost use Rattle.cw_log.specs.Tokens.{ended, GoesBack, HasBlock};
+ghost use Rattle.cw_steps.specs.declared.draw.Aim.TheVariants as aims;
+ghost use Rattle.cw_steps.specs.Homes.{LeavesCell};
 ghost use Rattle.cw_steps.specs.Leaving.{HasReturned};
 ghost use Rattle.cw_steps.specs.Stands.{token_of};
 ghost use Rattle.cw_steps.specs.Tracks.{track_of};
@@ -32,6 +34,7 @@ fn touched(node: &Node) -> Option<(u32, u64)> {
 fn cut(cell: &mut Cell, stamp: u64)
     ensures cut { Contains (stamps (drop cell.old.cleaned cell.old.entries)) stamp → cell.new.entries ≡ filter (λ e. nat_lt e.mark.stamp stamp) cell.old.entries }
     ensures low { (most : ℕ) → IsLowCell most (slot.Cell cell.old) → IsLowCell most (slot.Cell cell.new) }
+    ensures left { LeavesCell aims.Undo cell.old cell.new }
 {
     if cell.may_roll(stamp) {
         cell.roll(stamp);

@@ -1,11 +1,11 @@
 //! Turns, for which a token waits.
-ghost use Rattle.std.specs.Prelude.{◌≡◌, ◌≤◌};
+ghost use Rattle.std.specs.Prelude.{◌≡◌, ◌≤◌, Some};
 ghost use Rattle.cw_steps.specs.declared.table.StrandToken.{StrandToken};
 ghost use Rattle.cw_steps.specs.declared.view.Slot.{Slot};
 ghost use Rattle.cw_steps.specs.declared.view.Slot.TheVariants as slot;
 ghost use Rattle.cw_steps.specs.Leaving.{HasReturned};
 ghost use Rattle.cw_steps.specs.Stands.{token_of};
-ghost use Rattle.cw_steps.specs.Views.{view_of, IsTokenOf};
+ghost use Rattle.cw_steps.specs.Views.{newest_aim, newest_tier, view_of, IsTokenOf};
 ghost use Rattle.cw_board.specs.Boards.{cells_in};
 ghost use Rattle.cw_board.specs.Turns.{HasTaken, HasTier, HasTierOver};
 
@@ -52,6 +52,8 @@ impl Board {
         requires { IsTokenOf self.now.shared token.old }
         ensures held { HasTierOver self.now slot.Empty token.old token.new }
         ensures tier { HasTier self.now (slot.Tier result) token.new }
+        ensures lay { newest_tier (view_of token.new).turns ≡ Some result }
+        ensures aim { newest_aim (view_of token.new).turns ≡ aim }
     {
         let place = self.shared.cells();
         self.take_turn(rt, token, place, aim);
@@ -62,6 +64,7 @@ impl Board {
     pub(crate) fn tier_back(&self, token: &mut StrandToken, tier: Tier)
         requires held { (t : StrandToken) × (y : Slot) × HasTierOver self.now y t token.old }
         requires tier { HasTier self.now (slot.Tier tier) token.old }
+        requires lay { newest_tier (view_of token.old).turns ≡ Some tier }
         ensures table { IsTokenOf self.now.shared token.new }
         ensures returned { (t : StrandToken) (y : Slot) → HasTierOver self.now y t token.old → HasReturned t.seat.me token.new.seat.me }
         ensures track { token.new.track ≡ token.old.track }

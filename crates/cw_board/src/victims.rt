@@ -147,6 +147,7 @@ impl Board {
         requires of { IsOf self.now token.old }
         ensures of { IsOf self.now token.new }
         ensures token { token_of token.new ≡ token_of token.old }
+        ensures word { (track_of token.new.track).word ≡ (track_of token.old.track).word }
         ensures answered { IsAnswered (cells_in self.now) last (track_of token.old.track).column token.new result }
         ensures looks { looks.new ≤ looks.old + 12 }
         // no read is made that decides nothing

@@ -1,5 +1,5 @@
 -- What the record of a run is.
-use Rattle.std.specs.Prelude.{◌≡◌, false, List, [], Option}
+use Rattle.std.specs.Prelude.{◌≡◌, false, List, [], length, Option}
 use Rattle.cw_strand.specs.Names.{first_memory}
 use Rattle.cw_tree.specs.declared.closed.Closed.{Closed}
 use Rattle.cw_job.specs.Room.Strands.{strands_of_job}
@@ -10,6 +10,7 @@ use Rattle.cw_record.specs.Built.{end_left}
 use Rattle.cw_record.specs.Order.{order_of}
 use Rattle.cw_record.specs.Records.{job_of_record, BlocksEnded, HasEnded, IsCoherentRun, IsDepthFirst, IsReplayed}
 use Rattle.cw_course.specs.Closings.{AreWorked, IsClosing, IsPutTogether}
+use Rattle.cw_board.specs.Boards.{AreOfCells}
 
 -- A run of one worker is refused nothing, and its record is coherent and goes depth first.
 pub record IsOfOneWorker (r : Record) : Type 0 where
@@ -20,8 +21,8 @@ pub record IsOfOneWorker (r : Record) : Type 0 where
   pub replays : IsReplayed r
   pub blocks : BlocksEnded r.tree r.end
 
--- The record of a run on a board is that of what the board gave when it was closed with logs that are what the strands of this program did,
--- from main on, each once and no others, to its end or to this halt. Where that is what a board owes, it is coherent.
+-- The record of a run on a board is that of a tree and conflicts put together of logs that, but for their conflicts, are what the strands of
+-- this program did, from main on, each once and no others, to its end or to this halt, and of one journal for each cell. Where that is what a board owes, it is coherent.
 pub record IsOfBoard (r : Record) : Type 0 where
   pub logs : List Log
   pub stop : Option Stop
@@ -30,6 +31,7 @@ pub record IsOfBoard (r : Record) : Type 0 where
   pub together : IsPutTogether logs stop closed
   pub tree : r.tree ≡ closed.tree
   pub journals : r.journals ≡ closed.journals
+  pub cells : AreOfCells (length (first_memory r.program.cells)) r.journals
   pub conflicts : r.conflicts ≡ closed.conflicts
   pub order : r.order ≡ order_of r.tree r.conflicts r.limits.aborts r.end
   pub end : r.end ≡ end_left (first_memory r.program.cells) r.limits.aborts closed false

@@ -1,5 +1,5 @@
 //! The record of a run.
-ghost use Rattle.std.specs.Prelude.{◌≡◌, ◌<◌, IfOk, IsTrue, None, false, length};
+ghost use Rattle.std.specs.Prelude.{◌≡◌, ◌≢◌, ◌<◌, IfOk, IsTrue, None, false, length};
 ghost use Rattle.cw_tree.specs.Nodes.{is_strand};
 ghost use Rattle.cw_strand.specs.Names.{first_memory};
 ghost use Rattle.cw_code.specs.Programs.{cancels};
@@ -8,11 +8,13 @@ ghost use Rattle.cw_job.specs.Jobs.{TakesWords};
 ghost use Rattle.cw_log.specs.declared.token.Token.{Token};
 ghost use Rattle.cw_log.specs.Tokens.{logs, root_token};
 ghost use Rattle.cw_record.specs.Built.{HasRecord};
+ghost use Rattle.cw_record.specs.declared.record_end.RecordEnd.TheVariants.{Moves};
 ghost use Rattle.cw_record.specs.Order.{ending_strand};
 ghost use Rattle.cw_record.specs.Records.{HasItsOutputs, IsNumberedDepthFirst};
 ghost use Rattle.cw_course.specs.Closings.{IsPutTogether};
 ghost use Rattle.cw_steps.specs.Stands.{token_of};
-ghost use Rattle.cw_board.specs.Boards.{budget_of, cells_in, columns_of, table_of, IsOf};
+ghost use Rattle.cw_steps.specs.Views.{key_of};
+ghost use Rattle.cw_board.specs.Boards.{columns_of, table_of, AreOfCells, IsOf};
 ghost use Rattle.cw_pool.specs.Ends.{IsWorked};
 ghost use Rattle.cw_pool.specs.Recorded.{IsOfBoard, IsOfOneWorker};
 
@@ -60,7 +62,8 @@ fn recorded(
     ensures strand { IfOk result (λ r. IsTrue (is_strand r.tree (ending_strand r.end))) }
     ensures outputs { IfOk result (λ r. HasItsOutputs r) }
     ensures board { IfOk result (λ r. (x : Token) → IsWorked (record { program = program; words = words; limits = limits }) x → (IsTrue is_whole → x.told ≡ false)
-        → IsPutTogether (logs x) x.stop closed → IsOfBoard r × IsNumberedDepthFirst r.tree) }
+        → IsPutTogether (logs x) x.stop closed → AreOfCells (length (first_memory program.cells)) closed.journals → IsOfBoard r × IsNumberedDepthFirst r.tree) }
+    ensures moves { IfOk result (λ r. r.end ≢ Moves) }
 {
     if !has_record(&closed, is_whole) {
         return Err(OutOfMemory);
@@ -88,8 +91,7 @@ fn run_named<N: Naming, G: Gate, R: Threads + Wait + Sync>(
     requires of { IsOf board root }
     requires root { token_of root ≡ root_token }
     requires name { (table_of board ≡ N.table) × (columns_of board ≡ N.columns) }
-    requires budget { budget_of board ≡ limits.aborts }
-    requires cells { cells_in board ≡ length (first_memory program.cells) }
+    requires key { key_of board.shared ≡ record { first = first_memory program.cells; columns = limits.strands; aborts = limits.aborts } }
     ensures program { IfOk result (λ r. r.program ≡ program) }
     ensures words { IfOk result (λ r. r.words ≡ words) }
     ensures limits { IfOk result (λ r. r.limits ≡ limits) }
@@ -97,6 +99,7 @@ fn run_named<N: Naming, G: Gate, R: Threads + Wait + Sync>(
     ensures outputs { IfOk result (λ r. HasItsOutputs r) }
     ensures numbered { IfOk result (λ r. IsNumberedDepthFirst r.tree) }
     ensures board { IfOk result (λ r. IsOfBoard r) }
+    ensures moves { IfOk result (λ r. r.end ≢ Moves) }
 {
     let (board, root) = board.named::<N>(root);
     let (token, is_whole) = work_whole(
@@ -116,11 +119,12 @@ fn run_named<N: Naming, G: Gate, R: Threads + Wait + Sync>(
     }
 }
 
-/// Runs a program by so many workers, each on a thread of its own, the first one on the caller's; one worker goes depth first, with neither
-/// board nor deque. The program gives up no block: its code has no cancel. The record has the program, words and limits that are handed in.
+/// Runs a program by so many workers, the first one on the caller's thread, each other on a thread of its own where one could be started; one
+/// worker goes depth first, with neither board nor deque. The program gives up no block: its code has no cancel. The record has the program,
+/// words and limits that are handed in.
 ///
-/// With more than one worker the record is that of what a board gave whose rule is small yet: whether it replays has to be checked. The only
-/// error is want of memory; where one stops a strand there is no record.
+/// With more than one worker the record's tree is put together of what strands did on a board whose rule is small yet: whether it replays has
+/// to be checked. The only error is want of memory; where one stops a strand there is no record.
 pub fn run<G: Gate, R: Threads + Wait + Sync>(
     rt: &R,
     alloc: Global,
@@ -142,6 +146,7 @@ pub fn run<G: Gate, R: Threads + Wait + Sync>(
     ensures numbered { IfOk result (λ r. IsNumberedDepthFirst r.tree) }
     ensures one { workers ≡ 1 → IfOk result (λ r. IsOfOneWorker r) }
     ensures several { (workers ≡ 1 → ⊥) → IfOk result (λ r. IsOfBoard r) }
+    ensures moves { IfOk result (λ r. r.end ≢ Moves) }
 {
     if workers == 1 {
         return depth_first(alloc, program, words, limits);

@@ -1,14 +1,15 @@
 -- Sums over the views of all seats (`Totals`), and turns among those of one seat (`turns_of`).
 use Rattle.std.proofs.Common.{◌≡◌, ◌≢◌, ℕ, zero, suc, ◌+◌, ◌<◌, ◌≤◌, List, [], ◌∷◌, ◌++◌, refl, ap, sym, arith, Bool, set, inl, inr, eq-eqb}
-use Rattle.std.specs.Prelude.{All}
+use Rattle.std.specs.Prelude.{ℤ, All}
 use Rattle.std.specs.Prelude.{if◌then◌else◌, ◌==◌, Option, Some, unwrap_or}
 use Rattle.std.proofs.lemmas.Bool.Decides.{eqb_tells}
 use Rattle.std.proofs.lemmas.List.Elements.{All-nil, All-cons, All-head, All-tail}
 use mathlib.Core.Option.{some, some-injective, some-ne-none}
 use lib.ListN.{get_elem?}
+use Rattle.cw_tree.specs.declared.access.Mark.{Mark}
 use Rattle.cw_steps.specs.declared.view.Turn.{Turn}
 use Rattle.cw_steps.specs.Totals.{total}
-use Rattle.cw_steps.specs.Views.{turns_of, with_more, newest_slot, newest_used, older}
+use Rattle.cw_steps.specs.Views.{cell_with, turns_of, with_access, with_more, newest_slot, newest_used, older}
 
 module _ {A : Type 0} (f : A → ℕ) where
   pub total_set : (xs : List A) (i : ℕ) (v w : A) → get_elem? xs i ≡ some v → total f (set xs i w) + f v ≡ total f xs + f w
@@ -44,9 +45,19 @@ pub turn_else : (n : ℕ) (t : Turn) → t.slot ≢ n → bit (t.slot == n) ≡ 
 turn_else n t ne = elim (eqb_tells t.slot n) [ inl z ↦ absurd (ne z.1) | inr z ↦ ap {B = ℕ} bit z.0 ]
 
 -- columns are no matter of whose turn it is
-pub turns_more : (n k : ℕ) (ts : List Turn) → turns_of n (with_more k ts) ≡ turns_of n ts
-turns_more n k [] = refl
-turns_more n k (t ∷ ts) = refl
+pub turns_more : (n k w c : ℕ) (ts : List Turn) → turns_of n (with_more k w c ts) ≡ turns_of n ts
+turns_more n k w c [] = refl
+turns_more n k w c (t ∷ ts) = refl
+
+-- nor is what an access leaves in the cell
+pub turns_access : (n : ℕ) (m : Mark) (w : Bool) (x : ℤ) (ts : List Turn) → turns_of n (with_access m w x ts) ≡ turns_of n ts
+turns_access n m w x [] = refl
+turns_access n m w x (t ∷ ts) = refl
+
+pub used_access : (c used : ℕ) (m : Mark) (w : Bool) (x : ℤ) (ts : List Turn) → All (λ (t : Turn). t.slot ≡ c → t.used ≡ used) ts → All (λ (t : Turn). t.slot ≡ c → t.used ≡ used) (with_access m w x ts)
+used_access c used m w x [] all = all
+used_access c used m w x (t ∷ ts) all = All-cons (λ (t : Turn). t.slot ≡ c → t.used ≡ used) (record t { cell = cell_with m w x t.cell }) ts
+    (All-head (λ (t : Turn). t.slot ≡ c → t.used ≡ used) t ts all) (All-tail (λ (t : Turn). t.slot ≡ c → t.used ≡ used) t ts all)
 
 -- with the newest turn given back
 pub turns_older : (n c : ℕ) (ts : List Turn) → newest_slot ts ≡ Some c → turns_of n ts ≡ bit (c == n) + turns_of n (older ts)

@@ -3,6 +3,7 @@ pub mod Totals
 pub mod Around
 pub mod Tracks
 pub mod Views
+pub mod Homes
 pub mod Stands
 pub mod Rule
 pub mod Leaving

@@ -1,16 +1,18 @@
 -- What a token knows, and what each step makes of that.
-use Rattle.std.specs.Prelude.{◌≡◌, ℕ, ℤ, zero, suc, ◌+◌, ◌-◌, ◌*◌, ◌^◌, ◌<◌, ◌≤◌, ◌==◌, ◌||◌, nat_lt, Bool, true, false, All, List, [], ◌∷◌, length, max, drop, Option, Some, None, if◌then◌else◌}
+use Rattle.std.specs.Prelude.{◌≡◌, ℕ, ℤ, zero, suc, ◌+◌, ◌-◌, ◌*◌, ◌^◌, ◌<◌, ◌≤◌, ◌==◌, ◌||◌, nat_lt, Bool, true, false, All, List, [], ◌∷◌, ◌++◌, length, max, drop, Option, Some, None, IsSomeAnd, if◌then◌else◌}
 use Rattle.atomic_table.specs.Table.{Me, Step, rest}
 use Rattle.cw_tree.specs.declared.access.Entry.{Entry}
+use Rattle.cw_tree.specs.declared.access.Mark.{Mark}
 use Rattle.cw_tree.specs.declared.closed.Halt.{Halt}
 use Rattle.cw_log.specs.declared.token.Phase.{Phase}
 use Rattle.cw_log.specs.declared.token.Phase.TheVariants.{Going, Waiting, Over, Parted}
-use Rattle.cw_stack.specs.Cells.{CellParts}
+use Rattle.cw_stack.specs.Cells.{CellParts, entries_value}
 use Rattle.cw_trace.specs.Traces.{Traces}
 use Rattle.cw_trace.specs.Columns as columns
 use Rattle.cw_steps.specs.declared.draw.Draw.{Draw}
 use Rattle.cw_steps.specs.declared.draw.Draw.TheVariants as draw
 use Rattle.cw_steps.specs.declared.draw.Aim.{Aim}
+use Rattle.cw_steps.specs.declared.draw.Aim.TheVariants as aims
 use Rattle.cw_steps.specs.declared.draw.Home.{Home}
 use Rattle.cw_steps.specs.declared.draw.Home.TheVariants as home
 use Rattle.cw_steps.specs.declared.view.Key.{Key}
@@ -93,10 +95,39 @@ abbrev pub older : List Turn → List Turn
 older [] = []
 older (t ∷ ts) = ts
 
--- so many columns more are in use
-abbrev pub with_more : ℕ → List Turn → List Turn
-with_more k [] = []
-with_more k (t ∷ ts) = record t { used = t.used + k } ∷ ts
+-- the tier that lay in the slot of the newest turn, with the columns that were drawn since
+abbrev pub newest_tier : List Turn → Option Traces
+newest_tier [] = None
+newest_tier (t ∷ ts) = t.tier
+
+-- a tier with so many columns more, those of a fork that the strand of this column makes, the word of whose gap is this
+abbrev pub tier_with : (more word column : ℕ) → Option Traces → Option Traces
+tier_with zero w c y = y
+tier_with (suc k) w c None = None
+tier_with (suc k) w c (Some x) = Some (record { columns = columns.forked w c x.columns })
+
+-- for what the newest turn was taken, and the cell that lay in its slot, with the access that was drawn since
+abbrev pub newest_aim : List Turn → Aim
+newest_aim [] = aims.Look
+newest_aim (t ∷ ts) = t.aim
+
+abbrev pub newest_cell : List Turn → Option CellParts
+newest_cell [] = None
+newest_cell (t ∷ ts) = t.cell
+
+-- a cell with one entry more, of an access that left this value
+abbrev pub cell_with : Mark → (wrote : Bool) → ℤ → Option CellParts → Option CellParts
+cell_with m w x None = None
+cell_with m w x (Some c) = Some (record c { entries = c.entries ++ record { mark = m; wrote = w; value = x; old = entries_value c } ∷ [] })
+
+abbrev pub with_access : Mark → (wrote : Bool) → ℤ → List Turn → List Turn
+with_access m w x [] = []
+with_access m w x (t ∷ ts) = record t { cell = cell_with m w x t.cell } ∷ ts
+
+-- so many columns more are in use, for such a fork
+abbrev pub with_more : (more word column : ℕ) → List Turn → List Turn
+with_more k w c [] = []
+with_more k w c (t ∷ ts) = record t { tier = tier_with k w c t.tier; used = t.used + k } ∷ ts
 
 -- ## What lies in the slots
 
@@ -191,12 +222,12 @@ coming_after (draw.Out v) old = old
 coming_after draw.Begin old = old
 coming_after (draw.End aborted) old = old
 
-abbrev pub turns_after : Draw → List Turn → List Turn
-turns_after (draw.Fork left right gap) ts = with_more (columns_for left right) ts
-turns_after (draw.Access c wrote v) ts = ts
-turns_after (draw.Out v) ts = ts
-turns_after draw.Begin ts = ts
-turns_after (draw.End aborted) ts = ts
+abbrev pub turns_after : Draw → (number : ℕ) → View → List Turn
+turns_after (draw.Fork left right gap) n v = with_more (columns_for left right) v.word v.column v.turns
+turns_after (draw.Access c wrote x) n v = with_access (record { strand = v.column; stamp = n }) wrote x v.turns
+turns_after (draw.Out x) n v = v.turns
+turns_after draw.Begin n v = v.turns
+turns_after (draw.End aborted) n v = v.turns
 
 -- a strand waits for a fork with two columns
 abbrev pub outer_for : (left right : ℕ) → View → List Whereabouts
@@ -237,20 +268,31 @@ drew_view d behind second n v = record v {
   arounds = arounds_after d n (caught_up behind second v.arounds);
   outer = outer_after d v;
   coming = coming_after d v.coming;
-  turns = turns_after d v.turns;
+  turns = turns_after d n v;
 }
 
--- Two columns of a fork are the next ones, and those of an inline fork its strand's own; the fork has the tier's turn
+-- Two columns of a fork are the next ones, and both its strands use the gap of the strand that forks, or where its word shows a block that of
+-- the left one. An inline fork, for which there are not two, has its strand's own column and gap. The fork has the tier's turn, which it took.
 pub record CanFork (key : Key) (v : View) (left right gap : ℕ) : Type 0 where
   pub turn : newest_slot v.turns ≡ Some (cells_of key)
+  pub aim : newest_aim v.turns ≡ aims.Fork
   pub one : left ≡ (if left == right then v.column else newest_used v.turns)
   pub other : right ≡ (if left == right then left else suc left)
   pub few : newest_used v.turns + columns_for left right ≤ key.columns
   pub within : gap < newest_used v.turns + columns_for left right
+  pub full : left ≡ right → key.columns < newest_used v.turns + 2
+  pub gap_used : gap ≡ (if left == right then v.gap else if v.word == 0 then v.gap else left)
+
+-- An access has the turn of its cell, which it took for it, and a read the value that the cell has
+pub record CanAccess (key : Key) (v : View) (c : ℕ) (wrote : Bool) (x : ℤ) : Type 0 where
+  pub there : c < cells_of key
+  pub turn : newest_slot v.turns ≡ Some c
+  pub aim : newest_aim v.turns ≡ aims.Access
+  pub read : wrote ≡ false → IsSomeAnd (newest_cell v.turns) (λ y. x ≡ entries_value y)
 
 abbrev pub CanDraw : Key → View → Draw → Type 0
 CanDraw key v (draw.Fork left right gap) = CanFork key v left right gap
-CanDraw key v (draw.Access c wrote x) = Unit {0}
+CanDraw key v (draw.Access c wrote x) = CanAccess key v c wrote x
 CanDraw key v (draw.Out x) = Unit {0}
 CanDraw key v draw.Begin = Unit {0}
 CanDraw key v (draw.End aborted) = Unit {0}

@@ -2,6 +2,7 @@
 ghost use Rattle.std.specs.Prelude.{◌≡◌, ℕ, suc, ◌+◌, ◌<◌, ◌≤◌, ◌∷◌, [], true, false, Some};
 ghost use Rattle.atomic_table.specs.Table.{rest};
 ghost use Rattle.cw_steps.specs.Tracks.{added, added_home, brought, track_of, drawn, IsReady};
+ghost use Rattle.cw_steps.specs.Homes.{MayGive};
 ghost use Rattle.cw_steps.specs.Places as places;
 ghost use Rattle.cw_steps.specs.Stands.{brought_token, drawn_token, token_of, EndsBlock};
 ghost use Rattle.cw_steps.specs.declared.draw.Home.TheVariants as home_of;
@@ -184,11 +185,11 @@ impl Shared {
             .exchange(seat, self.cells as usize, Slot::Tier(tier));
     }
 
-    /// Gives the newest turn back, with what lies in its slot.
+    /// Gives the newest turn back, with what lies in its slot: of the tier just what is told was done to it.
     pub fn give(&self, token: &mut StrandToken, slot: u32, home: Home)
         requires table { IsTokenOf self.now token.old }
         requires there { slot ≤ cells_of (key_of self.now) }
-        requires held { (y : _) × Holding token.old slot y × IsWhole (key_of self.now) (view_of token.old).seen (newest_used (view_of token.old).turns) slot y }
+        requires held { MayGive (key_of self.now) token.old slot home }
         requires ready { IsReady token.old.track (added_home home) }
         ensures table { IsTokenOf self.now token.new }
         ensures view { view_of token.new ≡ gave_view home (view_of token.old) }

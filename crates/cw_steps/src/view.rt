@@ -60,8 +60,8 @@ pub struct Note {
     pub value: u64,
 }
 
-/// A turn that a seat has: its slot, for what it was taken, what lay there, and with how many columns in use the tier has to come home, if the
-/// turn is the tier's. No value of it is made.
+/// A turn that a seat has: its slot, for what it was taken, what lay there, of a cell with the accesses and of the tier with the columns that were drawn since, and with how many
+/// columns in use the tier has to come home, if the turn is the tier's. No value of it is made.
 pub struct Turn {
     pub slot: u64,
     pub aim: Aim,

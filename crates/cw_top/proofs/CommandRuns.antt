@@ -1,13 +1,16 @@
 -- All is true of the run of a command that is said of one.
-use Rattle.std.proofs.Common.{◌≡◌, ℕ, ℤ, List, length, Option, subst, sym}
+use Rattle.std.proofs.Common.{◌≡◌, ◌≢◌, ℕ, ℤ, List, length, Option, Result, Ok, Err, IfOk, subst, sym}
+use Rattle.cw_base.specs.declared.OutOfMemory.{OutOfMemory}
 use Rattle.cw_code.specs.declared.program.Program.{Program}
 use Rattle.cw_strand.specs.Programs.{IsCompiled}
 use Rattle.cw_tree.specs.Walks.{IsNumbered}
 use Rattle.cw_job.specs.Jobs.{TakesWords}
 use Rattle.cw_record.specs.declared.record.Record.{Record}
+use Rattle.cw_record.specs.declared.record_end.RecordEnd.TheVariants.{Moves}
 use Rattle.cw_record.specs.Records.{HasItsOutputs, IsNumberedDepthFirst}
+use Rattle.cw_pool.specs.Recorded.{IsOfBoard, IsOfOneWorker}
 use Rattle.cw_words.specs.declared.command.Command.{Command}
-use Rattle.cw_top.specs.Runs.{IsItsProgram, IsRunBy}
+use Rattle.cw_top.specs.Runs.{IsItsProgram, IsOfThreads, IsRunBy}
 use Rattle.cw_words.specs.Words.{limits_of, words_of}
 
 module _ (co : Command) (left : Option (List ℕ)) (p : Program) (its : IsItsProgram co left p) (compiled : IsCompiled p) (takes : TakesWords p (length (words_of co))) where
@@ -24,3 +27,8 @@ module _ (co : Command) (left : Option (List ℕ)) (p : Program) (its : IsItsPro
         tree = tree;
         numbered = numbered;
       }
+
+-- what so many workers on threads did
+pub of_threads : (workers : ℕ) (kept : Result Record OutOfMemory) → (workers ≡ 1 → IfOk kept IsOfOneWorker) → (workers ≢ 1 → IfOk kept IsOfBoard) → IfOk kept (λ r. r.end ≢ Moves) → IfOk kept (IsOfThreads workers)
+of_threads workers (Err e) one several moves = tt
+of_threads workers (Ok r) one several moves = record { one = one; several = several; moves = moves }

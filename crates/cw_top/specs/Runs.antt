@@ -71,8 +71,8 @@ IsRunOf command left r = IsSomeAnd command (λ c. IsRunBy c left r)
 
 -- ## Who did it
 
--- So many workers on threads did it. One alone was refused nothing and went depth first, to the end or to the first fault, and what is kept is
--- coherent and replays; of several it is what their board gave. There are no moves that could be spent.
+-- What workers on threads did. One alone was refused nothing and went depth first, to the end or to the first fault, and what is kept is
+-- coherent and replays; of several its tree is put together of what strands did. There are no moves that could be spent.
 pub record IsOfThreads (workers : ℕ) (r : Record) : Type 0 where
   pub one : workers ≡ 1 → IsOfOneWorker r
   pub several : workers ≢ 1 → IsOfBoard r

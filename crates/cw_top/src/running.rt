@@ -21,7 +21,7 @@ use cw_code::{Limits, Program};
 use cw_io::{Gate, Source};
 use cw_job::takes_words;
 use cw_pool::run;
-use cw_record::{Record, RecordEnd};
+use cw_record::Record;
 use cw_sim::simulate;
 use cw_words::{Command, default_limits};
 use std::alloc::Global;
@@ -48,7 +48,7 @@ pub fn has_several_threads(command: &Command) -> bool
     }
 }
 
-// Runs a program on so many threads. There are no moves to be spent: a board that was stopped so wanted memory.
+// Runs a program on so many threads.
 fn run_on_threads<R: Threads + Wait + Sync, G: Gate>(
     rt: &R,
     alloc: Global,
@@ -69,11 +69,7 @@ fn run_on_threads<R: Threads + Wait + Sync, G: Gate>(
     ensures numbered { IfOk result (λ r. IsNumberedDepthFirst r.tree) }
     ensures done { IfOk result (IsOfThreads workers) }
 {
-    let kept = run(rt, alloc, program, words, workers, limits, gate)?;
-    match kept.end {
-        RecordEnd::Moves => Err(OutOfMemory),
-        _ => Ok(kept),
-    }
+    run(rt, alloc, program, words, workers, limits, gate)
 }
 
 // Does what a command says of how its program is run.

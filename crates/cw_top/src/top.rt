@@ -101,8 +101,8 @@ fn answer<R: Threads + Wait + Sync, S: Source, K: Sink, G: Gate>(
 
 /// Does all that the program does. `words` are the command's words without the program's name. `run` and `sim` read a program from
 /// the source, run it with the words of main, and write its result (`result_text`) to the sink, with `--report 1` followed by the
-/// report on it (`report_text`): `run` on as many threads as `--workers` says, four where it does not, and one goes depth first; `sim` by the
-/// moves of so many virtual workers. These two have the options `--fuel`, `--size`, `--aborts` and `--strands`; `sim` has `--moves`, and `--schedule`
+/// report on it (`report_text`): `run` by as many workers as `--workers` says, four where it does not, each on a thread of its own where one
+/// can be started, and one goes depth first; `sim` by the moves of so many virtual workers. These two have the options `--fuel`, `--size`, `--aborts` and `--strands`; `sim` has `--moves`, and `--schedule`
 /// or `--seed`, too. `load N` reads nothing: it runs the program of N transfers (`load_program`), from 1 to 20,000, as `run` does with the limits
 /// of a command that gives none, and writes N and what all cells have together; of the options it has `--workers`.
 ///
@@ -144,7 +144,7 @@ pub fn cwstm<R: Threads + Wait + Sync, S: Source, K: Sink, G: Gate>(
         → MayEndWith (command_in words.now) result.status }
 
     // What is kept is a run of the command, of what the source spells or of the program of a load. Of one thread it is the depth-first one, in
-    // which nothing is refused; of several it is that of their board. Of `sim` it is the record of the moves of the command's workers, in the
+    // which nothing is refused; of several its tree is put together of what strands did. Of `sim` it is the record of the moves of the command's workers, in the
     // turns of its schedule: if there is one, nothing is refused either, and it is the depth-first one too, unless the moves were spent. One
     // thread and every simulation are coherent.
     ensures run { IfSome result.kept (IsRunOf (command_in words.now) (S.left source.old)) }

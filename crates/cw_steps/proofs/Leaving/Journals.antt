@@ -9,12 +9,13 @@ use Rattle.cw_stack.specs.Cells.{CellParts, AreSteps}
 use Rattle.cw_steps.specs.Leaving.{HasReturned, IsJournal}
 use Rattle.cw_steps.specs.declared.draw.Aim.TheVariants.{Look}
 use Rattle.cw_steps.specs.declared.draw.Home.TheVariants as home
+use Rattle.cw_steps.specs.Homes.{CellComesHome, MayGive}
 use Rattle.cw_steps.specs.declared.table.StrandToken.{StrandToken}
 use Rattle.cw_steps.specs.declared.view.Key.{Key}
 use Rattle.cw_steps.specs.declared.view.Slot.{Slot}
 use Rattle.cw_steps.specs.declared.view.Slot.TheVariants as slot
 use Rattle.cw_steps.specs.declared.view.View.{View}
-use Rattle.cw_steps.specs.Views.{cell_in, gave_view, held_by, newest_slot, newest_used, took_view, view_of, Holding, IsLowCell, IsWhole, LeavesIt, TakesIt}
+use Rattle.cw_steps.specs.Views.{cell_in, gave_view, held_by, newest_aim, newest_cell, newest_slot, newest_used, took_view, view_of, Holding, IsLowCell, IsWhole, LeavesIt, TakesIt}
 
 pub looks_not : (me : Me Slot View) → HasReturned me me
 looks_not me = record { seen = me.0.seen; notes = me.0.notes; later = omega arith; after = refl }
@@ -69,12 +70,14 @@ module _ (key : Key) (n : ℕ) (t u : StrandToken) (takes : TakesIt key Look n t
     held_now = back ∙ ap (λ ys. (n, slot.Cell x) ∷ rest ys) (out ∙ ap (λ ys. (n, slot.Empty) ∷ rest ys) held_then)
 
     -- as `give` asks it
-    pub gives_look : (y : Slot) × Holding w n y × IsWhole key (view_of w).seen (newest_used (view_of w).turns) n y
-    gives_look = (
-      slot.Cell x,
-      record { turn = ap (λ (z : View). newest_slot z.turns) view_now; slot = held_now ∙ ap (λ ys. (n, slot.Cell x) ∷ rest ys) (sym held_now) },
-      subst (λ (z : View). IsWhole key z.seen (newest_used z.turns) n (slot.Cell x)) (sym view_now) (subst (IsWhole key takes.clock takes.used n) lay takes.whole),
-    )
+    pub gives_look : MayGive key w n home.Plain
+    gives_look = record {
+      lies = slot.Cell x;
+      held = record { turn = ap (λ (z : View). newest_slot z.turns) view_now; slot = held_now ∙ ap (λ ys. (n, slot.Cell x) ∷ rest ys) (sym held_now) };
+      whole = subst (λ (z : View). IsWhole key z.seen (newest_used z.turns) n (slot.Cell x)) (sym view_now) (subst (IsWhole key takes.clock takes.used n) lay takes.whole);
+      tier = tt;
+      cell = subst (λ (z : View). CellComesHome n home.Plain (newest_aim z.turns) (newest_cell z.turns) (slot.Cell x)) (sym view_now) (subst (λ o. CellComesHome n home.Plain Look o (slot.Cell x)) (sym (ap cell_in lay)) (tt, (refl, refl)));
+    }
 
     pub looked_then : (t' : StrandToken) → view_of t' ≡ gave_view home.Plain (view_of w) → held_by t' ≡ rest (held_by w) → HasReturned t.seat.me t'.seat.me
     looked_then t' view slots = record {

@@ -12,9 +12,9 @@ use Rattle.cw_steps.specs.declared.view.Slot.{Slot}
 use Rattle.cw_steps.specs.declared.view.Turn.{Turn}
 use Rattle.cw_steps.specs.declared.view.View.{View}
 use Rattle.cw_steps.specs.Totals.{total}
-use Rattle.cw_steps.specs.Views.{cells_of, share, has_turn, turns_of, with_more, newest_slot, newest_used, columns_for, drew, drew_view, CanDraw, CanFork}
+use Rattle.cw_steps.specs.Views.{cells_of, share, has_turn, turns_of, tier_with, with_more, newest_slot, newest_used, columns_for, drew, drew_view, CanDraw, CanFork}
 use Rattle.cw_steps.specs.Rule.{Holds, Tiers, StandsIn, ComesIn, WaitsIn}
-use Rattle.cw_steps.proofs.Counts.{total_part, turns_more, newest_brings, newest_is_one, none_of, turn_here}
+use Rattle.cw_steps.proofs.Counts.{total_part, turns_access, turns_more, used_access, newest_brings, newest_is_one, none_of, turn_here}
 use Rattle.cw_steps.proofs.Concerns.Clock.{clock_set}
 use Rattle.cw_steps.proofs.Concerns.Turns.{turns_stay}
 use Rattle.cw_steps.proofs.Concerns.Cells.{cells_stay}
@@ -54,12 +54,12 @@ module _ (key : Key) (s : State Slot View) (h : Holds key s) (id : ℕ) (v : Vie
     }
 
   -- a draw that takes no column
-  module _ (w : View) (room : w.room + 1 ≡ v.room) (seen : w.seen ≡ next) (turns : w.turns ≡ v.turns) (halt : w.halt ≡ v.halt) (told : w.told ≡ v.told)
+  module _ (w : View) (room : w.room + 1 ≡ v.room) (seen : w.seen ≡ next) (turns : (n : ℕ) → has_turn n w ≡ has_turn n v) (brings : All (λ (t : Turn). t.slot ≡ cells_of key → t.used ≡ h.used) w.turns) (halt : w.halt ≡ v.halt) (told : w.told ≡ v.told)
       (column : w.column ≡ v.column) (gap : w.gap ≡ v.gap) (coming : w.coming ≡ v.coming) (outer : w.outer ≡ v.outer) (owns : w.owns ≡ v.owns) where
     pub plain_rule : (c : List (ℕ × Slot)) → Holds key (stepped s 0 (next % 2 ^ 64) id c w keeps)
-    plain_rule = draw_rule w h.used (omega (arith, room)) seen (λ n. ap (turns_of n) turns) (omega (arith, owns)) halt told
+    plain_rule = draw_rule w h.used (omega (arith, room)) seen turns (omega (arith, owns)) halt told
         (tiers_set (cells_of key) key.columns h.used s.words words s.homes s.homes s.views id w h.tiers (λ free. inl (sym (other (cells_of key)) ∙ free, refl))
-        (subst (All (λ (t : Turn). t.slot ≡ cells_of key → t.used ≡ h.used)) (sym turns) (h.tiers.held id v at))
+        brings
         (let b = h.tiers.stands id v at in record { column = omega (arith, b.column, column); gap = omega (arith, b.gap, gap); coming = subst (ComesIn h.used) (sym coming) b.coming; outer = subst (All (WaitsIn h.used)) (sym outer) b.outer }))
 
   -- a fork takes its columns
@@ -79,11 +79,11 @@ module _ (key : Key) (s : State Slot View) (h : Holds key s) (id : ℕ) (v : Vie
         omega (arith, part, h.turns.one (cells_of key) (omega arith), h.turns.bits (cells_of key) (omega arith), newest_is_one (cells_of key) v.turns can.turn)
 
     brings : (ts : List Turn) → All (λ (t : Turn). t.slot ≡ cells_of key → t.used ≡ h.used) ts → newest_slot ts ≡ Some (cells_of key) → turns_of (cells_of key) ts ≡ 1
-        → All (λ (t : Turn). t.slot ≡ cells_of key → t.used ≡ more) (with_more (columns_for left right) ts)
+        → All (λ (t : Turn). t.slot ≡ cells_of key → t.used ≡ more) (with_more (columns_for left right) v.word v.column ts)
     brings [] all e one = absurd (cc e)
     brings (t ∷ ts) all e one =
         let same : t.slot ≡ cells_of key = ap (λ (o : Option ℕ). unwrap_or o 0) e in
-        All-cons (λ (t : Turn). t.slot ≡ cells_of key → t.used ≡ more) (record t { used = t.used + columns_for left right }) ts
+        All-cons (λ (t : Turn). t.slot ≡ cells_of key → t.used ≡ more) (record t { tier = tier_with (columns_for left right) v.word v.column t.tier; used = t.used + columns_for left right }) ts
         (λ z. omega (arith, All-head (λ (t : Turn). t.slot ≡ cells_of key → t.used ≡ h.used) t ts all z))
         (none_of (cells_of key) (λ (u : Turn). u.used ≡ more) ts (omega (arith, one, turn_here (cells_of key) t same)))
 
@@ -111,16 +111,18 @@ module _ (key : Key) (s : State Slot View) (h : Holds key s) (id : ℕ) (v : Vie
     owns_for false = omega arith
 
     pub fork_rule : (c : List (ℕ × Slot)) → Holds key (stepped s 0 (next % 2 ^ 64) id c w keeps)
-    fork_rule = draw_rule w more (omega (arith, some_room)) refl (λ n. turns_more n (columns_for left right) v.turns) (owns_for (left == right)) refl refl
+    fork_rule = draw_rule w more (omega (arith, some_room)) refl (λ n. turns_more n (columns_for left right) v.word v.column v.turns) (owns_for (left == right)) refl refl
         (tiers_grow (cells_of key) key.columns h.used more s.words words s.homes s.views id v w at h.turns h.tiers (other (cells_of key)) mine (omega arith) (omega (arith, now, can.few))
         (brings v.turns (h.tiers.held id v at) can.turn mine) stands_now)
 
   pub rule_of : (d : Draw) (behind : ℕ) (second : Bool) → CanDraw key v d → (c : List (ℕ × Slot)) → Holds key (stepped s 0 (next % 2 ^ 64) id c (drew_view d behind second next v) keeps)
   rule_of (draw.Fork left right gap) n b can = fork_rule left right gap n b can
-  rule_of (draw.Access c wrote x) n b can = plain_rule (drew_view (draw.Access c wrote x) n b next v) (omega (arith, some_room)) refl refl refl refl refl refl refl refl refl
-  rule_of (draw.Out x) n b can = plain_rule (drew_view (draw.Out x) n b next v) (omega (arith, some_room)) refl refl refl refl refl refl refl refl refl
-  rule_of draw.Begin n b can = plain_rule (drew_view draw.Begin n b next v) (omega (arith, some_room)) refl refl refl refl refl refl refl refl refl
-  rule_of (draw.End aborted) n b can = plain_rule (drew_view (draw.End aborted) n b next v) (omega (arith, some_room)) refl refl refl refl refl refl refl refl refl
+  rule_of (draw.Access c wrote x) n b can = plain_rule (drew_view (draw.Access c wrote x) n b next v) (omega (arith, some_room)) refl
+      (λ i. turns_access i (record { strand = v.column; stamp = next }) wrote x v.turns) (used_access (cells_of key) h.used (record { strand = v.column; stamp = next }) wrote x v.turns (h.tiers.held id v at))
+      refl refl refl refl refl refl refl
+  rule_of (draw.Out x) n b can = plain_rule (drew_view (draw.Out x) n b next v) (omega (arith, some_room)) refl (λ i. refl) (h.tiers.held id v at) refl refl refl refl refl refl refl
+  rule_of draw.Begin n b can = plain_rule (drew_view draw.Begin n b next v) (omega (arith, some_room)) refl (λ i. refl) (h.tiers.held id v at) refl refl refl refl refl refl refl
+  rule_of (draw.End aborted) n b can = plain_rule (drew_view (draw.End aborted) n b next v) (omega (arith, some_room)) refl (λ i. refl) (h.tiers.held id v at) refl refl refl refl refl refl refl
 
 pub draws : (key : Key) (d : Draw) (behind : ℕ) (second : Bool) (slots id : ℕ) (me : Me Slot View) → 0 < me.0.room → CanDraw key me.0 d
     → Allows (Holds key) slots id me 0 (λ n. (n + 1) % 2 ^ 64) (drew d behind second (step slots 0 1 0 none) me)

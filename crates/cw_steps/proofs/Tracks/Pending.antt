@@ -1,10 +1,9 @@
 -- Serves `first_begun`, `arounds_of` and `are_within`: the pending blocks around a place, and those around the strands that wait.
-use Rattle.std.proofs.Common.{◌≡◌, ℕ, zero, suc, ◌+◌, ◌-◌, ◌<◌, ◌≤◌, Bool, true, false, List, [], ◌∷◌, ◌++◌, length, take, drop, reverse, min, refl, sym, ap, ◌∙◌, subst, arith}
-use Rattle.std.specs.Prelude.{map, nat_le, ◌&&◌, Option, Some, None, option_to_list}
+use Rattle.std.proofs.Common.{◌≡◌, ℕ, suc, ◌-◌, ◌<◌, ◌≤◌, Bool, true, false, List, [], ◌∷◌, ◌++◌, length, take, drop, reverse, refl, sym, ap, ◌∙◌, subst, arith}
+use Rattle.std.specs.Prelude.{nat_le, Option, Some, None, option_to_list}
 use Rattle.std.proofs.lemmas.Bool.{and_from, and_parts, leb-true, le-leb}
 use Rattle.std.proofs.lemmas.List.{append-nil, drop_at, length-drop, length-map, length-reverse, reverse-append, take-append-drop}
 use Rattle.cw_log.specs.declared.log.Above.{Above}
-use Rattle.cw_log.specs.declared.token.Open.{Open}
 use Rattle.cw_steps.specs.declared.track.Stood.{Stood}
 use Rattle.cw_steps.specs.Tracks.{begins, first_begun, innermost_of, arounds_of, are_within}
 use Rattle.cw_steps.specs.Stands.{blocks_outside, opens}

@@ -3,6 +3,7 @@ use Rattle.std.specs.Prelude.{IfSome}
 use Rattle.cw_tree.specs.AccessStacks.{stamps}
 use Rattle.cw_tree.specs.Newest.{last_eight}
 use Rattle.cw_trace.specs.declared.verdict.Verdict.TheVariants.{Against}
+use Rattle.cw_steps.specs.declared.draw.Aim.TheVariants as aims
 use Rattle.cw_steps.specs.Stands.{token_of}
 use Rattle.cw_steps.specs.Tracks.{one_more, track_of, tries_of}
 use Rattle.cw_steps.specs.Views.{view_of}
@@ -10,7 +11,7 @@ use Rattle.cw_board.specs.Asked.{IsRefusedAfter}
 use Rattle.cw_board.specs.Boards.{cells_in}
 use Rattle.cw_board.specs.Victims.{IsBarrier, Refuses}
 use Rattle.cw_board.proofs.Reading.{answered_later}
-use Rattle.cw_board.proofs.Returning.{returned_holds}
+use Rattle.cw_board.proofs.Returning.{returned_cell, returned_holds}
 use Rattle.cw_board.proofs.Refusing.{ok_both, refuses_after}
 use Rattle.cw_board.proofs.board.Board.access_held.Goals as goal
 
@@ -40,3 +41,9 @@ returns-in-Some-judge-clause-against g c =
     ok_both (Refuses (token_of u) (token_of v) c.args.cell last.stamp x own chain) (IsRefusedAfter cells (track_of t.track).column v) ((view_of v).notes ≡ (view_of u).notes) c.refuse.result
     (λ a n h. refuses_after cells (track_of t.track).column last (token_of u) (token_of v) c.args.cell x own chain v a (answered_later cells (track_of t.track).column last u v [] (Against x.block) n found.against) h)
     c.refuse.ensures.notes c.refuse.ensures.ok
+
+pub refuse-requires-clause-lies : goal.refuse-requires-clause-lies
+refuse-requires-clause-lies g c = returned_cell aims.Access c.args.held c.args.token.now c.judge.new.token c.requires.lies c.judge.ensures.returned
+
+pub make_access-requires-in-None-clause-lies : goal.make_access-requires-in-None-clause-lies
+make_access-requires-in-None-clause-lies g c = returned_cell aims.Access c.args.held c.args.token.now c.judge.new.token c.requires.lies c.judge.ensures.returned

@@ -1,6 +1,7 @@
 use Rattle.std.proofs.Common.{ℕ, [], ◌∙◌, ap, subst}
 use Rattle.cw_steps.specs.declared.view.Slot.TheVariants as slot
 use Rattle.cw_board.specs.Asked.{IsAnswered}
+use Rattle.cw_steps.specs.Views.{newest_tier}
 use Rattle.cw_board.specs.Boards.{cells_in}
 use Rattle.cw_board.proofs.Reading.{answered_later, answered_now, over_read}
 use Rattle.cw_board.proofs.Returning.{returned_is}
@@ -25,3 +26,6 @@ returns-clause-answered g c =
     subst (λ (n : ℕ). IsAnswered cells c.args.last n c.tier_back.new.token q.result) c.column-asker.ensures
     (answered_later cells c.column-asker.result c.args.last q.new.token c.tier_back.new.token [] q.result c.tier_back.ensures.notes
     (answered_now c.tier_over-tier.result.columns cells c.column-asker.result c.args.last c.tier_over-tier.new.token q.new.token q.result q.ensures.read q.ensures.given))
+
+pub tier_back-requires-clause-lay : goal.tier_back-requires-clause-lay
+tier_back-requires-clause-lay g c = ap (λ m. newest_tier m.0.turns) c.ask_tier-verdict.ensures.read.me ∙ c.tier_over-tier.ensures.lay

@@ -1,5 +1,6 @@
-use Rattle.std.proofs.Common.{◌∙◌}
+use Rattle.std.proofs.Common.{◌∙◌, ap}
 use Rattle.cw_steps.specs.declared.view.Slot.TheVariants as slot
+use Rattle.cw_steps.specs.Views.{newest_tier}
 use Rattle.cw_board.specs.Boards.{cells_in}
 use Rattle.cw_board.specs.Victims.{IsBarrier}
 use Rattle.cw_board.proofs.Reading.{over_read}
@@ -28,3 +29,6 @@ returns-clause-found g c =
     let held = c.tier_over-tier.ensures.held in
     some_too (IsBarrier cells c.args.last u v) (IsBarrier cells c.args.last t c.tier_back.new.token) c.barrier-found.result
     (λ x h. barrier_later cells c.args.last u t v c.tier_back.new.token x held.track held.token c.tier_back.ensures.notes h) c.barrier-found.ensures.found
+
+pub tier_back-requires-clause-lay : goal.tier_back-requires-clause-lay
+tier_back-requires-clause-lay g c = ap (λ m. newest_tier m.0.turns) c.barrier-found.ensures.read.me ∙ c.tier_over-tier.ensures.lay

@@ -1,5 +1,6 @@
 use Rattle.std.proofs.Common.{sym, subst}
-use Rattle.cw_steps.specs.Views.{IsLowCell}
+use Rattle.cw_steps.specs.Homes.{CellComesHome}
+use Rattle.cw_steps.specs.Views.{newest_aim, newest_cell, IsLowCell}
 use Rattle.cw_steps.specs.declared.view.View.{View}
 use Rattle.cw_steps.specs.declared.view.Slot.TheVariants as slot
 use Rattle.cw_steps.specs.declared.draw.Home.TheVariants as home
@@ -13,8 +14,9 @@ give-requires-clause-held c =
     let v = c.swap_cell.new.token in
     let o = c.swap_cell.ensures in
     let h = c.requires.held in
-    gives_cell b c.args.cell (slot.Cell c.args.held) h.0 v (holds_other b c.args.cell h.1 (slot.Cell c.args.held) h.0 u v h.2 o.table o.view o.slots o.track o.token) c.requires.cell
+    gives_cell b c.args.cell c.args.held home.Plain h.0 v (holds_other b c.args.cell h.1 (slot.Cell c.args.held) h.0 u v h.2 o.table o.view o.slots o.track o.token) c.requires.cell
     (subst (λ (w : View). IsLowCell w.seen (slot.Cell c.args.held)) (sym o.view) c.requires.low)
+    (subst (λ (w : View). CellComesHome c.args.cell home.Plain (newest_aim w.turns) (newest_cell w.turns) (slot.Cell c.args.held)) (sym o.view) c.requires.comes)
 
 pub returns-clause-of : goal.returns-clause-of
 returns-clause-of c =

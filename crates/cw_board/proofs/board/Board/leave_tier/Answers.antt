@@ -1,6 +1,7 @@
 use Rattle.std.proofs.Common.{ℕ, refl, sym, subst}
-use Rattle.cw_steps.specs.Views.{key_of, newest_used, view_of, Holding, IsWhole}
-use Rattle.cw_steps.specs.declared.view.Slot.{Slot}
+use Rattle.cw_steps.specs.declared.view.View.{View}
+use Rattle.cw_steps.specs.Homes.{ComesHome, MayGive}
+use Rattle.cw_steps.specs.Views.{key_of, newest_aim, newest_tier}
 use Rattle.cw_steps.specs.declared.view.Slot.TheVariants as slot
 use Rattle.cw_board.specs.Boards.{cells_in}
 use Rattle.cw_board.proofs.Holding.{given_is, gives_tier, has_tier_too, holds_other, tier_gap}
@@ -14,8 +15,9 @@ give-requires-clause-held c =
     let o = c.tier_in.ensures in
     let h = c.requires.held in
     let now = holds_other b (cells_in b) h.1 (slot.Tier c.args.tier) h.0 u v h.2 o.table o.view o.slots o.track o.token in
-    subst (λ (n : ℕ). (z : Slot) × Holding v n z × IsWhole (key_of b.shared) (view_of v).seen (newest_used (view_of v).turns) n z) (sym c.cells-place.ensures)
-    (gives_tier b (slot.Tier c.args.tier) h.0 v now (has_tier_too b (slot.Tier c.args.tier) (slot.Tier c.args.tier) u v refl o.view c.requires.tier))
+    subst (λ (n : ℕ). MayGive (key_of b.shared) v n c.args.home) (sym c.cells-place.ensures)
+    (gives_tier b c.args.tier c.args.home h.0 v now (has_tier_too b (slot.Tier c.args.tier) (slot.Tier c.args.tier) u v refl o.view c.requires.tier)
+    (subst (λ (w : View). ComesHome w.fork w.phase (newest_aim w.turns) c.args.home (newest_tier w.turns) (slot.Tier c.args.tier)) (sym o.view) c.requires.brings))
 
 pub returns-clause-of : goal.returns-clause-of
 returns-clause-of c =

@@ -1,7 +1,7 @@
 use Rattle.std.proofs.Common.{ℕ, ◌∙◌, ◌∷◌, ap, sym, subst}
 use Rattle.atomic_table.specs.Table.{rest}
-use Rattle.cw_steps.specs.Views.{key_of, newest_used, view_of, Holding, IsWhole}
-use Rattle.cw_steps.specs.declared.view.Slot.{Slot}
+use Rattle.cw_steps.specs.Homes.{MayGive}
+use Rattle.cw_steps.specs.Views.{key_of}
 use Rattle.cw_steps.specs.declared.view.Slot.TheVariants as slot
 use Rattle.cw_board.specs.Boards.{cells_in}
 use Rattle.cw_steps.specs.Tracks.{track_of}
@@ -16,9 +16,9 @@ give-requires-clause-held c =
     let h = c.requires.held in
     let d = c.draw.ensures in
     let o = c.tier_in.ensures in
-    subst (λ (n : ℕ). (z : Slot) × Holding v n z × IsWhole (key_of b.shared) (view_of v).seen (newest_used (view_of v).turns) n z) (sym c.cells-place.ensures)
-    (gives_fork b c.args.left c.args.right c.args.gap c.draw.result u.track.behind u.track.second h.1 (slot.Tier c.args.tier) h.0 u v h.2 (o.view ∙ d.view)
-    (o.slots ∙ ap (λ ys. (cells_in b, slot.Tier c.args.tier) ∷ rest ys) (d.slots ∙ h.2.slots)) c.requires.tier)
+    subst (λ (n : ℕ). MayGive (key_of b.shared) v n c.args.home) (sym c.cells-place.ensures)
+    (gives_fork b c.args.left c.args.right c.args.gap c.draw.result u.track.behind u.track.second h.1 c.args.tier c.args.home h.0 u v h.2 (o.view ∙ d.view)
+    (o.slots ∙ ap (λ ys. (cells_in b, slot.Tier c.args.tier) ∷ rest ys) (d.slots ∙ h.2.slots)) c.requires.tier c.requires.brings)
 
 pub returns-clause-spare : goal.returns-clause-spare
 returns-clause-spare c =

@@ -1,9 +1,10 @@
-use Rattle.std.proofs.Common.{ℕ, refl, subst}
-use Rattle.cw_steps.specs.Views.{Holding}
+use Rattle.std.proofs.Common.{ℕ, refl, subst, ap, ◌∙◌}
+use Rattle.cw_steps.specs.declared.view.View.{View}
+use Rattle.cw_steps.specs.Views.{newest_aim, newest_tier, tier_of, Holding}
 use Rattle.cw_steps.specs.declared.view.Slot.TheVariants as slot
 use Rattle.cw_board.specs.Boards.{cells_in}
 use Rattle.cw_board.specs.Turns.{HasTaken}
-use Rattle.cw_board.proofs.Holding.{has_tier_too, holding_over, over_lies, over_other, takes_over, tier_lies, tier_now}
+use Rattle.cw_board.proofs.Holding.{aim_now, has_tier_too, holding_over, lay_now, over_lies, over_other, takes_over, tier_lies, tier_now}
 use Rattle.cw_board.proofs.board.Board.tier_over.Goals as goal
 
 pub tier_out-requires-clause-held : goal.tier_out-requires-clause-held
@@ -36,3 +37,22 @@ returns-clause-tier g c =
     let taken : HasTaken b c.args.aim (cells_in b) t u = subst (λ (n : ℕ). HasTaken b c.args.aim n t u) c.cells-place.ensures e.taken in
     let h = takes_over b c.args.aim t u taken e.table in
     has_tier_too b taken.takes.lay (slot.Tier c.tier_out.result) u c.tier_out.new.token (over_lies b taken.takes.lay (slot.Tier c.tier_out.result) t u _ h o.out) o.view (tier_now b c.args.aim (cells_in b) t u taken refl)
+
+pub returns-clause-lay : goal.returns-clause-lay
+returns-clause-lay g c =
+    let b = c.args.self.now in
+    let t = c.args.token.now in
+    let u = c.take_turn.new.token in
+    let e = c.take_turn.ensures in
+    let o = c.tier_out.ensures in
+    let taken : HasTaken b c.args.aim (cells_in b) t u = subst (λ (n : ℕ). HasTaken b c.args.aim n t u) c.cells-place.ensures e.taken in
+    let h = takes_over b c.args.aim t u taken e.table in
+    ap (λ (v : View). newest_tier v.turns) o.view ∙ lay_now b c.args.aim (cells_in b) t u taken ∙ ap tier_of (over_lies b taken.takes.lay (slot.Tier c.tier_out.result) t u _ h o.out)
+
+pub returns-clause-aim : goal.returns-clause-aim
+returns-clause-aim g c =
+    let b = c.args.self.now in
+    let t = c.args.token.now in
+    let u = c.take_turn.new.token in
+    let taken : HasTaken b c.args.aim (cells_in b) t u = subst (λ (n : ℕ). HasTaken b c.args.aim n t u) c.cells-place.ensures c.take_turn.ensures.taken in
+    ap (λ (v : View). newest_aim v.turns) c.tier_out.ensures.view ∙ aim_now b c.args.aim (cells_in b) t u taken

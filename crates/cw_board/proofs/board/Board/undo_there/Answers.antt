@@ -1,6 +1,10 @@
-use Rattle.std.proofs.Common.{◌∙◌}
-use Rattle.cw_steps.specs.Views.{view_of}
-use Rattle.cw_board.proofs.Rolls.{gives_back}
+use Rattle.std.proofs.Common.{◌∙◌, subst, sym}
+use Rattle.cw_steps.specs.declared.draw.Aim.{Aim}
+use Rattle.cw_steps.specs.declared.draw.Aim.TheVariants as aims
+use Rattle.std.specs.Prelude.{IsSomeAnd}
+use Rattle.cw_steps.specs.Homes.{LeavesCell}
+use Rattle.cw_steps.specs.Views.{newest_cell, view_of}
+use Rattle.cw_board.proofs.Rolls.{gives_back, undone_since}
 use Rattle.cw_board.proofs.board.Board.undo_there.Goals as goal
 
 pub leave_cell-requires-clause-low : goal.leave_cell-requires-clause-low
@@ -13,3 +17,12 @@ returns-clause-returned g c =
 
 pub returns-clause-token : goal.returns-clause-token
 returns-clause-token g c = c.leave_cell.ensures.token ∙ c.hold_cell-held.ensures.held.token
+
+pub leave_cell-requires-clause-comes : goal.leave_cell-requires-clause-comes
+leave_cell-requires-clause-comes g c =
+    let e = c.hold_cell-held.ensures in
+    let u = c.hold_cell-held.new.token in (
+      tt,
+      subst (λ (a : Aim). IsSomeAnd (newest_cell (view_of u).turns) (λ y. LeavesCell a y c.cut.new.cell)) (sym e.cell.aim)
+          (subst (λ o. IsSomeAnd o (λ y. LeavesCell aims.Undo y c.cut.new.cell)) (sym e.cell.there) (undone_since e.cell.lay c.hold_cell-held.result c.cut.new.cell e.cell.same c.cut.ensures.left)),
+    )

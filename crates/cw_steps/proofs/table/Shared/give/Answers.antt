@@ -18,3 +18,6 @@ pub returns-clause-token : goal.returns-clause-token
 returns-clause-token c =
     let t = c.args.token.now in
     (λ i. stands_for (c.bring.ensures.track i) (c.give_as.ensures.seat i).0 t.stop) ∙ brought_stands t.seat.me.0 t.stop c.args.home (track_of t.track)
+
+pub give_as-requires-clause-held : goal.give_as-requires-clause-held
+give_as-requires-clause-held c = let h = c.requires.held in (h.lies, h.held.turn, h.held.slot, h.whole)

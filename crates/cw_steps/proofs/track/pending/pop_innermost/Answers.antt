@@ -1,5 +1,5 @@
 use Rattle.std.proofs.Common.{◌≡◌, ◌+◌, ◌∙◌, sym, subst}
-use Rattle.std.specs.Prelude.{None, MatchOption, length, vec_len}
+use Rattle.std.specs.Prelude.{MatchOption, vec_len}
 use Rattle.cw_steps.proofs.Tracks.Pending.{popped}
 use Rattle.cw_steps.proofs.track.pending.pop_innermost.Goals as goal
 

@@ -1,7 +1,7 @@
 use Rattle.std.proofs.Common.{ℕ, sym, subst}
 use Rattle.cw_log.specs.Tokens.{Goes}
 use Rattle.cw_steps.specs.Stands.{token_of}
-use Rattle.cw_board.proofs.Led.{here, there, led_is, led_after}
+use Rattle.cw_board.proofs.Led.{here, there, led_after}
 use Rattle.cw_board.proofs.tests.led.Scene.access.Goals as goal
 
 pub access-requires-clause-of : goal.access-requires-clause-of

@@ -1,5 +1,3 @@
-use Rattle.std.proofs.Common.{ℕ, sym, subst}
-use Rattle.cw_steps.specs.Stands.{token_of}
 use Rattle.cw_board.proofs.Led.{here}
 use Rattle.cw_board.proofs.tests.led.Scene.close.Goals as goal
 

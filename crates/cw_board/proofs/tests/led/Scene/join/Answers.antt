@@ -1,4 +1,3 @@
-use Rattle.std.proofs.Common.{ℕ, sym, subst}
 use Rattle.cw_steps.specs.Stands.{token_of}
 use Rattle.cw_board.proofs.Led.{joins_fork, joins_led, there}
 use Rattle.cw_board.proofs.tests.led.Scene.join.Goals as goal

@@ -1,7 +1,4 @@
-use Rattle.std.proofs.Common.{ℕ, sym, subst}
-use Rattle.cw_steps.specs.Stands.{token_of}
-use Rattle.std.proofs.Common.{refl}
-use Rattle.cw_board.proofs.Led.{there, led_is}
+use Rattle.cw_board.proofs.Led.{there}
 use Rattle.cw_board.proofs.tests.led.Scene.new.Goals as goal
 
 pub strand_of-requires-clause-at : goal.strand_of-requires-clause-at

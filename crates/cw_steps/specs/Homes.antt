@@ -1,0 +1,95 @@
+-- What comes home with a turn: the tier that lay there, with the columns that were drawn since, but for what is told; or the cell, with the
+-- access that was drawn since, or with some of the newest entries undone.
+use Rattle.std.specs.Prelude.{◌≡◌, ◌⊎◌, ℕ, ◌+◌, ◌<◌, ◌%◌, nat_lt, Bool, true, false, filter, Option, Some, None, IsSomeAnd}
+use Rattle.cw_log.specs.declared.token.Phase.{Phase}
+use Rattle.cw_log.specs.declared.token.Phase.TheVariants.{Parted}
+use Rattle.cw_stack.specs.Cells.{CellParts}
+use Rattle.cw_trace.specs.Columns.{ColumnTable}
+use Rattle.cw_trace.specs.Columns as columns
+use Rattle.cw_trace.specs.Traces.{Traces}
+use Rattle.cw_steps.specs.declared.draw.Aim.{Aim}
+use Rattle.cw_steps.specs.declared.draw.Aim.TheVariants as aims
+use Rattle.cw_steps.specs.declared.draw.Home.{Home}
+use Rattle.cw_steps.specs.declared.draw.Home.TheVariants as home
+use Rattle.cw_steps.specs.declared.table.StrandToken.{StrandToken}
+use Rattle.cw_steps.specs.declared.view.Key.{Key}
+use Rattle.cw_steps.specs.declared.view.Slot.{Slot}
+use Rattle.cw_steps.specs.declared.view.Slot.TheVariants as slot
+use Rattle.cw_steps.specs.Views.{newest_aim, newest_cell, newest_tier, newest_used, view_of, Holding, IsWhole}
+
+-- in these columns this is the left one of a fork, which is split, or is not
+abbrev pub IsForkThere : (split : Bool) → ColumnTable → (fork : ℕ) → Type 0
+IsForkThere split c f = (f < columns.used c) × (f % 2 ≡ 1) × (columns.is_trace c f ≡ split)
+
+-- the fork was not split and could be, and now it is
+pub record IsSplitNow (fork : ℕ) (lay come : ColumnTable) : Type 0 where
+  pub whole : IsForkThere false lay fork
+  pub first : columns.before_split lay fork ≡ None
+  pub now : come ≡ columns.split_at fork lay
+
+-- nothing changed; if the fork was there and not split, this is the next one outward that has to be before it
+pub record IsTooEarly (fork before : ℕ) (lay come : ColumnTable) : Type 0 where
+  pub next : IsForkThere false lay fork → columns.before_split lay fork ≡ Some before
+  pub same : come ≡ lay
+
+-- the fork was split, and its traces are put together; or it was not, and nothing changed
+pub record IsMergedNow (fork : ℕ) (lay come : ColumnTable) : Type 0 where
+  pub now : IsForkThere true lay fork → come ≡ columns.merged fork lay
+  pub same : (IsForkThere true lay fork → ⊥) → come ≡ lay
+
+-- with the tier's turn, of a strand that began with this fork and is for this, and took the turn for that: as many columns are told as there are,
+-- inline only where there are not two more, and the split or merge of just its own fork
+abbrev pub Brings : (fork : ℕ) → Phase → Aim → Home → (lay come : ColumnTable) → Type 0
+Brings f p a home.Plain c d = d ≡ c
+Brings f p a (home.Refused k) c d = ⊥
+Brings f p a (home.Inline used) c d = (used ≡ columns.used c) × (c.room < used + 2) × (d ≡ c)
+Brings f p a (home.Split g used) c d = (a ≡ aims.Split) × (g ≡ f) × (used ≡ columns.used c) × IsSplitNow g c d
+Brings f p a (home.Early before used) c d = (a ≡ aims.Split) × (used ≡ columns.used c) × IsTooEarly f before c d
+Brings f p a (home.Merge g used) c d = (a ≡ aims.Merge) × (p ≡ Parted g) × (used ≡ columns.used c) × IsMergedNow g c d
+
+-- of what lies in the slot now, where this tier lay
+abbrev pub ComesHome : (fork : ℕ) → Phase → Aim → Home → (lay : Option Traces) → Slot → Type 0
+ComesHome f p a m lay (slot.Tier x) = IsSomeAnd lay (λ y. Brings f p a m y.columns x.columns)
+ComesHome f p a m lay (slot.Cell x) = Unit {0}
+ComesHome f p a m lay slot.Empty = Unit {0}
+
+-- the entries are those that lay there
+abbrev pub IsAsItLay : (lay come : CellParts) → Type 0
+IsAsItLay c d = (d.first ≡ c.first) × (d.entries ≡ c.entries)
+
+-- or those with smaller stamps than this one
+pub record IsCutBack (lay come : CellParts) : Type 0 where
+  pub stamp : ℕ
+  pub first : come.first ≡ lay.first
+  pub entries : come.entries ≡ filter (λ e. nat_lt e.mark.stamp stamp) lay.entries
+
+abbrev pub LeavesCell : Aim → (lay come : CellParts) → Type 0
+LeavesCell aims.Undo c d = IsAsItLay c d ⊎ IsCutBack c d
+LeavesCell aims.Access c d = IsAsItLay c d
+LeavesCell aims.Look c d = IsAsItLay c d
+LeavesCell aims.Fork c d = IsAsItLay c d
+LeavesCell aims.Split c d = IsAsItLay c d
+LeavesCell aims.Merge c d = IsAsItLay c d
+
+-- with a cell's turn nothing is told, or a refused access of that cell
+abbrev pub IsOfCell : (cell : ℕ) → Home → Type 0
+IsOfCell n home.Plain = Unit {0}
+IsOfCell n (home.Refused k) = k.cell ≡ n
+IsOfCell n (home.Inline used) = ⊥
+IsOfCell n (home.Split g used) = ⊥
+IsOfCell n (home.Early before used) = ⊥
+IsOfCell n (home.Merge g used) = ⊥
+
+-- of what lies in the slot now, where this cell lay
+abbrev pub CellComesHome : (cell : ℕ) → Home → Aim → (lay : Option CellParts) → Slot → Type 0
+CellComesHome n m a lay (slot.Cell x) = IsOfCell n m × IsSomeAnd lay (λ y. LeavesCell a y x)
+CellComesHome n m a lay (slot.Tier x) = Unit {0}
+CellComesHome n m a lay slot.Empty = Unit {0}
+
+-- The newest turn is that of slot n, and what lies there is whole and comes home with this.
+pub record MayGive (key : Key) (t : StrandToken) (n : ℕ) (m : Home) : Type 0 where
+  pub lies : Slot
+  pub held : Holding t n lies
+  pub whole : IsWhole key (view_of t).seen (newest_used (view_of t).turns) n lies
+  pub tier : ComesHome (view_of t).fork (view_of t).phase (newest_aim (view_of t).turns) m (newest_tier (view_of t).turns) lies
+  pub cell : CellComesHome n m (newest_aim (view_of t).turns) (newest_cell (view_of t).turns) lies
