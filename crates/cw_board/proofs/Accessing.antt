@@ -9,7 +9,7 @@ use Rattle.cw_tree.specs.Accesses.{cell_value}
 use Rattle.cw_tree.specs.AccessStacks.{written_by}
 use Rattle.cw_stack.specs.Cells.{CellParts, entries_value, entry_of, newest_entry}
 use Rattle.cw_tree.specs.declared.conflict.Conflict.{Conflict}
-use Rattle.cw_log.specs.Answers.{access_kind, IsAround}
+use Rattle.cw_log.specs.Answers.{IsAround, kind_of_answer}
 use Rattle.cw_log.specs.Tokens.{made}
 use Rattle.cw_steps.specs.declared.draw.Draw.TheVariants as draw
 use Rattle.cw_steps.specs.declared.draw.Home.TheVariants as home
@@ -27,7 +27,7 @@ use Rattle.cw_steps.specs.Homes.{CellComesHome, ComesHome, IsAsItLay, LeavesCell
 use Rattle.cw_steps.specs.Views.{cell_with, drew_view, gave_view, held_by, key_of, newest_aim, newest_cell, newest_slot, newest_tier, older, view_of, with_access, CanAccess, IsLowCell, IsTokenOf}
 use Rattle.cw_board.specs.declared.board.Board.{Board}
 use Rattle.cw_board.specs.Boards.{cells_in, columns_of, IsOf}
-use Rattle.cw_board.specs.Sound.{IsSound}
+use Rattle.cw_board.specs.Sound.{IsSoundToken}
 use Rattle.cw_board.specs.Turns.{HasCell, IsHolding}
 use Rattle.cw_board.proofs.Boards.{is_now}
 use Rattle.cw_board.proofs.Holding.{as_it_lay, lists_held}
@@ -53,7 +53,7 @@ low_more_now seen n x y mark write value less same low grown = subst (All (λ (e
     (all_more (λ (e : Entry). e.mark.stamp ≤ n) x.entries (entry_of mark write value)
     (All-weaker (λ (e : Entry). e.mark.stamp ≤ seen) (λ (e : Entry). e.mark.stamp ≤ n) (λ e l. omega (arith, l, less)) x.entries low) (omega (arith, same)))
 
-pub same_kind : (c : ℕ) (o : Option ℤ) (wrote : Bool) (v : ℤ) → wrote ≡ is_some o → kind_of_access c wrote v ≡ access_kind c o v
+pub same_kind : (c : ℕ) (o : Option ℤ) (wrote : Bool) (v : ℤ) → wrote ≡ is_some o → kind_of_access c wrote v ≡ kind_of_answer c o v
 same_kind c None wrote v e = ap (λ b. kind_of_access c b v) e
 same_kind c (Some x) wrote v e = ap (λ b. kind_of_access c b v) e
 
@@ -137,17 +137,17 @@ module _ (b : Board) (n stamp : ℕ) (wrote : Bool) (x : ℤ) (y z : Slot) (t u 
       (subst (All (λ (o : Whereabouts). o.gap < columns_of b)) (sym (ap (λ (w : View). w.outer) h.rest)) h.was.gaps)
       (lists_held b n y t u h)
       (sound_made (token_of u) (view_of u).room (view_of u).seen
-      (subst (λ q. IsSound q (view_of u).room (view_of u).seen) (sym h.token)
-      (subst (λ r. IsSound (token_of t) r (view_of u).seen) (sym (ap (λ (w : View). w.room) h.rest)) (sound_later (token_of t) (view_of t).room (view_of t).seen (view_of u).seen h.later h.was.sound)))
+      (subst (λ q. IsSoundToken q (view_of u).room (view_of u).seen) (sym h.token)
+      (subst (λ r. IsSoundToken (token_of t) r (view_of u).seen) (sym (ap (λ (w : View). w.room) h.rest)) (sound_later (token_of t) (view_of t).room (view_of t).seen (view_of u).seen h.later h.was.sound)))
       drawn_now.room stamp (omega arith) later (kind_of_access n wrote x))
 
 -- a refused access is noted
 pub refused_is : (b : Board) (n : ℕ) (y : Slot) (t u u' : StrandToken) (c : Conflict) → IsHolding b n y t u → IsTokenOf b.shared u' → view_of u' ≡ gave_view (home.Refused c) (view_of u) → held_by u' ≡ rest (held_by u)
     → u'.track.room ≡ u.track.room → token_of u' ≡ brought_token (home.Refused c) (token_of u) → IsAround (token_of u) c.victim → IsOf b u'
 refused_is b n y t u u' c h table view slots room token around =
-    let sound : IsSound (token_of u) (view_of u).room (view_of u).seen =
-    subst (λ q. IsSound q (view_of u).room (view_of u).seen) (sym h.token)
-    (subst (λ r. IsSound (token_of t) r (view_of u).seen) (sym (ap (λ (w : View). w.room) h.rest)) (sound_later (token_of t) (view_of t).room (view_of t).seen (view_of u).seen h.later h.was.sound)) in
+    let sound : IsSoundToken (token_of u) (view_of u).room (view_of u).seen =
+    subst (λ q. IsSoundToken q (view_of u).room (view_of u).seen) (sym h.token)
+    (subst (λ r. IsSoundToken (token_of t) r (view_of u).seen) (sym (ap (λ (w : View). w.room) h.rest)) (sound_later (token_of t) (view_of t).room (view_of t).seen (view_of u).seen h.later h.was.sound)) in
     is_now b u' (gave_view (home.Refused c) (view_of u)) (brought_token (home.Refused c) (token_of u)) table view token (slots ∙ ap (λ ys. rest ys) h.slots)
     (subst (λ r. IsTrue (is_some r)) (sym room) (subst HasRoom (sym h.track) h.was.room))
     (ap (λ (w : View). w.here) h.rest ∙ h.was.here) h.alone

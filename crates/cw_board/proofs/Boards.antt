@@ -1,6 +1,6 @@
 -- Serves `IsOf`: a token that makes steps is still one of its board.
 use Rattle.std.proofs.Common.{◌≡◌, ℕ, ◌+◌, ◌-◌, ◌*◌, ◌<◌, ◌≤◌, ◌∙◌, List, [], ◌∷◌, length, length-append, arith, ap, sym, refl, subst, true}
-use Rattle.std.specs.Prelude.{ℤ, Bool, false, All, IsTrue, is_some, if◌then◌else◌}
+use Rattle.std.specs.Prelude.{ℤ, Bool, All, IsTrue, is_some}
 use Rattle.std.proofs.lemmas.List.Elements.{All-nil, All-head, All-tail}
 use Rattle.cw_tree.specs.declared.access.Entry.{Entry}
 use Rattle.cw_tree.specs.declared.conflict.Conflict.{Conflict}
@@ -11,31 +11,28 @@ use Rattle.cw_steps.specs.declared.track.Stood.{Stood}
 use Rattle.cw_steps.specs.declared.view.View.{View}
 use Rattle.cw_steps.specs.declared.view.Whereabouts.{Whereabouts}
 use Rattle.cw_steps.specs.Tracks.{state_of_end, track_of, HasRoom, IsBeside, WaitsBeside}
-use Rattle.cw_steps.specs.Stands.{opens, stands_for, token_of}
+use Rattle.cw_steps.specs.Stands.{open_forks, token_of}
 use Rattle.cw_steps.specs.Around.{caught_up, outwards}
-use Rattle.cw_steps.specs.Views.{cells_of, held_by, root_view, view_of, drew_view, marked_view, told_view, halted_view, joined_view, both_view, stood_at, further_out, share, IsTokenOf}
+use Rattle.cw_steps.specs.Views.{cells_of, held_by, root_view, view_of, drew_view, marked_view, joined_view, both_view, stood_at, further_out, share, IsTokenOf}
 use Rattle.cw_steps.specs.declared.draw.Draw.TheVariants as draw
 use Rattle.cw_tree.specs.declared.node.Kind.TheVariants as kind
-use Rattle.cw_tree.specs.declared.closed.Halt.{Halt}
-use Rattle.cw_log.specs.declared.token.Phase.{Phase}
-use Rattle.cw_log.specs.declared.token.Phase.TheVariants.{Going}
 use Rattle.cw_log.specs.declared.token.Side.{Side}
 use Rattle.cw_log.specs.declared.token.Side.TheVariants.{Beside, First, Second}
 use Rattle.cw_log.specs.declared.log.Log.{Log}
-use Rattle.cw_log.specs.Tokens.{made, began, ended, halted, was_told, turned, turned_by, taken_in, root_token, AreOfOneFork, HasBlock}
-use Rattle.cw_board.proofs.Sound.{sound_made, sound_began, sound_ended, sound_told, sound_halted, sound_turned, sound_phase, sound_joined}
+use Rattle.cw_log.specs.Tokens.{made, began, ended, turned, turned_by, taken_in, root_token, AreOfOneFork, HasBlock}
+use Rattle.cw_board.proofs.Sound.{sound_made, sound_began, sound_ended, sound_turned, sound_joined}
 use Rattle.cw_steps.proofs.Tracks.{here_both}
 use Rattle.cw_board.specs.declared.board.Board.{Board}
 use Rattle.atomic_table.specs.Table.{Me}
 use Rattle.cw_steps.specs.declared.view.Key.{Key}
 use Rattle.cw_steps.specs.declared.view.Slot.{Slot}
-use Rattle.cw_steps.specs.Leaving.{AreJournals}
+use Rattle.cw_steps.specs.Leaving.{AreFoundJournals}
 use Rattle.cw_board.specs.Boards.{columns_of, AreOfCells, IsOf}
-use Rattle.cw_board.specs.Sound.{AreLow, IsSound}
+use Rattle.cw_board.specs.Sound.{AreLow, IsSoundToken}
 
 -- the token has this view now, and stands for this
 pub is_now : (b : Board) (t : StrandToken) (w : View) (x : Token) → IsTokenOf b.shared t → view_of t ≡ w → token_of t ≡ x → held_by t ≡ [] → HasRoom t.track
-    → w.here ≡ true → w.turns ≡ [] → w.gap < columns_of b → All (λ (o : Whereabouts). o.gap < columns_of b) w.outer → length x.joined + 1 ≤ w.owns → IsSound x w.room w.seen → IsOf b t
+    → w.here ≡ true → w.turns ≡ [] → w.gap < columns_of b → All (λ (o : Whereabouts). o.gap < columns_of b) w.outer → length x.joined + 1 ≤ w.owns → IsSoundToken x w.room w.seen → IsOf b t
 is_now b t w x table view token slots room here turns gap gaps lists sound = record {
   lists = subst (λ (u : View). length (token_of t).joined + 1 ≤ u.owns) (sym view) (subst (λ (y : Token). length y.joined + 1 ≤ w.owns) (sym token) lists);
   table = table;
@@ -45,10 +42,10 @@ is_now b t w x table view token slots room here turns gap gaps lists sound = rec
   gap = subst (λ (u : View). u.gap < columns_of b) (sym view) gap;
   gaps = subst (λ (u : View). All (λ (o : Whereabouts). o.gap < columns_of b) u.outer) (sym view) gaps;
   room = room;
-  sound = subst (λ (u : View). IsSound (token_of t) u.room u.seen) (sym view) (subst (λ y. IsSound y w.room w.seen) (sym token) sound);
+  sound = subst (λ (u : View). IsSoundToken (token_of t) u.room u.seen) (sym view) (subst (λ y. IsSoundToken y w.room w.seen) (sym token) sound);
 }
 
-root_sound : IsSound root_token root_view.room root_view.seen
+root_sound : IsSoundToken root_token root_view.room root_view.seen
 root_sound = record {
   begun = 0;
   waiting = [];
@@ -88,20 +85,6 @@ module _ (b : Board) (t t' : StrandToken) (h : IsOf b t) (table : IsTokenOf b.sh
   pub marked_is : (w x : ℕ) → view_of t' ≡ marked_view w x (view_of t) → token_of t' ≡ token_of t → IsOf b t'
   marked_is w x view token = is_now b t' (marked_view w x (view_of t)) (token_of t) table view token (slots ∙ h.slots) has_room h.here h.turns h.gap h.gaps h.lists h.sound
 
-  pub told_is : (w x : ℕ) (r : Bool) → view_of t' ≡ told_view w x (view_of t) → token_of t' ≡ was_told (token_of t) r → IsOf b t'
-  told_is w x r view token = is_now b t' (told_view w x (view_of t)) (was_told (token_of t) r) table view token (slots ∙ h.slots) has_room h.here h.turns h.gap h.gaps h.lists
-      (sound_told (token_of t) (view_of t).room (view_of t).seen h.sound r)
-
-  pub halted_is : (w : ℕ) (halt : Halt) → view_of t' ≡ halted_view w halt (view_of t) → token_of t' ≡ halted (token_of t) halt → IsOf b t'
-  halted_is w halt view token = is_now b t' (halted_view w halt (view_of t)) (halted (token_of t) halt) table view token (slots ∙ h.slots) has_room h.here h.turns h.gap h.gaps h.lists
-      (sound_halted (token_of t) (view_of t).room (view_of t).seen h.sound halt)
-
--- nothing but its memory changed
-pub reserved_is : (b : Board) (t t' : StrandToken) → IsOf b t → t'.seat ≡ t.seat → track_of t'.track ≡ track_of t.track → t'.stop ≡ t.stop → t'.track.room ≡ t.track.room → IsOf b t'
-reserved_is b t t' h seat track stop room =
-    is_now b t' (view_of t) (token_of t) (ap (λ s. s.table_id) seat ∙ h.table) (ap (λ s. s.me.0) seat) (λ i. stands_for (track i) (seat i).me.0 (stop i)) (ap (λ s. s.me.1) seat ∙ h.slots)
-    (subst (λ r. IsTrue (is_some r)) (sym room) h.room) h.here h.turns h.gap h.gaps h.lists h.sound
-
 -- ## From strand to strand
 
 joined_by : (x : Token) (o : Open) (os : List Open) (s : Side) → (turned_by x (record o { side = s } ∷ os)).joined ≡ x.joined
@@ -121,17 +104,7 @@ turned_is b t t' h seat room token =
     is_now b t' (view_of t) (turned (token_of t)) (ap (λ s. s.table_id) seat ∙ h.table) (ap (λ s. s.me.0) seat) token (ap (λ s. s.me.1) seat ∙ h.slots)
     (subst (λ r. IsTrue (is_some r)) (sym room) h.room) h.here h.turns h.gap h.gaps (subst (λ (ls : List Log). length ls + 1 ≤ (view_of t).owns) (sym (turned_joined (token_of t))) h.lists) (sound_turned (token_of t) (view_of t).room (view_of t).seen h.sound)
 
--- a left strand is over, and a right one goes on
-pub phased_is : (b : Board) (t t' : StrandToken) (p : Phase) → IsOf b t → IsTokenOf b.shared t' → view_of t' ≡ record (view_of t) { phase = p } → token_of t' ≡ record (token_of t) { phase = p } → held_by t' ≡ held_by t → t'.track ≡ t.track
-    → IsOf b t'
-phased_is b t t' p h table view token slots track =
-    is_now b t' (record (view_of t) { phase = p }) (record (token_of t) { phase = p }) table view token (slots ∙ h.slots) (subst HasRoom (sym track) h.room) h.here h.turns h.gap h.gaps h.lists
-    (sound_phase (token_of t) (view_of t).room (view_of t).seen h.sound p)
-
-pub here_not : (behind : ℕ) (second : Bool) (v w : View) → w.here ≡ false → joined_view behind second v w ≡ record v { phase = Going }
-here_not behind second v w e = ap (λ (r : Bool). if r then both_view behind second v w else record v { phase = Going }) e
-
-beside_from : (os : List Stood) (ws : List (List ℕ)) (o : Open) (rest : List Open) (fork : ℕ) → opens os ws ≡ o ∷ rest → o.side ≡ Beside fork → WaitsBeside os
+beside_from : (os : List Stood) (ws : List (List ℕ)) (o : Open) (rest : List Open) (fork : ℕ) → open_forks os ws ≡ o ∷ rest → o.side ≡ Beside fork → WaitsBeside os
 beside_from [] ws o rest fork e f = absurd (cc e)
 beside_from (s ∷ ss) ws o rest fork e f = subst IsBeside (sym (ap (λ os. side_of_first os) e ∙ f)) tt where
   side_of_first : List Open → Side
@@ -166,7 +139,7 @@ weighed_is b t t' h table me track token =
     is_now b t' (view_of t) (token_of t) table (ap (λ m. m.0) me) token (ap (λ m. m.1) me ∙ h.slots) (subst HasRoom (sym track) h.room) h.here h.turns h.gap h.gaps h.lists h.sound
 
 -- what a closed table leaves of its cells
-pub cells_left : (key : Key) (me : Me Slot View) (js : List (List Entry)) → AreJournals key me js → AreOfCells (cells_of key) js
+pub cells_left : (key : Key) (me : Me Slot View) (js : List (List Entry)) → AreFoundJournals key me js → AreOfCells (cells_of key) js
 cells_left key me js h = record {
   many = h.many;
   each = λ n es e. let j = h.each n es e in record { first = j.cell.first; rising = j.rising; steps = j.steps };

@@ -28,8 +28,8 @@ use Rattle.cw_steps.specs.declared.draw.Aim.TheVariants as aims
 use Rattle.cw_steps.specs.Views.{columns_for, drew_view, gave_view, held_by, key_of, newest_aim, newest_slot, newest_tier, newest_used, older, parted_view, new_seat_view, right_view, cells_of, CanFork, IsTierOf, share, tier_with, view_of, with_more, IsTokenOf}
 use Rattle.cw_board.specs.declared.board.Board.{Board}
 use Rattle.cw_board.specs.Boards.{cells_in, columns_of, IsOf}
-use Rattle.cw_board.specs.Sound.{IsSound}
-use Rattle.cw_board.specs.Turns.{HasForked, IsHolding, BringsNothing}
+use Rattle.cw_board.specs.Sound.{IsSoundToken}
+use Rattle.cw_board.specs.Turns.{HasForked, IsHolding}
 use Rattle.cw_board.proofs.Boards.{is_now}
 use Rattle.cw_board.proofs.Holding.{lists_held}
 use Rattle.cw_board.proofs.Sound.{sound_branched, sound_forked, sound_later, sound_right}
@@ -55,15 +55,6 @@ module _ (k w c : ℕ) where
   pub tier_more : (n : ℕ) (ts : List Turn) → newest_slot ts ≡ Some n → newest_tier (with_more k w c ts) ≡ tier_with k w c (newest_tier ts)
   tier_more n [] e = absurd (cc e)
   tier_more n (t ∷ ts) e = refl
-
--- what comes home with a plain turn
-pub plain_home : (m : Home) (v : View) → BringsNothing m → gave_view m v ≡ gave_view home.Plain v
-plain_home home.Plain v h = refl
-plain_home (home.Inline used) v h = refl
-plain_home (home.Refused c) v h = absurd h
-plain_home (home.Split fork used) v h = absurd h
-plain_home (home.Merge fork used) v h = absurd h
-plain_home (home.Early before used) v h = absurd h
 
 module _ (b : Board) (left right gap stamp : ℕ) (y : Slot) (t u u' : StrandToken) (h : IsHolding b (cells_in b) y t u) (f : HasForked b left right gap stamp u u') where
   abbrev now : View
@@ -92,11 +83,11 @@ module _ (b : Board) (left right gap stamp : ℕ) (y : Slot) (t u u' : StrandTok
   has_room = subst (λ r. IsTrue (is_some r)) (sym f.room) (subst HasRoom (sym h.track) h.was.room)
 
   -- what it stands for is sound before the fork
-  sound_before : IsSound (token_of u) (view_of u).room (view_of u).seen
-  sound_before = subst (λ x. IsSound x (view_of u).room (view_of u).seen) (sym h.token)
-      (subst (λ r. IsSound (token_of t) r (view_of u).seen) (sym (ap (λ (v : View). v.room) h.rest)) (sound_later (token_of t) (view_of t).room (view_of t).seen (view_of u).seen h.later h.was.sound))
+  sound_before : IsSoundToken (token_of u) (view_of u).room (view_of u).seen
+  sound_before = subst (λ x. IsSoundToken x (view_of u).room (view_of u).seen) (sym h.token)
+      (subst (λ r. IsSoundToken (token_of t) r (view_of u).seen) (sym (ap (λ (v : View). v.room) h.rest)) (sound_later (token_of t) (view_of t).room (view_of t).seen (view_of u).seen h.later h.was.sound))
 
-  sound_if : (r : Bool) (room : ℕ) → (view_of u).room ≤ room + 1 → IsSound (if r then branched (token_of u) stamp else forked (token_of u) stamp left) room stamp
+  sound_if : (r : Bool) (room : ℕ) → (view_of u).room ≤ room + 1 → IsSoundToken (if r then branched (token_of u) stamp else forked (token_of u) stamp left) room stamp
   sound_if true room paid = sound_branched (token_of u) (view_of u).room (view_of u).seen sound_before room stamp paid f.later
   sound_if false room paid = sound_forked (token_of u) (view_of u).room (view_of u).seen sound_before room stamp paid f.later left
 
@@ -123,9 +114,6 @@ module _ (b : Board) (left right gap stamp : ℕ) (y : Slot) (t u u' : StrandTok
 
     two : columns_for left right ≡ 2
     two = ap {B = ℕ} (λ (r : Bool). if r then 0 else 2) off
-
-    pub rich : (share ≤ (view_of u').room) × (0 < (view_of u').owns)
-    rich = (subst (λ (v : View). share ≤ v.room) (sym f.view) (omega (arith, two)), subst (λ (v : View). 0 < v.owns) (sym f.view) (omega (arith, owned)))
 
     pub left_is : (u'' : StrandToken) (behind : ℕ) (second : Bool) → IsTokenOf b.shared u'' → view_of u'' ≡ parted_view false behind second (view_of u') → held_by u'' ≡ held_by u' → u''.track.room ≡ u'.track.room → token_of u'' ≡ token_of u' → IsOf b u''
     left_is u'' behind second table view slots room token =

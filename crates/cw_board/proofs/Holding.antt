@@ -20,10 +20,10 @@ use Rattle.cw_steps.specs.Stands.{brought_token, token_of}
 use Rattle.cw_stack.specs.Cells.{CellParts}
 use Rattle.cw_steps.specs.declared.draw.Aim.TheVariants as aims
 use Rattle.cw_steps.specs.Homes.{CellComesHome, ComesHome, IsAsItLay, IsOfCell, LeavesCell, MayGive}
-use Rattle.cw_steps.specs.Views.{cell_in, gap_home, gave_view, held_by, key_of, newest_aim, newest_cell, newest_slot, newest_tier, newest_used, noted_view, older, tier_of, took_view, view_of, IsLowCell, IsTierOf, IsTokenOf, Holding, LeavesIt, TakesIt}
+use Rattle.cw_steps.specs.Views.{cell_in, gap_home, gave_view, held_by, key_of, newest_aim, newest_cell, newest_slot, newest_tier, newest_used, older, tier_of, took_view, view_of, IsLowCell, IsTierOf, IsTokenOf, Holding}
 use Rattle.cw_board.specs.Boards.{cells_in, columns_of, IsOf}
 use Rattle.cw_board.specs.declared.board.Board.{Board}
-use Rattle.cw_board.specs.Sound.{IsSound}
+use Rattle.cw_board.specs.Sound.{IsSoundToken}
 use Rattle.cw_board.specs.Turns.{at_rest, HasCell, HasTier, HasTierOver, HasWaited, HasTaken, IsHolding, IsOfTier}
 use Rattle.cw_steps.specs.Leaving.{HasReturned}
 use Rattle.cw_board.proofs.Sound.{sound_brought, sound_later}
@@ -32,24 +32,6 @@ use Rattle.cw_board.proofs.Returning.{returned_from}
 
 pub waits_not : (t : StrandToken) → HasWaited t t
 waits_not t = record { notes = (view_of t).notes; me = refl; track = refl; stop = refl; token = refl }
-
-pub waits_more : (word : ℕ) (t u u' : StrandToken) → HasWaited t u → LeavesIt word u.seat.me u'.seat.me → u'.track ≡ u.track → u'.stop ≡ u.stop → token_of u' ≡ token_of u → HasWaited t u'
-waits_more word t u u' h left track stop token = record {
-  notes = record { word = word; value = left.0 } ∷ h.notes;
-  me = left.2 ∙ ap (λ m. (noted_view word left.0 m.0, m.1)) h.me;
-  track = track ∙ h.track;
-  stop = stop ∙ h.stop;
-  token = token ∙ h.token;
-}
-
-pub takes_then : (b : Board) (aim : Aim) (n : ℕ) (t u u' : StrandToken) → HasWaited t u → TakesIt (key_of b.shared) aim n u.seat.me u'.seat.me → u'.track ≡ u.track → u'.stop ≡ u.stop → token_of u' ≡ token_of u → HasTaken b aim n t u'
-takes_then b aim n t u u' h takes track stop token = record {
-  notes = h.notes;
-  takes = subst (λ m. TakesIt (key_of b.shared) aim n m u'.seat.me) h.me takes;
-  track = track ∙ h.track;
-  stop = stop ∙ h.stop;
-  token = token ∙ h.token;
-}
 
 -- ## What lies in the slot
 
@@ -72,9 +54,6 @@ module _ (b : Board) (why : Aim) (n : ℕ) (t u : StrandToken) (h : HasTaken b w
     track = h.track;
     token = h.token;
   }
-
-  pub low_now : n < cells_in b → IsLowCell (view_of u).seen h.takes.lay
-  low_now less = subst (λ (v : View). IsLowCell v.seen h.takes.lay) (sym view_now) (h.takes.whole.cell less)
 
   pub lay_now : newest_tier (view_of u).turns ≡ tier_of h.takes.lay
   lay_now = ap (λ (v : View). newest_tier v.turns) view_now
@@ -222,8 +201,8 @@ given_is b n y t u u' m h table view slots room token home gap =
     (subst (All (λ (o : Whereabouts). o.gap < columns_of b)) (sym (ap (λ (v : View). v.outer) h.rest)) h.was.gaps)
     (lists_given b n y t u m h)
     (sound_brought m (token_of u) (view_of u).room (view_of u).seen home
-    (subst (λ x. IsSound x (view_of u).room (view_of u).seen) (sym h.token)
-    (subst (λ r. IsSound (token_of t) r (view_of u).seen) (sym (ap (λ (v : View). v.room) h.rest)) (sound_later (token_of t) (view_of t).room (view_of t).seen (view_of u).seen h.later h.was.sound))))
+    (subst (λ x. IsSoundToken x (view_of u).room (view_of u).seen) (sym h.token)
+    (subst (λ r. IsSoundToken (token_of t) r (view_of u).seen) (sym (ap (λ (v : View). v.room) h.rest)) (sound_later (token_of t) (view_of t).room (view_of t).seen (view_of u).seen h.later h.was.sound))))
 
 -- a cell that is as it lay may come home, whatever the turn was taken for
 pub as_it_lay : (a : Aim) (c d : CellParts) → IsAsItLay c d → LeavesCell a c d

@@ -7,4 +7,3 @@ pub mod Accessing
 pub mod Reading
 pub mod Refusing
 pub mod Rolls
-pub mod Led

@@ -1,12 +1,10 @@
 -- Serves `HasRead` and `ToldBy`: a token that reads words while it has a turn.
-use Rattle.std.proofs.Common.{◌≡◌, ◌∙◌, ℕ, ◌-◌, ◌<◌, ◌≤◌, List, [], ◌∷◌, ◌++◌, length, length-append, take, ap, refl, sym, subst, arith, append_assoc}
-use Rattle.std.specs.Prelude.{Bool, Option, Some, None}
+use Rattle.std.proofs.Common.{◌≡◌, ◌∙◌, ℕ, ◌-◌, ◌≤◌, List, [], ◌∷◌, ◌++◌, length, length-append, take, ap, refl, sym, subst, arith, append_assoc}
+use Rattle.std.specs.Prelude.{Option, Some, None}
 use Rattle.std.specs.Borrow.{MutBor}
 use Rattle.std.proofs.lemmas.List.{take_at}
-use Rattle.std.proofs.lemmas.List.Elements.{Contains-append_left, Contains-append_right, Contains-push}
+use Rattle.std.proofs.lemmas.List.Elements.{Contains-append_right}
 use Rattle.cw_trace.specs.Columns.{ColumnTable}
-use Rattle.cw_trace.specs.Columns as columns
-use Rattle.cw_trace.specs.Traces.{Traces}
 use Rattle.cw_trace.specs.Query.{Gives}
 use Rattle.cw_trace.specs.declared.verdict.Verdict.{Verdict}
 use Rattle.cw_tree.specs.declared.access.Mark.{Mark}
@@ -14,14 +12,13 @@ use Rattle.cw_trace.specs.Told.{Owner, Lead, Up, Word, Inside, Number, Maybe, Te
 use Rattle.cw_steps.specs.declared.table.StrandToken.{StrandToken}
 use Rattle.cw_steps.specs.declared.view.Note.{Note}
 use Rattle.cw_steps.specs.declared.view.Slot.{Slot}
-use Rattle.cw_steps.specs.declared.view.Slot.TheVariants as slot
 use Rattle.cw_steps.specs.declared.view.View.{View}
 use Rattle.cw_steps.specs.Places.{gap_word}
 use Rattle.cw_steps.specs.Stands.{token_of}
-use Rattle.cw_steps.specs.Views.{held_by, newest_slot, newest_used, noted_view, older, view_of, IsTierOf, IsTokenOf}
+use Rattle.cw_steps.specs.Views.{held_by, newest_slot, noted_view, older, view_of, IsTokenOf}
 use Rattle.cw_board.specs.declared.board.Board.{Board}
-use Rattle.cw_board.specs.Boards.{cells_in, columns_of}
-use Rattle.cw_board.specs.Turns.{at_rest, HasTier, HasTierOver}
+use Rattle.cw_board.specs.Boards.{cells_in}
+use Rattle.cw_board.specs.Turns.{at_rest, HasTierOver}
 use Rattle.cw_board.specs.Asked.{noted_since, HasRead, IsAnswered, IsReading, Question, ReadsFor, ToldBy, ToldFor}
 
 pub reads_not : (t : StrandToken) → HasRead t t
@@ -67,45 +64,10 @@ module _ (c : ColumnTable) (cells gap value : ℕ) (t u u' : StrandToken) (h : H
   abbrev note : Note
   note = record { word = gap_word cells gap; value = value }
 
-  pub told_word : gap < columns.used c → ToldBy c cells (noted_since t u') (Word gap) (Number value)
-  told_word less = subst (λ ns. ToldBy c cells ns (Word gap) (Number value)) (sym (since_is t u' g ∙ more)) (record {
-    word = λ l. Contains-append_left (note ∷ []) h.notes note (Contains-push [] note);
-    none = λ le. absurd (omega (arith, less, le));
-  })
-
   pub told_still : Stays (ToldBy c cells (noted_since t u)) (ToldBy c cells (noted_since t u'))
   told_still r a told = subst (λ ns. ToldBy c cells ns r a) (sym (since_is t u' g ∙ more)) (told_more c cells (note ∷ []) h.notes r a (subst (λ ns. ToldBy c cells ns r a) (since_is t u h) told))
 
 -- ## One question
-
-pub told_owner : (o : Option Question) (b : Board) (lent : MutBor StrandToken) (c : ColumnTable) (i n : ℕ) → ReadsFor o b lent c → n ≡ columns.owner c i → ToldFor o lent.now (Owner i) (Number n)
-told_owner None b lent c i n h e = absurd h
-told_owner (Some q) b lent c i n h e = ap (λ d. Number (columns.owner d i)) (sym h.tier) ∙ ap Number (sym e)
-
-pub told_lead : (o : Option Question) (b : Board) (lent : MutBor StrandToken) (c : ColumnTable) (i : ℕ) (x : Option ℕ) → ReadsFor o b lent c → x ≡ columns.lead c i → ToldFor o lent.now (Lead i) (Maybe x)
-told_lead None b lent c i x h e = absurd h
-told_lead (Some q) b lent c i x h e = ap (λ d. Maybe (columns.lead d i)) (sym h.tier) ∙ ap Maybe (sym e)
-
-pub told_up : (o : Option Question) (b : Board) (lent : MutBor StrandToken) (c : ColumnTable) (i : ℕ) (x : Option ℕ) → ReadsFor o b lent c → x ≡ columns.up c i → ToldFor o lent.now (Up i) (Maybe x)
-told_up None b lent c i x h e = absurd h
-told_up (Some q) b lent c i x h e = ap (λ d. Maybe (columns.up d i)) (sym h.tier) ∙ ap Maybe (sym e)
-
-pub told_inside : (o : Option Question) (b : Board) (lent : MutBor StrandToken) (c : ColumnTable) (i j : ℕ) (x : Bool) → ReadsFor o b lent c → x ≡ columns.inside c i j → ToldFor o lent.now (Inside i j) (Test x)
-told_inside None b lent c i j x h e = absurd h
-told_inside (Some q) b lent c i j x h e = ap (λ d. Test (columns.inside d i j)) (sym h.tier) ∙ ap Test (sym e)
-
--- of a gap that is not in use
-pub told_none : (o : Option Question) (b : Board) (lent : MutBor StrandToken) (c : ColumnTable) (gap : ℕ) → ReadsFor o b lent c → columns.used c ≤ gap → ToldFor o lent.now (Word gap) (Number 0)
-told_none None b lent c gap h le = absurd h
-told_none (Some q) b lent c gap h le = let past : columns.used q.tier ≤ gap = subst (λ d. columns.used d ≤ gap) h.tier le in record { word = λ l. absurd (omega (arith, l, past)); none = λ l. refl }
-
-pub reads_table : (o : Option Question) (b : Board) (lent : MutBor StrandToken) (c : ColumnTable) → ReadsFor o b lent c → IsTokenOf b.shared lent.now
-reads_table None b lent c h = absurd h
-reads_table (Some q) b lent c h = h.table
-
-pub reads_there : (o : Option Question) (b : Board) (lent : MutBor StrandToken) (c : ColumnTable) (gap : ℕ) → ReadsFor o b lent c → gap < columns.used c → gap < columns_of b
-reads_there None b lent c gap h l = absurd h
-reads_there (Some q) b lent c gap h l = let less : gap < columns.used q.tier = subst (λ d. gap < columns.used d) h.tier l in omega (arith, less, h.few)
 
 -- the word of a gap was loaded
 pub record WasLoaded (b : Board) (gap n : ℕ) (lent lent' : MutBor StrandToken) : Type 0 where
@@ -127,9 +89,6 @@ module _ (q : Question) (b : Board) (lent lent' : MutBor StrandToken) (c : Colum
   one_reads : IsReading q b lent' c
   one_reads = record { name = l.name ∙ h.name; read = read_now; table = l.table; tier = h.tier; cells = h.cells; few = h.few }
 
-  one_told : gap < columns.used c → ToldFor (Some q) lent'.now (Word gap) (Number n)
-  one_told less = told_word q.tier q.cells gap n q.token.now lent.now lent'.now h.read read_now note_now (subst (λ d. gap < columns.used d) h.tier less)
-
   one_stays : Stays (ToldFor (Some q) lent.now) (ToldFor (Some q) lent'.now)
   one_stays = told_still q.tier q.cells gap n q.token.now lent.now lent'.now h.read read_now note_now
 
@@ -137,10 +96,6 @@ module _ (b : Board) (lent lent' : MutBor StrandToken) (c : ColumnTable) (gap n 
   pub word_reads : (o : Option Question) → ReadsFor o b lent c → ReadsFor o b lent' c
   word_reads None h = absurd h
   word_reads (Some q) h = one_reads q b lent lent' c gap n h l
-
-  pub word_told : (o : Option Question) → ReadsFor o b lent c → gap < columns.used c → ToldFor o lent'.now (Word gap) (Number n)
-  word_told None h less = absurd h
-  word_told (Some q) h less = one_told q b lent lent' c gap n h l less
 
   pub word_stays : (o : Option Question) → ReadsFor o b lent c → Stays (ToldFor o lent.now) (ToldFor o lent'.now)
   word_stays None h = absurd h
@@ -161,19 +116,6 @@ over_read b y t u u' h g =
       track = g.track ∙ h.track;
       token = g.token ∙ h.token;
     }
-
-pub tier_read : (b : Board) (y : Slot) (u u' : StrandToken) → HasTier b y u → HasRead u u' → HasTier b y u'
-tier_read b y u u' h g =
-    let view : view_of u' ≡ record (view_of u) { notes = g.notes ++ (view_of u).notes } = ap (λ m. m.0) g.me in record {
-      few = subst (λ (v : View). newest_used v.turns ≤ columns_of b) (sym view) h.few;
-      column = subst (λ (v : View). v.column < newest_used v.turns) (sym view) h.column;
-      gap = subst (λ (v : View). v.gap < newest_used v.turns) (sym view) h.gap;
-      whole = subst (λ (v : View). IsTierOf (columns_of b) (newest_used v.turns) y) (sym view) h.whole;
-    }
-
--- no gap in use is beyond the words
-pub few_used : (b : Board) (x : Traces) (u : StrandToken) → HasTier b (slot.Tier x) u → columns.used x.columns ≤ columns_of b
-few_used b x u h = omega (arith, h.few, h.whole.1)
 
 -- the notes of one question stay in a row
 pub answered_later : (cells asker : ℕ) (last : Mark) (u u' : StrandToken) (more : List Note) (v : Verdict) → (view_of u').notes ≡ more ++ (view_of u).notes → IsAnswered cells last asker u v → IsAnswered cells last asker u' v

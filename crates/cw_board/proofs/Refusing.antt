@@ -1,6 +1,6 @@
 -- Serves `IsBarrier` and `Refuses`: an access that is refused.
-use Rattle.std.proofs.Common.{◌≡◌, ◌∙◌, ℕ, List, [], ◌∷◌, ◌++◌, ap, length, reverse, refl, sym, subst, inl, inr, arith}
-use Rattle.std.specs.Prelude.{◌⊎◌, ℤ, Contains, IfOk, IfSome, OnOk, Option, Some, None, Result, Ok, Err}
+use Rattle.std.proofs.Common.{◌≡◌, ◌∙◌, ℕ, List, [], ◌∷◌, ◌++◌, ap, reverse, refl, sym, subst, inl, inr, arith}
+use Rattle.std.specs.Prelude.{◌⊎◌, Contains, IfOk, IfSome, OnOk, Option, Some, None, Result, Ok, Err}
 use Rattle.std.proofs.lemmas.List.{map-append, reverse-append}
 use Rattle.std.proofs.lemmas.List.Elements.{Contains-append_cases, Contains-append_left, Contains-push, Contains-push_cases}
 use Rattle.cw_tree.specs.declared.access.Mark.{Mark}
@@ -9,7 +9,7 @@ use Rattle.cw_log.specs.declared.board.Access.{Access}
 use Rattle.cw_log.specs.declared.board.Access.TheVariants as access
 use Rattle.cw_log.specs.declared.log.Above.{Above}
 use Rattle.cw_log.specs.declared.token.Token.{Token}
-use Rattle.cw_log.specs.Answers.{IsAround, Meets}
+use Rattle.cw_log.specs.Answers.{IsAround}
 use Rattle.cw_log.specs.Tokens.{refused}
 use Rattle.cw_steps.specs.declared.table.StrandToken.{StrandToken}
 use Rattle.cw_steps.specs.Stands.{token_of}
@@ -19,10 +19,6 @@ use Rattle.cw_board.specs.declared.victims.Barrier.{Barrier}
 use Rattle.cw_board.specs.Asked.{IsAnswered, IsRefusedAfter}
 use Rattle.cw_board.specs.Victims.{begin_of, IsBarrier, Refuses}
 use Rattle.cw_board.proofs.Reading.{answered_later}
-
-pub ok_too : {A E : Type 0} (P Q : A → Type 0) (r : Result A E) → ((a : A) → P a → Q a) → IfOk r P → IfOk r Q
-ok_too P Q (Ok a) f h = f a h
-ok_too P Q (Err e) f h = h
 
 pub ok_both : {A E : Type 0} (P Q : A → Type 0) (N : Type 0) (r : Result A E) → ((a : A) → N → P a → Q a) → OnOk r N → IfOk r P → IfOk r Q
 ok_both P Q N (Ok a) f n h = f a n h
@@ -66,15 +62,6 @@ barrier_later cells last t t' u u' x track token notes b = record {
 }
 
 -- ## The answer
-
-pub refuses_meets : (x x' y : Token) (c last : ℕ) (b : Barrier) (own : ℕ) (chain : List ℕ) (w : Option ℤ) (a : Access) → x' ≡ x → IsAround x (begin_of b.victim) → Refuses x' y c last b own chain a → Meets x y c w a
-refuses_meets x x' y c last b own chain w (access.Value v) e around h = absurd h
-refuses_meets x x' y c last b own chain w (access.Conflict k) e around h = (
-  ap (λ j. j.cell) h.0,
-  ap (λ j. j.asker) h.0 ∙ ap (λ (z : Token). length z.own.nodes) e,
-  subst (IsAround x) (sym (ap (λ j. j.victim) h.0)) around,
-  h.1 ∙ ap (λ z. refused z k) e,
-)
 
 pub refuses_after : (cells asker : ℕ) (last : Mark) (x y : Token) (c : ℕ) (b : Barrier) (own : ℕ) (chain : List ℕ) (u : StrandToken) (a : Access) → IsAnswered cells last asker u (Against b.block) → Refuses x y c last.stamp b own chain a → IsRefusedAfter cells asker u a
 refuses_after cells asker last x y c b own chain u (access.Value v) g h = absurd h

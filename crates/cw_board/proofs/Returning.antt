@@ -1,16 +1,13 @@
 -- Serves `HasReturned`: a token that took turns and gave them back.
 use Rattle.std.proofs.Common.{◌≡◌, ℕ, ◌≤◌, ◌∙◌, ap, sym, subst, arith}
 use Rattle.std.specs.Prelude.{IsTrue, is_some}
-use Rattle.std.proofs.lemmas.List.Elements.{All-weaker}
-use Rattle.cw_tree.specs.declared.access.Entry.{Entry}
 use Rattle.cw_steps.specs.Leaving.{HasReturned}
 use Rattle.cw_steps.specs.declared.draw.Aim.{Aim}
 use Rattle.cw_steps.specs.declared.table.StrandToken.{StrandToken}
 use Rattle.cw_steps.specs.declared.view.Slot.{Slot}
-use Rattle.cw_steps.specs.declared.view.Slot.TheVariants as slot
 use Rattle.cw_steps.specs.Stands.{token_of}
 use Rattle.cw_steps.specs.Tracks.{HasRoom}
-use Rattle.cw_steps.specs.Views.{held_by, newest_aim, newest_cell, newest_slot, older, view_of, IsLowCell, IsTokenOf}
+use Rattle.cw_steps.specs.Views.{held_by, newest_aim, newest_cell, newest_slot, older, view_of, IsTokenOf}
 use Rattle.cw_board.specs.declared.board.Board.{Board}
 use Rattle.cw_board.specs.Boards.{IsOf}
 use Rattle.cw_stack.specs.Cells.{CellParts}
@@ -43,11 +40,6 @@ word_kept t t' h = sym t'.word ∙ ap (λ m. m.0.word) h.after ∙ t.word
 -- no number that it knows is forgotten
 pub returned_later : (t t' : StrandToken) → HasReturned t.seat.me t'.seat.me → (view_of t).seen ≤ (view_of t').seen
 returned_later t t' h = subst (λ m. (view_of t).seen ≤ m.0.seen) (sym h.after) h.later
-
-pub returned_low : (t t' : StrandToken) → HasReturned t.seat.me t'.seat.me → (y : Slot) → IsLowCell (view_of t).seen y → IsLowCell (view_of t').seen y
-returned_low t t' h (slot.Cell x) low = All-weaker (λ (e : Entry). e.mark.stamp ≤ (view_of t).seen) (λ (e : Entry). e.mark.stamp ≤ (view_of t').seen) (λ e l. omega (arith, l, returned_later t t' h)) x.entries low
-returned_low t t' h (slot.Tier x) low = absurd low
-returned_low t t' h slot.Empty low = absurd low
 
 -- it still has the cell that it had
 pub returned_cell : (a : Aim) (x : CellParts) (t t' : StrandToken) → HasCell a x t → HasReturned t.seat.me t'.seat.me → HasCell a x t'

@@ -19,7 +19,7 @@ use Rattle.cw_steps.specs.Stands.{token_of}
 use Rattle.cw_steps.specs.Views.{gave_view, view_of, IsLowCell}
 use Rattle.cw_board.specs.declared.board.Board.{Board}
 use Rattle.cw_board.specs.Boards.{IsOf}
-use Rattle.cw_board.specs.Sound.{IsSound}
+use Rattle.cw_board.specs.Sound.{IsSoundToken}
 use Rattle.cw_board.specs.Turns.{at_rest, IsHolding}
 use Rattle.cw_board.proofs.Boards.{is_now}
 use Rattle.cw_board.proofs.Returning.{returned_from, returned_with}
@@ -34,7 +34,7 @@ front_all : (P : Conflict → Type 0) (xs ys : List Conflict) → All P (xs ++ y
 front_all P [] ys h = All-nil P
 front_all P (x ∷ xs) ys h = All-cons P x (xs ++ []) (All-head P x (xs ++ ys) h) (front_all P xs ys (All-tail P x (xs ++ ys) h))
 
-sound_lent : (x : Token) (room seen : ℕ) → IsSound x room seen → IsSound (record x { joined = [] }) room seen
+sound_lent : (x : Token) (room seen : ℕ) → IsSoundToken x room seen → IsSoundToken (record x { joined = [] }) room seen
 sound_lent x room seen h = record {
   begun = h.begun;
   waiting = h.waiting;

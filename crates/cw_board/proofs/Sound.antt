@@ -1,5 +1,5 @@
--- Serves `IsSound`: what stays true of a token, whatever it does next.
-use Rattle.std.proofs.Common.{◌≡◌, ◌^◌, Bool, max, append_assoc, ℕ, zero, suc, ◌+◌, ◌*◌, ◌<◌, ◌≤◌, ◌∙◌, List, [], ◌∷◌, ◌++◌, length, length-append, drop, arith, ap, sym, refl, subst, inl, inr}
+-- Serves `IsSoundToken`: what stays true of a token, whatever it does next.
+use Rattle.std.proofs.Common.{◌≡◌, max, append_assoc, ℕ, zero, suc, ◌+◌, ◌*◌, ◌<◌, ◌≤◌, ◌∙◌, List, [], ◌∷◌, ◌++◌, length, length-append, drop, arith, ap, sym, refl, subst, inl, inr}
 use Rattle.std.specs.Prelude.{◌||◌, All, slice_get, Some, if◌then◌else◌}
 use Rattle.std.proofs.lemmas.List.{length-drop}
 use Rattle.std.proofs.lemmas.List.Elements.{All-nil, All-cons, All-contains, All-head, All-tail, All-weaker}
@@ -14,20 +14,19 @@ use Rattle.cw_tree.proofs.NextNodes.Closing.{length_closed, number_closed}
 use Rattle.cw_log.specs.declared.token.Open.{Open}
 use Rattle.cw_log.specs.declared.token.Token.{Token}
 use Rattle.cw_log.specs.declared.token.Phase.{Phase}
-use Rattle.cw_tree.specs.declared.closed.Halt.{Halt}
 use Rattle.cw_log.specs.declared.log.Log.{Log}
 use Rattle.cw_log.specs.declared.token.Phase.TheVariants.{Going, Parted}
 use Rattle.cw_log.specs.declared.token.Side.{Side}
 use Rattle.cw_log.specs.declared.token.Side.TheVariants.{Beside, First, Second}
 use Rattle.cw_log.specs.Answers.{IsAround}
-use Rattle.cw_log.specs.Tokens.{refused, made, began, ended, halted, was_told, branched, forked, left_behind, turned, turned_by, taken_in, kept_stop, conflicts_in, logs, HasBlock, IsLater}
+use Rattle.cw_log.specs.Tokens.{refused, made, began, ended, branched, forked, left_behind, turned, turned_by, taken_in, kept_stop, conflicts_in, logs, HasBlock}
 use Rattle.cw_steps.specs.declared.draw.Home.{Home}
 use Rattle.cw_steps.specs.declared.draw.Home.TheVariants as home
 use Rattle.cw_steps.specs.Stands.{blocks_outside, brought_token, right_token}
 use Rattle.cw_steps.specs.Totals.{total}
 use Rattle.cw_steps.specs.Views.{share}
 use Rattle.cw_board.specs.Turns.{IsOfTier}
-use Rattle.cw_board.specs.Sound.{Climbs, ClimbOut, OwnOut, AreLow, IsSound}
+use Rattle.cw_board.specs.Sound.{Climbs, ClimbOut, OwnOut, AreLow, IsSoundToken}
 
 -- ## Nodes that stand
 
@@ -85,10 +84,7 @@ low_rest seen (b ∷ bs) h = All-tail (λ c. c ≤ seen) b bs h
 
 -- ## What a token does
 
-module _ (x : Token) (room seen : ℕ) (h : IsSound x room seen) where
-  pub numbers_left : length x.own.nodes < 2 ^ 32 → 0 < room
-  numbers_left few = omega (arith, h.numbers, few)
-
+module _ (x : Token) (room seen : ℕ) (h : IsSoundToken x room seen) where
   own_from : (k : ℕ) → Climbs x.own.nodes x.strand x.place k → k + blocks_outside x.forks ≤ length x.around → HasBlock x → blocks_outside x.forks < length x.around
   own_from zero p own block = absurd (block p)
   own_from (suc k) p own block = omega (arith, own)
@@ -97,15 +93,8 @@ module _ (x : Token) (room seen : ℕ) (h : IsSound x room seen) where
   pub own_block : HasBlock x → blocks_outside x.forks < length x.around
   own_block block = own_from h.begun h.path h.own block
 
-  pub later : (n : ℕ) → seen < n → IsLater x n
-  later n less = record {
-    some = omega (arith, less);
-    around = All-weaker (λ b. b ≤ seen) (λ b. b < n) (λ b l. omega (arith, l, less)) x.around h.around;
-    victims = All-weaker (λ (c : Conflict). c.victim ≤ seen) (λ (c : Conflict). c.victim < n) (λ c l. omega (arith, l, less)) (conflicts_in (logs x)) h.victims;
-  }
-
   module _ (room' n : ℕ) (paid : room ≤ room' + 1) (less : seen < n) where
-    pub sound_made : (k : Kind) → IsSound (made x k n) room' n
+    pub sound_made : (k : Kind) → IsSoundToken (made x k n) room' n
     sound_made k = record {
       begun = h.begun;
       waiting = h.waiting;
@@ -119,7 +108,7 @@ module _ (x : Token) (room seen : ℕ) (h : IsSound x room seen) where
       victims = victims_more seen n (conflicts_in (logs x)) (omega (arith, less)) h.victims;
     }
 
-    pub sound_began : IsSound (began x n) room' n
+    pub sound_began : IsSoundToken (began x n) room' n
     sound_began =
         let more : List Node = x.own.nodes ++ fresh_node x.place Block n ∷ [] in
         let parent : parent_of more (length x.own.nodes) ≡ x.place = ap (number_in (λ y. y.parent)) (new_node x.own.nodes (fresh_node x.place Block n)) in
@@ -140,7 +129,7 @@ module _ (x : Token) (room seen : ℕ) (h : IsSound x room seen) where
         }
 
     ended_from : (state : BlockState) (k : ℕ) → Climbs x.own.nodes x.strand x.place k → share + k + total (λ j. j) h.waiting ≤ room + 2 * length x.own.nodes → k + blocks_outside x.forks ≤ length x.around → HasBlock x
-        → IsSound (ended x state n) room' n
+        → IsSoundToken (ended x state n) room' n
     ended_from state zero p numbers own block = absurd (block p)
     ended_from state (suc k) p numbers own block = record {
       begun = k;
@@ -155,25 +144,19 @@ module _ (x : Token) (room seen : ℕ) (h : IsSound x room seen) where
       victims = victims_more seen n (conflicts_in (logs x)) (omega (arith, less)) h.victims;
     }
 
-    pub sound_ended : (state : BlockState) → HasBlock x → IsSound (ended x state n) room' n
+    pub sound_ended : (state : BlockState) → HasBlock x → IsSoundToken (ended x state n) room' n
     sound_ended state block = ended_from state h.begun h.path h.numbers h.own block
 
 -- ## What does not change the log
 
-module _ (x : Token) (room seen : ℕ) (h : IsSound x room seen) where
-  pub sound_told : (b : Bool) → IsSound (was_told x b) room seen
-  sound_told b = record { begun = h.begun; waiting = h.waiting; path = h.path; outer = h.outer; own = h.own; outer_own = h.outer_own; numbers = h.numbers; around = h.around; outer_around = h.outer_around; victims = h.victims }
-
-  pub sound_halted : (halt : Halt) → IsSound (halted x halt) room seen
-  sound_halted halt = record { begun = h.begun; waiting = h.waiting; path = h.path; outer = h.outer; own = h.own; outer_own = h.outer_own; numbers = h.numbers; around = h.around; outer_around = h.outer_around; victims = h.victims }
-
-  pub sound_phase : (phase : Phase) → IsSound (record x { phase = phase }) room seen
+module _ (x : Token) (room seen : ℕ) (h : IsSoundToken x room seen) where
+  pub sound_phase : (phase : Phase) → IsSoundToken (record x { phase = phase }) room seen
   sound_phase phase = record { begun = h.begun; waiting = h.waiting; path = h.path; outer = h.outer; own = h.own; outer_own = h.outer_own; numbers = h.numbers; around = h.around; outer_around = h.outer_around; victims = h.victims }
 
   -- ## From one strand of a fork to the next
 
   out_of : (o : Open) (os : List Open) (ks : List ℕ) → ClimbOut x.own.nodes (o ∷ os) ks → OwnOut (o ∷ os) ks → share + h.begun + total (λ k. k) ks ≤ room + 2 * length x.own.nodes
-      → All (λ (p : Open). AreLow seen p.around) (o ∷ os) → IsSound (left_behind x (o ∷ os)) room seen
+      → All (λ (p : Open). AreLow seen p.around) (o ∷ os) → IsSoundToken (left_behind x (o ∷ os)) room seen
   out_of o os [] climb own numbers low = absurd climb
   out_of o os (k ∷ ks) climb own numbers low = record {
     begun = k;
@@ -188,12 +171,12 @@ module _ (x : Token) (room seen : ℕ) (h : IsSound x room seen) where
     victims = h.victims;
   }
 
-  pub sound_behind : (o : Open) (os : List Open) → x.forks ≡ o ∷ os → IsSound (left_behind x (o ∷ os)) room seen
+  pub sound_behind : (o : Open) (os : List Open) → x.forks ≡ o ∷ os → IsSoundToken (left_behind x (o ∷ os)) room seen
   sound_behind o os e = out_of o os h.waiting (subst (λ ps. ClimbOut x.own.nodes ps h.waiting) e h.outer) (subst (λ ps. OwnOut ps h.waiting) e h.outer_own) h.numbers (subst (λ ps. All (λ (p : Open). AreLow seen p.around) ps) e h.outer_around)
 
   second_of : (o : Open) (os : List Open) (right : ℕ) (ks : List ℕ) → ClimbOut x.own.nodes (o ∷ os) ks → OwnOut (o ∷ os) ks → share + h.begun + total (λ k. k) ks ≤ room + 2 * length x.own.nodes
       → All (λ (p : Open). AreLow seen p.around) (o ∷ os)
-      → IsSound (record x { strand = right; place = right; around = o.around; forks = record o { side = Second } ∷ os }) room seen
+      → IsSoundToken (record x { strand = right; place = right; around = o.around; forks = record o { side = Second } ∷ os }) room seen
   second_of o os right [] climb own numbers low = absurd climb
   second_of o os right (k ∷ ks) climb own numbers low = record {
     begun = 0;
@@ -208,21 +191,21 @@ module _ (x : Token) (room seen : ℕ) (h : IsSound x room seen) where
     victims = h.victims;
   }
 
-  turned_side : (o : Open) (os : List Open) (s : Side) → x.forks ≡ record o { side = s } ∷ os → IsSound (turned_by x (record o { side = s } ∷ os)) room seen
+  turned_side : (o : Open) (os : List Open) (s : Side) → x.forks ≡ record o { side = s } ∷ os → IsSoundToken (turned_by x (record o { side = s } ∷ os)) room seen
   turned_side o os (Beside fork) e = h
   turned_side o os (First right) e =
       let o' : Open = record o { side = First right } in
       second_of o' os right h.waiting (subst (λ ps. ClimbOut x.own.nodes ps h.waiting) e h.outer) (subst (λ ps. OwnOut ps h.waiting) e h.outer_own) h.numbers (subst (λ ps. All (λ (p : Open). AreLow seen p.around) ps) e h.outer_around)
   turned_side o os Second e = sound_behind (record o { side = Second }) os e
 
-  turned_from : (os : List Open) → x.forks ≡ os → IsSound (turned_by x os) room seen
+  turned_from : (os : List Open) → x.forks ≡ os → IsSoundToken (turned_by x os) room seen
   turned_from [] e = h
   turned_from (o ∷ os) e = turned_side o os o.side e
 
-  pub sound_turned : IsSound (turned x) room seen
+  pub sound_turned : IsSoundToken (turned x) room seen
   sound_turned = turned_from x.forks refl
 
-pub sound_later : (x : Token) (room seen n : ℕ) → seen ≤ n → IsSound x room seen → IsSound x room n
+pub sound_later : (x : Token) (room seen n : ℕ) → seen ≤ n → IsSoundToken x room seen → IsSoundToken x room n
 sound_later x room seen n le h = record {
   begun = h.begun;
   waiting = h.waiting;
@@ -236,7 +219,7 @@ sound_later x room seen n le h = record {
   victims = victims_more seen n (conflicts_in (logs x)) le h.victims;
 }
 
-pub sound_brought : (m : Home) (x : Token) (room seen : ℕ) → IsOfTier m → IsSound x room seen → IsSound (brought_token m x) room seen
+pub sound_brought : (m : Home) (x : Token) (room seen : ℕ) → IsOfTier m → IsSoundToken x room seen → IsSoundToken (brought_token m x) room seen
 sound_brought (home.Refused c) x room seen of h = absurd of
 sound_brought home.Plain x room seen of h = h
 sound_brought (home.Split fork used) x room seen of h = record { begun = h.begun; waiting = h.waiting; path = h.path; outer = h.outer; own = h.own; outer_own = h.outer_own; numbers = h.numbers; around = h.around; outer_around = h.outer_around; victims = h.victims }
@@ -246,8 +229,8 @@ sound_brought (home.Early before used) x room seen of h = h
 
 -- ## Forks
 
-module _ (x : Token) (room seen : ℕ) (h : IsSound x room seen) (room' n : ℕ) (paid : room ≤ room' + 1) (less : seen < n) where
-  pub sound_forked : (fork : ℕ) → IsSound (forked x n fork) room' n
+module _ (x : Token) (room seen : ℕ) (h : IsSoundToken x room seen) (room' n : ℕ) (paid : room ≤ room' + 1) (less : seen < n) where
+  pub sound_forked : (fork : ℕ) → IsSoundToken (forked x n fork) room' n
   sound_forked fork =
       let xs : List Node = fresh_node x.place Fork n ∷ fresh_node (length x.own.nodes) Strand 0 ∷ [] in record {
         begun = 0;
@@ -263,7 +246,7 @@ module _ (x : Token) (room seen : ℕ) (h : IsSound x room seen) (room' n : ℕ)
         victims = victims_more seen n (conflicts_in (logs x)) (omega (arith, less)) h.victims;
       }
 
-  pub sound_branched : IsSound (branched x n) room' n
+  pub sound_branched : IsSoundToken (branched x n) room' n
   sound_branched =
       let xs : List Node = fresh_node x.place Fork n ∷ fresh_node (length x.own.nodes) Strand 0 ∷ fresh_node (length x.own.nodes) Strand 0 ∷ [] in record {
         begun = 0;
@@ -280,7 +263,7 @@ module _ (x : Token) (room seen : ℕ) (h : IsSound x room seen) (room' n : ℕ)
       }
 
 -- the right strand of a fork, with the numbers of its column
-pub sound_right : (x : Token) (room seen : ℕ) (a : Ahead) → IsSound x room seen → IsSound (right_token x a) share seen
+pub sound_right : (x : Token) (room seen : ℕ) (a : Ahead) → IsSoundToken x room seen → IsSoundToken (right_token x a) share seen
 sound_right x room seen a h = record {
   begun = 0;
   waiting = [];
@@ -304,16 +287,16 @@ all_both : (P : Conflict → Type 0) (xs ys : List Conflict) → All P xs → Al
 all_both P [] ys a b = b
 all_both P (x ∷ xs) ys a b = All-cons P x (xs ++ ys) (All-head P x xs a) (all_both P xs ys (All-tail P x xs a) b)
 
-module _ (x y : Token) (room seen room' seen' : ℕ) (h : IsSound x room seen) (g : IsSound y room' seen') where
+module _ (x y : Token) (room seen room' seen' : ℕ) (h : IsSoundToken x room seen) (g : IsSoundToken y room' seen') where
   victims_of_both : All (λ (c : Conflict). c.victim ≤ max seen seen') (conflicts_in (x.own ∷ x.joined ++ y.own ∷ y.joined))
   victims_of_both = subst (All (λ (c : Conflict). c.victim ≤ max seen seen')) (sym (conflicts_of_both (x.own ∷ x.joined) (y.own ∷ y.joined)))
       (all_both (λ (c : Conflict). c.victim ≤ max seen seen') (conflicts_in (x.own ∷ x.joined)) (conflicts_in (y.own ∷ y.joined))
       (victims_more seen (max seen seen') (conflicts_in (logs x)) (omega arith) h.victims) (victims_more seen' (max seen seen') (conflicts_in (logs y)) (omega arith) g.victims))
 
-  pub sound_joined : (o : Open) (os : List Open) → x.forks ≡ o ∷ os → IsSound (taken_in x y) (room + room') (max seen seen')
+  pub sound_joined : (o : Open) (os : List Open) → x.forks ≡ o ∷ os → IsSoundToken (taken_in x y) (room + room') (max seen seen')
   sound_joined o os e =
       let q = sound_behind x room seen h o os e in
-      let z : IsSound (record (left_behind x (o ∷ os)) { joined = x.joined ++ y.own ∷ y.joined; phase = (if y.split then Parted y.fork else Going); stop = kept_stop x.stop y.stop; told = x.told || y.told }) (room + room') (max seen seen') = record {
+      let z : IsSoundToken (record (left_behind x (o ∷ os)) { joined = x.joined ++ y.own ∷ y.joined; phase = (if y.split then Parted y.fork else Going); stop = kept_stop x.stop y.stop; told = x.told || y.told }) (room + room') (max seen seen') = record {
         begun = q.begun;
         waiting = q.waiting;
         path = q.path;
@@ -325,7 +308,7 @@ module _ (x y : Token) (room seen room' seen' : ℕ) (h : IsSound x room seen) (
         outer_around = outs_more seen (max seen seen') os (omega arith) q.outer_around;
         victims = victims_of_both;
       } in
-      subst (λ ps. IsSound (record (left_behind x ps) { joined = x.joined ++ y.own ∷ y.joined; phase = (if y.split then Parted y.fork else Going); stop = kept_stop x.stop y.stop; told = x.told || y.told }) (room + room') (max seen seen')) (sym e) z
+      subst (λ ps. IsSoundToken (record (left_behind x ps) { joined = x.joined ++ y.own ∷ y.joined; phase = (if y.split then Parted y.fork else Going); stop = kept_stop x.stop y.stop; told = x.told || y.told }) (room + room') (max seen seen')) (sym e) z
 
 -- ## Refused accesses
 
@@ -340,7 +323,7 @@ pub around_low : (x : Token) (seen begin : ℕ) → AreLow seen x.around → IsA
 around_low x seen begin low (inl e) = omega (arith, e)
 around_low x seen begin low (inr h) = All-contains (λ b. b ≤ seen) x.around begin low h
 
-pub sound_refused : (x : Token) (room seen : ℕ) (c : Conflict) → IsSound x room seen → c.victim ≤ seen → IsSound (refused x c) room seen
+pub sound_refused : (x : Token) (room seen : ℕ) (c : Conflict) → IsSoundToken x room seen → c.victim ≤ seen → IsSoundToken (refused x c) room seen
 sound_refused x room seen c h low =
     let node : Node = fresh_node x.place (Tried c.cell) 0 in
     let P : Conflict → Type 0 = λ k. k.victim ≤ seen in

@@ -12,7 +12,7 @@ use Rattle.cw_steps.specs.Tracks.{TrackParts, HasRoom}
 use Rattle.cw_steps.specs.Stands.{token_of}
 use Rattle.cw_steps.specs.Views.{cells_of, held_by, key_of, view_of}
 use Rattle.cw_board.specs.declared.board.Board.{Board}
-use Rattle.cw_board.specs.Sound.{IsSound}
+use Rattle.cw_board.specs.Sound.{IsSoundToken}
 
 abbrev pub cells_in : Board → ℕ
 cells_in b = cells_of (key_of b.shared)
@@ -67,7 +67,7 @@ pub record IsAt (id : TableId) (columns : ℕ) (t : StrandToken) : Type 0 where
   pub gaps : All (λ (o : Whereabouts). o.gap < columns) (view_of t).outer
   pub room : HasRoom t.track
   pub lists : length (token_of t).joined + 1 ≤ (view_of t).owns
-  pub sound : IsSound (token_of t) (view_of t).room (view_of t).seen
+  pub sound : IsSoundToken (token_of t) (view_of t).room (view_of t).seen
 
 -- a token of this board
 abbrev pub IsOf : Board → StrandToken → Type 0

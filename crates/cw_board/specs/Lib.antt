@@ -3,4 +3,3 @@ pub mod Boards
 pub mod Turns
 pub mod Asked
 pub mod Victims
-pub mod Led

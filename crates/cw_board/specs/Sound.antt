@@ -33,7 +33,7 @@ AreLow seen = All (λ b. b ≤ seen)
 
 -- It is in so many blocks of its own, in its strand and in those that wait, which are innermost around each place. So many numbers may still be drawn by it; of those that it knows
 -- none is greater than this one.
-pub record IsSound (x : Token) (room seen : ℕ) : Type 0 where
+pub record IsSoundToken (x : Token) (room seen : ℕ) : Type 0 where
   pub begun : ℕ
   pub waiting : List ℕ
   pub path : Climbs x.own.nodes x.strand x.place begun

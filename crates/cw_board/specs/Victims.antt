@@ -21,9 +21,9 @@ begin_of None = 0
 begin_of (Some a) = a.begin
 
 -- and which attempt that is; of an access for which none has to, its own
-abbrev pub attempt_of : Option Above → (own : ℕ) → ℕ
-attempt_of None n = n
-attempt_of (Some a) n = a.attempt
+abbrev pub attempt_refused : Option Above → (own : ℕ) → ℕ
+attempt_refused None n = n
+attempt_refused (Some a) n = a.attempt
 
 -- the verdict was against the token's next access, and what has to fall is a pending block around its place, or nothing
 pub record IsBarrier (cells : ℕ) (last : Mark) (t u : StrandToken) (x : Barrier) : Type 0 where
@@ -37,7 +37,7 @@ conflict_with c asker last x own chain = record {
   asker = asker;
   block = x.block;
   victim = begin_of x.victim;
-  attempt = attempt_of x.victim own;
+  attempt = attempt_refused x.victim own;
   chain = chain;
 }
 

@@ -5,14 +5,14 @@ ghost use Rattle.cw_steps.specs.declared.draw.Aim.TheVariants as aims;
 ghost use Rattle.cw_steps.specs.declared.view.Slot.{Slot};
 ghost use Rattle.cw_steps.specs.declared.view.Slot.TheVariants as slot;
 ghost use Rattle.cw_log.specs.Answers.{IsAround, Meets};
-ghost use Rattle.cw_log.specs.Tokens.{refused, Goes};
+ghost use Rattle.cw_log.specs.Tokens.{refused, GoesFree};
 ghost use Rattle.cw_steps.specs.Stands.{token_of};
 ghost use Rattle.cw_steps.specs.Tracks.{one_more, track_of, tries_of, IsReady};
 ghost use Rattle.cw_steps.specs.Views.{view_of, IsLowCell};
 ghost use Rattle.cw_board.specs.Asked.{IsRefusedAfter};
 ghost use Rattle.cw_board.specs.Boards.{budget_of, cells_in, IsOf};
 ghost use Rattle.cw_board.specs.Turns.{HasCell, IsHolding};
-ghost use Rattle.cw_board.specs.Victims.{attempt_of, begin_of, conflict_with, Refuses};
+ghost use Rattle.cw_board.specs.Victims.{attempt_refused, begin_of, conflict_with, Refuses};
 ghost use Rattle.cw_tree.specs.AccessStacks.{stamps};
 ghost use Rattle.cw_tree.specs.Newest.{last_eight};
 
@@ -27,7 +27,7 @@ use std::sync::Wait;
 
 /// The block that has to fall, and which attempt that is: of an access for which none has to, its own.
 fn fallen(victim: Option<Above>, attempt: u32) -> (u64, u32)
-    ensures { (result.0 ≡ begin_of victim) × (result.1 ≡ attempt_of victim attempt) }
+    ensures { (result.0 ≡ begin_of victim) × (result.1 ≡ attempt_refused victim attempt) }
 {
     match victim {
         Some(block) => (block.begin, block.attempt),
@@ -150,7 +150,7 @@ impl Board {
         write: Option<i64>,
     ) -> Result<Access, OutOfMemory>
         requires of { IsOf self.now token.old }
-        requires goes { Goes (budget_of self.now) (token_of token.old) }
+        requires goes { GoesFree (budget_of self.now) (token_of token.old) }
         requires cell { cell < cells_in self.now }
         ensures of { IsOf self.now token.new }
         ensures ok { IfOk result (λ a. Meets (token_of token.old) (token_of token.new) cell write a) }

@@ -2,7 +2,7 @@
 ghost use Rattle.std.specs.Prelude.{◌≡◌, ℕ, OnOk, OnErr};
 ghost use Rattle.cw_tree.specs.declared.node.BlockState.TheVariants.{Committed};
 ghost use Rattle.cw_tree.specs.declared.node.Kind.TheVariants as kind;
-ghost use Rattle.cw_log.specs.Tokens.{began, ended, made, Goes, HasBlock, IsLater};
+ghost use Rattle.cw_log.specs.Tokens.{began, ended, made, GoesFree, HasBlock, IsLater};
 ghost use Rattle.cw_steps.specs.Stands.{token_of};
 ghost use Rattle.cw_steps.specs.Tracks.{state_of_end, track_of, IsReady};
 ghost use Rattle.cw_board.specs.Boards.{budget_of, IsHidden, IsOf, IsShown};
@@ -15,7 +15,7 @@ impl Board {
     /// Begins a block in the token's place.
     pub fn begin(&self, token: &mut StrandToken) -> Result<(), OutOfMemory>
         requires of { IsOf self.now token.old }
-        requires goes { Goes (budget_of self.now) (token_of token.old) }
+        requires goes { GoesFree (budget_of self.now) (token_of token.old) }
         ensures of { IsOf self.now token.new }
         ensures ok { OnOk result ((stamp : ℕ) × IsLater (token_of token.old) stamp × (token_of token.new ≡ began (token_of token.old) stamp)) }
         ensures err { OnErr result (token_of token.new ≡ token_of token.old) }
@@ -30,7 +30,7 @@ impl Board {
     /// Ends the block in the token's place, which is committed.
     pub fn commit(&self, token: &mut StrandToken)
         requires of { IsOf self.now token.old }
-        requires goes { Goes (budget_of self.now) (token_of token.old) }
+        requires goes { GoesFree (budget_of self.now) (token_of token.old) }
         requires block { HasBlock (token_of token.old) }
         ensures of { IsOf self.now token.new }
         ensures token { (stamp : ℕ) × (token_of token.new ≡ ended (token_of token.old) Committed stamp) }
@@ -46,7 +46,7 @@ impl Board {
     /// Puts out a value.
     pub fn out(&self, token: &mut StrandToken, value: i64) -> Result<(), OutOfMemory>
         requires of { IsOf self.now token.old }
-        requires goes { Goes (budget_of self.now) (token_of token.old) }
+        requires goes { GoesFree (budget_of self.now) (token_of token.old) }
         ensures of { IsOf self.now token.new }
         ensures ok { OnOk result ((stamp : ℕ) × (token_of token.new ≡ made (token_of token.old) (kind.Out value) stamp)) }
         ensures err { OnErr result (token_of token.new ≡ token_of token.old) }

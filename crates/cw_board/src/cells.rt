@@ -4,7 +4,7 @@ ghost use Rattle.cw_stack.specs.Cells.{entries_value};
 ghost use Rattle.cw_steps.specs.declared.table.StrandToken.{StrandToken};
 ghost use Rattle.cw_steps.specs.declared.view.Slot.{Slot};
 ghost use Rattle.cw_steps.specs.declared.view.Slot.TheVariants as slot;
-ghost use Rattle.cw_log.specs.Answers.{access_kind, IsWritten};
+ghost use Rattle.cw_log.specs.Answers.{kind_of_answer, IsWritten};
 ghost use Rattle.cw_log.specs.Tokens.{made};
 ghost use Rattle.cw_steps.specs.Stands.{token_of};
 ghost use Rattle.cw_steps.specs.Tracks.{track_of, IsReady};
@@ -86,7 +86,7 @@ impl Board {
         requires ready { IsReady token.old.track 1 }
         ensures of { IsOf self.now token.new }
         ensures written { IsWritten write result }
-        ensures token { (stamp : ℕ) × (token_of token.new ≡ made (token_of token.old) (access_kind cell write result) stamp) }
+        ensures token { (stamp : ℕ) × (token_of token.new ≡ made (token_of token.old) (kind_of_answer cell write result) stamp) }
         ensures word { (track_of token.new.track).word ≡ (track_of token.old.track).word }
     {
         let wrote = write.is_some();

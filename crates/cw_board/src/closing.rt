@@ -2,7 +2,7 @@
 ghost use Rattle.std.specs.Prelude.{◌≡◌, IfOk, IfErr};
 ghost use Rattle.cw_course.specs.Closings.{IsPutTogether};
 ghost use Rattle.cw_log.specs.Tokens.{logs};
-ghost use Rattle.cw_steps.specs.Leaving.{AreJournals};
+ghost use Rattle.cw_steps.specs.Leaving.{AreFoundJournals};
 ghost use Rattle.cw_steps.specs.Stands.{token_of};
 ghost use Rattle.cw_steps.specs.Views.{key_of};
 ghost use Rattle.cw_board.specs.Boards.{IsOf};
@@ -18,7 +18,7 @@ impl Board {
     pub fn close(self, token: StrandToken) -> Result<Closed, (Board, StrandToken, OutOfMemory)>
         requires of { IsOf self token }
         ensures together { IfOk result (λ c. IsPutTogether (logs (token_of token)) (token_of token).stop c) }
-        ensures journals { IfOk result (λ c. AreJournals (key_of self.shared) token.seat.me c.journals) }
+        ensures journals { IfOk result (λ c. AreFoundJournals (key_of self.shared) token.seat.me c.journals) }
         ensures err { IfErr result (λ e. (e.0 ≡ self) × IsOf e.0 e.1 × (token_of e.1 ≡ token_of token)) }
     {
         let Board { shared } = self;

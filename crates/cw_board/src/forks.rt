@@ -2,7 +2,7 @@
 ghost use Rattle.std.specs.Prelude.{◌≡◌, ◌+◌, ◌<◌, ◌≤◌, ◌==◌, ℕ, Bool, Some, IfOk, IfErr, OnOk, OnErr, if◌then◌else◌};
 ghost use Rattle.cw_trace.specs.Columns as columns;
 ghost use Rattle.cw_trace.specs.Traces.{Traces};
-ghost use Rattle.cw_log.specs.Tokens.{merged, once_split, Goes, IsOn, MayMerge, MaySplit};
+ghost use Rattle.cw_log.specs.Tokens.{merged, once_split, GoesFree, IsOn, MayMerge, MaySplit};
 ghost use Rattle.cw_log.specs.Answers.{Forks};
 ghost use Rattle.cw_steps.specs.declared.draw.Aim.TheVariants as aims;
 ghost use Rattle.cw_steps.specs.declared.table.StrandToken.{StrandToken};
@@ -133,7 +133,7 @@ impl Board {
         token: StrandToken,
     ) -> Result<Forked<StrandToken>, (StrandToken, OutOfMemory)>
         requires of { IsOf self.now token }
-        requires goes { Goes (budget_of self.now) (token_of token) }
+        requires goes { GoesFree (budget_of self.now) (token_of token) }
         ensures of { IfOk result (AreOf self.now) }
         ensures ok { IfOk result (λ f. Forks token_of (token_of token) f) }
         ensures err { IfErr result (λ e. IsOf self.now e.0 × (token_of e.0 ≡ token_of token)) }

@@ -23,6 +23,3 @@ mod victims;
 
 pub use board::Board;
 pub use named::{NamedBoard, NamedToken, Naming};
-
-#[cfg(test)]
-mod tests;

@@ -12,8 +12,6 @@ ghost use Rattle.cw_gen.specs.Worked.{Loads};
 
 mod load;
 mod pieces;
-#[cfg(test)]
-mod tests;
 
 pub use load::load_program;
 

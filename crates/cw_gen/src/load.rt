@@ -3,7 +3,7 @@ ghost use Rattle.std.specs.Prelude.{◌≡◌, ◌≤◌, ◌<◌, ◌++◌, ◌
 ghost use Rattle.std.specs.List.{range_with_len};
 ghost use Rattle.cw_text.specs.Syntax.{assign, binary, block_of, declaration_of, declare, number, run, spawn, statement_of, sync, term_of, terms_of, tree_of};
 ghost use Rattle.cw_text.specs.declared.ast.Op.TheVariants.{Add};
-ghost use Rattle.cw_gen.specs.Load.{accounts, after_transfer, block, group, group_count, group_function, group_name, load_tree, main_function, named, spawned_group, spawned_transfer, state_after, summed, summing, transfer_from, transfer_function, transfers, word};
+ghost use Rattle.cw_gen.specs.Load.{accounts, after_transfer, block, group, group_count, group_function, group_name, load_tree, load_main, name_term, spawned_group, spawned_transfer, state_after, summed, summing, transfer_from, transfer_function, transfers, word};
 
 use crate::pieces::{account, binary, changed, named, word};
 use cw_base::{OutOfMemory, Text};
@@ -141,7 +141,7 @@ fn accounts(alloc: Global) -> Result<Item, OutOfMemory>
 /// `NAME = NAME + ..;`
 fn grown(alloc: Global, text: &[u8], by: Expr) -> Result<Stmt, OutOfMemory>
     requires { All (λ b. b < 128) text.now }
-    ensures { IfOk result (λ s. statement_of s ≡ assign (word text.now) (binary Add (named text.now) (term_of by))) }
+    ensures { IfOk result (λ s. statement_of s ≡ assign (word text.now) (binary Add (name_term text.now) (term_of by))) }
 {
     let value = binary(alloc, Op::Add, named(alloc, text)?, by)?;
     let name = word(alloc, text)?;
@@ -200,7 +200,7 @@ fn push_calls(alloc: Global, body: &mut Vec<Stmt>, groups: u32) -> Result<(), Ou
 /// `fn main() { .. }`, with so many groups.
 #[tactic(auto, using(crate::proofs::Blocks::block_is))]
 fn main_function(alloc: Global, groups: u32) -> Result<Item, OutOfMemory>
-    ensures { IfOk result (λ item. declaration_of item ≡ main_function groups) }
+    ensures { IfOk result (λ item. declaration_of item ≡ load_main groups) }
 {
     let mut body = Vec::new(alloc);
     push_calls(alloc, &mut body, groups)?;

@@ -3,7 +3,7 @@ ghost use Rattle.std.specs.Prelude.{◌≡◌, ◌<◌, All, IfOk, codes};
 ghost use Rattle.std.specs.Prelude.{◌∷◌, []};
 ghost use Rattle.cw_text.specs.declared.ast.Op.TheVariants.{Add, Sub};
 ghost use Rattle.cw_text.specs.Syntax.{Term, at, binary, block_of, name, number, statement_of, term_of, declare, assign, out, first, empty, spawn, run, none, more};
-ghost use Rattle.cw_gen.specs.Load.{account, changed, named, word};
+ghost use Rattle.cw_gen.specs.Load.{account, changed, name_term, word};
 
 use cw_base::{OutOfMemory, Text};
 use cw_text::{Expr, Op, Stmt, Word};
@@ -19,7 +19,7 @@ pub(crate) fn word(alloc: Global, text: &[u8]) -> Result<Word, OutOfMemory>
 
 pub(crate) fn named(alloc: Global, text: &[u8]) -> Result<Expr, OutOfMemory>
     requires { All (λ b. b < 128) text.now }
-    ensures { IfOk result (λ e. term_of e ≡ named text.now) }
+    ensures { IfOk result (λ e. term_of e ≡ name_term text.now) }
 {
     Ok(Expr::Name(word(alloc, text)?))
 }

@@ -1,5 +1,6 @@
 use super::*;
 use cw_base::Seq;
+use std::alloc::Global;
 use std::io;
 use std::io::{BufWriter, ErrorKind, Read, Write};
 use std::process::Abort;
@@ -36,6 +37,31 @@ fn sources_in_memory_give_their_bytes(rt: HostRuntime) -> Result<(), Fail> {
     Ok(())
 }
 
+/// What a sink that never fails tells, once all these texts were written.
+fn told_by_sure(alloc: Global, room: usize, texts: &[&[u8]]) -> Result<Vec<u8>, Fail> {
+    let mut sink = SureSink::with_room(alloc, room)?;
+    for text in texts {
+        write_all(&mut sink, text)?;
+    }
+    Ok(sink.taken().to_vec(alloc)?)
+}
+
+/// Which of these texts a sink takes whole that takes four bytes a call and fails in these calls, and what it then tells.
+fn told_by_faulty(
+    alloc: Global,
+    room: usize,
+    failing: &[u64],
+    texts: &[&[u8]],
+) -> Result<(Vec<bool>, Vec<u8>), Fail> {
+    let mut sink = MemSink::with_room(alloc, room, 4, failing.to_vec(alloc)?)?;
+    let mut whole = Vec::new(alloc);
+    for text in texts {
+        whole.push(write_all(&mut sink, text).is_ok())?;
+    }
+    let told = sink.taken().to_vec(alloc)?;
+    Ok((whole, told))
+}
+
 #[test]
 fn sinks_in_memory_hold_what_was_written(rt: HostRuntime) -> Result<(), Fail> {
     let table: [(&[u64], bool, &[u8]); 4] = [
@@ -45,35 +71,37 @@ fn sinks_in_memory_hold_what_was_written(rt: HostRuntime) -> Result<(), Fail> {
         (&[3], true, b"out 1\n"),
     ];
     for (failing, is_whole, held) in table {
-        let mut sink = MemSink::with_room(rt.alloc(), 6, 4, failing.to_vec(rt.alloc())?)?;
-        assert_eq!(rt;
-            write_all(&mut sink, b"out 1\n").is_ok(),
-            is_whole,
-            "{failing:?}"
-        );
-        assert_eq!(rt; sink.taken(), held, "{failing:?}");
+        let (whole, told) = told_by_faulty(rt.alloc(), 6, failing, &[b"out 1\n"])?;
+        assert_eq!(rt; whole.as_slice(), [is_whole].as_slice(), "{failing:?}");
+        assert_eq!(rt; told.as_slice(), held, "{failing:?}");
     }
-    let mut sure = SureSink::with_room(rt.alloc(), 9)?;
-    write_all(&mut sure, b"c = 1\n")?;
-    write_all(&mut sure, b"end")?;
-    assert_eq!(rt; sure.taken(), b"c = 1\nend".as_slice());
+    let told = told_by_sure(rt.alloc(), 9, &[b"c = 1\n", b"end"])?;
+    assert_eq!(rt; told.as_slice(), b"c = 1\nend".as_slice());
     Ok(())
 }
 
 #[test]
 fn sinks_in_memory_tell_no_more_than_they_have_room_for(rt: HostRuntime) -> Result<(), Fail> {
-    for (room, told) in [(6, b"out 1\n".as_slice()), (5, b""), (0, b"")] {
-        let mut sure = SureSink::with_room(rt.alloc(), room)?;
-        let mut faulty = MemSink::with_room(rt.alloc(), room, 4, [3].to_vec(rt.alloc())?)?;
-        write_all(&mut sure, b"out 1\n")?;
-        write_all(&mut faulty, b"out 1\n")?;
-        assert_eq!(rt; sure.taken(), told, "room {room}");
-        assert_eq!(rt; faulty.taken(), told, "room {room}");
-        assert_eq!(rt; faulty.write(b"end\n"), Err(Failed), "room {room}");
-        write_all(&mut sure, b"end\n")?;
-        write_all(&mut faulty, b"end\n")?;
-        assert_eq!(rt; sure.taken(), b"".as_slice(), "room {room}");
-        assert_eq!(rt; faulty.taken(), b"".as_slice(), "room {room}");
+    let texts: [&[u8]; 3] = [b"out 1\n", b"end\n", b"end\n"];
+    let rows: [(usize, usize, &[u8]); 6] = [
+        (6, 1, b"out 1\n"),
+        (5, 1, b""),
+        (0, 1, b""),
+        (6, 3, b""),
+        (5, 3, b""),
+        (0, 3, b""),
+    ];
+    for (room, count, wanted) in rows {
+        let texts = &texts[..count];
+        let sure = told_by_sure(rt.alloc(), room, texts)?;
+        let (whole, faulty) = told_by_faulty(rt.alloc(), room, &[3], texts)?;
+        assert_eq!(rt; sure.as_slice(), wanted, "room {room}");
+        assert_eq!(rt; faulty.as_slice(), wanted, "room {room}");
+        assert_eq!(rt;
+            whole.as_slice(),
+            &[true, false, true][..count],
+            "room {room}"
+        );
     }
     Ok(())
 }

@@ -1,2 +1,3 @@
 mod codes;
+mod loads;
 mod programs;

@@ -7,10 +7,6 @@ use Rattle.cw_log.specs.declared.log.Log.{Log}
 use Rattle.cw_log.specs.Tokens.{conflicts_in}
 use Rattle.tests_log.specs.Kept.{HasVictim, HasNoVictim}
 
-pub all_in : (P : Conflict → Type 0) (ls : List Log) → All (λ l. All P l.conflicts) ls → All P (conflicts_in ls)
-all_in P [] all = λ k d r. absurd (omega arith)
-all_in P (l ∷ ls) all = All-append P l.conflicts (conflicts_in ls) (all 0 l (omega arith)) (all_in P ls (λ k d r. all (suc k) d (omega arith)))
-
 -- some conflict of a log of the list
 pub one_in : (front : List Log) (l : Log) (back : List Log) (c : Conflict) → Contains l.conflicts c → Contains (conflicts_in (front ++ l ∷ back)) c
 one_in [] l back c h = Contains-append_left l.conflicts (conflicts_in back) c h

@@ -3,7 +3,7 @@ ghost use Rattle.std.specs.Prelude.{◌≡◌, IsTrue, All, IfOk, MatchBool, IfS
 ghost use Rattle.cw_code.specs.declared.FaultKind.{FaultKind};
 ghost use Rattle.cw_tree.specs.declared.closed.Halt.TheVariants.{Fault};
 ghost use Rattle.cw_log.specs.declared.token.Side.TheVariants.{Beside};
-ghost use Rattle.cw_log.specs.Tokens.{is_inline, AreOfOneFork, Fells, Goes, GoesBack, HasBlock, IsDone, IsInline, IsOn, MayHalt, MayMerge, MaySplit, MayTakeBack, conflicts_in, logs};
+ghost use Rattle.cw_log.specs.Tokens.{is_inline, AreOfOneFork, Fells, GoesFree, GoesBack, HasBlock, IsDone, IsInline, IsOn, MayHalt, MayMerge, MaySplit, MayTakeBack, conflicts_in, logs};
 ghost use Rattle.tests_log.specs.Kept.{open_of, Dies, HasVictim, HasNoVictim};
 
 use crate::StrandToken;
@@ -113,7 +113,7 @@ impl StrandToken {
     }
 
     pub fn goes(&self, budget: u32) -> bool
-        ensures { IsTrue result → Goes budget self.now }
+        ensures { IsTrue result → GoesFree budget self.now }
     {
         if self.phase != Phase::Going {
             return false;

@@ -1,5 +1,6 @@
-//! Tests of what running threads are built from, by their public calls: deques, pairs, and a board that grants and refuses as it likes.
-//! Stands on the parts that they try.
+//! What tests of running threads stand on: a board that grants and refuses as it likes, walks over it, a list that is written and read back,
+//! and a half of a pair that goes to another thread. What tries them stands in `tests_pool`, so that they are proved once.
+//! Stands on the parts that these are made of.
 #![tactic(auto)]
 
 mod conditions;
@@ -16,6 +17,3 @@ pub use fickle::{Fickle, Odds};
 pub use one_list::{OneList, read_back};
 pub use token::StrandToken;
 pub use walk::{Counts, Way, walked};
-
-#[cfg(test)]
-mod tests;

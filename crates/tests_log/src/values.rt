@@ -53,7 +53,7 @@ fn held_or(write: Option<i64>, held: i64) -> i64
 
 /// The node of an access.
 pub fn access_kind(cell: u32, write: Option<i64>, value: i64) -> Kind
-    ensures { result ≡ answers.access_kind cell write value }
+    ensures { result ≡ answers.kind_of_answer cell write value }
 {
     match write {
         None => Kind::Read { cell, value },

@@ -1,6 +1,6 @@
 //! A walk over a board's calls: of those whose conditions hold, which is made next is drawn.
 ghost use Rattle.std.specs.Prelude.{◌≡◌, ◌<◌};
-ghost use Rattle.cw_log.specs.Tokens.{Goes};
+ghost use Rattle.cw_log.specs.Tokens.{GoesFree};
 
 use crate::{Fickle, Odds, StrandToken};
 use cw_base::OutOfMemory;
@@ -163,7 +163,7 @@ impl<'a> Walk<'a> {
     }
 
     fn accesses<R: Wait>(&self, rt: &R, token: &mut StrandToken, draws: &mut Draws)
-        requires { Goes 100 token.old }
+        requires { GoesFree 100 token.old }
     {
         let cell = draws.below(u64::from(CELLS)) as u32;
         let write = if draws.below(2) == 0 { None } else { Some(5) };

@@ -2,7 +2,7 @@
 use Rattle.std.proofs.Common.{◌≡◌, ℕ, zero, suc, ◌+◌, ◌-◌, ◌<◌, List, [], ◌∷◌, length, map, drop, refl, ap, arith}
 use Rattle.std.specs.Prelude.{All}
 use Rattle.cw_body.specs.Bodies.{PendingBegin, one_fork_more, one_fork_less, seen_from}
-use Rattle.tests_pool.specs.Levels.{level_at, levels_at, AreBelow}
+use Rattle.tests_pool.specs.Levels.{level_at_begin, levels_at, AreUnder}
 
 abbrev rest_of : List ℕ → List ℕ
 rest_of [] = []
@@ -23,7 +23,7 @@ right_strand level (p ∷ ps) =
     let es = right_strand level ps in
     cc (e, es)
 
-pub no_block : (level : ℕ) (ps : List PendingBegin) → AreBelow level (levels_at level ps) → All (λ p. 0 < p.forks) ps
+pub no_block : (level : ℕ) (ps : List PendingBegin) → AreUnder level (levels_at level ps) → All (λ p. 0 < p.forks) ps
 no_block level [] below = λ k d r. absurd (omega (arith, r))
 no_block level (p ∷ ps) below = by (no_block level ps below.1) where
   by : All (λ q. 0 < q.forks) ps → All (λ q. 0 < q.forks) (p ∷ ps)
@@ -32,7 +32,7 @@ no_block level (p ∷ ps) below = by (no_block level ps below.1) where
       omega (arith, a)
   by rest (suc k) d r = rest k d (omega (arith, r))
 
-pub joined_strand : (level : ℕ) (ps : List PendingBegin) → AreBelow level (levels_at level ps) → levels_at (level - 1) (map one_fork_less ps) ≡ levels_at level ps
+pub joined_strand : (level : ℕ) (ps : List PendingBegin) → AreUnder level (levels_at level ps) → levels_at (level - 1) (map one_fork_less ps) ≡ levels_at level ps
 joined_strand level [] below = refl
 joined_strand level (p ∷ ps) below =
     let a : level - p.forks < level = below.0 in
@@ -40,7 +40,7 @@ joined_strand level (p ∷ ps) below =
     let es = joined_strand level ps below.1 in
     cc (e, es)
 
-pub seen_back : (level forks : ℕ) (ps : List PendingBegin) → AreBelow (level - forks + 1) (levels_at level ps) → levels_at (level - forks) (map (seen_from forks) ps) ≡ levels_at level ps
+pub seen_back : (level forks : ℕ) (ps : List PendingBegin) → AreUnder (level - forks + 1) (levels_at level ps) → levels_at (level - forks) (map (seen_from forks) ps) ≡ levels_at level ps
 seen_back level forks [] below = refl
 seen_back level forks (p ∷ ps) below =
     let a : level - p.forks < level - forks + 1 = below.0 in

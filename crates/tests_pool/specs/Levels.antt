@@ -3,13 +3,13 @@ use Rattle.std.specs.Prelude.{ℕ, ◌<◌, ◌-◌, List, [], ◌∷◌, map}
 use Rattle.cw_body.specs.Bodies.{PendingBegin}
 
 -- of how many forks a strand of this level was the right one at this begin
-abbrev pub level_at : (level : ℕ) → PendingBegin → ℕ
-level_at level p = level - p.forks
+abbrev pub level_at_begin : (level : ℕ) → PendingBegin → ℕ
+level_at_begin level p = level - p.forks
 
 abbrev pub levels_at : (level : ℕ) → List PendingBegin → List ℕ
-levels_at level ps = map (level_at level) ps
+levels_at level ps = map (level_at_begin level) ps
 
 -- all are below this
-abbrev pub AreBelow : (level : ℕ) → List ℕ → Type 0
-AreBelow level [] = Unit {0}
-AreBelow level (l ∷ ls) = (l < level) × AreBelow level ls
+abbrev pub AreUnder : (level : ℕ) → List ℕ → Type 0
+AreUnder level [] = Unit {0}
+AreUnder level (l ∷ ls) = (l < level) × AreUnder level ls

@@ -11,7 +11,10 @@ use std::alloc::Global;
 use std::test::Fail;
 
 mod board;
+mod deques;
 mod fickle;
+mod pairs;
+mod walks;
 
 // So many attempts and columns that none of these limits is met.
 const WIDE: Limits = Limits {

@@ -4,7 +4,7 @@ ghost use Rattle.cw_body.specs.declared.stage.Stage.TheVariants.{Goes, GaveUp};
 ghost use Rattle.cw_body.specs.Bodies.{AnswersAct, want_of};
 ghost use Rattle.cw_strand.specs.Strands.{is_over};
 ghost use Rattle.cw_job.specs.Jobs.{TakesWords};
-ghost use Rattle.tests_pool.specs.Levels.{AreBelow, levels_at};
+ghost use Rattle.tests_pool.specs.Levels.{AreUnder, levels_at};
 
 use crate::walk::Why;
 use cw_base::Stack;
@@ -41,7 +41,7 @@ pub(crate) struct Fallen<'a> {
 
 /// Whether all are below this.
 fn are_below(levels: &Stack<u64>, level: u64) -> Result<bool, Why>
-    ensures { IfOk result (λ b. IsTrue b → AreBelow level levels.now) }
+    ensures { IfOk result (λ b. IsTrue b → AreUnder level levels.now) }
 {
     let mut left = levels.copy()?;
     for _ in 0..u64::MAX {

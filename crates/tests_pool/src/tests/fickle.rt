@@ -7,7 +7,7 @@ use super::{
     ALONE, BEFORE, COUNTS, FAULTY, INSIDE, LEFTWARDS, LOST, NESTED, OUTER, RIGHTWARDS, TREES,
     UNDONE, WIDE, columns, program, up_to,
 };
-use crate::{Told, walked};
+use crate::walk::{Told, walked};
 use cw_code::{Limits, Program};
 use cw_io::OpenGate;
 use cw_job::first_memory;

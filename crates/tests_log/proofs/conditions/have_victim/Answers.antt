@@ -2,8 +2,9 @@ use Rattle.std.proofs.Common.{rules, subst, sym, ap, ◌∙◌, ◌≡◌, [], �
 use Rattle.std.specs.Prelude.{Contains}
 use Rattle.std.proofs.lemmas.List.Elements.{All-push}
 use Rattle.cw_log.specs.Tokens.{conflicts_in}
+use Rattle.cw_log.proofs.Conflicts.{all_in}
 use Rattle.tests_log.specs.Kept.{HasVictim, HasNoVictim}
-use Rattle.tests_log.proofs.Victims.{all_in, one_in}
+use Rattle.tests_log.proofs.Victims.{one_in}
 use Rattle.tests_log.proofs.conditions.have_victim.Goals as goal
 
 pub returns-then-has_victim : goal.returns-then-has_victim

@@ -3,7 +3,7 @@ use Rattle.std.specs.Prelude.{All}
 use Rattle.std.proofs.lemmas.List.Elements.{All-append}
 use Rattle.cw_tree.specs.declared.conflict.Conflict.{Conflict}
 use Rattle.cw_log.specs.Tokens.{IsOn, conflicts_in}
-use Rattle.tests_log.proofs.Victims.{all_in}
+use Rattle.cw_log.proofs.Conflicts.{all_in}
 use Rattle.tests_log.proofs.token.StrandToken.is_on.Goals as goal
 
 pub returns : goal.returns

@@ -1,6 +1,6 @@
 use Rattle.std.proofs.Common.{◌≡◌, ◌∙◌, ◌∷◌, refl, sym}
 use Rattle.cw_body.specs.declared.stage.Stage.TheVariants.{Goes, GaveUp}
-use Rattle.cw_job.specs.Jobs.{bare}
+use Rattle.cw_job.specs.Jobs.{bare_job}
 use Rattle.cw_job.specs.Room.Strands.{strands_of_job}
 use Rattle.tests_pool.proofs.Walks.{Stands, forgets, has_begin}
 use Rattle.tests_pool.proofs.walker.Fallen.leaves.Goals as goal

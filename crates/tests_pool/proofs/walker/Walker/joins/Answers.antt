@@ -1,6 +1,6 @@
 use Rattle.std.proofs.Common.{rules, ◌≡◌, ◌∙◌, ◌-◌, refl, sym, ap}
 use Rattle.cw_body.specs.declared.stage.Stage.TheVariants.{Goes}
-use Rattle.cw_job.specs.Jobs.{bare}
+use Rattle.cw_job.specs.Jobs.{bare_job}
 use Rattle.cw_job.specs.Room.Strands.{strands_of_job}
 use Rattle.tests_pool.specs.Levels.{levels_at}
 use Rattle.tests_pool.proofs.Walks.{Stands, joins, is_free}
@@ -18,7 +18,7 @@ join-requires-clause-blocks c =
 pub invariant_of-right : goal.invariant_of-right
 invariant_of-right c =
     let x = c.args.self in
-    let job = bare x.program.now in
+    let job = bare_job x.program.now in
     let h : Stands Goes x.program.now x.level x.levels x.body = record { at = x.goes; of = x.of; around = x.around } in
     let w = joins Goes x.program.now x.level (strands_of_job job) x.levels x.body c.args.left.body c.join.new.self h (c.in_ok-are_below.ensures c.if-not-branch.false) (c.in_ok-join.ensures.ok job refl) in
     let down : c.saturating_sub.result ≡ x.level - 1 = search (rules, c.saturating_sub.ensures) in

@@ -1,0 +1,483 @@
+//! Strands that a test leads on a board. What a call asks is looked up in the token, or is known from the calls before; where it is not met, the
+//! answer is that of want of memory.
+ghost use Rattle.std.specs.Prelude.{◌≡◌, ◌<◌, ◌∷◌, [], All, Contains, IsTrue, IfOk, OnOk, true, false, if◌then◌else◌};
+ghost use Rattle.cw_log.specs.declared.log.Above.{Above};
+ghost use Rattle.cw_log.specs.declared.token.Phase.TheVariants.{Going, Parted, Waiting};
+ghost use Rattle.cw_log.specs.Tokens.{conflicts_in, logs, root_token, Fells, GoesFree};
+ghost use Rattle.cw_steps.specs.Stands.{token_of};
+ghost use Rattle.cw_tree.specs.declared.conflict.Conflict.{Conflict};
+ghost use Rattle.cw_board.specs.Boards.{budget_of, cells_in, columns_of, table_of, IsAt, IsOf};
+ghost use Rattle.tests_board.specs.Led.{IsLed};
+
+use cw_base::{OutOfMemory, Stack};
+use cw_board::{Board, Naming};
+use cw_log::{Above, Access, Forked, Logs, Phase};
+use cw_order::Steps;
+use cw_steps::StrandToken;
+use cw_trace::Verdict;
+use cw_tree::{Closed, Conflict, Mark};
+use std::alloc::Global;
+use std::marker::{Brand, Model, PhantomData};
+use std::sync::Wait;
+use std::sync::ledger::{Blank, Ledger};
+
+/// A board whose table has this name.
+#[derive(Drop)]
+pub(super) struct Scene<N: Naming> {
+    board: Board,
+    alloc: Global,
+    cells: u32,
+    budget: u32,
+    of: PhantomData<N>,
+}
+
+/// Where a strand stands: its number in its log, the fork as whose right strand its token began and whether that is split, what its token is
+/// for, and the forks in whose left strands it stands, each with the strand that waits.
+#[derive(Drop)]
+struct Stand {
+    strand: u32,
+    fork: u32,
+    split: bool,
+    phase: Phase,
+    forks: Stack<u32>,
+    strands: Stack<u32>,
+}
+
+/// A strand, with its token of the board whose table has this name. It has not stopped.
+#[derive(Drop)]
+pub(super) struct Strand<N: Naming> {
+    token: StrandToken,
+    stand: Stand,
+    of: PhantomData<N>,
+}
+
+impl<N: Naming> Model for Scene<N> {
+    ghost use Rattle.std.specs.Prelude.{◌≡◌, ℕ};
+    ghost use Rattle.cw_board.specs.Boards.{budget_of, cells_in, columns_of, table_of};
+
+    ghost Value = { ℕ };
+
+    ghost view = { λ s. 0 };
+
+    ghost invariant = { λ s. (table_of s.board ≡ N.table) × (columns_of s.board ≡ N.columns) × (budget_of s.board ≡ s.budget) × (cells_in s.board ≡ s.cells) };
+}
+
+impl<N: Naming> Model for Strand<N> {
+    ghost use Rattle.std.specs.Prelude.{ℕ};
+    ghost use Rattle.cw_steps.specs.Stands.{token_of};
+    ghost use Rattle.cw_board.specs.Boards.{IsAt};
+    ghost use Rattle.tests_board.specs.Led.{IsLed};
+
+    ghost Value = { ℕ };
+
+    ghost view = { λ s. 0 };
+
+    ghost invariant = { λ s. IsAt N.table N.columns s.token × IsLed (token_of s.token) s.stand.strand s.stand.fork s.stand.split s.stand.phase s.stand.forks s.stand.strands };
+}
+
+/// A strand that stands there.
+fn strand_of<N: Naming>(token: StrandToken, stand: Stand) -> Strand<N>
+    requires at { IsAt N.table N.columns token }
+    requires led { IsLed (token_of token) stand.strand stand.fork stand.split stand.phase stand.forks stand.strands }
+{
+    let led = Strand {
+        token,
+        stand,
+        of: PhantomData,
+    };
+    led
+}
+
+// ## What calls ask
+
+fn are_unspent(conflicts: &[Conflict], budget: u32) -> bool
+    ensures { IsTrue result → All (λ c. c.attempt ≡ budget → ⊥) conflicts.now }
+{
+    conflicts.iter().all(|c| c.attempt != budget)
+}
+
+fn all_unspent(logs: &Logs, budget: u32) -> bool
+    ensures { IsTrue result → All (λ l. All (λ c. c.attempt ≡ budget → ⊥) l.conflicts) logs.now }
+{
+    logs.iter()
+        .all(|log| are_unspent(log.conflicts.as_slice(), budget))
+}
+
+/// Whether none of these blocks has this begin stamp.
+fn is_none_of(begin: u64, blocks: &[Above]) -> bool
+    ensures { IsTrue result → All (λ (a : Above). a.begin ≡ begin → ⊥) blocks.now }
+{
+    blocks.iter().all(|block| block.begin != begin)
+}
+
+fn are_free(conflicts: &[Conflict], blocks: &[Above]) -> bool
+    ensures { IsTrue result → All (λ c. All (λ (a : Above). a.begin ≡ c.victim → ⊥) blocks.now) conflicts.now }
+{
+    conflicts.iter().all(|c| is_none_of(c.victim, blocks))
+}
+
+fn all_free(logs: &Logs, blocks: &[Above]) -> bool
+    ensures { IsTrue result → All (λ l. All (λ c. All (λ (a : Above). a.begin ≡ c.victim → ⊥) blocks.now) l.conflicts) logs.now }
+{
+    logs.iter()
+        .all(|log| are_free(log.conflicts.as_slice(), blocks))
+}
+
+fn both(a: bool, b: bool) -> bool
+    ensures { IsTrue result → IsTrue a × IsTrue b }
+{
+    a && b
+}
+
+/// Whether no conflict of its logs has the last attempt.
+fn is_unspent(token: &StrandToken, budget: u32) -> bool
+    ensures { IsTrue result → All (λ c. c.attempt ≡ budget → ⊥) (conflicts_in (logs (token_of token.now))) }
+{
+    both(
+        are_unspent(token.conflicts(), budget),
+        all_unspent(token.joined(), budget),
+    )
+}
+
+/// Whether no conflict of its logs has a pending block around its place for its victim.
+fn is_free(token: &StrandToken) -> bool
+    ensures { IsTrue result → All (λ c. Fells (token_of token.now) c → ⊥) (conflicts_in (logs (token_of token.now))) }
+{
+    let blocks = token.pending();
+    both(
+        are_free(token.conflicts(), blocks),
+        all_free(token.joined(), blocks),
+    )
+}
+
+fn has_block(blocks: &[Above], begin: u64) -> bool
+    ensures { IsTrue result → (a : Above) × Contains blocks.now a × (a.begin ≡ begin) }
+{
+    for block in blocks {
+        if block.begin == begin {
+            return true;
+        }
+    }
+    false
+}
+
+fn has_victim(conflicts: &[Conflict], blocks: &[Above]) -> bool
+    ensures { IsTrue result → (c : Conflict) × Contains conflicts.now c × ((a : Above) × Contains blocks.now a × (a.begin ≡ c.victim)) }
+{
+    for conflict in conflicts {
+        if has_block(blocks, conflict.victim) {
+            return true;
+        }
+    }
+    false
+}
+
+/// Whether a conflict of its own log has a pending block around its place for its victim.
+fn is_felled(token: &StrandToken) -> bool
+    ensures { IsTrue result → (c : Conflict) × Contains (conflicts_in (logs (token_of token.now))) c × Fells (token_of token.now) c }
+{
+    has_victim(token.conflicts(), token.pending())
+}
+
+fn goes(token: &StrandToken, stand: &Stand, budget: u32) -> bool
+    requires { IsLed (token_of token.now) stand.now.strand stand.now.fork stand.now.split stand.now.phase stand.now.forks stand.now.strands }
+    ensures { IsTrue result → GoesFree budget (token_of token.now) }
+{
+    both(
+        stand.is_going(),
+        both(is_unspent(token, budget), is_free(token)),
+    )
+}
+
+fn met(holds: bool) -> Result<(), OutOfMemory>
+    ensures { OnOk result (IsTrue holds) }
+{
+    if holds { Ok(()) } else { Err(OutOfMemory) }
+}
+
+impl Stand {
+    /// Where the right strand of a fork begins.
+    fn right(alloc: Global, fork: u32) -> Stand
+        ensures { result ≡ record { strand = 0; fork = fork; split = false; phase = Waiting; forks = []; strands = [] } }
+    {
+        Stand {
+            strand: 0,
+            fork,
+            split: false,
+            phase: Phase::Waiting,
+            forks: Stack::new(alloc),
+            strands: Stack::new(alloc),
+        }
+    }
+
+    /// Where its left strand goes on.
+    fn left(self, strand: u32, fork: u32) -> Result<Stand, OutOfMemory>
+        ensures { IfOk result (λ s. s ≡ record self { strand = strand; forks = fork ∷ self.forks; strands = self.strand ∷ self.strands }) }
+    {
+        let mut stand = self;
+        stand.forks.push(fork)?;
+        stand.strands.push(stand.strand)?;
+        stand.strand = strand;
+        Ok(stand)
+    }
+
+    fn split(self) -> Stand
+        ensures { result ≡ record self { split = true; phase = Going } }
+    {
+        let mut stand = self;
+        stand.split = true;
+        stand.phase = Phase::Going;
+        stand
+    }
+
+    fn going(self) -> Stand
+        ensures { result ≡ record self { phase = Going } }
+    {
+        let mut stand = self;
+        stand.phase = Phase::Going;
+        stand
+    }
+
+    /// Where the strand stands that forked, if these are the two strands of a fork.
+    fn behind(self, right: Stand) -> Result<Stand, OutOfMemory>
+        ensures fork { IfOk result (λ s. (right.forks ≡ []) × (self.forks ≡ right.fork ∷ s.forks)) }
+        ensures strand { IfOk result (λ s. self.strands ≡ s.strand ∷ s.strands) }
+        ensures kept { IfOk result (λ s. (s.fork ≡ self.fork) × (s.split ≡ self.split)) }
+        ensures phase { IfOk result (λ s. s.phase ≡ (if right.split then Parted right.fork else Going)) }
+    {
+        let mut stand = self;
+        let fork = stand.forks.pop();
+        let strand = stand.strands.pop();
+        let (Some(fork), Some(strand)) = (fork, strand) else {
+            return Err(OutOfMemory);
+        };
+        if fork != right.fork || right.forks.len() > 0 {
+            return Err(OutOfMemory);
+        }
+        stand.strand = strand;
+        stand.phase = if right.split {
+            Phase::Parted(fork)
+        } else {
+            Phase::Going
+        };
+        Ok(stand)
+    }
+
+    fn is_going(&self) -> bool
+        ensures { IsTrue result → self.now.phase ≡ Going }
+    {
+        matches!(self.phase, Phase::Going)
+    }
+
+    fn waits(&self) -> bool
+        ensures { IsTrue result → self.now.phase ≡ Waiting }
+    {
+        matches!(self.phase, Phase::Waiting)
+    }
+
+    /// Whether no block that its strand began is pending there, and nothing is to be merged.
+    fn is_done(&self, place: u32) -> bool
+        ensures { IsTrue result → (place ≡ self.now.strand) × (self.now.phase ≡ Going) }
+    {
+        both(place == self.strand, self.is_going())
+    }
+}
+
+/// The verdict on the access made last and one that the token makes next.
+fn asks_counted<R: Wait, K: Ledger, L: Ledger>(
+    board: &Board,
+    rt: &R,
+    blanks: (Blank, Blank),
+    token: &mut StrandToken,
+    last: Mark,
+) -> Verdict
+    requires looks { (blanks.0.name ≡ K.name) × (blanks.0.parts ≡ K.parts) × (0 < K.parts) }
+    requires compares { (blanks.1.name ≡ L.name) × (blanks.1.parts ≡ L.parts) × (0 < L.parts) }
+    requires of { IsOf board.now token.old }
+    ensures of { IsOf board.now token.new }
+    ensures token { token_of token.new ≡ token_of token.old }
+{
+    let mut looks = Steps::<K>::new(blanks.0);
+    let mut compares = Steps::<L>::new(blanks.1);
+    board.ask(rt, token, last, &mut looks, &mut compares)
+}
+
+fn asks<R: Wait>(board: &Board, rt: &R, token: &mut StrandToken, last: Mark) -> Verdict
+    requires of { IsOf board.now token.old }
+    ensures of { IsOf board.now token.new }
+    ensures token { token_of token.new ≡ token_of token.old }
+{
+    let blanks = (Blank::new(1), Blank::new(1));
+    asks_counted::<R, Brand, Brand>(board, rt, blanks, token, last)
+}
+
+// ## Calls
+
+impl<N: Naming> Scene<N> {
+    /// The board, and its root's strand.
+    pub(super) fn new(
+        alloc: Global,
+        board: Board,
+        token: StrandToken,
+        cells: u32,
+        budget: u32,
+    ) -> (Scene<N>, Strand<N>)
+        requires name { (table_of board ≡ N.table) × (columns_of board ≡ N.columns) }
+        requires size { (budget_of board ≡ budget) × (cells_in board ≡ cells) }
+        requires of { IsOf board token }
+        requires root { token_of token ≡ root_token }
+    {
+        let stand = Stand {
+            strand: 0,
+            fork: 0,
+            split: false,
+            phase: Phase::Going,
+            forks: Stack::new(alloc),
+            strands: Stack::new(alloc),
+        };
+        let scene = Scene {
+            board,
+            alloc,
+            cells,
+            budget,
+            of: PhantomData,
+        };
+        (scene, strand_of(token, stand))
+    }
+
+    pub(super) fn close(self, root: Strand<N>) -> Result<Closed, OutOfMemory> {
+        let Scene { board, .. } = self;
+        let Strand { token, .. } = root;
+        match board.close(token) {
+            Ok(closed) => Ok(closed),
+            Err((_, _, error)) => Err(error),
+        }
+    }
+
+    pub(super) fn begin(&self, led: Strand<N>) -> Result<Strand<N>, OutOfMemory> {
+        let Strand { token, stand, .. } = led;
+        let mut token = token;
+        met(goes(&token, &stand, self.budget))?;
+        self.board.begin(&mut token)?;
+        Ok(strand_of(token, stand))
+    }
+
+    pub(super) fn commit(&self, led: Strand<N>) -> Result<Strand<N>, OutOfMemory> {
+        let Strand { token, stand, .. } = led;
+        let mut token = token;
+        met(goes(&token, &stand, self.budget))?;
+        met(token.place() != stand.strand)?;
+        self.board.commit(&mut token);
+        Ok(strand_of(token, stand))
+    }
+
+    pub(super) fn out(&self, led: Strand<N>, value: i64) -> Result<Strand<N>, OutOfMemory> {
+        let Strand { token, stand, .. } = led;
+        let mut token = token;
+        met(goes(&token, &stand, self.budget))?;
+        self.board.out(&mut token, value)?;
+        Ok(strand_of(token, stand))
+    }
+
+    pub(super) fn access<R: Wait>(
+        &self,
+        rt: &R,
+        led: Strand<N>,
+        cell: u32,
+        write: Option<i64>,
+    ) -> Result<(Strand<N>, Access), OutOfMemory> {
+        let Strand { token, stand, .. } = led;
+        let mut token = token;
+        met(goes(&token, &stand, self.budget))?;
+        met(cell < self.cells)?;
+        let access = self.board.access(rt, &mut token, cell, write)?;
+        Ok((strand_of(token, stand), access))
+    }
+
+    pub(super) fn chain<R: Wait>(
+        &self,
+        rt: &R,
+        led: Strand<N>,
+        cell: u32,
+    ) -> Result<(Strand<N>, Vec<u64>), OutOfMemory> {
+        let Strand { token, stand, .. } = led;
+        let mut token = token;
+        met(cell < self.cells)?;
+        let chain = self.board.chain(rt, &mut token, cell)?;
+        Ok((strand_of(token, stand), chain))
+    }
+
+    pub(super) fn ask<R: Wait>(&self, rt: &R, led: Strand<N>, last: Mark) -> (Strand<N>, Verdict) {
+        let Strand { token, stand, .. } = led;
+        let mut token = token;
+        let verdict = asks(&self.board, rt, &mut token, last);
+        (strand_of(token, stand), verdict)
+    }
+
+    /// Both strands of a fork, the right one with a token of its own.
+    pub(super) fn fork<R: Wait>(
+        &self,
+        rt: &R,
+        led: Strand<N>,
+    ) -> Result<(Strand<N>, Strand<N>), OutOfMemory> {
+        let Strand { token, stand, .. } = led;
+        met(goes(&token, &stand, self.budget))?;
+        match self.board.fork(rt, token) {
+            Ok(Forked::Two { fork, left, right }) => {
+                let strand = self.board.place(&left);
+                let inner = stand.left(strand, fork)?;
+                let begin = Stand::right(self.alloc, fork);
+                Ok((strand_of(left, inner), strand_of(right, begin)))
+            }
+            Ok(Forked::Inline { .. }) => Err(OutOfMemory),
+            Err((_, error)) => Err(error),
+        }
+    }
+
+    pub(super) fn split<R: Wait>(&self, rt: &R, led: Strand<N>) -> Result<Strand<N>, OutOfMemory> {
+        let Strand { token, stand, .. } = led;
+        let mut token = token;
+        met(stand.waits())?;
+        met(is_unspent(&token, self.budget))?;
+        match self.board.split(rt, &mut token, stand.fork) {
+            Ok(()) => Ok(strand_of(token, stand.split())),
+            Err(_) => Err(OutOfMemory),
+        }
+    }
+
+    pub(super) fn join(&self, left: Strand<N>, right: Strand<N>) -> Result<Strand<N>, OutOfMemory> {
+        let Strand { token, stand, .. } = left;
+        let Strand {
+            token: ending,
+            stand: ended,
+            ..
+        } = right;
+        met(stand.is_done(token.place()))?;
+        met(ended.is_done(ending.place()))?;
+        let outer = stand.behind(ended)?;
+        let token = self.board.join(token, ending);
+        Ok(strand_of(token, outer))
+    }
+
+    pub(super) fn merge<R: Wait>(&self, rt: &R, led: Strand<N>) -> Result<Strand<N>, OutOfMemory> {
+        let Strand { token, stand, .. } = led;
+        let mut token = token;
+        met(is_unspent(&token, self.budget))?;
+        let Phase::Parted(fork) = stand.phase else {
+            return Err(OutOfMemory);
+        };
+        self.board.merge(rt, &mut token, fork);
+        Ok(strand_of(token, stand.going()))
+    }
+
+    pub(super) fn roll<R: Wait>(&self, rt: &R, led: Strand<N>) -> Result<Strand<N>, OutOfMemory> {
+        let Strand { token, stand, .. } = led;
+        let mut token = token;
+        met(token.place() != stand.strand)?;
+        met(stand.is_going())?;
+        met(is_unspent(&token, self.budget))?;
+        met(is_felled(&token))?;
+        self.board.roll(rt, &mut token);
+        Ok(strand_of(token, stand))
+    }
+}

@@ -1,0 +1,193 @@
+//! Threads that make accesses on one board at the same time.
+ghost use Rattle.std.specs.Prelude.{◌≡◌};
+ghost use Rattle.cw_log.specs.Tokens.{root_token};
+ghost use Rattle.cw_steps.specs.Stands.{token_of};
+ghost use Rattle.cw_board.specs.Boards.{budget_of, cells_in, columns_of, table_of, IsOf};
+
+use super::led::{Scene, Strand};
+use cw_base::OutOfMemory;
+use cw_board::{Board, Naming};
+use cw_code::Limits;
+use cw_log::Access;
+use cw_steps::StrandToken;
+use cw_tree::{Closed, Entry, Node};
+use std::alloc::Global;
+use std::marker::Brand;
+use std::sync::Wait;
+use std::test::Fail;
+use std::thread::{Threads, join};
+
+const LIMITS: Limits = Limits {
+    fuel: 0,
+    size: 0,
+    aborts: 9,
+    strands: 9,
+    moves: 0,
+};
+
+/// The cell that all strands share, behind those that they have for themselves.
+const SHARED: u32 = 4;
+
+/// So many accesses are made in all.
+const ACCESSES: u32 = 100_000;
+
+/// The value of a cell, to which 1 is added.
+fn adds<N: Naming, R: Wait>(
+    rt: &R,
+    scene: &Scene<N>,
+    led: Strand<N>,
+    cell: u32,
+) -> Result<Strand<N>, OutOfMemory> {
+    let (led, Access::Value(value)) = scene.access(rt, led, cell, None)? else {
+        return Err(OutOfMemory);
+    };
+    let next = value.wrapping_add(1);
+    let (led, Access::Value(_)) = scene.access(rt, led, cell, Some(next))? else {
+        return Err(OutOfMemory);
+    };
+    Ok(led)
+}
+
+/// Adds 1 so many times to a cell of its own and to the one that all share: four accesses each time.
+fn counts<N: Naming, R: Wait>(
+    rt: &R,
+    scene: &Scene<N>,
+    led: Strand<N>,
+    own: u32,
+    times: u32,
+) -> Result<Strand<N>, OutOfMemory> {
+    let mut led = led;
+    for _ in 0..times {
+        led = adds(rt, scene, led, own)?;
+        led = adds(rt, scene, led, SHARED)?;
+    }
+    Ok(led)
+}
+
+/// Two strands of a fork that is split.
+fn parts<N: Naming, R: Wait>(
+    rt: &R,
+    scene: &Scene<N>,
+    led: Strand<N>,
+) -> Result<(Strand<N>, Strand<N>), OutOfMemory> {
+    let (left, right) = scene.fork(rt, led)?;
+    let right = scene.split(rt, right)?;
+    Ok((left, right))
+}
+
+/// The strand that forked.
+fn meets<N: Naming, R: Wait>(
+    rt: &R,
+    scene: &Scene<N>,
+    left: Strand<N>,
+    right: Strand<N>,
+) -> Result<Strand<N>, OutOfMemory> {
+    let led = scene.join(left, right)?;
+    scene.merge(rt, led)
+}
+
+/// Both strands of a fork count, each in a thread of its own.
+fn pair<N: Naming, R: Threads + Wait + Sync>(
+    rt: &R,
+    scene: &Scene<N>,
+    led: Strand<N>,
+    own: (u32, u32),
+    times: u32,
+) -> Result<Strand<N>, OutOfMemory> {
+    let (left, right) = parts(rt, scene, led)?;
+    let (first, second) = own;
+    let (left, right) = join(
+        rt,
+        || counts(rt, scene, left, first, times),
+        || counts(rt, scene, right, second, times),
+    );
+    meets(rt, scene, left?, right?)
+}
+
+/// And both strands of two forks.
+fn pairs<N: Naming, R: Threads + Wait + Sync>(
+    rt: &R,
+    scene: &Scene<N>,
+    led: Strand<N>,
+    times: u32,
+) -> Result<Strand<N>, OutOfMemory> {
+    let (left, right) = parts(rt, scene, led)?;
+    let (left, right) = join(
+        rt,
+        || pair(rt, scene, left, (0, 1), times),
+        || pair(rt, scene, right, (2, 3), times),
+    );
+    meets(rt, scene, left?, right?)
+}
+
+fn counted<N: Naming, R: Threads + Wait + Sync>(
+    rt: &R,
+    alloc: Global,
+    made: (Board, StrandToken),
+    threads: u32,
+) -> Result<Closed, OutOfMemory>
+    requires name { (table_of made.0 ≡ N.table) × (columns_of made.0 ≡ N.columns) }
+    requires size { (budget_of made.0 ≡ 9) × (cells_in made.0 ≡ 5) }
+    requires of { IsOf made.0 made.1 }
+    requires root { token_of made.1 ≡ root_token }
+{
+    let (board, token) = made;
+    let (scene, root) = Scene::<N>::new(alloc, board, token, 5, 9);
+    let root = if threads == 2 {
+        pair(rt, &scene, root, (0, 1), ACCESSES / 8)?
+    } else {
+        pairs(rt, &scene, root, ACCESSES / 16)?
+    };
+    scene.close(root)
+}
+
+fn closed<R: Threads + Wait + Sync>(
+    rt: &R,
+    alloc: Global,
+    threads: u32,
+) -> Result<Closed, OutOfMemory> {
+    let made = Board::new(alloc, &[0, 0, 0, 0, 0], LIMITS)?;
+    counted::<Brand, R>(rt, alloc, made, threads)
+}
+
+/// The stamps that are there, in order.
+fn stamps(alloc: Global, nodes: &[Node]) -> Result<Vec<u64>, OutOfMemory> {
+    let mut stamps = Vec::new(alloc);
+    for node in nodes {
+        if node.stamp > 0 {
+            stamps.push(node.stamp)?;
+        }
+    }
+    stamps.sort()?;
+    Ok(stamps)
+}
+
+/// Whether these are the numbers from 1 on, each once.
+fn are_all(stamps: &[u64]) -> bool {
+    (1u64..).zip(stamps.iter()).all(|(n, stamp)| n == *stamp)
+}
+
+fn last_value(entries: &[Entry]) -> i64 {
+    entries.last().map_or(0, |entry| entry.value)
+}
+
+#[test]
+fn threads_count(rt: HostRuntime) -> Result<(), Fail> {
+    for (threads, own) in [(2u32, 12_500), (4, 6_250)] {
+        let closed = closed(&rt, rt.alloc(), threads)?;
+        let stamps = stamps(rt.alloc(), closed.tree.nodes())?;
+        // each access and each fork drew one
+        assert_eq!(rt; stamps.len(), 100_000 + threads as usize - 1);
+        assert!(rt; are_all(stamps.as_slice()));
+        for (n, journal) in closed.journals.as_slice().iter().enumerate() {
+            let entries = journal.as_slice();
+            if n < threads as usize {
+                assert_eq!(rt; last_value(entries), own);
+            }
+            if n == SHARED as usize {
+                assert_eq!(rt; entries.len(), 50_000);
+            }
+        }
+    }
+    Ok(())
+}

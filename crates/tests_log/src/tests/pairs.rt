@@ -1,8 +1,0 @@
-use crate::there_and_back;
-use std::test::Fail;
-
-#[test]
-fn a_half_goes_to_another_thread_and_back(rt: HostRuntime) -> Result<(), Fail> {
-    assert_eq!(rt; there_and_back(&rt, rt.alloc(), 7), Ok(Some((7, 7))));
-    Ok(())
-}

@@ -1,0 +1,71 @@
+use std::test::Fail;
+use tests_log::{Counts, Odds, Way, read_back, walked};
+
+const WALKS: u64 = 20;
+
+const ODDS: Odds = Odds {
+    refused: 20,
+    inline: 30,
+    early: 30,
+};
+
+fn way(threads: bool, halts: bool) -> Way {
+    Way {
+        walks: WALKS,
+        threads,
+        halts,
+    }
+}
+
+// What was met least often of all that walks without halts are to meet.
+fn least(counts: &Counts) -> u64 {
+    counts
+        .refused
+        .min(counts.rolled)
+        .min(counts.inline)
+        .min(counts.split)
+        .min(counts.early)
+        .min(counts.taken_back)
+}
+
+#[test]
+fn walks_on_one_thread(rt: HostRuntime) -> Result<(), Fail> {
+    let counts = walked(&rt, rt.alloc(), ODDS, way(false, false))?;
+    assert!(rt; least(&counts) > 20);
+    assert_eq!(rt; (counts.stuck, counts.halts), (0, 0));
+    assert_eq!(rt;
+        (counts.logs, counts.merged),
+        (counts.two.saturating_add(WALKS), counts.split)
+    );
+    assert_eq!(rt; walked(&rt, rt.alloc(), ODDS, way(false, false))?, counts);
+    Ok(())
+}
+
+#[test]
+fn walks_on_several_threads(rt: HostRuntime) -> Result<(), Fail> {
+    let counts = walked(&rt, rt.alloc(), ODDS, way(true, false))?;
+    assert!(rt; least(&counts) > 20);
+    assert_eq!(rt; (counts.stuck, counts.halts), (0, 0));
+    assert_eq!(rt;
+        (counts.logs, counts.merged),
+        (counts.two.saturating_add(WALKS), counts.split)
+    );
+    Ok(())
+}
+
+#[test]
+fn walks_with_halts(rt: HostRuntime) -> Result<(), Fail> {
+    let counts = walked(&rt, rt.alloc(), ODDS, way(true, true))?;
+    assert!(rt; counts.halts > 10);
+    assert_eq!(rt;
+        (counts.stuck, counts.logs),
+        (0, counts.two.saturating_add(WALKS))
+    );
+    Ok(())
+}
+
+#[test]
+fn a_list_gives_what_was_written(rt: HostRuntime) -> Result<(), Fail> {
+    assert_eq!(rt; read_back(&rt, rt.alloc(), 5)?, Some(5));
+    Ok(())
+}
